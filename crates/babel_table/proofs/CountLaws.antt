@@ -1,0 +1,137 @@
+-- The counts of sayings and one more.
+use Rattle.std.proofs.Common.{◌≡◌, ℕ, zero, suc, ◌+◌, ◌≤◌, ◌<◌, subst, get_or, Bool, true, false, cond, List, [], ◌∷◌, ◌++◌, length, map, Option, Some, None, refl, sym, ap, ◌∙◌, arith}
+use Rattle.std.specs.Prelude.{Result, Ok, Err, count_by, ◌==◌, slice_set, IfSome}
+use Rattle.std.specs.List.{find}
+use Rattle.std.specs.Option.{option_map, option_or, option_flatten}
+use Rattle.std.proofs.lemmas.List.Folds.{find-append}
+use Rattle.std.proofs.lemmas.List.Sums.{sum_by-append}
+use Rattle.std.proofs.lemmas.List.{length-append}
+use Rattle.babel_tlv.specs.declared.event.Event.{Event}
+use Rattle.babel_tlv.specs.declared.event.Event.TheVariants as events
+use Rattle.babel_tlv.specs.declared.fault.Fault.{Fault}
+use Rattle.babel_tlv.specs.declared.reason.Reason.{Reason}
+use Rattle.babel_tlv.specs.declared.reason.Reason.TheVariants as reasons
+use Rattle.babel_tlv.specs.Says.{Saying}
+use Rattle.babel_table.specs.Counts.{Counts, reason_place, all_reasons, is_ignored_for, ignored_in, counts_of, count_at, one_more, ignored_with, counted_with}
+
+abbrev Count : Type 0
+Count = Option (ℕ × ℕ)
+
+abbrev bumped : Bool → ℕ → Count → Count
+bumped true at old = one_more at old
+bumped false at old = old
+
+count-cons : (p : Saying → Bool) (x : Saying) (said : List Saying) → count_by p (x ∷ said) ≡ cond (p x) 1 0 + count_by p said
+count-cons p x said = sum_by-append (λ s. cond (p s) 1 0) (x ∷ []) said ∙ ap (λ (n : ℕ). n + count_by p said) (zero_more (cond (p x) 1 0))
+  where
+    zero_more : (n : ℕ) → 0 + n ≡ n
+    zero_more n = omega arith
+
+count-none : (p : Saying → Bool) (said : List Saying) → find p said ≡ None → count_by p said ≡ 0
+count-none p [] none = refl
+count-none p (x ∷ said) none = count-cons p x said ∙ by (count-none p said) (p x) none
+  where
+    by : (find p said ≡ None → count_by p said ≡ 0) → (b : Bool) → cond b (Some x) (find p said) ≡ None → cond b 1 0 + count_by p said ≡ 0
+    by again true e = absurd cc
+    by again false e = (let none : count_by p said ≡ 0 = again e in omega arith)
+
+merged : (n m at : ℕ) (s : Saying) (b : Bool) (f : Option Saying) → m ≡ n + cond b 1 0 → (f ≡ None → n ≡ 0) → s.at ≡ at
+    → option_map (λ (x : Saying). (m, x.at)) (option_or f (cond b (Some s) None)) ≡ bumped b at (option_map (λ (x : Saying). (n, x.at)) f)
+merged n m at s true None is none here = (let one : m ≡ 1 = is ∙ (rw (none refl) refl) in rw (one, here) refl)
+merged n m at s false None is none here = refl
+merged n m at s true (Some x) is none here = rw is refl
+merged n m at s false (Some x) is none here = (let e : m ≡ n = omega arith in ap (λ (k : ℕ). Some (k, x.at)) e)
+
+count-push : (p : Saying → Bool) (said : List Saying) (s : Saying) → count_by p (said ++ s ∷ []) ≡ count_by p said + cond (p s) 1 0
+count-push p said s = sum_by-append (λ x. cond (p x) 1 0) said (s ∷ []) ∙ ap (λ (n : ℕ). count_by p said + n) (zero_more (cond (p s) 1 0))
+  where
+    zero_more : (n : ℕ) → 0 + n ≡ n
+    zero_more n = omega arith
+
+ignored-push : (reason : Reason) (said : List Saying) (s : Saying) → ignored_in (said ++ s ∷ []) reason ≡ bumped (is_ignored_for reason s.what) s.at (ignored_in said reason)
+ignored-push reason said s =
+    let p : Saying → Bool = λ x. is_ignored_for reason x.what in
+    ap (λ (f : Option Saying). option_map (λ (x : Saying). (count_by p (said ++ s ∷ []), x.at)) f) (find-append p said (s ∷ []))
+    ∙ merged (count_by p said) (count_by p (said ++ s ∷ [])) s.at s (p s) (find p said) (count-push p said s) (count-none p said) refl
+
+map-same : (f g : Reason → Count) → ((r : Reason) → f r ≡ g r) → (rs : List Reason) → map f rs ≡ map g rs
+map-same f g same [] = refl
+map-same f g same (r ∷ rs) = ap (λ (x : Count). x ∷ map f rs) (same r) ∙ ap (λ (t : List Count). g r ∷ t) (map-same f g same rs)
+
+-- one more ignored TLV changes the place of its reason
+set_one : (f : Reason → Count) (at : ℕ) (reason : Reason) → map (λ (r : Reason). bumped (is_ignored_for r (Ok (events.Ignored reason))) at (f r)) all_reasons ≡ ignored_with (map f all_reasons) (events.Ignored reason) at
+set_one f at reasons.Short = refl
+set_one f at reasons.UnknownEncoding = refl
+set_one f at reasons.WildcardFinite = refl
+set_one f at reasons.WildcardPrefix = refl
+set_one f at reasons.BadPlen = refl
+set_one f at reasons.BadOmitted = refl
+set_one f at reasons.NoDefault = refl
+set_one f at reasons.ShortPrefix = refl
+set_one f at reasons.BadSub = refl
+set_one f at reasons.UnknownMandatory = refl
+set_one f at reasons.TwoSources = refl
+set_one f at reasons.BadSource = refl
+set_one f at reasons.WildcardSource = refl
+set_one f at reasons.NoRouterId = refl
+set_one f at reasons.ReservedRouterId = refl
+set_one f at reasons.NoNextHop = refl
+
+by_event : (f : Reason → Count) (at : ℕ) (event : Event) → map (λ (r : Reason). bumped (is_ignored_for r (Ok event)) at (f r)) all_reasons ≡ ignored_with (map f all_reasons) event at
+by_event f at (events.Announce key ann) = refl
+by_event f at (events.Retract key) = refl
+by_event f at events.RetractAll = refl
+by_event f at events.Nothing = refl
+by_event f at (events.Ignored reason) = set_one f at reason
+
+abbrev counts : ℕ → List Count → Counts
+counts tlvs ignored = record { tlvs = tlvs; ignored = ignored }
+
+abbrev saying : ℕ → Event → Saying
+saying at event = record { at = at; what = Ok event }
+
+pub counts-push : (said : List Saying) (at : ℕ) (event : Event) → counts_of (said ++ record { at = at; what = Ok event } ∷ []) ≡ counted_with (counts_of said) event at
+counts-push said at event =
+    let more : length (said ++ saying at event ∷ []) ≡ length said + 1 = length-append said (saying at event ∷ []) in
+    let each : map (ignored_in (said ++ saying at event ∷ [])) all_reasons ≡ ignored_with (map (ignored_in said) all_reasons) event at =
+    map-same (ignored_in (said ++ saying at event ∷ [])) (λ r. bumped (is_ignored_for r (Ok event)) at (ignored_in said r)) (λ r. ignored-push r said (saying at event)) all_reasons
+    ∙ by_event (ignored_in said) at event in
+    ap (λ (n : ℕ). counts n (map (ignored_in (said ++ saying at event ∷ [])) all_reasons)) more
+    ∙ ap (λ (t : List Count). counts (length said + 1) t) each
+
+-- ---- no count is above that of all TLVs
+
+abbrev pub IsBelow : ℕ → Count → Type 0
+IsBelow tlvs counted = IfSome counted (λ c. c.0 ≤ tlvs)
+
+below-more : (tlvs : ℕ) (counted : Count) → IsBelow tlvs counted → IsBelow (tlvs + 1) counted
+below-more tlvs None le = le
+below-more tlvs (Some c) le = omega arith
+
+pub one_more-below : (tlvs at : ℕ) (counted : Count) → IsBelow tlvs counted → IsBelow (tlvs + 1) (one_more at counted)
+one_more-below tlvs at None le = omega arith
+one_more-below tlvs at (Some c) le = omega arith
+
+pub all_below-more : (tlvs : ℕ) (ignored : List Count) → ((i : ℕ) → IsBelow tlvs (count_at ignored i)) → (i : ℕ) → IsBelow (tlvs + 1) (count_at ignored i)
+all_below-more tlvs ignored all i = below-more tlvs (count_at ignored i) (all i)
+
+pub all_below-set : (tlvs : ℕ) (ignored : List Count) (place : ℕ) (new : Count) → ((i : ℕ) → IsBelow tlvs (count_at ignored i)) → IsBelow tlvs new → (i : ℕ) → IsBelow tlvs (count_at (slice_set ignored place new) i)
+all_below-set tlvs [] place new all le i = all i
+all_below-set tlvs (x ∷ xs) zero new all le zero = le
+all_below-set tlvs (x ∷ xs) zero new all le (suc i) = all (suc i)
+all_below-set tlvs (x ∷ xs) (suc place) new all le zero = all zero
+all_below-set tlvs (x ∷ xs) (suc place) new all le (suc i) = all_below-set tlvs xs place new (λ j. all (suc j)) le i
+
+pub got-count_at : (xs : List Count) (i : ℕ) (d : Count) → i < length xs → get_or xs i d ≡ count_at xs i
+got-count_at [] i d less = absurd (omega arith)
+got-count_at (x ∷ xs) zero d less = by x
+  where
+    by : (x : Count) → x ≡ option_flatten (Some x)
+    by None = refl
+    by (Some c) = refl
+got-count_at (x ∷ xs) (suc i) d less = got-count_at xs i d (omega arith)
+
+pub all_below-one : (tlvs at : ℕ) (ignored : List Count) (place : ℕ) (new : Count) → ((i : ℕ) → IsBelow tlvs (count_at ignored i)) → new ≡ one_more at (count_at ignored place)
+    → (i : ℕ) → IsBelow (tlvs + 1) (count_at (slice_set ignored place new) i)
+all_below-one tlvs at ignored place new all is =
+    all_below-set (tlvs + 1) ignored place new (all_below-more tlvs ignored all) (subst (IsBelow (tlvs + 1)) (sym is) (one_more-below tlvs at (count_at ignored place) (all place)))

@@ -1,0 +1,83 @@
+-- Sayings that are fine, and one more.
+use Rattle.std.proofs.Common.{◌≡◌, ℕ, suc, ◌+◌, ◌<◌, ◌≤◌, List, [], ◌∷◌, ◌++◌, length, refl, sym, ap, subst, ◌∙◌, append_assoc, inl, inr, arith}
+use Rattle.std.specs.Prelude.{Result, Ok, Err, OnOk, ◌⊎◌}
+use Rattle.babel_tlv.specs.declared.event.Event.{Event}
+use Rattle.babel_tlv.specs.declared.fault.Fault.{Fault}
+use Rattle.babel_tlv.specs.declared.held.Held.{Held}
+use Rattle.babel_tlv.specs.declared.mode.Mode.{Mode}
+use Rattle.babel_tlv.specs.Route.{RouteKey}
+use Rattle.babel_tlv.specs.Says.{Saying}
+use Rattle.babel_table.specs.Counts.{Counts, counts_of, counted_with}
+use Rattle.babel_table.specs.DumpFault.{AreFine, Refuses, RefusedBy}
+use Rattle.babel_table.specs.Feeding.{StandsBehind, Follows}
+use Rattle.babel_table.specs.Holds.{AreRowsOf, HoldsAtMost, HoldsMoreThan}
+use Rattle.babel_table.specs.Rows.{Routes}
+use Rattle.babel_table.proofs.CountLaws.{counts-push}
+use Rattle.babel_table.proofs.RowsLaws.{rows-none, not_more}
+
+abbrev pub saying : ℕ → Event → Saying
+saying at event = record { at = at; what = Ok event }
+
+abbrev pub routes : List (RouteKey × Held) → Counts → Routes
+routes rows report = record { rows = rows; report = report }
+
+fine-push : (mode : Mode) (entries : ℕ) (before : List Event) (said : List Saying) (events : List Event) (at : ℕ) (event : Event) → AreFine mode entries before said events
+    → HoldsAtMost mode entries (events ++ event ∷ []) → AreFine mode entries before (said ++ saying at event ∷ []) (events ++ event ∷ [])
+fine-push mode entries before [] events at event fine few =
+    let same : events ≡ before = fine in
+    (event, refl, subst (λ (es : List Event). HoldsAtMost mode entries (es ++ event ∷ [])) same few, ap (λ (es : List Event). es ++ event ∷ []) same)
+fine-push mode entries before (first ∷ said) events at event (e, is, here, later) few = (e, is, here, fine-push mode entries (before ++ e ∷ []) said events at event later few)
+
+-- one more event that is taken
+pub stands-push : (mode : Mode) (entries : ℕ) (old new : List (RouteKey × Held)) (report : Counts) (event : Event) (at : ℕ) → Follows mode event old new → length new ≤ entries
+    → (said : List Saying) → StandsBehind mode entries (routes old report) said → StandsBehind mode entries (routes new (counted_with report event at)) (said ++ saying at event ∷ [])
+stands-push mode entries old new report event at follows few said stands = record {
+  events = stands.events ++ event ∷ [];
+  fine = fine-push mode entries [] said stands.events at event stands.fine (new, follows stands.events stands.rows, few);
+  rows = follows stands.events stands.rows;
+  report = ap (λ (c : Counts). counted_with c event at) stands.report ∙ sym (counts-push said at event);
+}
+
+pub stands-none : (mode : Mode) (entries : ℕ) → StandsBehind mode entries (routes [] (counts_of [])) []
+stands-none mode entries = record { events = []; fine = refl; rows = rows-none mode; report = refl }
+
+-- the first saying that isn't taken refuses the dump
+pub refused_by : (mode : Mode) (entries : ℕ) (table : Routes) (said : List Saying) (one : Saying) (later : List Saying) (fault : Fault) → StandsBehind mode entries table said
+    → ((events : List Event) → AreRowsOf mode events table.rows → Refuses mode entries events one.at one.what fault) → RefusedBy mode entries (said ++ one ∷ later) fault
+refused_by mode entries table said one later fault stands refuses =
+    (said, one, later, stands.events, refl, stands.fine, refuses stands.events stands.rows)
+
+-- ---- fine sayings are not refused
+
+one_event : (a b : Event) (r : Result Event Fault) → r ≡ Ok a → r ≡ Ok b → a ≡ b
+one_event a b r p q = cc
+
+no_fault : (a : Event) (fault : Fault) (r : Result Event Fault) → r ≡ Ok a → r ≡ Err fault → ⊥
+no_fault a fault r p q = cc
+
+refuses-not : (mode : Mode) (entries : ℕ) (events : List Event) (at : ℕ) (what : Result Event Fault) (event : Event) (fault : Fault) → what ≡ Ok event → HoldsAtMost mode entries (events ++ event ∷ [])
+    → Refuses mode entries events at what fault → ⊥
+refuses-not mode entries events at (Err f) event fault is few refuses = no_fault event f (Err f) is refl
+refuses-not mode entries events at (Ok e) event fault is few (isf, more) =
+    not_more mode entries (events ++ event ∷ []) few (subst (λ (x : Event). HoldsMoreThan mode entries (events ++ x ∷ [])) (one_event e event (Ok e) refl is) more)
+
+fine-refused : (mode : Mode) (entries : ℕ) (before : List Event) (front : List Saying) (one : Saying) (later : List Saying) (said mid : List Event) (fault : Fault)
+    → AreFine mode entries before (front ++ one ∷ later) said → AreFine mode entries before front mid → Refuses mode entries mid one.at one.what fault → ⊥
+fine-refused mode entries before [] one later said mid fault (e, is, few, rest) same refuses =
+    refuses-not mode entries mid one.at one.what e fault is (subst (λ (es : List Event). HoldsAtMost mode entries (es ++ e ∷ [])) (sym same) few) refuses
+fine-refused mode entries before (x ∷ front) one later said mid fault (e, is, few, rest) (d, is_d, few_d, rest_d) refuses =
+    fine-refused mode entries (before ++ e ∷ []) front one later said mid fault rest
+    (subst (λ (v : Event). AreFine mode entries (before ++ v ∷ []) front mid) (one_event d e x.what is_d is) rest_d) refuses
+
+-- sayings that are all fine refuse no dump, nor does any front of them
+pub fine-not-refused : (mode : Mode) (entries : ℕ) (said more : List Saying) (events : List Event) (fault : Fault) → AreFine mode entries [] (said ++ more) events → RefusedBy mode entries said fault → ⊥
+fine-not-refused mode entries said more events fault fine (front, one, later, before, is, fine_front, refuses) =
+    fine-refused mode entries [] front one (later ++ more) events before fault
+    (subst (λ (s : List Saying). AreFine mode entries [] s events) (ap (λ (s : List Saying). s ++ more) is ∙ append_assoc front (one ∷ later) more) fine) fine_front refuses
+
+pub taken-stands : (mode : Mode) (entries : ℕ) (old new : List (RouteKey × Held)) (report counted : Counts) (event : Event) (at : ℕ) (r : Result (Unit {0}) Fault) → OnOk r (Follows mode event old new)
+    → length new ≤ entries → counted ≡ counted_with report event at
+    → OnOk r ((said : List Saying) → StandsBehind mode entries (routes old report) said → StandsBehind mode entries (routes new counted) (said ++ saying at event ∷ []))
+taken-stands mode entries old new report counted event at (Ok u) follows few is =
+    λ said stands. subst (λ (c : Counts). StandsBehind mode entries (routes new c) (said ++ saying at event ∷ [])) (sym is) (stands-push mode entries old new report event at follows few said stands)
+taken-stands mode entries old new report counted event at (Err fault) follows few is = tt

@@ -1,0 +1,146 @@
+-- TLVs of a packet, taken one by one.
+use Rattle.std.proofs.Common.{◌≡◌, ℕ, zero, suc, ◌+◌, ◌<◌, ◌≤◌, ltb, Bool, true, false, cond, take, List, [], ◌∷◌, ◌++◌, length, refl, sym, ap, subst, ◌∙◌, append_assoc, inl, inr, arith}
+use Rattle.std.specs.Prelude.{Result, Ok, Err, OnOk, IfErr, ◌⊎◌}
+use Rattle.std.specs.List.{Contains}
+use Rattle.std.proofs.lemmas.List.{append-nil}
+use Rattle.std.proofs.lemmas.List.Elements.{Contains-append_left, Contains-append_right}
+use Rattle.babel_prefix.specs.Address.{Address}
+use Rattle.babel_tlv.specs.declared.event.Event.{Event}
+use Rattle.babel_tlv.specs.declared.fault.Fault.{Fault}
+use Rattle.babel_tlv.specs.declared.fault.Fault.TheVariants as faults
+use Rattle.babel_tlv.specs.declared.mode.Mode.{Mode}
+use Rattle.babel_tlv.specs.Framing.{TlvAt, tlvs_past, tlvs_of}
+use Rattle.babel_tlv.specs.Context.{Context, context_after}
+use Rattle.babel_tlv.specs.Says.{Saying, said, sayings_behind}
+use Rattle.babel_table.specs.DumpFault.{Refuses, RefusedBy}
+use Rattle.babel_table.specs.Feeding.{StandsBehind, Takes, Fails, TookSome, SomeMayGrow, MayGrow, MayGrowAt, IsRefused, event_at}
+use Rattle.babel_table.specs.Holds.{HoldsMoreThan}
+use Rattle.babel_table.specs.Rows.{Routes}
+use Rattle.babel_table.proofs.FineLaws.{refused_by}
+
+module _ (mode : Mode) (entries : ℕ) (sender : Address) (old : Routes) (all : List TlvAt) where
+  pub took-none : TookSome mode entries sender old all old (context_after sender []) all
+  took-none = record {
+    earlier = [];
+    done = [];
+    context_is = refl;
+    whole = refl;
+    stands = λ before stands. subst (StandsBehind mode entries old) (sym (append-nil before)) stands;
+  }
+
+  here_said : (context : Context) (tlv : TlvAt) (some : List TlvAt) (event : Event) → context ≡ context_after sender some → said context tlv ≡ Ok event → said (context_after sender some) tlv ≡ Ok event
+  here_said context tlv some event is e = subst (λ (c : Context). said c tlv ≡ Ok event) is e
+
+  abbrev what : ℕ → Result Event Fault → Saying
+  what at r = record { at = at; what = r }
+
+  pub took-next : (now next : Routes) (context after : Context) (tlv : TlvAt) (left : List TlvAt) (event : Event) → TookSome mode entries sender old all now context (tlv ∷ left)
+      → said context tlv ≡ Ok event → ((earlier : List TlvAt) → context ≡ context_after sender earlier → after ≡ context_after sender (tlv ∷ earlier))
+      → ((before : List Saying) → StandsBehind mode entries now before → StandsBehind mode entries next (before ++ event_at tlv.at event ∷ []))
+      → TookSome mode entries sender old all next after left
+  took-next now next context after tlv left event some is_said goes takes =
+      let here : what tlv.at (said (context_after sender some.earlier) tlv) ≡ event_at tlv.at event = ap (what tlv.at) (here_said context tlv some.earlier event some.context_is is_said) in
+      record {
+        earlier = tlv ∷ some.earlier;
+        done = some.done ++ event_at tlv.at event ∷ [];
+        context_is = goes some.earlier some.context_is;
+        whole = some.whole ∙ ap (λ (s : Saying). some.done ++ s ∷ sayings_behind sender (tlv ∷ some.earlier) left) here
+            ∙ sym (append_assoc some.done (event_at tlv.at event ∷ []) (sayings_behind sender (tlv ∷ some.earlier) left));
+        stands = λ before stands. subst (StandsBehind mode entries next) (append_assoc before some.done (event_at tlv.at event ∷ [])) (takes (before ++ some.done) (some.stands before stands));
+      }
+
+  pub took-all : (now : Routes) (context : Context) (left : List TlvAt) → TookSome mode entries sender old all now context left → left ≡ [] → Takes mode entries (sayings_behind sender [] all) old now
+  took-all now context [] some none before stands =
+      subst (λ (s : List Saying). StandsBehind mode entries now (before ++ s)) (sym (some.whole ∙ append-nil some.done)) (some.stands before stands)
+  took-all now context (tlv ∷ left) some none before stands = absurd cc
+
+  -- the TLV refuses the dump
+  pub took-refused : (now : Routes) (context : Context) (tlv : TlvAt) (left : List TlvAt) (fault : Fault) → TookSome mode entries sender old all now context (tlv ∷ left)
+      → said context tlv ≡ Err fault → Fails mode entries (sayings_behind sender [] all) old fault
+  took-refused now context tlv left fault some is_said =
+      let here : said (context_after sender some.earlier) tlv ≡ Err fault = subst (λ (c : Context). said c tlv ≡ Err fault) some.context_is is_said in
+      let one : Saying = what tlv.at (said (context_after sender some.earlier) tlv) in
+      let rest : List Saying = sayings_behind sender (tlv ∷ some.earlier) left in
+      let whole : sayings_behind sender [] all ≡ some.done ++ (one ∷ rest) = some.whole in
+      inl (λ before later stands.
+      subst (λ (s : List Saying). RefusedBy mode entries s fault)
+      (append_assoc before some.done (one ∷ rest ++ later) ∙ ap (λ (s : List Saying). before ++ s) (sym (append_assoc some.done (one ∷ rest) later)) ∙ ap (λ (s : List Saying). before ++ (s ++ later)) (sym whole) ∙ sym (append_assoc before (sayings_behind sender [] all) later))
+      (refused_by mode entries now (before ++ some.done) one (rest ++ later) fault (some.stands before stands)
+      (λ events are. subst (λ (r : Result Event Fault). Refuses mode entries events tlv.at r fault) (sym here) refl)))
+
+  -- there would be too many rows, or there is no memory
+  pub took-failed : (now : Routes) (context : Context) (tlv : TlvAt) (left : List TlvAt) (event : Event) (fault : Fault) → TookSome mode entries sender old all now context (tlv ∷ left)
+      → said context tlv ≡ Ok event → IsRefused mode entries tlv.at event now.rows fault → Fails mode entries (sayings_behind sender [] all) old fault
+  took-failed now context tlv left event fault some is_said (inl (is, over)) =
+      let here : said (context_after sender some.earlier) tlv ≡ Ok event = here_said context tlv some.earlier event some.context_is is_said in
+      let one : Saying = what tlv.at (said (context_after sender some.earlier) tlv) in
+      let rest : List Saying = sayings_behind sender (tlv ∷ some.earlier) left in
+      let whole : sayings_behind sender [] all ≡ some.done ++ (one ∷ rest) = some.whole in
+      inl (λ before later stands.
+      subst (λ (s : List Saying). RefusedBy mode entries s fault)
+      (append_assoc before some.done (one ∷ rest ++ later) ∙ ap (λ (s : List Saying). before ++ s) (sym (append_assoc some.done (one ∷ rest) later)) ∙ ap (λ (s : List Saying). before ++ (s ++ later)) (sym whole) ∙ sym (append_assoc before (sayings_behind sender [] all) later))
+      (refused_by mode entries now (before ++ some.done) one (rest ++ later) fault (some.stands before stands)
+      (λ events are. subst (λ (r : Result Event Fault). Refuses mode entries events tlv.at r fault) (sym here) (is, over events are))))
+  took-failed now context tlv left event fault some is_said (inr (memory, grow)) =
+      let here : said (context_after sender some.earlier) tlv ≡ Ok event = here_said context tlv some.earlier event some.context_is is_said in
+      let one : Saying = what tlv.at (said (context_after sender some.earlier) tlv) in
+      let rest : List Saying = sayings_behind sender (tlv ∷ some.earlier) left in
+      let whole : sayings_behind sender [] all ≡ some.done ++ (one ∷ rest) = some.whole in
+      inr (
+        memory,
+        (
+          one,
+          subst (λ (s : List Saying). Contains s one) (sym whole) (Contains-append_right some.done (one ∷ rest) one (0, omega arith, refl)),
+          subst (λ (r : Result Event Fault). MayGrowAt mode r) (sym here) grow,
+        ),
+      )
+
+-- a body has at most as many TLVs as octets
+pub length-tlvs_past : (past at : ℕ) (octets : List ℕ) → length (tlvs_past past at octets) ≤ length octets
+length-tlvs_past (suc past) at [] = omega arith
+length-tlvs_past (suc past) at (x ∷ octets) = (let le = length-tlvs_past past at octets in omega (arith, le))
+length-tlvs_past zero at [] = omega arith
+length-tlvs_past zero at (zero ∷ octets) = (let le = length-tlvs_past zero (at + 1) octets in omega (arith, le))
+length-tlvs_past zero at (suc kind ∷ []) = omega arith
+length-tlvs_past zero at (suc kind ∷ len ∷ octets) = by (ltb (length octets) len) (length-tlvs_past len (at + (2 + len)) octets)
+  where
+    by : (b : Bool) → length (tlvs_past len (at + (2 + len)) octets) ≤ length octets
+        → length (cond b [] (record { at = at; kind = suc kind; body = take len octets } ∷ tlvs_past len (at + (2 + len)) octets)) ≤ suc (suc (length octets))
+    by true le = omega arith
+    by false le = omega arith
+
+pub length-tlvs_of : (at : ℕ) (octets : List ℕ) → length (tlvs_of at octets) ≤ length octets
+length-tlvs_of at octets = length-tlvs_past 0 at octets
+
+-- ---- the same as a loop meets them
+
+module _ (mode : Mode) (entries : ℕ) (sender : Address) (old : Routes) (all : List TlvAt) (m : Mode) (e : ℕ) (is_m : m ≡ mode) (is_e : e ≡ entries) where
+  pub body-next : (now next : Routes) (context after : Context) (tlv : TlvAt) (all_left left : List TlvAt) (event : Event) → all_left ≡ tlv ∷ left → TookSome mode entries sender old all now context all_left
+      → Ok event ≡ said context tlv → ((earlier : List TlvAt) → context ≡ context_after sender earlier → after ≡ context_after sender (tlv ∷ earlier))
+      → ((before : List Saying) → StandsBehind m e now before → StandsBehind m e next (before ++ event_at tlv.at event ∷ []))
+      → TookSome mode entries sender old all next after left
+  body-next now next context after tlv all_left left event is_left some is_said goes takes =
+      took-next mode entries sender old all now next context after tlv left event (subst (λ (l : List TlvAt). TookSome mode entries sender old all now context l) is_left some) (sym is_said) goes
+      (subst (λ (n : ℕ). (before : List Saying) → StandsBehind mode n now before → StandsBehind mode n next (before ++ event_at tlv.at event ∷ [])) is_e
+      (subst (λ (o : Mode). (before : List Saying) → StandsBehind o e now before → StandsBehind o e next (before ++ event_at tlv.at event ∷ [])) is_m takes))
+
+  pub body-refused : (now : Routes) (context : Context) (tlv : TlvAt) (all_left left : List TlvAt) (fault : Fault) → all_left ≡ tlv ∷ left → TookSome mode entries sender old all now context all_left
+      → Err fault ≡ said context tlv → Fails mode entries (sayings_behind sender [] all) old fault
+  body-refused now context tlv all_left left fault is_left some is_said =
+      took-refused mode entries sender old all now context tlv left fault (subst (λ (l : List TlvAt). TookSome mode entries sender old all now context l) is_left some) (sym is_said)
+
+  pub body-failed : (now : Routes) (context : Context) (tlv : TlvAt) (all_left left : List TlvAt) (event : Event) (fault : Fault) → all_left ≡ tlv ∷ left → TookSome mode entries sender old all now context all_left
+      → Ok event ≡ said context tlv → IsRefused m e tlv.at event now.rows fault → Fails mode entries (sayings_behind sender [] all) old fault
+  body-failed now context tlv all_left left event fault is_left some is_said refused =
+      took-failed mode entries sender old all now context tlv left event fault (subst (λ (l : List TlvAt). TookSome mode entries sender old all now context l) is_left some) (sym is_said)
+      (subst (λ (n : ℕ). IsRefused mode n tlv.at event now.rows fault) is_e (subst (λ (o : Mode). IsRefused o e tlv.at event now.rows fault) is_m refused))
+
+pub took-start : (mode : Mode) (entries : ℕ) (sender : Address) (old : Routes) (all : List TlvAt) (context : Context) (left : List TlvAt) → context ≡ context_after sender [] → left ≡ all
+    → TookSome mode entries sender old all old context left
+took-start mode entries sender old all context left is_context is_left = record {
+  earlier = [];
+  done = [];
+  context_is = is_context;
+  whole = ap (λ (l : List TlvAt). sayings_behind sender [] l) (sym is_left);
+  stands = λ before stands. subst (StandsBehind mode entries old) (sym (append-nil before)) stands;
+}

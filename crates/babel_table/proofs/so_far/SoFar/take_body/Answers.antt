@@ -1,0 +1,41 @@
+use Rattle.std.proofs.Common.{rules, ◌≡◌, ◌≤◌, ◌<◌, ◌+◌, ◌∷◌, [], ℕ, List, map, length, arith, refl, sym, ap, subst, ◌∙◌}
+use Rattle.babel_tlv.specs.Framing.{TlvAt, tlvs_of}
+use Rattle.babel_tlv.specs.Frames.{tlv_value}
+use Rattle.babel_tlv.specs.Context.{Context, context_after}
+use Rattle.babel_tlv.specs.Left.{tlvs_left}
+use Rattle.babel_table.specs.Feeding.{TookSome, routes}
+use Rattle.babel_table.proofs.TookLaws.{took-start, body-next, body-refused, body-failed, length-tlvs_of}
+use Rattle.babel_table.proofs.so_far.SoFar.take_body.Goals as goal
+
+pub loop-tlv-init : goal.loop-tlv-init
+loop-tlv-init c =
+    let left : tlvs_left c.into_iter-tlv-iterator.result ≡ tlvs_of c.args.at c.args.body.now = ap tlvs_left c.into_iter-tlv-iterator.ensures.into_iter_gives ∙ c.new-tlv-items.ensures in
+    record {
+      mode = refl;
+      entries = refl;
+      room = (let le : length (tlvs_left c.into_iter-tlv-iterator.result) ≤ length c.args.body.now = rw left (length-tlvs_of c.args.at c.args.body.now) in omega arith);
+      some = took-start c.args.self.now.rows.mode c.args.self.now.rows.entries c.args.sender (routes c.args.self.now.rows.rows c.args.self.now.report) (tlvs_of c.args.at c.args.body.now) c.new-state.result _ c.new-state.ensures left;
+    }
+
+pub returns-in-Err-clause-fails : goal.returns-in-Err-clause-fails
+returns-in-Err-clause-fails c =
+    body-refused c.args.self.now.rows.mode c.args.self.now.rows.entries c.args.sender _ _ c.loop-tlv.self.rows.mode c.loop-tlv.self.rows.entries c.loop-tlv.invariant.mode c.loop-tlv.invariant.entries
+    _ c.loop-tlv.state (tlv_value c.in-Some.tlv) (tlvs_left c.loop-tlv.tlv-iterator) (tlvs_left c.next.new.self) c.in-Err.fault c.in-Some.ensures.steps c.loop-tlv.invariant.some c.in-Err.ensures.said
+
+pub loop-tlv-preserved : goal.loop-tlv-preserved
+loop-tlv-preserved c =
+    let steps : tlvs_left c.loop-tlv.tlv-iterator ≡ tlv_value c.in-Some.tlv ∷ tlvs_left c.next.new.self = c.in-Some.ensures.steps in
+    record {
+      mode = c.take.ensures.mode ∙ c.loop-tlv.invariant.mode;
+      entries = c.take.ensures.entries ∙ c.loop-tlv.invariant.entries;
+      room = omega (arith, ap length steps, c.take.ensures.tlvs, c.loop-tlv.invariant.room);
+      some = body-next c.args.self.now.rows.mode c.args.self.now.rows.entries c.args.sender _ _ c.loop-tlv.self.rows.mode c.loop-tlv.self.rows.entries c.loop-tlv.invariant.mode c.loop-tlv.invariant.entries
+          (routes c.loop-tlv.self.rows.rows c.loop-tlv.self.report) _ c.loop-tlv.state c.step.new.self (tlv_value c.in-Some.tlv) (tlvs_left c.loop-tlv.tlv-iterator) (tlvs_left c.next.new.self) c.in-Ok.event steps c.loop-tlv.invariant.some
+          c.in-Ok.ensures.said (λ earlier is. c.in-Ok.ensures.state c.args.sender earlier is) c.in-Ok-take.ensures.ok;
+    }
+
+pub returns-in-Err-take-clause-fails : goal.returns-in-Err-take-clause-fails
+returns-in-Err-take-clause-fails c =
+    body-failed c.args.self.now.rows.mode c.args.self.now.rows.entries c.args.sender _ _ c.loop-tlv.self.rows.mode c.loop-tlv.self.rows.entries c.loop-tlv.invariant.mode c.loop-tlv.invariant.entries
+    (routes c.loop-tlv.self.rows.rows c.loop-tlv.self.report) c.loop-tlv.state (tlv_value c.in-Some.tlv) (tlvs_left c.loop-tlv.tlv-iterator) (tlvs_left c.next.new.self) c.in-Ok.event c.in-Err-take.fault c.in-Some.ensures.steps
+    c.loop-tlv.invariant.some c.in-Ok.ensures.said c.in-Err-take.ensures.refused

@@ -1,0 +1,79 @@
+-- What a report says of the TLVs of a dump.
+use Rattle.std.specs.Prelude.{ℕ, ◌+◌, Bool, false, ◌==◌, List, [], ◌∷◌, length, map, slice_set, Option, None, Some, Result, Ok, Err, slice_get, count_by}
+use Rattle.std.specs.List.{find}
+use Rattle.std.specs.Option.{option_map, option_flatten}
+use Rattle.babel_tlv.specs.declared.reason.Reason.{Reason}
+use Rattle.babel_tlv.specs.declared.reason.Reason.TheVariants as reasons
+use Rattle.babel_tlv.specs.declared.event.Event.{Event}
+use Rattle.babel_tlv.specs.declared.event.Event.TheVariants as events
+use Rattle.babel_tlv.specs.declared.fault.Fault.{Fault}
+use Rattle.babel_tlv.specs.Says.{Saying}
+
+-- how many TLVs there are, and for each reason, in the order of the reasons, how many were ignored for it and where the
+-- first lies
+pub record Counts : Type 0 where
+  pub tlvs : ℕ
+  pub ignored : List (Option (ℕ × ℕ))
+
+-- the place of a reason in their order
+abbrev pub reason_place : Reason → ℕ
+reason_place reasons.Short = 0
+reason_place reasons.UnknownEncoding = 1
+reason_place reasons.WildcardFinite = 2
+reason_place reasons.WildcardPrefix = 3
+reason_place reasons.BadPlen = 4
+reason_place reasons.BadOmitted = 5
+reason_place reasons.NoDefault = 6
+reason_place reasons.ShortPrefix = 7
+reason_place reasons.BadSub = 8
+reason_place reasons.UnknownMandatory = 9
+reason_place reasons.TwoSources = 10
+reason_place reasons.BadSource = 11
+reason_place reasons.WildcardSource = 12
+reason_place reasons.NoRouterId = 13
+reason_place reasons.ReservedRouterId = 14
+reason_place reasons.NoNextHop = 15
+
+abbrev pub all_reasons : List Reason
+all_reasons =
+    reasons.Short ∷ reasons.UnknownEncoding ∷ reasons.WildcardFinite ∷ reasons.WildcardPrefix ∷ reasons.BadPlen
+    ∷ reasons.BadOmitted ∷ reasons.NoDefault ∷ reasons.ShortPrefix ∷ reasons.BadSub ∷ reasons.UnknownMandatory
+    ∷ reasons.TwoSources ∷ reasons.BadSource ∷ reasons.WildcardSource ∷ reasons.NoRouterId ∷ reasons.ReservedRouterId
+    ∷ reasons.NoNextHop ∷ []
+
+abbrev pub count_at : List (Option (ℕ × ℕ)) → ℕ → Option (ℕ × ℕ)
+count_at counts place = option_flatten (slice_get counts place)
+
+-- the TLV was ignored for this reason
+abbrev pub is_ignored_for : Reason → Result Event Fault → Bool
+is_ignored_for reason (Ok (events.Announce key ann)) = false
+is_ignored_for reason (Ok (events.Retract key)) = false
+is_ignored_for reason (Ok events.RetractAll) = false
+is_ignored_for reason (Ok events.Nothing) = false
+is_ignored_for reason (Ok (events.Ignored other)) = reason_place other == reason_place reason
+is_ignored_for reason (Err fault) = false
+
+-- how many TLVs were ignored for the reason, and where the first lies
+abbrev pub ignored_in : List Saying → Reason → Option (ℕ × ℕ)
+ignored_in sayings reason =
+    let is_one : Saying → Bool = λ saying. is_ignored_for reason saying.what in
+    option_map (λ saying. (count_by is_one sayings, saying.at)) (find is_one sayings)
+
+abbrev pub counts_of : List Saying → Counts
+counts_of sayings = record { tlvs = length sayings; ignored = map (ignored_in sayings) all_reasons }
+
+-- one more ignored TLV at this offset
+abbrev pub one_more : ℕ → Option (ℕ × ℕ) → Option (ℕ × ℕ)
+one_more at None = Some (1, at)
+one_more at (Some counted) = Some (counted.0 + 1, counted.1)
+
+-- the counts of TLVs, and of one more that says this at this offset
+abbrev pub ignored_with : List (Option (ℕ × ℕ)) → Event → ℕ → List (Option (ℕ × ℕ))
+ignored_with ignored (events.Announce key ann) at = ignored
+ignored_with ignored (events.Retract key) at = ignored
+ignored_with ignored events.RetractAll at = ignored
+ignored_with ignored events.Nothing at = ignored
+ignored_with ignored (events.Ignored reason) at = slice_set ignored (reason_place reason) (one_more at (count_at ignored (reason_place reason)))
+
+abbrev pub counted_with : Counts → Event → ℕ → Counts
+counted_with counts event at = record { tlvs = counts.tlvs + 1; ignored = ignored_with counts.ignored event at }

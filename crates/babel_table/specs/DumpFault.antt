@@ -1,0 +1,77 @@
+-- Which fault a dump has: RFC 8966, 4.2 to 4.6, and the limits of a run.
+use Rattle.std.specs.Prelude.{◌≡◌, ◌≢◌, ℕ, ◌<◌, ◌≤◌, List, [], ◌∷◌, ◌++◌, length, take, Result, Ok, Err, ◌⊎◌}
+use Rattle.std.specs.List.{flat_map}
+use Rattle.babel_prefix.specs.Address.{Address}
+use Rattle.babel_tlv.specs.declared.event.Event.{Event}
+use Rattle.babel_tlv.specs.declared.fault.Fault.{Fault}
+use Rattle.babel_tlv.specs.declared.fault.Fault.TheVariants as faults
+use Rattle.babel_tlv.specs.declared.mode.Mode.{Mode}
+use Rattle.babel_tlv.specs.Framing.{TlvAt, ReadsAs, Framed, PacketFault, packet_octets}
+use Rattle.babel_tlv.specs.Says.{Saying, sayings}
+use Rattle.babel_table.specs.Bounds.{Bounds}
+use Rattle.babel_table.specs.Holds.{HoldsAtMost, HoldsMoreThan, AreRowsOf}
+use Rattle.babel_table.specs.Rows.{Routes}
+use Rattle.babel_table.specs.Counts.{counts_of}
+
+-- the sayings are these events, one each, and no more than so many keys hold behind any of them
+abbrev pub AreFine : Mode → ℕ → List Event → List Saying → List Event → Type 0
+AreFine mode entries before [] said = said ≡ before
+AreFine mode entries before (saying ∷ later) said =
+    (event : Event) × (saying.what ≡ Ok event) × HoldsAtMost mode entries (before ++ event ∷ [])
+    × AreFine mode entries (before ++ event ∷ []) later said
+
+-- behind these events, the TLV refuses the dump, or makes more than so many keys hold
+abbrev pub Refuses : Mode → ℕ → List Event → ℕ → Result Event Fault → Fault → Type 0
+Refuses mode entries before at (Err refused) fault = fault ≡ refused
+Refuses mode entries before at (Ok event) fault = (fault ≡ faults.TooManyRoutes at) × HoldsMoreThan mode entries (before ++ event ∷ [])
+
+-- the fault of the first TLV that refuses the dump
+abbrev pub RefusedBy : Mode → ℕ → List Saying → Fault → Type 0
+RefusedBy mode entries said fault =
+    (front : List Saying) × (saying : Saying) × (later : List Saying) × (before : List Event)
+    × (said ≡ front ++ saying ∷ later) × AreFine mode entries [] front before × Refuses mode entries before saying.at saying.what fault
+
+-- The octets are packets whose TLVs are fine, and then octets that aren't none and begin with no packet; or they begin
+-- with packets of which a TLV refuses the dump.
+abbrev pub StreamFault : Mode → ℕ → Address → List ℕ → Fault → Type 0
+StreamFault mode entries sender octets fault =
+    (packets : List (List TlvAt)) × (rest : List ℕ) × ReadsAs octets packets rest
+    × (((said : List Event) × AreFine mode entries [] (sayings sender packets) said × (rest ≢ [])
+    × PacketFault (length (flat_map packet_octets packets)) rest fault)
+    ⊎ RefusedBy mode entries (sayings sender packets) fault)
+
+abbrev pub IsTruncated : Fault → Type 0
+IsTruncated (faults.Truncated at) = Unit {0}
+IsTruncated (faults.BadMagic at) = ⊥
+IsTruncated (faults.BadVersion at) = ⊥
+IsTruncated (faults.TlvPastEnd at) = ⊥
+IsTruncated (faults.EncodingSetsRouterId at) = ⊥
+IsTruncated (faults.TooManyRoutes at) = ⊥
+IsTruncated faults.TooLong = ⊥
+IsTruncated faults.TooManyPairs = ⊥
+IsTruncated faults.Memory = ⊥
+
+-- The fault of a dump. Octets past the limit are never looked at: if there are any, it is that of the octets up to the
+-- limit unless these have none or are only truncated, and then TooLong.
+abbrev pub DumpFault : Bounds → Mode → Address → List ℕ → Fault → Type 0
+DumpFault limits mode sender dump fault =
+    ((length dump ≤ limits.bytes) × StreamFault mode limits.entries sender dump fault)
+    ⊎ ((limits.bytes < length dump) × StreamFault mode limits.entries sender (take limits.bytes dump) fault × ¬ IsTruncated fault)
+    ⊎ ((limits.bytes < length dump) × (fault ≡ faults.TooLong)
+    × ((other : Fault) → StreamFault mode limits.entries sender (take limits.bytes dump) other → IsTruncated other))
+
+abbrev pub HasNoFault : Bounds → Mode → Address → List ℕ → Type 0
+HasNoFault limits mode sender dump = (fault : Fault) → DumpFault limits mode sender dump fault → ⊥
+
+-- no fault, or the dump may still go on
+abbrev pub MayGoOn : Bounds → Mode → Address → List ℕ → Type 0
+MayGoOn limits mode sender dump = (fault : Fault) → DumpFault limits mode sender dump fault → IsTruncated fault
+
+-- the table of a dump: its rows are what holds behind its events, and its report counts its TLVs
+pub record IsTableOf (limits : Bounds) (mode : Mode) (sender : Address) (dump : List ℕ) (table : Routes) : Type 0 where
+  pub packets : List (List TlvAt)
+  pub said : List Event
+  pub reads : Framed dump packets
+  pub fine : AreFine mode limits.entries [] (sayings sender packets) said
+  pub rows : AreRowsOf mode said table.rows
+  pub report : table.report ≡ counts_of (sayings sender packets)

@@ -1,0 +1,28 @@
+-- The rows of a table.
+use Rattle.std.specs.Prelude.{◌≡◌, List, map}
+use Rattle.std.specs.List.{AllByRecursion}
+use Rattle.std.specs.List.Sorted.{IsStrictlySortedBy}
+use Rattle.std.specs.Map.{keys_of}
+use Rattle.babel_prefix.specs.Entries.{Entry}
+use Rattle.babel_tlv.specs.declared.held.Held.{Held}
+use Rattle.babel_tlv.specs.Route.{RouteKey, key_cmp}
+use Rattle.babel_tlv.specs.Pair.{IsPair}
+use Rattle.babel_table.specs.Counts.{Counts}
+
+-- the keys rise
+abbrev pub IsRising : {V : Type 0} → List (RouteKey × V) → Type 0
+IsRising rows = IsStrictlySortedBy key_cmp (keys_of rows)
+
+-- what every table keeps
+pub record AreRows (rows : List (RouteKey × Held)) : Type 0 where
+  pub rising : IsRising rows
+  pub each : AllByRecursion IsPair rows
+
+-- a table: its rows, and what was seen on the way
+pub record Routes : Type 0 where
+  pub rows : List (RouteKey × Held)
+  pub report : Counts
+
+-- the rows as entries to look up
+abbrev pub entries_of : {V : Type 0} → List (RouteKey × V) → List (Entry V)
+entries_of rows = map (λ row. (row.0.dst, row.0.src, row.1)) rows

@@ -1,0 +1,98 @@
+ghost use Rattle.std.specs.Prelude.{◌≡◌, ◌≤◌, ◌<◌, ◌+◌, ◌^◌, ◌++◌, ◌∷◌, [], List, length, drop, OnOk, IfOk, IfErr};
+ghost use Rattle.babel_table.specs.Feeding.{IsRefused, StandsBehind, Takes, Fails, TookPackets, StopsBehind, IsPartial, routes, event_at};
+ghost use Rattle.babel_tlv.specs.Says.{Saying, sayings_behind};
+ghost use Rattle.babel_tlv.specs.Framing.{Parts, tlvs_of};
+
+use crate::live::LiveRows;
+use crate::report::Report;
+use babel_prefix::Addr;
+use babel_tlv::{Event, Fault, Frame, State, Tlvs, check_body, frame};
+
+/// The table so far. All was retracted at most as often as TLVs were seen.
+#[derive(Drop)]
+pub struct SoFar {
+    pub rows: LiveRows,
+    pub report: Report,
+    ghost counted: { rows.wipes ≤ report.tlvs },
+}
+
+impl SoFar {
+    /// Takes what a TLV says, at this offset.
+    pub fn take(&mut self, event: Event, at: u64) -> Result<(), Fault>
+        requires { self.old.report.tlvs + 1 < 2 ^ 64 }
+        ensures mode { self.new.rows.mode ≡ self.old.rows.mode }
+        ensures entries { self.new.rows.entries ≡ self.old.rows.entries }
+        ensures tlvs { self.new.report.tlvs ≡ self.old.report.tlvs + 1 }
+
+        // The table behind some TLVs is then that behind these and this one.
+        ensures ok { OnOk result ((said : List Saying) → StandsBehind self.old.rows.mode self.old.rows.entries (routes self.old.rows.rows self.old.report) said
+            → StandsBehind self.old.rows.mode self.old.rows.entries (routes self.new.rows.rows self.new.report) (said ++ event_at at event ∷ [])) }
+        ensures refused { IfErr result (IsRefused self.old.rows.mode self.old.rows.entries at event self.old.rows.rows) }
+    {
+        self.report.count(&event, at);
+        let taken = self.rows.take(event, at);
+        self.rows.are_few();
+        taken
+    }
+
+    /// Takes the TLVs of a packet's body, whose first octet lies at this offset.
+    pub fn take_body(&mut self, sender: Addr, body: &[u8], at: u64) -> Result<(), Fault>
+        requires fits { at + length body.now < 2 ^ 64 }
+        requires whole { Parts at body.now (tlvs_of at body.now) }
+        requires room { self.old.report.tlvs + length body.now < 2 ^ 64 }
+        ensures mode { self.new.rows.mode ≡ self.old.rows.mode }
+        ensures entries { self.new.rows.entries ≡ self.old.rows.entries }
+        ensures tlvs { self.new.report.tlvs ≤ self.old.report.tlvs + length body.now }
+
+        // The table behind some TLVs is then that behind these and those of the body.
+        ensures ok { OnOk result (Takes self.old.rows.mode self.old.rows.entries (sayings_behind sender [] (tlvs_of at body.now))
+            (routes self.old.rows.rows self.old.report) (routes self.new.rows.rows self.new.report)) }
+        ensures fails { IfErr result (Fails self.old.rows.mode self.old.rows.entries (sayings_behind sender [] (tlvs_of at body.now)) (routes self.old.rows.rows self.old.report)) }
+    {
+        let mut state = State::new(sender);
+        for tlv in Tlvs::new(body, at) {
+            let event = match state.step(&tlv) {
+                Ok(event) => event,
+                Err(fault) => return Err(fault),
+            };
+            match self.take(event, tlv.at) {
+                Ok(()) => {}
+                Err(fault) => return Err(fault),
+            }
+        }
+        Ok(())
+    }
+
+    /// Takes the whole packets that the octets begin with, the first at this offset: how many octets they are.
+    pub fn take_packets(&mut self, sender: Addr, octets: &[u8], at: u64) -> Result<usize, Fault>
+        requires fits { at + length octets.now < 2 ^ 64 }
+        requires room { self.old.report.tlvs + length octets.now < 2 ^ 64 }
+        ensures mode { self.new.rows.mode ≡ self.old.rows.mode }
+        ensures entries { self.new.rows.entries ≡ self.old.rows.entries }
+        ensures took { IfOk result (λ used. TookPackets self.old.rows.mode self.old.rows.entries sender at octets.now
+            (routes self.old.rows.rows self.old.report) (routes self.new.rows.rows self.new.report) (drop used octets.now) (at + used)) }
+        ensures partial { IfOk result (λ used. IsPartial (drop used octets.now)) }
+        ensures stops { IfErr result (StopsBehind self.old.rows.mode self.old.rows.entries sender at octets.now (routes self.old.rows.rows self.old.report)) }
+    {
+        let mut rest = octets;
+        let mut place = at;
+        loop {
+            match frame(rest, place) {
+                Frame::Whole { body, used } => {
+                    match check_body(body, place + 4) {
+                        Ok(()) => {}
+                        Err(fault) => return Err(fault),
+                    }
+                    match self.take_body(sender, body, place + 4) {
+                        Ok(()) => {}
+                        Err(fault) => return Err(fault),
+                    }
+                    rest = &rest[used..];
+                    place += used as u64;
+                }
+                Frame::More => return Ok(octets.len() - rest.len()),
+                Frame::Bad(fault) => return Err(fault),
+            }
+        }
+    }
+}

@@ -1,0 +1,10 @@
+pub mod Route
+pub mod Pair
+pub mod Framing
+pub mod Frames
+pub mod Left
+pub mod Forming
+pub mod SubTlv
+pub mod Context
+pub mod Says
+pub mod Group

@@ -1,0 +1,22 @@
+-- A key and what is held for it: RFC 8966, 2.8; RFC 9079, 3.2.
+use Rattle.std.specs.Prelude.{◌≡◌}
+use Rattle.babel_prefix.specs.Address.{IsAddressPrefix}
+use Rattle.babel_tlv.specs.declared.held.Held.{Held}
+use Rattle.babel_tlv.specs.declared.held.Held.TheVariants as helds
+use Rattle.babel_tlv.specs.Route.{RouteKey, IsRouteKey, IsAnnouncement}
+
+-- a key and what is held for it
+abbrev pub Pair : Type 0
+Pair = RouteKey × Held
+
+-- an announcement with a next hop of the key's family, or unreachable
+abbrev pub FitsKey : RouteKey → Held → Type 0
+FitsKey key (helds.Route ann) = IsAnnouncement ann × (ann.next_hop.family ≡ key.dst.address.family)
+FitsKey key helds.Unreachable = Unit {0}
+
+-- two prefixes of one family, and what fits them
+pub record IsPair (pair : Pair) : Type 0 where
+  pub dst : IsAddressPrefix pair.0.dst
+  pub src : IsAddressPrefix pair.0.src
+  pub one_family : IsRouteKey pair.0
+  pub fits : FitsKey pair.0 pair.1

@@ -1,0 +1,39 @@
+//! Babel packets: framing, TLVs, what each TLV says, and the octets of one route.
+#![tactic(auto)]
+
+mod ann;
+mod event;
+mod events;
+mod fault;
+mod forming;
+mod framing;
+mod group;
+mod held;
+mod key;
+pub mod laws;
+mod mode;
+mod octets;
+mod packet;
+mod place;
+mod reason;
+mod state;
+mod step;
+mod sub_tlv;
+mod tlv;
+mod tlvs;
+mod writing;
+
+pub use ann::Ann;
+pub use event::Event;
+pub use fault::Fault;
+pub use framing::frame;
+pub use group::put_group;
+pub use held::Held;
+pub use key::Key;
+pub use mode::Mode;
+pub use packet::Frame;
+pub use reason::Reason;
+pub use state::State;
+pub use tlv::{Tlv, check_body};
+pub use tlvs::Tlvs;
+pub use writing::Writing;
