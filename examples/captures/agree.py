@@ -3,10 +3,11 @@
 
     agree.py [PROGRAM]
 
-For each capture of this folder: the rows of `PROGRAM show` (default ../../babel-dump) against the table that the
-neighbouring babeld had when the capture ended, by destination, source, router-id, seqno, announced metric and next hop.
-An IPv4 route with an IPv6 next hop came by address encoding 4, which babel-dump counts and does not read, so it
-is left out. Exits 1 where a row differs.
+For each capture of this folder: the rows of `PROGRAM show --hold` (default ../../babel-dump) against the table that the
+neighbouring babeld had when the capture ended: routes by destination, source, router-id, seqno, announced metric and
+next hop, and unreachable rows against the neighbour's retracted ones by destination and source. An IPv4 row that came
+by address encoding 4 (an IPv6 next hop) is counted by babel-dump and not read, so it is left out. Exits 1 where
+a row differs.
 """
 import ipaddress
 import pathlib
@@ -27,36 +28,35 @@ VIEW = re.compile(
     r"(?P<dst>\S+) from (?P<src>\S+) metric \d+ \(\d+\) refmetric (?P<metric>\d+) id (?P<id>\S+) seqno (?P<seqno>\d+)"
     r" .*neigh (?P<neigh>\S+)(?: nexthop (?P<hop>\S+))?"
 )
-ROW = re.compile(r"(\S+) from (\S+) via (\S+) id (\S+) seqno (\d+) metric (\d+)")
+ROW = re.compile(r"(\S+) from (\S+) (?:via (\S+) id (\S+) seqno (\d+) metric (\d+)|unreachable)")
 INFINITY = 65535
 
 
-def row(dst, src, router_id, seqno, metric, hop):
-    return (ipaddress.ip_network(dst), ipaddress.ip_network(src), router_id, int(seqno), int(metric), ipaddress.ip_address(hop))
+def row(dst, src, hop, router_id, seqno, metric):
+    key = (ipaddress.ip_network(dst), ipaddress.ip_network(src))
+    if metric is None or int(metric) == INFINITY:
+        return (*key, "unreachable")
+    return (*key, ipaddress.ip_address(hop), router_id, int(seqno), int(metric))
 
 
 def neighbour_rows(name, sender):
     rows, unread = set(), 0
     for line in (HERE / f"{name}.view-babeld.txt").read_text().splitlines():
         m = VIEW.match(line)
-        if not m or ipaddress.ip_address(m["neigh"]) != ipaddress.ip_address(sender) or int(m["metric"]) == INFINITY:
+        if not m or ipaddress.ip_address(m["neigh"]) != ipaddress.ip_address(sender):
             continue
         hop = m["hop"] or m["neigh"]
         if ipaddress.ip_network(m["dst"]).version != ipaddress.ip_address(hop).version:
             unread += 1
             continue
-        rows.add(row(m["dst"], m["src"], m["id"].replace(":", ""), m["seqno"], m["metric"], hop))
+        rows.add(row(m["dst"], m["src"], hop, m["id"].replace(":", ""), m["seqno"], m["metric"]))
     return rows, unread
 
 
 def program_rows(program, name, sender):
-    text = subprocess.run([program, "show", "--from", sender, HERE / f"{name}.dump"], check=True, capture_output=True, text=True).stdout
-    rows = set()
-    for line in text.splitlines():
-        if m := ROW.fullmatch(line):
-            dst, src, hop, router_id, seqno, metric = m.groups()
-            rows.add(row(dst, src, router_id, seqno, metric, hop))
-    return rows
+    words = [program, "show", "--hold", "--from", sender, HERE / f"{name}.dump"]
+    text = subprocess.run(words, check=True, capture_output=True, text=True).stdout
+    return {row(*m.groups()) for line in text.splitlines() if (m := ROW.fullmatch(line))}
 
 
 def main():
@@ -65,7 +65,8 @@ def main():
     for name, sender in SENDERS.items():
         theirs, unread = neighbour_rows(name, sender)
         ours = program_rows(program, name, sender)
-        print(f"{name}: {len(ours)} rows, {len(theirs)} at the neighbour, {len(ours - theirs)} only here, {len(theirs - ours)} only there, {unread} unread")
+        alone = f"{len(ours - theirs)} only here, {len(theirs - ours)} only there, {unread} unread"
+        print(f"{name}: {len(ours)} rows, {len(theirs)} at the neighbour, {alone}")
         for only in sorted(map(str, ours ^ theirs)):
             print("  " + only)
         differing += len(ours ^ theirs)
