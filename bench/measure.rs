@@ -19,7 +19,10 @@ fn main() -> ExitCode {
         eprintln!("usage: measure PROGRAM [WORD ..]");
         return ExitCode::from(2);
     };
-    let started = Command::new(&program).args(words).stdout(Stdio::null()).spawn();
+    let started = Command::new(&program)
+        .args(words)
+        .stdout(Stdio::null())
+        .spawn();
     let Ok(child) = started else {
         eprintln!("cannot start {}", program.display());
         return ExitCode::from(2);

@@ -52,16 +52,24 @@ struct Addr {
 
 impl Addr {
     fn from_octets(family: Family, octets: &[u8]) -> Addr {
-        let bits = octets.iter().fold(0, |bits, &octet| bits << 8 | u128::from(octet));
+        let bits = octets
+            .iter()
+            .fold(0, |bits, &octet| bits << 8 | u128::from(octet));
         Addr { family, bits }
     }
 
     fn parse(text: &str) -> Option<Addr> {
         if let Ok(addr) = text.parse::<Ipv4Addr>() {
-            return Some(Addr { family: Family::V4, bits: u32::from(addr).into() });
+            return Some(Addr {
+                family: Family::V4,
+                bits: u32::from(addr).into(),
+            });
         }
         let addr = text.parse::<Ipv6Addr>().ok()?;
-        Some(Addr { family: Family::V6, bits: addr.into() })
+        Some(Addr {
+            family: Family::V6,
+            bits: addr.into(),
+        })
     }
 
     /// The octets, the family's count of them at the front.
@@ -90,14 +98,23 @@ struct Prefix {
 
 impl Prefix {
     fn whole(family: Family) -> Prefix {
-        Prefix { addr: Addr { family, bits: 0 }, len: 0 }
+        Prefix {
+            addr: Addr { family, bits: 0 },
+            len: 0,
+        }
     }
 
     fn new(addr: Addr, len: u8) -> Prefix {
         let low = u32::from(addr.family.width() - len);
         let high = addr.bits.checked_shr(low).unwrap_or(0);
         let bits = high.checked_shl(low).unwrap_or(0);
-        Prefix { addr: Addr { family: addr.family, bits }, len }
+        Prefix {
+            addr: Addr {
+                family: addr.family,
+                bits,
+            },
+            len,
+        }
     }
 
     fn contains(self, addr: Addr) -> bool {
@@ -138,7 +155,11 @@ struct Ann {
 impl fmt::Display for Ann {
     fn fmt(&self, f: &mut fmt::Formatter<'_>) -> fmt::Result {
         let id = u64::from_be_bytes(self.router_id);
-        write!(f, "via {} id {id:016x} seqno {} metric {}", self.next_hop, self.seqno, self.metric)
+        write!(
+            f,
+            "via {} id {id:016x} seqno {} metric {}",
+            self.next_hop, self.seqno, self.metric
+        )
     }
 }
 
@@ -270,7 +291,10 @@ impl<'a> Iterator for Tlvs<'a> {
 }
 
 fn tlvs(body: &[u8]) -> Tlvs<'_> {
-    Tlvs { whole: body.len(), rest: body }
+    Tlvs {
+        whole: body.len(),
+        rest: body,
+    }
 }
 
 /// The parser state of one packet.
@@ -284,7 +308,11 @@ impl State {
     fn new(sender: Addr) -> State {
         let mut next_hops = [None; 2];
         next_hops[sender.family as usize] = Some(sender);
-        State { defaults: [None; 2], next_hops, router_id: None }
+        State {
+            defaults: [None; 2],
+            next_hops,
+            router_id: None,
+        }
     }
 
     fn step(&mut self, tlv: &Tlv<'_>) -> Result<Event, Stop> {
@@ -324,8 +352,10 @@ impl State {
     }
 
     fn update(&mut self, body: &[u8]) -> Result<Event, Stop> {
-        let Some((&[encoding, flags, plen, omitted, _, _, seqno_0, seqno_1, metric_0, metric_1], rest)) =
-            body.split_first_chunk::<10>()
+        let Some((
+            &[encoding, flags, plen, omitted, _, _, seqno_0, seqno_1, metric_0, metric_1],
+            rest,
+        )) = body.split_first_chunk::<10>()
         else {
             return Err(Reason::Short.into());
         };
@@ -370,7 +400,15 @@ impl State {
         }
         let next_hop = self.next_hops[family as usize].ok_or(Reason::NoNextHop)?;
         let seqno = u16::from_be_bytes([seqno_0, seqno_1]);
-        Ok(Event::Announce(key, Ann { router_id, seqno, metric, next_hop }))
+        Ok(Event::Announce(
+            key,
+            Ann {
+                router_id,
+                seqno,
+                metric,
+                next_hop,
+            },
+        ))
     }
 }
 
@@ -402,7 +440,13 @@ fn each_sub_tlv(
 }
 
 fn no_mandatory(octets: &[u8]) -> Result<(), Reason> {
-    each_sub_tlv(octets, |kind, _| if kind >= 128 { Err(Reason::UnknownMandatory) } else { Ok(()) })
+    each_sub_tlv(octets, |kind, _| {
+        if kind >= 128 {
+            Err(Reason::UnknownMandatory)
+        } else {
+            Ok(())
+        }
+    })
 }
 
 /// RFC 9079, 7.1.
@@ -415,7 +459,9 @@ fn source_prefix(family: Family, octets: &[u8]) -> Result<Prefix, Reason> {
             if plen == 0 || plen > family.width() {
                 return Err(Reason::BadSource);
             }
-            let field = rest.get(..plen.div_ceil(8).into()).ok_or(Reason::BadSource)?;
+            let field = rest
+                .get(..plen.div_ceil(8).into())
+                .ok_or(Reason::BadSource)?;
             let mut octets = [0; 16];
             octets[..field.len()].copy_from_slice(field);
             let addr = Addr::from_octets(family, &octets[..family.octets()]);
@@ -569,7 +615,10 @@ struct Nodes<L> {
 
 impl<L: Copy + Eq + Hash> Nodes<L> {
     fn new() -> Nodes<L> {
-        Nodes { nodes: Vec::new(), numbers: HashMap::new() }
+        Nodes {
+            nodes: Vec::new(),
+            numbers: HashMap::new(),
+        }
     }
 
     fn intern(&mut self, node: Node<L>) -> u32 {
@@ -611,7 +660,12 @@ type Row = (Key, u32);
 
 impl Grid {
     fn new() -> Grid {
-        Grid { sources: Nodes::new(), destinations: Nodes::new(), anns: Vec::new(), numbers: HashMap::new() }
+        Grid {
+            sources: Nodes::new(),
+            destinations: Nodes::new(),
+            anns: Vec::new(),
+            numbers: HashMap::new(),
+        }
     }
 
     fn ann(&mut self, ann: Ann) -> u32 {
@@ -651,7 +705,13 @@ impl Grid {
     }
 
     /// One destination's rows over the source trie of those that are shorter.
-    fn source(&mut self, block: Prefix, rows: &[Row], beneath: u32, mut covering: Option<u32>) -> u32 {
+    fn source(
+        &mut self,
+        block: Prefix,
+        rows: &[Row],
+        beneath: u32,
+        mut covering: Option<u32>,
+    ) -> u32 {
         let own = rows.partition_point(|(key, _)| key.src <= block);
         let (here, rest) = rows.split_at(own);
         if let Some((_, value)) = here.last() {
@@ -671,9 +731,16 @@ impl Grid {
         self.sources.join(low, high)
     }
 
-    fn push_pairs(&self, block: Prefix, number: u32, pairs: &mut Vec<(Key, Ann)>) -> Result<(), Fault> {
+    fn push_pairs(
+        &self,
+        block: Prefix,
+        number: u32,
+        pairs: &mut Vec<(Key, Ann)>,
+    ) -> Result<(), Fault> {
         match self.destinations.get(number) {
-            Node::Leaf(source) => self.push_sources(block, Prefix::whole(block.addr.family), source, pairs),
+            Node::Leaf(source) => {
+                self.push_sources(block, Prefix::whole(block.addr.family), source, pairs)
+            }
             Node::Fork(lower, upper) => {
                 self.push_pairs(block.half(false), lower, pairs)?;
                 self.push_pairs(block.half(true), upper, pairs)
@@ -709,25 +776,43 @@ impl Grid {
         }
         let (mut left, mut right, mut block) = (left, right, Prefix::whole(family));
         let (mut source_left, mut source_right) = loop {
-            if let (Node::Leaf(l), Node::Leaf(r)) = (self.destinations.get(left), self.destinations.get(right)) {
+            if let (Node::Leaf(l), Node::Leaf(r)) =
+                (self.destinations.get(left), self.destinations.get(right))
+            {
                 break (l, r);
             }
             let (low_left, high_left) = self.destinations.halves(left);
             let (low_right, high_right) = self.destinations.halves(right);
             let upper = low_left == low_right;
-            (left, right) = if upper { (high_left, high_right) } else { (low_left, low_right) };
+            (left, right) = if upper {
+                (high_left, high_right)
+            } else {
+                (low_left, low_right)
+            };
             block = block.half(upper);
         };
         let mut source = Prefix::whole(family);
         loop {
-            if let (Node::Leaf(l), Node::Leaf(r)) = (self.sources.get(source_left), self.sources.get(source_right)) {
+            if let (Node::Leaf(l), Node::Leaf(r)) = (
+                self.sources.get(source_left),
+                self.sources.get(source_right),
+            ) {
                 let ann = |number: Option<u32>| number.map(|n| self.anns[n as usize]);
-                return Some(Difference { dst: block.addr, src: source.addr, left: ann(l), right: ann(r) });
+                return Some(Difference {
+                    dst: block.addr,
+                    src: source.addr,
+                    left: ann(l),
+                    right: ann(r),
+                });
             }
             let (low_left, high_left) = self.sources.halves(source_left);
             let (low_right, high_right) = self.sources.halves(source_right);
             let upper = low_left == low_right;
-            (source_left, source_right) = if upper { (high_left, high_right) } else { (low_left, low_right) };
+            (source_left, source_right) = if upper {
+                (high_left, high_right)
+            } else {
+                (low_left, low_right)
+            };
             source = source.half(upper);
         }
     }
@@ -789,7 +874,11 @@ impl Said {
         };
         self.destinations[family as usize] = Some(octets);
         let source_count = usize::from(key.src.len.div_ceil(8));
-        let source_len = if key.src.len == 0 { 0 } else { 3 + source_count };
+        let source_len = if key.src.len == 0 {
+            0
+        } else {
+            3 + source_count
+        };
         out.extend([8, (10 + count - omitted + source_len) as u8]);
         out.extend([family as u8 + 1, 0x80, key.dst.len, omitted as u8]);
         out.extend(INTERVAL);
@@ -882,12 +971,20 @@ fn read_words(mut words: impl Iterator<Item = String>) -> Option<Words> {
             None => files.push(word),
         }
     }
-    Some(Words { command, options, hex, files })
+    Some(Words {
+        command,
+        options,
+        hex,
+        files,
+    })
 }
 
 impl Words {
     fn addr(&self, option: &str) -> Result<Addr, Failure> {
-        let word = self.options.get(option).ok_or_else(|| Failure::Usage(format!("no --{option}")))?;
+        let word = self
+            .options
+            .get(option)
+            .ok_or_else(|| Failure::Usage(format!("no --{option}")))?;
         Addr::parse(word).ok_or_else(|| Failure::Usage(format!("not an address: {word}")))
     }
 
@@ -969,7 +1066,10 @@ fn pairs_of(table: &Table) -> Result<Vec<(Key, Ann)>, Failure> {
     canonical_pairs(table).map_err(|fault| Failure::Dump("", fault))
 }
 
-fn write_pairs<'a>(out: &mut impl Write, pairs: impl Iterator<Item = (&'a Key, &'a Ann)>) -> io::Result<()> {
+fn write_pairs<'a>(
+    out: &mut impl Write,
+    pairs: impl Iterator<Item = (&'a Key, &'a Ann)>,
+) -> io::Result<()> {
     for (key, ann) in pairs {
         writeln!(out, "{} from {} {ann}", key.dst, key.src)?;
     }
@@ -982,7 +1082,9 @@ fn answer(ann: Option<&Ann>) -> String {
 
 fn main() -> ExitCode {
     let Some(words) = read_words(std::env::args().skip(1)) else {
-        eprintln!("usage: yardstick show|pairs|lookup|normalise|compare --from A .. [FILE [OTHER]]");
+        eprintln!(
+            "usage: yardstick show|pairs|lookup|normalise|compare --from A .. [FILE [OTHER]]"
+        );
         return ExitCode::from(2);
     };
     let (text, status) = match run(&words) {
