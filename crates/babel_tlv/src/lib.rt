@@ -4,9 +4,7 @@
 mod address;
 mod ann;
 mod event;
-mod events;
 mod fault;
-mod forming;
 mod framing;
 mod group;
 mod held;
