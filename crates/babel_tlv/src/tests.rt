@@ -33,29 +33,25 @@ fn octets(alloc: Global, text: &str) -> Result<Vec<u8>, Fail> {
     Ok(octets)
 }
 
-fn prefix((addr, len): (&str, u8)) -> Result<Prefix, Fail> {
-    let addr = parse_addr(addr).ok_or("no address")?;
-    Ok(Prefix::new(addr, len).ok_or("no prefix")?)
+fn prefix(rt: &impl Abort, (addr, len): (&str, u8)) -> Prefix {
+    let addr = parse_addr(addr).expect(rt, "an address");
+    Prefix::new(addr, len).expect(rt, "a length within the width")
 }
 
-fn key(dst: (&str, u8), src: (&str, u8)) -> Result<Key, Fail> {
-    Ok(Key::new(prefix(dst)?, prefix(src)?).ok_or("two families")?)
+fn key(rt: &impl Abort, dst: (&str, u8), src: (&str, u8)) -> Key {
+    Key::new(prefix(rt, dst), prefix(rt, src)).expect(rt, "one family")
 }
 
-fn announce(key: Key, router_id: [u8; 8], metric: u16, next_hop: &str) -> Result<Event, Fail> {
-    let next_hop = parse_addr(next_hop).ok_or("no address")?;
-    let ann = Ann::new(router_id, 1, metric, next_hop).ok_or("no route")?;
-    Ok(Event::Announce(key, ann))
+fn announce(rt: &impl Abort, key: Key, router_id: [u8; 8], metric: u16, next_hop: &str) -> Event {
+    let next_hop = parse_addr(next_hop).expect(rt, "an address");
+    let ann = Ann::new(router_id, 1, metric, next_hop).expect(rt, "a route");
+    Event::Announce(key, ann)
 }
 
 /// A route for all IPv4 sources, with the router-id `ROUTER_ID` and the next hop 192.0.2.1.
-fn route(dst: &str, len: u8, metric: u16) -> Result<Event, Fail> {
-    announce(
-        key((dst, len), ("0.0.0.0", 0))?,
-        ROUTER_ID,
-        metric,
-        "192.0.2.1",
-    )
+fn route(rt: &impl Abort, dst: &str, len: u8, metric: u16) -> Event {
+    let key = key(rt, (dst, len), ("0.0.0.0", 0));
+    announce(rt, key, ROUTER_ID, metric, "192.0.2.1")
 }
 
 /// Steps through a dump of this sender: its TLVs that say something say what is expected, each at its offset.
@@ -108,8 +104,8 @@ fn compression(rt: HostRuntime) -> Result<(), Fail> {
         "192.0.2.1",
         "2a02002a RID 080d01001800064000010100 0a0100 080d01001800064000010200 0a0102",
         &[
-            (16, route("10.1.0.0", 24, 256)?),
-            (31, route("10.1.2.0", 24, 512)?),
+            (16, route(&rt, "10.1.0.0", 24, 256)),
+            (31, route(&rt, "10.1.2.0", 24, 512)),
         ],
     )?;
     says(
@@ -118,8 +114,8 @@ fn compression(rt: HostRuntime) -> Result<(), Fail> {
         "198.51.100.7",
         "2a020030 RID 07060100c0000201 080d01801800064000010100 0a0100 080b01801802064000010200 02",
         &[
-            (24, route("10.1.0.0", 24, 256)?),
-            (39, route("10.1.2.0", 24, 512)?),
+            (24, route(&rt, "10.1.0.0", 24, 256)),
+            (39, route(&rt, "10.1.2.0", 24, 512)),
         ],
     )?;
     // More octets omitted than the prefix has.
@@ -129,8 +125,8 @@ fn compression(rt: HostRuntime) -> Result<(), Fail> {
         "192.0.2.1",
         "2a020027 RID 080d01801800064000010100 0a0102 080a01000803064000010200",
         &[
-            (16, route("10.1.2.0", 24, 256)?),
-            (31, route("10.0.0.0", 8, 512)?),
+            (16, route(&rt, "10.1.2.0", 24, 256)),
+            (31, route(&rt, "10.0.0.0", 8, 512)),
         ],
     )
 }
@@ -145,23 +141,26 @@ fn state_within_a_packet(rt: HostRuntime) -> Result<(), Fail> {
         "2a02002a RID 080f01801800064000010100 0a0100 8100 080b01001802064000010200 02",
         &[
             (16, Event::Ignored(Reason::UnknownMandatory)),
-            (33, route("10.1.2.0", 24, 512)?),
+            (33, route(&rt, "10.1.2.0", 24, 512)),
         ],
     )?;
     // An Update sets the router-id by its flag, for its own packet alone.
-    let host = key(("2001:db8::200:0:0:7", 128), ("::", 0))?;
+    let host = key(&rt, ("2001:db8::200:0:0:7", 128), ("::", 0));
     says(
         &rt,
         rt.alloc(),
         "fe80::1",
         "2a02001c 081a02408000064000010100 20010db8000000000200000000000007 2a02000c 080a02000000064000010100",
         &[
-            (4, announce(host, [2, 0, 0, 0, 0, 0, 0, 7], 256, "fe80::1")?),
+            (
+                4,
+                announce(&rt, host, [2, 0, 0, 0, 0, 0, 0, 7], 256, "fe80::1"),
+            ),
             (36, Event::Ignored(Reason::NoRouterId)),
         ],
     )?;
     // The router-id of an IPv4 address.
-    let network = key(("10.1.2.0", 24), ("0.0.0.0", 0))?;
+    let network = key(&rt, ("10.1.2.0", 24), ("0.0.0.0", 0));
     says(
         &rt,
         rt.alloc(),
@@ -169,7 +168,7 @@ fn state_within_a_packet(rt: HostRuntime) -> Result<(), Fail> {
         "2a02000f 080d01401800064000010100 0a0102",
         &[(
             4,
-            announce(network, [0, 0, 0, 0, 10, 1, 2, 0], 256, "192.0.2.1")?,
+            announce(&rt, network, [0, 0, 0, 0, 10, 1, 2, 0], 256, "192.0.2.1"),
         )],
     )
 }
@@ -187,24 +186,32 @@ fn next_hops(rt: HostRuntime) -> Result<(), Fail> {
             (
                 24,
                 announce(
-                    key(("10.0.0.0", 8), ("0.0.0.0", 0))?,
+                    &rt,
+                    key(&rt, ("10.0.0.0", 8), ("0.0.0.0", 0)),
                     ROUTER_ID,
                     256,
                     "198.51.100.1",
-                )?,
+                ),
             ),
             (
                 57,
                 announce(
-                    key(("2001:db8::", 32), ("::", 0))?,
+                    &rt,
+                    key(&rt, ("2001:db8::", 32), ("::", 0)),
                     ROUTER_ID,
                     256,
                     "2001:db8::1",
-                )?,
+                ),
             ),
             (
                 85,
-                announce(key(("2001::", 16), ("::", 0))?, ROUTER_ID, 512, "fe80::9")?,
+                announce(
+                    &rt,
+                    key(&rt, ("2001::", 16), ("::", 0)),
+                    ROUTER_ID,
+                    512,
+                    "fe80::9",
+                ),
             ),
         ],
     )?;
@@ -225,11 +232,12 @@ fn next_hops(rt: HostRuntime) -> Result<(), Fail> {
             (
                 50,
                 announce(
-                    key(("10.0.0.0", 8), ("0.0.0.0", 0))?,
+                    &rt,
+                    key(&rt, ("10.0.0.0", 8), ("0.0.0.0", 0)),
                     ROUTER_ID,
                     256,
                     "198.51.100.1",
-                )?,
+                ),
             ),
             (71, Event::Ignored(Reason::ShortPrefix)),
         ],
@@ -259,16 +267,19 @@ fn sub_tlvs(rt: HostRuntime) -> Result<(), Fail> {
             (74, Event::Ignored(Reason::BadSub)),
         ],
     )?;
-    let specific = key(("10.0.0.0", 8), ("20.0.0.0", 8))?;
+    let specific = key(&rt, ("10.0.0.0", 8), ("20.0.0.0", 8));
     says(
         &rt,
         rt.alloc(),
         "192.0.2.1",
         "2a020037 RID 080b010008000640000101000a 080f010008000640000102000a 80020814 080b0100080006400000ffff0a",
         &[
-            (16, route("10.0.0.0", 8, 256)?),
-            (29, announce(specific, ROUTER_ID, 512, "192.0.2.1")?),
-            (46, Event::Retract(key(("10.0.0.0", 8), ("0.0.0.0", 0))?)),
+            (16, route(&rt, "10.0.0.0", 8, 256)),
+            (29, announce(&rt, specific, ROUTER_ID, 512, "192.0.2.1")),
+            (
+                46,
+                Event::Retract(key(&rt, ("10.0.0.0", 8), ("0.0.0.0", 0))),
+            ),
         ],
     )
 }
@@ -282,10 +293,13 @@ fn retractions(rt: HostRuntime) -> Result<(), Fail> {
         "2a02004b RID 080b0100080006400001ffff0a 080b010008000640000101000a 080a0000000006400000ffff
          080b0100080006400001010014 080a0000080006400000ffff",
         &[
-            (16, Event::Retract(key(("10.0.0.0", 8), ("0.0.0.0", 0))?)),
-            (29, route("10.0.0.0", 8, 256)?),
+            (
+                16,
+                Event::Retract(key(&rt, ("10.0.0.0", 8), ("0.0.0.0", 0))),
+            ),
+            (29, route(&rt, "10.0.0.0", 8, 256)),
             (42, Event::RetractAll),
-            (54, route("20.0.0.0", 8, 256)?),
+            (54, route(&rt, "20.0.0.0", 8, 256)),
             (67, Event::Ignored(Reason::WildcardPrefix)),
         ],
     )
