@@ -1,13 +1,15 @@
 //! The lines of a report.
-ghost use Rattle.std.specs.Prelude.{◌≡◌};
-ghost use Rattle.babel_dump.specs.RunText.{reason_name};
+ghost use Rattle.std.specs.Prelude.{◌≡◌, ◌++◌, OnOk, string_bytes};
+ghost use Rattle.babel_dump.specs.RunText.{reason_name, ignored_lines};
 
+use babel_table::Report;
 use babel_tlv::Reason;
+use std::alloc::AllocError;
 use std::fmt;
 
 /// How many TLVs were ignored for a reason, and where the first lies: a line, or nothing if none was.
 #[derive(Clone, Copy)]
-pub(crate) struct IgnoredLine(pub Reason, pub Option<(u64, u64)>);
+struct IgnoredLine(Reason, Option<(u64, u64)>);
 
 impl fmt::Display for IgnoredLine {
     ghost use Rattle.std.specs.Prelude.{Some};
@@ -24,6 +26,21 @@ impl fmt::Display for IgnoredLine {
             None => Ok(()),
         }
     }
+}
+
+/// Adds a line for each of these reasons that occurred.
+pub(crate) fn push_ignored(
+    text: &mut String,
+    report: &Report,
+    reasons: &[Reason],
+) -> Result<(), AllocError>
+    ensures { OnOk result (string_bytes text.new ≡ string_bytes text.old ++ ignored_lines report.now reasons.now) }
+{
+    for reason in reasons {
+        let line = IgnoredLine(*reason, report.ignored(*reason));
+        write!(text, "{line}")?;
+    }
+    Ok(())
 }
 
 /// The reasons, in the order of their checks.

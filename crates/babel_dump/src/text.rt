@@ -3,12 +3,11 @@ ghost use Rattle.std.specs.Prelude.{◌≡◌, IfOk, string_bytes};
 ghost use Rattle.babel_table.specs.Rows.{Routes};
 ghost use Rattle.babel_dump.specs.RunText.{lookup_text, show_text};
 
-use crate::reason_text::{IgnoredLine, REASONS};
+use crate::reason_text::{REASONS, push_ignored};
 use babel_table::Table;
 use babel_tlv::{Held, Key};
 use std::alloc::{AllocError, Global};
-use std::fmt;
-use std::str;
+use std::{fmt, str};
 
 /// A router-id, shown as 16 lower-case hexadecimal digits.
 #[derive(Clone, Copy)]
@@ -95,9 +94,6 @@ pub(crate) fn show_text(alloc: Global, table: &Table) -> Result<String, AllocErr
     let report = table.report();
     let tlvs = report.tlvs();
     write!(text, "tlvs {tlvs}\n")?;
-    for reason in REASONS {
-        let line = IgnoredLine(reason, report.ignored(reason));
-        write!(text, "{line}")?;
-    }
+    push_ignored(&mut text, report, &REASONS)?;
     Ok(text)
 }
