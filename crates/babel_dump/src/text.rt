@@ -70,12 +70,12 @@ impl fmt::Display for PairLine {
 }
 
 /// The line of a lookup's answer.
-pub(crate) fn lookup_text(alloc: Global, answer: Option<Held>) -> Result<String, AllocError>
-    ensures { IfOk result (λ text. string_bytes text ≡ lookup_text answer) }
+pub(crate) fn lookup_text(alloc: Global, answer: &Option<Held>) -> Result<String, AllocError>
+    ensures { IfOk result (λ text. string_bytes text ≡ lookup_text answer.now) }
 {
     match answer {
         Some(held) => {
-            let shown = Shown(held);
+            let shown = Shown(*held);
             format!(in alloc; "{shown}\n")
         }
         None => String::from_str(alloc, "none\n"),

@@ -19,6 +19,7 @@ pub(crate) fn write_text<W: ByteOut>(writer: &mut W, text: &[u8]) -> Result<(), 
     ensures prefix { OnErr result (AppendsPrefix (W.contents writer.old) (W.contents writer.new) text.now) }
     ensures cause { OnErr result (W.failures writer.old < W.failures writer.new) }
     ensures one_failure { W.failures writer.new ≤ W.failures writer.old + 1 }
+    ensures one_flush { W.flushes writer.new ≤ W.flushes writer.old + 1 }
 {
     let mut taken = 0;
     while taken < text.len() {
