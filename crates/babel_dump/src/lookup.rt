@@ -1,4 +1,5 @@
 ghost use Rattle.std.specs.Prelude.{◌≡◌, ◌+◌, ◌^◌, ◌<◌, ◌≤◌, IfOk, IfErr, OnOk};
+ghost use Rattle.std.specs.Option.{option_copied};
 ghost use Rattle.std.specs.Io.KnownBytes.{Keeps};
 ghost use Rattle.babel_table.specs.Rows.{Routes};
 ghost use Rattle.babel_dump.specs.Device.{AppendsPrefix};
@@ -12,7 +13,7 @@ use crate::run_fault::RunFault;
 use crate::text::lookup_text;
 use crate::write::write_text;
 use babel_prefix::Addr;
-use babel_table::{Limits, Table};
+use babel_table::Limits;
 use babel_tlv::{Held, Mode};
 use std::alloc::Global;
 
@@ -63,24 +64,16 @@ pub fn run_lookup<R: ByteIn, W: ByteOut>(
     ensures writer_flush { W.flushes writer.new ≤ W.flushes writer.old + 1 }
 {
     let table = read_table(alloc, limits, mode, sender, reader)?;
-    let answer = answer(&table, &dst, &src);
-    let status = lookup_status(&answer);
-    let text = lookup_text(alloc, &answer)?;
+    let answer = table.lookup(&dst, &src);
+    let status = lookup_status(answer);
+    let text = lookup_text(alloc, answer)?;
     write_text(writer, text.as_bytes())?;
     Ok(status)
 }
 
-/// What a table answers for two addresses of one family.
-fn answer(table: &Table, dst: &Addr, src: &Addr) -> Option<Held>
-    requires { dst.now.family ≡ src.now.family }
-    ensures { result ≡ answer_in table.now dst.now src.now }
-{
-    table.lookup(dst, src).copied()
-}
-
 /// The status of an answer.
-fn lookup_status(answer: &Option<Held>) -> u8
-    ensures { result ≡ lookup_status answer.now }
+fn lookup_status(answer: Option<&Held>) -> u8
+    ensures { result ≡ lookup_status (option_copied answer.entry) }
 {
     match answer {
         Some(Held::Route(_)) => 0,

@@ -1,6 +1,6 @@
 //! The lines that the runs write.
 ghost use Rattle.std.specs.Prelude.{◌≡◌, IfOk, string_bytes};
-ghost use Rattle.babel_table.specs.Rows.{Routes};
+ghost use Rattle.std.specs.Option.{option_copied};
 ghost use Rattle.babel_dump.specs.RunText.{lookup_text, show_text};
 
 use crate::reason_text::{REASONS, push_ignored};
@@ -70,8 +70,8 @@ impl fmt::Display for PairLine {
 }
 
 /// The line of a lookup's answer.
-pub(crate) fn lookup_text(alloc: Global, answer: &Option<Held>) -> Result<String, AllocError>
-    ensures { IfOk result (λ text. string_bytes text ≡ lookup_text answer.now) }
+pub(crate) fn lookup_text(alloc: Global, answer: Option<&Held>) -> Result<String, AllocError>
+    ensures { IfOk result (λ text. string_bytes text ≡ lookup_text (option_copied answer.entry)) }
 {
     match answer {
         Some(held) => {
