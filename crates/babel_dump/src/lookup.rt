@@ -1,4 +1,4 @@
-ghost use Rattle.std.specs.Prelude.{◌≡◌, ◌+◌, ◌^◌, ◌<◌, ◌≤◌, IfOk, IfErr, OnOk};
+ghost use Rattle.std.specs.Prelude.{◌≡◌, ◌≢◌, ◌+◌, ◌^◌, ◌<◌, ◌≤◌, IfOk, IfErr, OnOk};
 ghost use Rattle.std.specs.Option.{option_copied};
 ghost use Rattle.std.specs.Io.KnownBytes.{Keeps};
 ghost use Rattle.babel_table.specs.Rows.{Routes};
@@ -14,7 +14,7 @@ use crate::text::lookup_text;
 use crate::write::write_text;
 use babel_prefix::Addr;
 use babel_table::Limits;
-use babel_tlv::{Held, Mode};
+use babel_tlv::{Fault, Held, Mode};
 use std::alloc::Global;
 
 /// Reads a dump that this sender sent, and writes what it answers for a destination and a source of one family, or
@@ -52,6 +52,7 @@ pub fn run_lookup<R: ByteIn, W: ByteOut>(
     ensures cause { IfErr result (λ fault. HasCause fault (R.failures reader.old < R.failures reader.new)
         (IsFaultOfGiven limits mode sender (R.remaining reader.old) (R.remaining reader.new)) ⊥ (λ _. ⊥)
         (W.failures writer.old < W.failures writer.new)) }
+    ensures no_pairs { IfErr result (λ fault. fault ≢ RunFault.Dump Fault.TooManyPairs) }
     ensures end_needed { IfErr result (λ fault. NeedsEnd fault (R.ends reader.old < R.ends reader.new) ⊥) }
     ensures prefix { IfErr result (λ fault. UnlessWrite fault (Keeps (W.contents writer.old) (W.contents writer.new))
         ((table : Routes) × GaveTable limits mode sender (R.remaining reader.old) (R.remaining reader.new) table

@@ -1,4 +1,4 @@
-ghost use Rattle.std.specs.Prelude.{◌≡◌, ◌+◌, ◌^◌, ◌<◌, ◌≤◌, IfOk, IfErr, OnOk};
+ghost use Rattle.std.specs.Prelude.{◌≡◌, ◌≢◌, ◌+◌, ◌^◌, ◌<◌, ◌≤◌, IfOk, IfErr, OnOk};
 ghost use Rattle.std.specs.Io.KnownBytes.{Keeps};
 ghost use Rattle.babel_table.specs.Rows.{Routes};
 ghost use Rattle.babel_dump.specs.Device.{AppendsPrefix};
@@ -13,7 +13,7 @@ use crate::text::show_text;
 use crate::write::write_text;
 use babel_prefix::Addr;
 use babel_table::Limits;
-use babel_tlv::Mode;
+use babel_tlv::{Fault, Mode};
 use std::alloc::Global;
 
 /// Reads a dump that this sender sent, and writes a line for each row of its table, how many TLVs it has, and a line for
@@ -47,6 +47,7 @@ pub fn run_show<R: ByteIn, W: ByteOut>(
     ensures cause { IfErr result (λ fault. HasCause fault (R.failures reader.old < R.failures reader.new)
         (IsFaultOfGiven limits mode sender (R.remaining reader.old) (R.remaining reader.new)) ⊥ (λ _. ⊥)
         (W.failures writer.old < W.failures writer.new)) }
+    ensures no_pairs { IfErr result (λ fault. fault ≢ RunFault.Dump Fault.TooManyPairs) }
     ensures end_needed { IfErr result (λ fault. NeedsEnd fault (R.ends reader.old < R.ends reader.new) ⊥) }
     ensures prefix { IfErr result (λ fault. UnlessWrite fault (Keeps (W.contents writer.old) (W.contents writer.new))
         ((table : Routes) × GaveTable limits mode sender (R.remaining reader.old) (R.remaining reader.new) table
