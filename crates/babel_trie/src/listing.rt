@@ -8,6 +8,7 @@ ghost use Rattle.babel_trie.specs.Nested.{node_block, leaves, rows_at, rows_of};
 ghost use Rattle.babel_prefix.specs.Entries.{row_of};
 ghost use Rattle.babel_trie.specs.Shape.{Shape};
 
+use crate::nested::Nested;
 use crate::rows::Row;
 use crate::table::{Exact, Node, NodeNumber, Table};
 use babel_prefix::{Addr, Family, Prefix};
@@ -84,40 +85,34 @@ impl<V: Exact> Table<Option<V>> {
     }
 }
 
-/// Appends the rows of a trie of destinations, in order.
-pub fn push_all<V: Exact>(
-    sources: &Table<Option<V>>,
-    destinations: &Table<NodeNumber>,
-    number: NodeNumber,
-    family: Family,
-    bits: u8,
-    place: u128,
-    out: &mut Vec<Row<V>>,
-) -> Result<(), AllocError>
-    requires trie { HasNested (width_of family) bits sources.now.nodes.items destinations.now.nodes.items number.0 }
-    requires bits { bits ≤ width_of family }
-    requires place { place < 2 ^ (width_of family - bits) }
-    ensures { OnOk result ((t : Shape NodeNumber) → Represents destinations.now.nodes.items number.0 t → map row_of out.new.items ≡ map row_of out.old.items ++ rows_of (width_of family) (leaves (width_of family) bits place (shape_map (sources_at (width_of family) sources.now.nodes.items) t))) }
-{
-    match destinations.node(number) {
-        Node::Leaf(trie) => {
-            let dst = node_prefix(family, bits, place);
-            sources.push_rows(trie, family, dst, family.width(), 0, out)?;
-            Ok(())
-        }
-        Node::Fork(low, high) => {
-            let (low_place, high_place) = places(family, bits, place);
-            push_all(sources, destinations, low, family, bits - 1, low_place, out)?;
-            push_all(
-                sources,
-                destinations,
-                high,
-                family,
-                bits - 1,
-                high_place,
-                out,
-            )?;
-            Ok(())
+impl<V: Exact> Nested<V> {
+    /// Appends the rows of a trie of destinations, in order.
+    pub fn push_all(
+        &self,
+        number: NodeNumber,
+        family: Family,
+        bits: u8,
+        place: u128,
+        out: &mut Vec<Row<V>>,
+    ) -> Result<(), AllocError>
+        requires trie { HasNested (width_of family) bits self.now.sources.nodes.items self.now.destinations.nodes.items number.0 }
+        requires bits { bits ≤ width_of family }
+        requires place { place < 2 ^ (width_of family - bits) }
+        ensures { OnOk result ((t : Shape NodeNumber) → Represents self.now.destinations.nodes.items number.0 t → map row_of out.new.items ≡ map row_of out.old.items ++ rows_of (width_of family) (leaves (width_of family) bits place (shape_map (sources_at (width_of family) self.now.sources.nodes.items) t))) }
+    {
+        match self.destinations.node(number) {
+            Node::Leaf(trie) => {
+                let dst = node_prefix(family, bits, place);
+                self.sources
+                    .push_rows(trie, family, dst, family.width(), 0, out)?;
+                Ok(())
+            }
+            Node::Fork(low, high) => {
+                let (low_place, high_place) = places(family, bits, place);
+                self.push_all(low, family, bits - 1, low_place, out)?;
+                self.push_all(high, family, bits - 1, high_place, out)?;
+                Ok(())
+            }
         }
     }
 }

@@ -11,16 +11,16 @@ count_all-requires g c =
     let inside = c.self.inside in
     let w = width_of inside.family in
     record {
-      trie = subst (λ n. HasNested n n inside.sources.nodes.items inside.destinations.nodes.items inside.root.0) (sym c.width-width.ensures)
-          (nested_from_held w inside.sources.nodes.items inside.destinations.nodes.items inside.root c.self.invariant);
+      trie = subst (λ n. HasNested n n inside.nodes.sources.nodes.items inside.nodes.destinations.nodes.items inside.root.0) (sym c.width-width.ensures)
+          (nested_from_held w inside.nodes.sources.nodes.items inside.nodes.destinations.nodes.items inside.root c.self.invariant);
     }
 
 pub returns : goal.returns
 returns g c =
     let inside = c.self.inside in
     let w = width_of inside.family in
-    let sources = inside.sources.nodes.items in
-    let destinations = inside.destinations.nodes.items in
+    let sources = inside.nodes.sources.nodes.items in
+    let destinations = inside.nodes.destinations.nodes.items in
     let held = c.self.invariant in
     let m = 2 ^ 64 - 1 in
     c.count_all.ensures 0 held.trie held.stands

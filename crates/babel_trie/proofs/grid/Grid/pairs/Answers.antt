@@ -11,15 +11,15 @@ pub push_all-requires-clause-trie : goal.push_all-requires-clause-trie
 push_all-requires-clause-trie g c =
     let inside = c.self.inside in
     let w = width_of inside.family in
-    subst (λ n. HasNested w n inside.sources.nodes.items inside.destinations.nodes.items inside.root.0) (sym c.width-width.ensures)
-    (nested_from_held w inside.sources.nodes.items inside.destinations.nodes.items inside.root c.self.invariant)
+    subst (λ n. HasNested w n inside.nodes.sources.nodes.items inside.nodes.destinations.nodes.items inside.root.0) (sym c.width-width.ensures)
+    (nested_from_held w inside.nodes.sources.nodes.items inside.nodes.destinations.nodes.items inside.root c.self.invariant)
 
 pub returns : goal.returns
 returns g c =
     let inside = c.self.inside in
     let w = width_of inside.family in
-    let sources = inside.sources.nodes.items in
-    let destinations = inside.destinations.nodes.items in
+    let sources = inside.nodes.sources.nodes.items in
+    let destinations = inside.nodes.destinations.nodes.items in
     let held = c.self.invariant in
     let trie = shape_map (sources_at w sources) held.trie in
     c.in_ok-push_all.ensures held.trie held.stands

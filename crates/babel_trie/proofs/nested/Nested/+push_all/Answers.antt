@@ -9,30 +9,30 @@ use Rattle.babel_prefix.specs.Entries.{row_of}
 use Rattle.babel_trie.proofs.HeldLaws.{sources_at-stands}
 use Rattle.babel_trie.proofs.ListLaws.{all_of_halves, append_none}
 use Rattle.babel_trie.proofs.NumberLaws.{nested_in, nested_some, nested_low, nested_high, nested_leaf, fork_of, leaf_of}
-use Rattle.babel_trie.proofs.listing.+push_all.Goals as goal
+use Rattle.babel_trie.proofs.nested.Nested.+push_all.Goals as goal
 
 pub node-requires : goal.node-requires
-node-requires g t c = nested_in (width_of c.args.family) c.args.bits c.args.sources.now.nodes.items c.args.destinations.now.nodes.items c.args.number.0 c.requires.trie
+node-requires g t c = nested_in (width_of c.args.family) c.args.bits c.args.self.now.sources.nodes.items c.args.self.now.destinations.nodes.items c.args.number.0 c.requires.trie
 
 pub push_rows-requires-clause-trie : goal.push_rows-requires-clause-trie
 push_rows-requires-clause-trie g t c =
     let w = width_of c.args.family in
-    subst (λ n. HasTrie n c.args.sources.now.nodes.items c.in-Leaf.trie.0) (sym c.width.ensures)
-    (nested_leaf w c.args.bits c.args.sources.now.nodes.items c.args.destinations.now.nodes.items c.args.number.0 c.in-Leaf.trie (c.node.ensures ∙ ap Some c.in-Leaf.is) c.requires.trie)
+    subst (λ n. HasTrie n c.args.self.now.sources.nodes.items c.in-Leaf.trie.0) (sym c.width.ensures)
+    (nested_leaf w c.args.bits c.args.self.now.sources.nodes.items c.args.self.now.destinations.nodes.items c.args.number.0 c.in-Leaf.trie (c.node.ensures ∙ ap Some c.in-Leaf.is) c.requires.trie)
 
 pub places-low_place-requires-clause-some : goal.places-low_place-requires-clause-some
 places-low_place-requires-clause-some g t c =
-    nested_some (width_of c.args.family) c.args.bits c.args.sources.now.nodes.items c.args.destinations.now.nodes.items c.args.number.0 c.in-Fork.low c.in-Fork.high (c.node.ensures ∙ ap Some c.in-Fork.is) c.requires.trie
+    nested_some (width_of c.args.family) c.args.bits c.args.self.now.sources.nodes.items c.args.self.now.destinations.nodes.items c.args.number.0 c.in-Fork.low c.in-Fork.high (c.node.ensures ∙ ap Some c.in-Fork.is) c.requires.trie
 
 pub overflow_sub-bits : goal.overflow_sub-bits
 overflow_sub-bits g t c =
-    nested_some (width_of c.args.family) c.args.bits c.args.sources.now.nodes.items c.args.destinations.now.nodes.items c.args.number.0 c.in-Fork.low c.in-Fork.high (c.node.ensures ∙ ap Some c.in-Fork.is) c.requires.trie
+    nested_some (width_of c.args.family) c.args.bits c.args.self.now.sources.nodes.items c.args.self.now.destinations.nodes.items c.args.number.0 c.in-Fork.low c.in-Fork.high (c.node.ensures ∙ ap Some c.in-Fork.is) c.requires.trie
 
 pub push_all-requires : goal.push_all-requires
 push_all-requires g t c κs within =
     let w = width_of c.args.family in
-    let sources = c.args.sources.now.nodes.items in
-    let nodes = c.args.destinations.now.nodes.items in
+    let sources = c.args.self.now.sources.nodes.items in
+    let nodes = c.args.self.now.destinations.nodes.items in
     let some : 0 < c.args.bits = nested_some w c.args.bits sources nodes c.args.number.0 c.in-Fork.low c.in-Fork.high (c.node.ensures ∙ ap Some c.in-Fork.is) c.requires.trie in
     let falls : c.args.bits - 1 < t = omega (arith, c.decreases) in
     let half : HasNested w (c.args.bits - 1) sources nodes c.in-Fork.low.0 = nested_low w c.args.bits sources nodes c.args.number.0 c.in-Fork.low c.in-Fork.high (c.node.ensures ∙ ap Some c.in-Fork.is) c.requires.trie in
@@ -41,13 +41,13 @@ push_all-requires g t c κs within =
 
 pub overflow_sub-bits-in-Fork : goal.overflow_sub-bits-in-Fork
 overflow_sub-bits-in-Fork g t c =
-    nested_some (width_of c.args.family) c.args.bits c.args.sources.now.nodes.items c.args.destinations.now.nodes.items c.args.number.0 c.in-Fork.low c.in-Fork.high (c.node.ensures ∙ ap Some c.in-Fork.is) c.requires.trie
+    nested_some (width_of c.args.family) c.args.bits c.args.self.now.sources.nodes.items c.args.self.now.destinations.nodes.items c.args.number.0 c.in-Fork.low c.in-Fork.high (c.node.ensures ∙ ap Some c.in-Fork.is) c.requires.trie
 
 pub push_all-requires-in-Fork : goal.push_all-requires-in-Fork
 push_all-requires-in-Fork g t c κs within =
     let w = width_of c.args.family in
-    let sources = c.args.sources.now.nodes.items in
-    let nodes = c.args.destinations.now.nodes.items in
+    let sources = c.args.self.now.sources.nodes.items in
+    let nodes = c.args.self.now.destinations.nodes.items in
     let some : 0 < c.args.bits = nested_some w c.args.bits sources nodes c.args.number.0 c.in-Fork.low c.in-Fork.high (c.node.ensures ∙ ap Some c.in-Fork.is) c.requires.trie in
     let falls : c.args.bits - 1 < t = omega (arith, c.decreases) in
     let half : HasNested w (c.args.bits - 1) sources nodes c.in-Fork.high.0 = nested_high w c.args.bits sources nodes c.args.number.0 c.in-Fork.low c.in-Fork.high (c.node.ensures ∙ ap Some c.in-Fork.is) c.requires.trie in
@@ -57,8 +57,8 @@ push_all-requires-in-Fork g t c κs within =
 pub returns-in_ok-push_rows-in-Leaf : goal.returns-in_ok-push_rows-in-Leaf
 returns-in_ok-push_rows-in-Leaf g t c u p =
     let w = width_of c.args.family in
-    let sources = c.args.sources.now.nodes.items in
-    let nodes = c.args.destinations.now.nodes.items in
+    let sources = c.args.self.now.sources.nodes.items in
+    let nodes = c.args.self.now.destinations.nodes.items in
     let x = c.in-Leaf.trie in
     let old = map row_of c.args.out.now.items in
     let is : leaf x ≡ u = leaf_of nodes c.args.number.0 x u (c.node.ensures ∙ ap Some c.in-Leaf.is) p in
@@ -75,8 +75,8 @@ returns-in_ok-push_rows-in-Leaf g t c u p =
 pub returns-in_ok-push_all-in-Fork-2 : goal.returns-in_ok-push_all-in-Fork-2
 returns-in_ok-push_all-in-Fork-2 g t c u p =
     let w = width_of c.args.family in
-    let sources = c.args.sources.now.nodes.items in
-    let f = fork_of c.args.destinations.now.nodes.items c.args.number.0 c.in-Fork.low c.in-Fork.high u (c.node.ensures ∙ ap Some c.in-Fork.is) p in
+    let sources = c.args.self.now.sources.nodes.items in
+    let f = fork_of c.args.self.now.destinations.nodes.items c.args.number.0 c.in-Fork.low c.in-Fork.high u (c.node.ensures ∙ ap Some c.in-Fork.is) p in
     let old = map row_of c.args.out.now.items in
     let mid = map row_of c.push_all.new.out.items in
     let new = map row_of c.push_all-in-Fork.new.out.items in

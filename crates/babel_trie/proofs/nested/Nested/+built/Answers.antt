@@ -11,7 +11,7 @@ use Rattle.babel_trie.proofs.NumberLaws.{one_trie, Represents-in, Represents-gro
 use Rattle.babel_trie.proofs.PlaceLaws.{whole_first, lower_first, block_rest, some_bit, place_low, place_high}
 use Rattle.babel_trie.proofs.PartLaws.{parts_of, some_member, no_member}
 use Rattle.babel_trie.proofs.BuildLaws.{own_one, own_sources, sorted_low, sorted_high, built_leaf, built_joined}
-use Rattle.babel_trie.proofs.build.+built.Goals as goal
+use Rattle.babel_trie.proofs.nested.Nested.+built.Goals as goal
 
 pub split_by_len-requires : goal.split_by_len-requires
 split_by_len-requires g t c =
@@ -33,7 +33,7 @@ returns-then-is_empty-clause-built g t c u p =
     let a = c.args in
     let own = c.split_by_len.result.0.now in
     let rest = c.split_by_len.result.1.now in
-    let same = one_trie a.sources.now.nodes.items a.inherited.0 c.requires.trie.trie u c.requires.trie.stands p in
+    let same = one_trie a.self.now.sources.nodes.items a.inherited.0 c.requires.trie.trie u c.requires.trie.stands p in
     built_leaf a.width a.bits a.start a.rows.now own rest c.overlaid.new.self.nodes.items c.leaf.new.self.nodes.items c.in_ok-inherited.inherited c.in_ok-leaf.leaf.0 u c.requires.place c.requires.rows
     c.split_by_len.ensures.parts (no_member rest c.is_empty.result c.is_empty.ensures c.if-is_empty.true) c.split_by_len.ensures.own (c.in_ok-inherited.ensures.overlaid u p)
     (subst (λ x. height x ≤ a.width) same c.requires.trie.fits) (subst IsReduced same c.requires.trie.reduced) c.in_ok-leaf.ensures.stands
@@ -102,7 +102,7 @@ built-requires-2 g t c κs within =
     let laid = c.in_ok-inherited.ensures.overlaid c.requires.trie.trie c.requires.trie.stands in
     let falls : a.bits - 1 < t = omega (arith, c.decreases) in
     let before : HasTrie a.width c.overlaid.new.self.nodes.items c.in_ok-inherited.inherited.0 = record { trie = laid.new; stands = laid.stands; fits = laid.fits c.requires.trie.fits; reduced = laid.reduced c.requires.trie.reduced } in
-    let trie : HasTrie a.width c.built.new.sources.nodes.items c.in_ok-inherited.inherited.0 = HasTrie-grows a.width c.overlaid.new.self.nodes.items c.built.new.sources.nodes.items c.in_ok-low.ensures.keeps_sources c.in_ok-inherited.inherited.0 before in
+    let trie : HasTrie a.width c.built.new.self.sources.nodes.items c.in_ok-inherited.inherited.0 = HasTrie-grows a.width c.overlaid.new.self.nodes.items c.built.new.self.sources.nodes.items c.in_ok-low.ensures.keeps_sources c.in_ok-inherited.inherited.0 before in
     let place : IsPlace a.width (a.bits - 1) c.middle_of-middle.result = subst (IsPlace a.width (a.bits - 1)) (sym c.middle_of-middle.ensures) (place_high a.width a.bits a.start c.requires.place some) in
     let rows : InBlock (side_block Destination) a.width (a.bits - 1) c.middle_of-middle.result high = subst (λ m. InBlock (side_block Destination) a.width (a.bits - 1) m high) (sym c.middle_of-middle.ensures) parts.high_in in
     let sorted : IsSorted a.width high = sorted_high a.width a.rows.now own low high parts.whole c.requires.sorted in
@@ -112,13 +112,13 @@ pub joined-requires-clause-low : goal.joined-requires-clause-low
 joined-requires-clause-low g t c =
     let laid = c.in_ok-inherited.ensures.overlaid c.requires.trie.trie c.requires.trie.stands in
     let low = c.in_ok-low.ensures.built laid.new laid.stands in
-    Represents-in c.built-2.new.destinations.nodes.items c.in_ok-low.low.0 low.new (Represents-grows c.built.new.destinations.nodes.items c.built-2.new.destinations.nodes.items c.in_ok-high.ensures.keeps_destinations c.in_ok-low.low.0 low.new low.stands)
+    Represents-in c.built-2.new.self.destinations.nodes.items c.in_ok-low.low.0 low.new (Represents-grows c.built.new.self.destinations.nodes.items c.built-2.new.self.destinations.nodes.items c.in_ok-high.ensures.keeps_destinations c.in_ok-low.low.0 low.new low.stands)
 
 pub joined-requires-clause-high : goal.joined-requires-clause-high
 joined-requires-clause-high g t c =
     let laid = c.in_ok-inherited.ensures.overlaid c.requires.trie.trie c.requires.trie.stands in
-    let high = c.in_ok-high.ensures.built laid.new (Represents-grows c.overlaid.new.self.nodes.items c.built.new.sources.nodes.items c.in_ok-low.ensures.keeps_sources c.in_ok-inherited.inherited.0 laid.new laid.stands) in
-    Represents-in c.built-2.new.destinations.nodes.items c.in_ok-high.high.0 high.new high.stands
+    let high = c.in_ok-high.ensures.built laid.new (Represents-grows c.overlaid.new.self.nodes.items c.built.new.self.sources.nodes.items c.in_ok-low.ensures.keeps_sources c.in_ok-inherited.inherited.0 laid.new laid.stands) in
+    Represents-in c.built-2.new.self.destinations.nodes.items c.in_ok-high.high.0 high.new high.stands
 
 pub returns-clause-keeps_sources : goal.returns-clause-keeps_sources
 returns-clause-keeps_sources g t c i node e =
@@ -136,10 +136,10 @@ returns-clause-built g t c u p =
     let parts = parts_of (side_block Destination) a.width a.bits a.start (a.width - a.bits) c.middle_of-middle.result a.rows.now own rest low high some c.requires.place c.requires.rows refl c.middle_of-middle.ensures
     c.split_by_len.ensures.parts c.split_by_len.ensures.own c.split_by_len.ensures.rest c.split_by_start.ensures.parts c.split_by_start.ensures.low c.split_by_start.ensures.high in
     let sources1 = c.overlaid.new.self.nodes.items in
-    let sources2 = c.built.new.sources.nodes.items in
-    let sources3 = c.built-2.new.sources.nodes.items in
-    let nodes2 = c.built.new.destinations.nodes.items in
-    let nodes3 = c.built-2.new.destinations.nodes.items in
+    let sources2 = c.built.new.self.sources.nodes.items in
+    let sources3 = c.built-2.new.self.sources.nodes.items in
+    let nodes2 = c.built.new.self.destinations.nodes.items in
+    let nodes3 = c.built-2.new.self.destinations.nodes.items in
     let nodes4 = c.joined.new.self.nodes.items in
     let laid = c.in_ok-inherited.ensures.overlaid u p in
     let in_low = c.in_ok-low.ensures.built laid.new laid.stands in
