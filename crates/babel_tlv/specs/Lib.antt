@@ -8,3 +8,4 @@ pub mod SubTlv
 pub mod Context
 pub mod Says
 pub mod Group
+pub mod Writing
