@@ -9,3 +9,4 @@ pub mod Context
 pub mod Says
 pub mod Group
 pub mod Writing
+pub mod News
