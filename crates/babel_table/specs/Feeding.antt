@@ -125,6 +125,12 @@ pub record Progress : Type 0 where
 abbrev pub IsPartial : List ℕ → Type 0
 IsPartial octets = (length octets < 4) ⊎ LacksBody octets
 
+-- without a fault: as many TLVs at most as octets, no octet past the limit, and less than a packet pending
+pub record IsReady (bytes tlvs at : ℕ) (pending : List ℕ) : Type 0 where
+  pub counted : tlvs ≤ at
+  pub in_limit : at + length pending ≤ bytes
+  pub partial : IsPartial pending
+
 -- without a fault: the octets are whole packets whose TLVs are fine, and less than another
 pub record HasTaken (progress : Progress) (fed : List ℕ) : Type 0 where
   pub packets : List (List TlvAt)
@@ -139,11 +145,23 @@ abbrev pub NeedsMemory : Mode → Address → List ℕ → Type 0
 NeedsMemory mode sender octets =
     (packets : List (List TlvAt)) × (rest : List ℕ) × ReadsAs octets packets rest × SomeMayGrow mode (sayings sender packets)
 
+-- a fault that octets have, and keep however they go on
+abbrev pub IsLasting : Fault → Type 0
+IsLasting (faults.Truncated at) = ⊥
+IsLasting (faults.BadMagic at) = Unit {0}
+IsLasting (faults.BadVersion at) = Unit {0}
+IsLasting (faults.TlvPastEnd at) = Unit {0}
+IsLasting (faults.EncodingSetsRouterId at) = Unit {0}
+IsLasting (faults.TooManyRoutes at) = Unit {0}
+IsLasting faults.TooLong = Unit {0}
+IsLasting faults.TooManyPairs = ⊥
+IsLasting faults.Memory = ⊥
+
 -- want of memory, or the fault of the octets, which it stays however they go on
 abbrev pub HasFailed : Progress → Fault → List ℕ → Type 0
 HasFailed progress fault fed =
     ((fault ≡ faults.Memory) × NeedsMemory progress.mode progress.sender fed)
-    ⊎ ((¬ IsTruncated fault) × ((more : List ℕ) → DumpFault progress.limits progress.mode progress.sender (fed ++ more) fault))
+    ⊎ (IsLasting fault × ((more : List ℕ) → DumpFault progress.limits progress.mode progress.sender (fed ++ more) fault))
 
 abbrev pub HasReadTo : Progress → Option Fault → List ℕ → Type 0
 HasReadTo progress None fed = HasTaken progress fed

@@ -3,6 +3,8 @@ use Rattle.std.specs.Prelude.{◌≡◌}
 use Rattle.babel_prefix.specs.Address.{IsAddressPrefix}
 use Rattle.babel_tlv.specs.declared.held.Held.{Held}
 use Rattle.babel_tlv.specs.declared.held.Held.TheVariants as helds
+use Rattle.babel_tlv.specs.declared.event.Event.{Event}
+use Rattle.babel_tlv.specs.declared.event.Event.TheVariants as events
 use Rattle.babel_tlv.specs.Route.{RouteKey, IsRouteKey, IsAnnouncement}
 
 -- a key and what is held for it
@@ -20,3 +22,11 @@ pub record IsPair (pair : Pair) : Type 0 where
   pub src : IsAddressPrefix pair.0.src
   pub one_family : IsRouteKey pair.0
   pub fits : FitsKey pair.0 pair.1
+
+-- what a TLV announces or retracts is a pair: a key, and a next hop of its family or none
+abbrev pub EventFits : Event → Type 0
+EventFits (events.Announce key ann) = IsPair (key, helds.Route ann)
+EventFits (events.Retract key) = IsPair (key, helds.Unreachable)
+EventFits events.RetractAll = Unit {0}
+EventFits events.Nothing = Unit {0}
+EventFits (events.Ignored reason) = Unit {0}
