@@ -1,0 +1,3 @@
+mod PairRows
+mod NoFault
+mod RoundTrip

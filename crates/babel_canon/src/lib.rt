@@ -1,0 +1,4 @@
+//! The canonical dump of a table.
+#![tactic(auto)]
+
+pub mod laws;
