@@ -1,3 +1,5 @@
 mod PairRows
 mod NoFault
 mod RoundTrip
+mod Groups
+mod Packets
