@@ -4,6 +4,7 @@ pub mod Framing
 pub mod Frames
 pub mod Left
 pub mod Forming
+pub mod Fields
 pub mod SubTlv
 pub mod Context
 pub mod Says

@@ -1,6 +1,7 @@
 //! Babel packets: framing, TLVs, what each TLV says, and the octets of one route.
 #![tactic(auto)]
 
+mod address;
 mod ann;
 mod event;
 mod events;
@@ -12,15 +13,19 @@ mod held;
 mod key;
 pub mod laws;
 mod mode;
+mod next_hop;
 mod octets;
 mod packet;
 mod place;
 mod reason;
+mod router_id;
 mod state;
 mod step;
 mod sub_tlv;
 mod tlv;
 mod tlvs;
+mod update;
+mod wire;
 mod writing;
 
 pub use ann::Ann;
