@@ -3,3 +3,7 @@ mod NoFault
 mod RoundTrip
 mod Groups
 mod Packets
+mod OneText
+mod Boxes
+mod Tables
+mod Headline
