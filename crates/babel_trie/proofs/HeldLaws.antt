@@ -7,9 +7,9 @@ use Rattle.babel_prefix.specs.Best.{Row, answer}
 use Rattle.babel_trie.specs.Boxes.{SameAnswers}
 use Rattle.babel_prefix.specs.Entries.{Entry, row_of}
 use Rattle.babel_prefix.specs.Best.{IsTable}
-use Rattle.babel_trie.specs.Shape.{Shape, leaf, fork, height, value_at, is_low, IsReduced}
+use Rattle.babel_trie.specs.Shape.{Shape, leaf, fork, height, value_at, is_low, HasHalves, IsReduced}
 use Rattle.babel_trie.specs.Nested.{nested_answer, IsNested}
-use Rattle.babel_trie.specs.Interned.{Represents, HasTrie, HasDistinctNodes}
+use Rattle.babel_trie.specs.Interned.{Represents, HasTrie, HasDistinctNodes, IsHalved}
 use Rattle.babel_prefix.proofs.Members.{Listed}
 use Rattle.babel_trie.specs.Rows.{InOrder, IsNoLater, InBlock, side_block}
 use Rattle.babel_trie.specs.Laid.{IsBuilt, IsSorted}
@@ -51,20 +51,31 @@ module _ {V : Type 0} where
   shape_map-itself (leaf v) = refl
   shape_map-itself (fork low high) = ap (λ x. fork x (shape_map (λ v. v) high)) (shape_map-itself low) ∙ ap (fork low) (shape_map-itself high)
 
+  -- what holds at each address holds at each address of the halves
+  pub half_values : (P : V → Type 0) (t low high : Shape V) (bits : ℕ) → HasHalves t low high → height low ≤ bits - 1 → height high ≤ bits - 1 → ((a : ℕ) → P (value_at t bits a)) →
+      ((a : ℕ) → P (value_at low (bits - 1) a)) × ((a : ℕ) → P (value_at high (bits - 1) a))
+  half_values P t low high bits whole low_fits high_fits each =
+      let m : ℕ = 2 ^ (bits - 1) in
+      let same : (t : Shape V) (a : ℕ) → height t ≤ bits - 1 → value_at t (bits - 1) (a % m) ≡ value_at t (bits - 1) a =
+      λ t a t_fits. sym (value_at-shift t (bits - 1) (a / m) (a % m) t_fits) ∙ ap (value_at t (bits - 1)) (div-add-mod' a m) in (
+        λ a. subst P (value_at-low t low high whole bits (a % m) (mod_below a m (pow_pos (bits - 1))) ∙ same low a low_fits) (each (a % m)),
+        λ a. subst P (value_at-high t low high whole bits (a % m) high_fits (mod_below a m (pow_pos (bits - 1))) ∙ same high a high_fits) (each (1 * m + a % m)),
+      )
+
   pub all_leaves : (P : V → Type 0) (t : Shape V) (bits : ℕ) → height t ≤ bits → ((a : ℕ) → P (value_at t bits a)) → AllLeaves P t
   all_leaves P (leaf v) bits fits each = each 0
   all_leaves P (fork low high) bits fits each =
-      let m : ℕ = 2 ^ (bits - 1) in
-      let whole = halves_of_fork low high in
-      let low_fits : height low ≤ bits - 1 = omega arith in
-      let high_fits : height high ≤ bits - 1 = omega arith in
-      let same : (t : Shape V) (a : ℕ) → height t ≤ bits - 1 → value_at t (bits - 1) (a % m) ≡ value_at t (bits - 1) a =
-      λ t a t_fits. sym (value_at-shift t (bits - 1) (a / m) (a % m) t_fits) ∙ ap (value_at t (bits - 1)) (div-add-mod' a m) in (
-        all_leaves P low (bits - 1) low_fits (λ a.
-            subst P (value_at-low (fork low high) low high whole bits (a % m) (mod_below a m (pow_pos (bits - 1))) ∙ same low a low_fits) (each (a % m))),
-        all_leaves P high (bits - 1) high_fits (λ a.
-            subst P (value_at-high (fork low high) low high whole bits (a % m) high_fits (mod_below a m (pow_pos (bits - 1))) ∙ same high a high_fits) (each (1 * m + a % m))),
-      )
+      let halves = half_values P (fork low high) low high bits (halves_of_fork low high) (omega arith) (omega arith) each in
+      (all_leaves P low (bits - 1) (omega arith) halves.0, all_leaves P high (bits - 1) (omega arith) halves.1)
+
+  -- the value at an address is that of a leaf
+  pub leaf_value : (P : V → Type 0) (t : Shape V) (bits a : ℕ) → AllLeaves P t → P (value_at t bits a)
+  leaf_value P (leaf v) bits a all = all
+  leaf_value P (fork low high) bits a all = by (is_low bits a) (leaf_value P low (bits - 1) a all.0) (leaf_value P high (bits - 1) a all.1)
+    where
+      by : {v u : V} (b : Bool) → P v → P u → P (cond b v u)
+      by true p q = p
+      by false p q = q
 
 module _ {V X : Type 0} (f : V → X) where
   -- a reduced trie stays reduced where different values stay different
@@ -83,6 +94,24 @@ module _ {V X : Type 0} (f : V → X) where
 module _ {V : Type 0} where
   pub sources_at-stands : (w : ℕ) (sources : List (Node (Option V))) (n : NodeNumber) → (h : HasTrie w sources n.0) → sources_at w sources n ≡ h.trie
   sources_at-stands w sources n h = trie_at-stands (λ v. v) None sources (suc w) n.0 h.trie h.stands (omega (arith, h.fits)) ∙ shape_map-itself h.trie
+
+  -- without the tries of sources
+  abbrev pub nested_trie : (w bits : ℕ) (sources : List (Node (Option V))) (nodes : List (Node NodeNumber)) (n : ℕ) → HasNested w bits sources nodes n → HasTrie bits nodes n
+  nested_trie w bits sources nodes n h = record { trie = h.trie; stands = h.stands; fits = h.fits; reduced = h.reduced }
+
+  -- the halves of a nested trie are nested tries
+  pub nested_halves : (w bits : ℕ) (sources : List (Node (Option V))) (nodes : List (Node NodeNumber)) (n l k : ℕ) → (h : HasNested w bits sources nodes n) → 0 < bits → IsHalved nodes h.trie l k →
+      HasNested w (bits - 1) sources nodes l × HasNested w (bits - 1) sources nodes k
+  nested_halves w bits sources nodes n l k h some p =
+      let P : NodeNumber → Type 0 = λ x. HasTrie w sources x.0 in
+      let fits : height h.trie ≤ bits = h.fits in
+      let low_fits : height p.low_half ≤ bits - 1 = omega (arith, p.low_lower) in
+      let high_fits : height p.high_half ≤ bits - 1 = omega (arith, p.high_lower) in
+      let both = p.reduced h.reduced in
+      let each = half_values P h.trie p.low_half p.high_half bits p.halves low_fits high_fits (λ a. leaf_value P h.trie bits a h.each) in (
+        record { trie = p.low_half; stands = p.low_stands; fits = low_fits; reduced = both.0; each = all_leaves P p.low_half (bits - 1) low_fits each.0 },
+        record { trie = p.high_half; stands = p.high_stands; fits = high_fits; reduced = both.1; each = all_leaves P p.high_half (bits - 1) high_fits each.1 },
+      )
 
   module _ (w : ℕ) (sources : List (Node (Option V))) (destinations : List (Node NodeNumber)) (root : NodeNumber) (h : IsHeld w sources destinations root) where
     pub nested_is : nested_at w sources destinations root ≡ shape_map (sources_at w sources) h.trie

@@ -8,13 +8,14 @@ ghost use Rattle.babel_trie.specs.Rows.{side_block, InBlock, IsPlace};
 ghost use Rattle.babel_trie.specs.Sound.{IsSound, KeepsNodes};
 ghost use Rattle.babel_trie.specs.declared.rows.Side.TheVariants.{Destination};
 
+use crate::lawful::LawfulOrd;
 use crate::nested::Nested;
 use crate::overlay::middle_of;
 use crate::rows::{Row, Side, split_by_len, split_by_start};
-use crate::table::{Exact, Node, NodeNumber, Table};
+use crate::table::{Node, NodeNumber, Table};
 use std::alloc::AllocError;
 
-impl<V: Exact> Nested<V> {
+impl<V: LawfulOrd> Nested<V> {
     /// The number of a trie of destinations, in which each row is laid over the inherited sources.
     pub fn built(
         &mut self,

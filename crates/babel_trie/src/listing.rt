@@ -8,9 +8,10 @@ ghost use Rattle.babel_trie.specs.Nested.{node_block, leaves, rows_at, rows_of};
 ghost use Rattle.babel_prefix.specs.Entries.{row_of};
 ghost use Rattle.babel_trie.specs.Shape.{Shape};
 
+use crate::lawful::LawfulOrd;
 use crate::nested::Nested;
 use crate::rows::Row;
-use crate::table::{Exact, Node, NodeNumber, Table};
+use crate::table::{Node, NodeNumber, Table};
 use babel_prefix::{Addr, Family, Prefix};
 use std::alloc::AllocError;
 
@@ -53,7 +54,7 @@ fn places(family: Family, bits: u8, place: u128) -> (u128, u128)
     (place * 2, place * 2 + 1)
 }
 
-impl<V: Exact> Table<Option<V>> {
+impl<V: LawfulOrd> Table<Option<V>> {
     /// Appends the rows of one destination prefix, in order.
     pub fn push_rows(
         &self,
@@ -85,7 +86,7 @@ impl<V: Exact> Table<Option<V>> {
     }
 }
 
-impl<V: Exact> Nested<V> {
+impl<V: LawfulOrd> Nested<V> {
     /// Appends the rows of a trie of destinations, in order.
     pub fn push_all(
         &self,

@@ -1,7 +1,8 @@
 //! The nodes of both levels.
 ghost use Rattle.babel_trie.specs.Sound.{IsSound};
 
-use crate::table::{Exact, Node, NodeNumber, Table};
+use crate::lawful::LawfulOrd;
+use crate::table::{Node, NodeNumber, Table};
 use std::alloc::Global;
 
 /// Tries of destinations, whose leaves are numbers of tries of sources.
@@ -11,7 +12,7 @@ pub struct Nested<V: Ord> {
     pub destinations: Table<NodeNumber>,
 }
 
-impl<V: Exact> Nested<V> {
+impl<V: LawfulOrd> Nested<V> {
     /// No nodes.
     pub fn new(alloc: Global) -> Nested<V>
         ensures sources { IsSound ⟦<Node<Option<V>> as Ord>⟧.cmp result.sources.nodes.items result.sources.numbers }

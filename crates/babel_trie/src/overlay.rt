@@ -8,8 +8,9 @@ ghost use Rattle.babel_trie.specs.Rows.{side_block, InBlock, IsPlace};
 ghost use Rattle.babel_trie.specs.Sound.{IsSound, KeepsNodes};
 ghost use Rattle.babel_trie.specs.declared.rows.Side.TheVariants.{Source};
 
+use crate::lawful::LawfulOrd;
 use crate::rows::{Row, Side, split_by_len, split_by_start};
-use crate::table::{Exact, Node, NodeNumber, Table};
+use crate::table::{Node, NodeNumber, Table};
 use std::alloc::AllocError;
 
 /// The address at which the upper half of a block starts.
@@ -22,7 +23,7 @@ pub fn middle_of(start: u128, bits: u8) -> u128
     start + (1 << (bits - 1))
 }
 
-impl<V: Exact> Table<Option<V>> {
+impl<V: LawfulOrd> Table<Option<V>> {
     /// The leaf that the rows of a whole block set, or the old trie where there are none.
     fn set(&mut self, rows: &[Row<V>], old: NodeNumber) -> Result<NodeNumber, AllocError>
         requires sound { IsSound ⟦<Node<Option<V>> as Ord>⟧.cmp self.old.nodes.items self.old.numbers }
