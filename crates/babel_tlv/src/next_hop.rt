@@ -7,6 +7,7 @@ use crate::wire::{AE_IPV4, AE_IPV6, AE_LINK_LOCAL};
 use babel_prefix::{Addr, Family};
 
 /// What a Next Hop says: RFC 8966, 4.6.8.
+#[derive(Clone, Copy)]
 pub(crate) struct NextHop<'a> {
     pub addr: Addr,
     pub sub_tlvs: &'a [u8],

@@ -4,6 +4,7 @@ ghost use Rattle.babel_tlv.specs.Forming.{id_of, router_id_in};
 use babel_prefix::{Addr, Family};
 
 /// What a Router-Id says: RFC 8966, 4.6.7.
+#[derive(Clone, Copy)]
 pub(crate) struct RouterId<'a> {
     pub router_id: [u8; 8],
     pub sub_tlvs: &'a [u8],

@@ -2,12 +2,16 @@ ghost use Rattle.std.specs.Prelude.{◌≡◌, ◌≢◌, ◌≤◌, ◌<◌, �
 ghost use Rattle.babel_prefix.specs.Width.{octet_count, width_of};
 ghost use Rattle.babel_tlv.specs.Context.{IsOfFamily};
 ghost use Rattle.babel_tlv.specs.Forming.{default_octets, field_len, formed, omitted, prefix_from, prefix_len, sets_default, sets_router_id};
+ghost use Rattle.babel_tlv.specs.Pair.{EventFits};
+ghost use Rattle.babel_tlv.specs.Says.{wildcard_event};
 ghost use Rattle.babel_tlv.specs.Fields.{AreUpdateFields};
 
 use crate::address::{completed, octet_count};
+use crate::event::Event;
+use crate::place::Place;
 use crate::reason::Reason;
-use crate::sub_tlv::octets_needed;
-use crate::wire::{PREFIX_FLAG, ROUTER_ID_FLAG};
+use crate::sub_tlv::{octets_needed, read_sub_tlvs};
+use crate::wire::{INFINITY, PREFIX_FLAG, ROUTER_ID_FLAG};
 
 use babel_prefix::{Addr, Family, Prefix};
 
@@ -113,5 +117,22 @@ impl<'a> Update<'a> {
         ensures { result ≡ sets_router_id self.now.body.now }
     {
         self.flags & ROUTER_ID_FLAG != 0
+    }
+
+    /// What an Update of the wildcard encoding says: RFC 8966, 4.6.9; RFC 9079, 5.2.
+    pub fn wildcard(&self) -> Event
+        ensures said { result ≡ wildcard_event self.now.body.now }
+        ensures fits { EventFits result }
+    {
+        if self.metric != INFINITY {
+            return Event::Ignored(Reason::WildcardFinite);
+        }
+        if self.plen > 0 || self.omitted > 0 {
+            return Event::Ignored(Reason::WildcardPrefix);
+        }
+        match read_sub_tlvs(Place::InWildcard, self.sub_tlvs()) {
+            Ok(_) => Event::RetractAll,
+            Err(reason) => Event::Ignored(reason),
+        }
     }
 }
