@@ -1,9 +1,10 @@
 -- What a grid holds: a trie of destinations whose leaves are numbers of tries of sources.
-use Rattle.std.specs.Prelude.{◌≡◌, ℕ, suc, zero, ◌≤◌, List, Option, Some, None}
+use Rattle.std.specs.Prelude.{◌≡◌, ℕ, suc, zero, ◌-◌, ◌^◌, ◌≤◌, min, length, List, Option, Some, None}
 use Rattle.babel_prefix.specs.Entries.{Entry}
 use Rattle.std.specs.List.{slice_get}
 use Rattle.babel_prefix.specs.Address.{block_of}
 use Rattle.babel_trie.specs.Shape.{Shape, leaf, fork, height, value_at, IsReduced}
+use Rattle.babel_trie.specs.Nested.{leaves, rows_of}
 use Rattle.babel_trie.specs.Interned.{Represents, HasTrie, HasDistinctNodes}
 use Rattle.babel_trie.specs.Rows.{IsNoLater}
 use Rattle.babel_trie.specs.declared.table.Node.{Node}
@@ -62,6 +63,13 @@ module _ {V : Type 0} where
     pub reduced : IsReduced trie
     pub each : (b a : ℕ) → HasTrie w sources (value_at trie b a).0
     pub distinct : HasDistinctNodes sources
+
+  -- the count is that of the boxes of what is held
+  pub record HasGrid (w : ℕ) (sources : List (Node (Option V))) (destinations : List (Node NodeNumber))
+      (root : NodeNumber)
+      (count : ℕ) : Type 0 where
+    pub held : IsHeld w sources destinations root
+    pub count_is : count ≡ min (length (rows_of w (leaves w w 0 (nested_at w sources destinations root)))) (2 ^ 64 - 1)
 
   -- by the destination, and then by the source
   pub record RowOrder (x y : Entry V) : Type 0 where

@@ -1,10 +1,10 @@
 //! The rows that a nested trie stands for.
-ghost use Rattle.std.specs.Prelude.{◌≡◌, ◌+◌, ◌-◌, ◌*◌, ◌^◌, ◌<◌, ◌≤◌, ◌++◌, map, OnOk, Option};
-ghost use Rattle.babel_prefix.specs.Address.{block_of};
+ghost use Rattle.std.specs.Prelude.{◌≡◌, ◌+◌, ◌-◌, ◌*◌, ◌^◌, ◌<◌, ◌≤◌, ◌++◌, map, All, OnOk, Option};
+ghost use Rattle.babel_prefix.specs.Address.{IsAddressPrefix, block_of};
 ghost use Rattle.babel_prefix.specs.Width.{width_of};
 ghost use Rattle.babel_trie.specs.Held.{sources_at, shape_map, HasNested};
 ghost use Rattle.babel_trie.specs.Interned.{Represents, HasTrie};
-ghost use Rattle.babel_trie.specs.Nested.{node_block, leaves, rows_at, rows_of};
+ghost use Rattle.babel_trie.specs.Nested.{IsEntryIn, node_block, leaves, rows_at, rows_of};
 ghost use Rattle.babel_prefix.specs.Entries.{row_of};
 ghost use Rattle.babel_trie.specs.Shape.{Shape};
 
@@ -33,6 +33,7 @@ fn node_prefix(family: Family, bits: u8, place: u128) -> Prefix
     requires bits { bits ≤ width_of family }
     requires place { place < 2 ^ (width_of family - bits) }
     ensures family { result.address.family ≡ family }
+    ensures valid { IsAddressPrefix result }
     ensures block { block_of result ≡ node_block (width_of family) bits place }
 {
     let len = family.width() - bits;
@@ -66,9 +67,12 @@ impl<V: LawfulOrd> Table<Option<V>> {
         out: &mut Vec<Row<V>>,
     ) -> Result<(), AllocError>
         requires trie { HasTrie bits self.now.nodes.items number.0 }
+        requires dst_family { dst.address.family ≡ family }
+        requires dst { IsAddressPrefix dst }
         requires bits { bits ≤ width_of family }
         requires place { place < 2 ^ (width_of family - bits) }
-        ensures { OnOk result ((t : Shape (Option V)) → Represents self.now.nodes.items number.0 t → map row_of out.new.items ≡ map row_of out.old.items ++ rows_at (block_of dst) (leaves (width_of family) bits place t)) }
+        ensures entries { OnOk result (All (IsEntryIn family) out.old.items → All (IsEntryIn family) out.new.items) }
+        ensures rows { OnOk result ((t : Shape (Option V)) → Represents self.now.nodes.items number.0 t → map row_of out.new.items ≡ map row_of out.old.items ++ rows_at (block_of dst) (leaves (width_of family) bits place t)) }
     {
         match self.node(number) {
             Node::Leaf(None) => Ok(()),
@@ -99,7 +103,8 @@ impl<V: LawfulOrd> Nested<V> {
         requires trie { HasNested (width_of family) bits self.now.sources.nodes.items self.now.destinations.nodes.items number.0 }
         requires bits { bits ≤ width_of family }
         requires place { place < 2 ^ (width_of family - bits) }
-        ensures { OnOk result ((t : Shape NodeNumber) → Represents self.now.destinations.nodes.items number.0 t → map row_of out.new.items ≡ map row_of out.old.items ++ rows_of (width_of family) (leaves (width_of family) bits place (shape_map (sources_at (width_of family) self.now.sources.nodes.items) t))) }
+        ensures entries { OnOk result (All (IsEntryIn family) out.old.items → All (IsEntryIn family) out.new.items) }
+        ensures rows { OnOk result ((t : Shape NodeNumber) → Represents self.now.destinations.nodes.items number.0 t → map row_of out.new.items ≡ map row_of out.old.items ++ rows_of (width_of family) (leaves (width_of family) bits place (shape_map (sources_at (width_of family) self.now.sources.nodes.items) t))) }
     {
         match self.destinations.node(number) {
             Node::Leaf(trie) => {

@@ -15,7 +15,7 @@ pub first_pair-requires-clause-trie : goal.first_pair-requires-clause-trie
 first_pair-requires-clause-trie g c =
     let own = c.self.inside in
     subst (λ n. HasNested n n own.nodes.sources.nodes.items own.nodes.destinations.nodes.items own.root.0) (sym c.width-width.ensures)
-    (nested_from_held (width_of own.family) own.nodes.sources.nodes.items own.nodes.destinations.nodes.items own.root c.self.invariant)
+    (nested_from_held (width_of own.family) own.nodes.sources.nodes.items own.nodes.destinations.nodes.items own.root c.self.invariant.held)
 
 pub first_pair-requires-clause-other_trie : goal.first_pair-requires-clause-other_trie
 first_pair-requires-clause-other_trie g c =
@@ -25,7 +25,7 @@ first_pair-requires-clause-other_trie g c =
     ap (λ (t : BoxTable g.row.V.Denot). t.family) c.other.view_is ∙ sym c.requires.family ∙ sym (ap (λ (t : BoxTable g.row.V.Denot). t.family) c.self.view_is) in
     let width : width_of other.family ≡ c.width-width.result = ap width_of families ∙ sym c.width-width.ensures in
     subst (λ n. HasNested n n other.nodes.sources.nodes.items other.nodes.destinations.nodes.items other.root.0) width
-    (nested_from_held (width_of other.family) other.nodes.sources.nodes.items other.nodes.destinations.nodes.items other.root c.other.invariant)
+    (nested_from_held (width_of other.family) other.nodes.sources.nodes.items other.nodes.destinations.nodes.items other.root c.other.invariant.held)
 
 pub returns-in_err-dst-clause-least : goal.returns-in_err-dst-clause-least
 returns-in_err-dst-clause-least g c =
@@ -34,8 +34,8 @@ returns-in_err-dst-clause-least g c =
     let w = c.width-width.result in
     let family = ap (λ (t : BoxTable g.row.V.Denot). t.family) c.self.view_is in
     let families : other.family ≡ own.family = ap (λ (t : BoxTable g.row.V.Denot). t.family) c.other.view_is ∙ sym c.requires.family ∙ sym family in
-    let left = holds w (width_of own.family) c.args.self.now.boxes own.nodes.sources.nodes.items own.nodes.destinations.nodes.items own.root (sym c.width-width.ensures) c.self.invariant (ap (λ (t : BoxTable g.row.V.Denot). t.boxes) c.self.view_is) in
-    let right = holds w (width_of other.family) c.args.other.now.boxes other.nodes.sources.nodes.items other.nodes.destinations.nodes.items other.root (ap width_of families ∙ sym c.width-width.ensures) c.other.invariant (ap (λ (t : BoxTable g.row.V.Denot). t.boxes) c.other.view_is) in
+    let left = holds w (width_of own.family) c.args.self.now.boxes own.nodes.sources.nodes.items own.nodes.destinations.nodes.items own.root (sym c.width-width.ensures) c.self.invariant.held (ap (λ (t : BoxTable g.row.V.Denot). t.boxes) c.self.view_is) in
+    let right = holds w (width_of other.family) c.args.other.now.boxes other.nodes.sources.nodes.items other.nodes.destinations.nodes.items other.root (ap width_of families ∙ sym c.width-width.ensures) c.other.invariant.held (ap (λ (t : BoxTable g.row.V.Denot). t.boxes) c.other.view_is) in
     let same : SameAnswers w (answer w c.args.self.now.boxes) (answer w c.args.other.now.boxes) =
     agree_from_below w (answer w c.args.self.now.boxes) (answer w c.args.other.now.boxes) (answers_below w own.nodes.sources.nodes.items w left.held.trie) (answers_below w other.nodes.sources.nodes.items w right.held.trie) left.answers right.answers
     (c.in_err-dst.ensures left.held.trie right.held.trie left.held.stands right.held.stands) in
@@ -48,8 +48,8 @@ unwrap-dst-requires g c =
     let w = c.width-width.result in
     let family = ap (λ (t : BoxTable g.row.V.Denot). t.family) c.self.view_is in
     let families : other.family ≡ own.family = ap (λ (t : BoxTable g.row.V.Denot). t.family) c.other.view_is ∙ sym c.requires.family ∙ sym family in
-    let left = holds w (width_of own.family) c.args.self.now.boxes own.nodes.sources.nodes.items own.nodes.destinations.nodes.items own.root (sym c.width-width.ensures) c.self.invariant (ap (λ (t : BoxTable g.row.V.Denot). t.boxes) c.self.view_is) in
-    let right = holds w (width_of other.family) c.args.other.now.boxes other.nodes.sources.nodes.items other.nodes.destinations.nodes.items other.root (ap width_of families ∙ sym c.width-width.ensures) c.other.invariant (ap (λ (t : BoxTable g.row.V.Denot). t.boxes) c.other.view_is) in
+    let left = holds w (width_of own.family) c.args.self.now.boxes own.nodes.sources.nodes.items own.nodes.destinations.nodes.items own.root (sym c.width-width.ensures) c.self.invariant.held (ap (λ (t : BoxTable g.row.V.Denot). t.boxes) c.self.view_is) in
+    let right = holds w (width_of other.family) c.args.other.now.boxes other.nodes.sources.nodes.items other.nodes.destinations.nodes.items other.root (ap width_of families ∙ sym c.width-width.ensures) c.other.invariant.held (ap (λ (t : BoxTable g.row.V.Denot). t.boxes) c.other.view_is) in
     let d = c.in_ok-dst.ensures left.held.trie right.held.trie left.held.stands right.held.stands in
     c.new.ensures.fits.1 (subst (λ n. c.in_ok-dst.dst < 2 ^ n) c.width-width.ensures d.in_range)
 
@@ -60,8 +60,8 @@ unwrap-src-requires g c =
     let w = c.width-width.result in
     let family = ap (λ (t : BoxTable g.row.V.Denot). t.family) c.self.view_is in
     let families : other.family ≡ own.family = ap (λ (t : BoxTable g.row.V.Denot). t.family) c.other.view_is ∙ sym c.requires.family ∙ sym family in
-    let left = holds w (width_of own.family) c.args.self.now.boxes own.nodes.sources.nodes.items own.nodes.destinations.nodes.items own.root (sym c.width-width.ensures) c.self.invariant (ap (λ (t : BoxTable g.row.V.Denot). t.boxes) c.self.view_is) in
-    let right = holds w (width_of other.family) c.args.other.now.boxes other.nodes.sources.nodes.items other.nodes.destinations.nodes.items other.root (ap width_of families ∙ sym c.width-width.ensures) c.other.invariant (ap (λ (t : BoxTable g.row.V.Denot). t.boxes) c.other.view_is) in
+    let left = holds w (width_of own.family) c.args.self.now.boxes own.nodes.sources.nodes.items own.nodes.destinations.nodes.items own.root (sym c.width-width.ensures) c.self.invariant.held (ap (λ (t : BoxTable g.row.V.Denot). t.boxes) c.self.view_is) in
+    let right = holds w (width_of other.family) c.args.other.now.boxes other.nodes.sources.nodes.items other.nodes.destinations.nodes.items other.root (ap width_of families ∙ sym c.width-width.ensures) c.other.invariant.held (ap (λ (t : BoxTable g.row.V.Denot). t.boxes) c.other.view_is) in
     let d = c.in_ok-dst.ensures left.held.trie right.held.trie left.held.stands right.held.stands in
     c.new-2.ensures.fits.1 (subst (λ n. c.in_ok-dst.src < 2 ^ n) c.width-width.ensures d.differ.in_range)
 
@@ -72,8 +72,8 @@ returns-clause-least g c =
     let w = c.width-width.result in
     let family = ap (λ (t : BoxTable g.row.V.Denot). t.family) c.self.view_is in
     let families : other.family ≡ own.family = ap (λ (t : BoxTable g.row.V.Denot). t.family) c.other.view_is ∙ sym c.requires.family ∙ sym family in
-    let left = holds w (width_of own.family) c.args.self.now.boxes own.nodes.sources.nodes.items own.nodes.destinations.nodes.items own.root (sym c.width-width.ensures) c.self.invariant (ap (λ (t : BoxTable g.row.V.Denot). t.boxes) c.self.view_is) in
-    let right = holds w (width_of other.family) c.args.other.now.boxes other.nodes.sources.nodes.items other.nodes.destinations.nodes.items other.root (ap width_of families ∙ sym c.width-width.ensures) c.other.invariant (ap (λ (t : BoxTable g.row.V.Denot). t.boxes) c.other.view_is) in
+    let left = holds w (width_of own.family) c.args.self.now.boxes own.nodes.sources.nodes.items own.nodes.destinations.nodes.items own.root (sym c.width-width.ensures) c.self.invariant.held (ap (λ (t : BoxTable g.row.V.Denot). t.boxes) c.self.view_is) in
+    let right = holds w (width_of other.family) c.args.other.now.boxes other.nodes.sources.nodes.items other.nodes.destinations.nodes.items other.root (ap width_of families ∙ sym c.width-width.ensures) c.other.invariant.held (ap (λ (t : BoxTable g.row.V.Denot). t.boxes) c.other.view_is) in
     let dst : c.unwrap-dst.result ≡ record { family = own.family; bits = c.in_ok-dst.dst } = search rules in
     let src : c.unwrap-src.result ≡ record { family = own.family; bits = c.in_ok-dst.src } = search rules in
     let least : IsLeastDifference w (answer w c.args.self.now.boxes) (answer w c.args.other.now.boxes) c.in_ok-dst.dst c.in_ok-dst.src =

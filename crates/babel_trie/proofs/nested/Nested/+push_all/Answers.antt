@@ -54,8 +54,8 @@ push_all-requires-in-Fork g t c κs within =
     let bits : c.args.bits - 1 ≤ width_of c.args.family = omega (arith, c.requires.bits) in
     search rules
 
-pub returns-in_ok-push_rows-in-Leaf : goal.returns-in_ok-push_rows-in-Leaf
-returns-in_ok-push_rows-in-Leaf g t c u p =
+pub returns-in_ok-push_rows-in-Leaf-clause-rows : goal.returns-in_ok-push_rows-in-Leaf-clause-rows
+returns-in_ok-push_rows-in-Leaf-clause-rows g t c u p =
     let w = width_of c.args.family in
     let sources = c.args.self.now.sources.nodes.items in
     let nodes = c.args.self.now.destinations.nodes.items in
@@ -65,15 +65,15 @@ returns-in_ok-push_rows-in-Leaf g t c u p =
     let h = nested_leaf w c.args.bits sources nodes c.args.number.0 x (c.node.ensures ∙ ap Some c.in-Leaf.is) c.requires.trie in
     let dst = c.node_prefix-dst.ensures.block in
     let stands = sources_at-stands w sources x h in
-    c.in_ok-push_rows-in-Leaf.ensures h.trie h.stands
+    c.in_ok-push_rows-in-Leaf.ensures.rows h.trie h.stands
     ∙ ap (λ b. old ++ rows_at b (leaves w c.width.result 0 h.trie)) dst
     ∙ ap (λ n. old ++ rows_at (node_block w c.args.bits c.args.place) (leaves w n 0 h.trie)) c.width.ensures
     ∙ ap (λ q. old ++ rows_at (node_block w c.args.bits c.args.place) (leaves w w 0 q)) (sym stands)
     ∙ ap (λ r. old ++ r) (sym (append_none (rows_at (node_block w c.args.bits c.args.place) (leaves w w 0 (sources_at w sources x)))))
     ∙ ap (λ y. old ++ rows_of w (leaves w c.args.bits c.args.place (shape_map (sources_at w sources) y))) is
 
-pub returns-in_ok-push_all-in-Fork-2 : goal.returns-in_ok-push_all-in-Fork-2
-returns-in_ok-push_all-in-Fork-2 g t c u p =
+pub returns-in_ok-push_all-in-Fork-2-clause-rows : goal.returns-in_ok-push_all-in-Fork-2-clause-rows
+returns-in_ok-push_all-in-Fork-2-clause-rows g t c u p =
     let w = width_of c.args.family in
     let sources = c.args.self.now.sources.nodes.items in
     let f = fork_of c.args.self.now.destinations.nodes.items c.args.number.0 c.in-Fork.low c.in-Fork.high u (c.node.ensures ∙ ap Some c.in-Fork.is) p in
@@ -81,5 +81,8 @@ returns-in_ok-push_all-in-Fork-2 g t c u p =
     let mid = map row_of c.push_all.new.out.items in
     let new = map row_of c.push_all-in-Fork.new.out.items in
     all_of_halves w c.args.bits c.args.place (shape_map (sources_at w sources) u) (shape_map (sources_at w sources) f.low_half) (shape_map (sources_at w sources) f.high_half) old mid new (ap (shape_map (sources_at w sources)) f.is)
-    (c.in_ok-push_all-in-Fork.ensures f.low_half f.low_stands ∙ ap (λ k. old ++ rows_of w (leaves w (c.args.bits - 1) k (shape_map (sources_at w sources) f.low_half))) c.places-low_place.ensures.low)
-    (c.in_ok-push_all-in-Fork-2.ensures f.high_half f.high_stands ∙ ap (λ k. mid ++ rows_of w (leaves w (c.args.bits - 1) k (shape_map (sources_at w sources) f.high_half))) c.places-low_place.ensures.high)
+    (c.in_ok-push_all-in-Fork.ensures.rows f.low_half f.low_stands ∙ ap (λ k. old ++ rows_of w (leaves w (c.args.bits - 1) k (shape_map (sources_at w sources) f.low_half))) c.places-low_place.ensures.low)
+    (c.in_ok-push_all-in-Fork-2.ensures.rows f.high_half f.high_stands ∙ ap (λ k. mid ++ rows_of w (leaves w (c.args.bits - 1) k (shape_map (sources_at w sources) f.high_half))) c.places-low_place.ensures.high)
+
+pub returns-in_ok-push_all-in-Fork-2-clause-entries : goal.returns-in_ok-push_all-in-Fork-2-clause-entries
+returns-in_ok-push_all-in-Fork-2-clause-entries g t c old = c.in_ok-push_all-in-Fork-2.ensures.entries (c.in_ok-push_all-in-Fork.ensures.entries old)
