@@ -73,7 +73,12 @@ fn omitted_octets(default: Option<Addr>, count: usize) -> u128
 }
 
 /// The address of the first octets of a default prefix, these behind them, and zeros: RFC 8966, 4.6.9.
-pub(crate) fn completed(family: Family, default: Option<Addr>, omitted: usize, octets: &[u8]) -> Addr
+pub(crate) fn completed(
+    family: Family,
+    default: Option<Addr>,
+    omitted: usize,
+    octets: &[u8],
+) -> Addr
     requires few { omitted + length octets.now ≤ octet_count family }
     requires of_family { IsOfFamily family default }
     requires has_default { 0 < omitted → IsSome default }

@@ -24,6 +24,8 @@ mod router_id;
 mod state;
 mod step;
 mod sub_tlv;
+#[cfg(test)]
+mod tests;
 mod tlv;
 mod tlvs;
 mod update;

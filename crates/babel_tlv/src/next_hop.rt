@@ -17,8 +17,8 @@ impl<'a> NextHop<'a> {
     /// Reads a Next Hop's body.
     pub fn read(body: &'a [u8]) -> Result<NextHop<'a>, Reason>
         ensures { MatchResult result
-          (λ read. (next_hop_in body.now ≡ Ok read.addr) × (read.sub_tlvs.now ≡ drop (2 + hop_len (slice_index body.now 0)) body.now))
-          (λ reason. next_hop_in body.now ≡ Err reason) }
+            (λ read. (next_hop_in body.now ≡ Ok read.addr) × (read.sub_tlvs.now ≡ drop (2 + hop_len (slice_index body.now 0)) body.now))
+            (λ reason. next_hop_in body.now ≡ Err reason) }
     {
         let [encoding, _, octets @ ..] = body else {
             return Err(Reason::Short);

@@ -12,7 +12,6 @@ use crate::place::Place;
 use crate::reason::Reason;
 use crate::sub_tlv::{octets_needed, read_sub_tlvs};
 use crate::wire::{INFINITY, PREFIX_FLAG, ROUTER_ID_FLAG};
-
 use babel_prefix::{Addr, Family, Prefix};
 
 /// The octets of an Update's body before the prefix.
@@ -88,7 +87,7 @@ impl<'a> Update<'a> {
         requires few { omitted self.now.body.now ≤ octet_count family }
         requires has_default { 0 < omitted self.now.body.now → IsSome default }
         ensures value { result ≡ prefix_from family (prefix_len self.now.body.now)
-          (take (omitted self.now.body.now) (default_octets default) ++ take (field_len self.now.body.now) (drop 10 self.now.body.now)) }
+            (take (omitted self.now.body.now) (default_octets default) ++ take (field_len self.now.body.now) (drop 10 self.now.body.now)) }
         ensures family { result.address.family ≡ family }
     {
         let field = &self.body[FIXED_LEN..FIXED_LEN + self.field_len()];
