@@ -9,3 +9,5 @@ pub mod SubTlv
 pub mod Context
 pub mod Says
 pub mod Group
+pub mod Writing
+pub mod News
