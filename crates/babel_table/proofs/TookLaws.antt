@@ -1,6 +1,6 @@
 -- TLVs of a packet, taken one by one.
 use Rattle.std.proofs.Common.{◌≡◌, ℕ, zero, suc, ◌+◌, ◌<◌, ◌≤◌, ltb, Bool, true, false, cond, take, List, [], ◌∷◌, ◌++◌, length, refl, sym, ap, subst, ◌∙◌, append_assoc, inl, inr, arith}
-use Rattle.std.specs.Prelude.{Result, Ok, Err, OnOk, IfErr, ◌⊎◌}
+use Rattle.std.specs.Prelude.{Result, Ok, Err, OnOk, IfErr, ◌⊎◌, ◌==◌, nat_lt, nat_le}
 use Rattle.std.specs.List.{Contains}
 use Rattle.std.proofs.lemmas.List.{append-nil}
 use Rattle.std.proofs.lemmas.List.Elements.{Contains-append_left, Contains-append_right}
@@ -10,13 +10,39 @@ use Rattle.babel_tlv.specs.declared.fault.Fault.{Fault}
 use Rattle.babel_tlv.specs.declared.fault.Fault.TheVariants as faults
 use Rattle.babel_tlv.specs.declared.mode.Mode.{Mode}
 use Rattle.babel_tlv.specs.Framing.{TlvAt, tlvs_past, tlvs_of}
+use Rattle.babel_tlv.specs.Forming.{update_encoding, sets_router_id}
 use Rattle.babel_tlv.specs.Context.{Context, context_after}
-use Rattle.babel_tlv.specs.Says.{Saying, said, sayings_behind}
+use Rattle.babel_tlv.specs.Says.{Saying, said, update_said, sayings_behind}
 use Rattle.babel_table.specs.DumpFault.{Refuses, RefusedBy}
-use Rattle.babel_table.specs.Feeding.{StandsBehind, Takes, Fails, TookSome, SomeMayGrow, MayGrow, MayGrowAt, IsRefused, event_at}
+use Rattle.babel_table.specs.Feeding.{StandsBehind, Takes, Fails, TookSome, SomeMayGrow, MayGrow, MayGrowAt, IsRefused, IsLasting, event_at}
 use Rattle.babel_table.specs.Holds.{HoldsMoreThan}
 use Rattle.babel_table.specs.Rows.{Routes}
 use Rattle.babel_table.proofs.FineLaws.{refused_by}
+
+record Lasts (r : Result Event Fault) : Type 0 where
+  lasts : IfErr r IsLasting
+
+either_lasts : (b : Bool) {x y : Result Event Fault} → Lasts x → Lasts y → Lasts (cond b x y)
+either_lasts true here there = here
+either_lasts false here there = there
+
+event_lasts : {event : Event} → Lasts (Ok event)
+event_lasts = record { lasts = tt }
+
+update_lasts : (context : Context) (tlv : TlvAt) → Lasts (update_said context tlv)
+update_lasts context tlv =
+    either_lasts (nat_lt (length tlv.body) 10) event_lasts
+    (either_lasts (nat_le 3 (update_encoding tlv.body)) (either_lasts (sets_router_id tlv.body) (record { lasts = tt }) event_lasts)
+    (either_lasts (update_encoding tlv.body == 0) event_lasts (either_lasts (update_encoding tlv.body == 1) event_lasts event_lasts)))
+
+said_lasts : (context : Context) (tlv : TlvAt) → Lasts (said context tlv)
+said_lasts context tlv =
+    either_lasts (tlv.kind == 6) event_lasts (either_lasts (tlv.kind == 7) event_lasts
+    (either_lasts (tlv.kind == 8) (update_lasts context tlv) event_lasts))
+
+-- what a TLV refuses the dump for is no want of octets, nor of memory
+said-lasting : (context : Context) (tlv : TlvAt) (fault : Fault) → said context tlv ≡ Err fault → IsLasting fault
+said-lasting context tlv fault is = subst (λ (r : Result Event Fault). IfErr r IsLasting) is (said_lasts context tlv).lasts
 
 module _ (mode : Mode) (entries : ℕ) (sender : Address) (old : Routes) (all : List TlvAt) where
   pub took-none : TookSome mode entries sender old all old (context_after sender []) all
@@ -62,11 +88,14 @@ module _ (mode : Mode) (entries : ℕ) (sender : Address) (old : Routes) (all : 
       let one : Saying = what tlv.at (said (context_after sender some.earlier) tlv) in
       let rest : List Saying = sayings_behind sender (tlv ∷ some.earlier) left in
       let whole : sayings_behind sender [] all ≡ some.done ++ (one ∷ rest) = some.whole in
-      inl (λ before later stands.
-      subst (λ (s : List Saying). RefusedBy mode entries s fault)
-      (append_assoc before some.done (one ∷ rest ++ later) ∙ ap (λ (s : List Saying). before ++ s) (sym (append_assoc some.done (one ∷ rest) later)) ∙ ap (λ (s : List Saying). before ++ (s ++ later)) (sym whole) ∙ sym (append_assoc before (sayings_behind sender [] all) later))
-      (refused_by mode entries now (before ++ some.done) one (rest ++ later) fault (some.stands before stands)
-      (λ events are. subst (λ (r : Result Event Fault). Refuses mode entries events tlv.at r fault) (sym here) refl)))
+      inl (
+        said-lasting (context_after sender some.earlier) tlv fault here,
+        λ before later stands.
+            subst (λ (s : List Saying). RefusedBy mode entries s fault)
+            (append_assoc before some.done (one ∷ rest ++ later) ∙ ap (λ (s : List Saying). before ++ s) (sym (append_assoc some.done (one ∷ rest) later)) ∙ ap (λ (s : List Saying). before ++ (s ++ later)) (sym whole) ∙ sym (append_assoc before (sayings_behind sender [] all) later))
+            (refused_by mode entries now (before ++ some.done) one (rest ++ later) fault (some.stands before stands)
+            (λ events are. subst (λ (r : Result Event Fault). Refuses mode entries events tlv.at r fault) (sym here) refl)),
+      )
 
   -- there would be too many rows, or there is no memory
   pub took-failed : (now : Routes) (context : Context) (tlv : TlvAt) (left : List TlvAt) (event : Event) (fault : Fault) → TookSome mode entries sender old all now context (tlv ∷ left)
@@ -76,11 +105,14 @@ module _ (mode : Mode) (entries : ℕ) (sender : Address) (old : Routes) (all : 
       let one : Saying = what tlv.at (said (context_after sender some.earlier) tlv) in
       let rest : List Saying = sayings_behind sender (tlv ∷ some.earlier) left in
       let whole : sayings_behind sender [] all ≡ some.done ++ (one ∷ rest) = some.whole in
-      inl (λ before later stands.
-      subst (λ (s : List Saying). RefusedBy mode entries s fault)
-      (append_assoc before some.done (one ∷ rest ++ later) ∙ ap (λ (s : List Saying). before ++ s) (sym (append_assoc some.done (one ∷ rest) later)) ∙ ap (λ (s : List Saying). before ++ (s ++ later)) (sym whole) ∙ sym (append_assoc before (sayings_behind sender [] all) later))
-      (refused_by mode entries now (before ++ some.done) one (rest ++ later) fault (some.stands before stands)
-      (λ events are. subst (λ (r : Result Event Fault). Refuses mode entries events tlv.at r fault) (sym here) (is, over events are))))
+      inl (
+        subst IsLasting (sym is) tt,
+        λ before later stands.
+            subst (λ (s : List Saying). RefusedBy mode entries s fault)
+            (append_assoc before some.done (one ∷ rest ++ later) ∙ ap (λ (s : List Saying). before ++ s) (sym (append_assoc some.done (one ∷ rest) later)) ∙ ap (λ (s : List Saying). before ++ (s ++ later)) (sym whole) ∙ sym (append_assoc before (sayings_behind sender [] all) later))
+            (refused_by mode entries now (before ++ some.done) one (rest ++ later) fault (some.stands before stands)
+            (λ events are. subst (λ (r : Result Event Fault). Refuses mode entries events tlv.at r fault) (sym here) (is, over events are))),
+      )
   took-failed now context tlv left event fault some is_said (inr (memory, grow)) =
       let here : said (context_after sender some.earlier) tlv ≡ Ok event = here_said context tlv some.earlier event some.context_is is_said in
       let one : Saying = what tlv.at (said (context_after sender some.earlier) tlv) in

@@ -1,5 +1,5 @@
 -- What a feeder has made of the octets that it was fed.
-use Rattle.std.specs.Prelude.{◌≡◌, ℕ, ◌+◌, ◌<◌, ◌≤◌, List, [], ◌∷◌, ◌++◌, length, Option, Some, None, Result, Ok, Err, ◌⊎◌}
+use Rattle.std.specs.Prelude.{◌≡◌, ℕ, ◌+◌, ◌-◌, ◌<◌, ◌≤◌, List, [], ◌∷◌, ◌++◌, length, take, Option, Some, None, Result, Ok, Err, ◌⊎◌}
 use Rattle.std.specs.List.{flat_map, Contains}
 use Rattle.babel_prefix.specs.Address.{Address}
 use Rattle.babel_tlv.specs.declared.event.Event.{Event}
@@ -79,10 +79,23 @@ pub record TookSome (mode : Mode) (entries : ℕ) (sender : Address) (old : Rout
 abbrev pub Takes : Mode → ℕ → List Saying → Routes → Routes → Type 0
 Takes mode entries said old new = (before : List Saying) → StandsBehind mode entries old before → StandsBehind mode entries new (before ++ said)
 
+-- a fault that octets have, and keep however they go on
+abbrev pub IsLasting : Fault → Type 0
+IsLasting (faults.Truncated at) = ⊥
+IsLasting (faults.BadMagic at) = Unit {0}
+IsLasting (faults.BadVersion at) = Unit {0}
+IsLasting (faults.TlvPastEnd at) = Unit {0}
+IsLasting (faults.EncodingSetsRouterId at) = Unit {0}
+IsLasting (faults.TooManyRoutes at) = Unit {0}
+IsLasting faults.TooLong = Unit {0}
+IsLasting faults.TooManyPairs = ⊥
+IsLasting faults.Memory = ⊥
+
 -- one of these sayings refuses the dump, whatever comes behind, or needs memory that there is none of
 abbrev pub Fails : Mode → ℕ → List Saying → Routes → Fault → Type 0
 Fails mode entries said old fault =
-    ((before later : List Saying) → StandsBehind mode entries old before → RefusedBy mode entries (before ++ said ++ later) fault)
+    (IsLasting fault
+    × ((before later : List Saying) → StandsBehind mode entries old before → RefusedBy mode entries (before ++ said ++ later) fault))
     ⊎ ((fault ≡ faults.Memory) × SomeMayGrow mode said)
 
 -- the octets begin with packets, of which the first lies at this offset: they are taken, and the rest begins at this place
@@ -108,6 +121,19 @@ pub record StopsBehind (mode : Mode) (entries : ℕ) (sender : Address) (at : �
   pub took : TookPackets mode entries sender at octets old now rest place
   pub stops : StopsAt mode entries sender now rest place fault
 
+-- less than a packet: nothing, less than a header, or a good header and less than its body
+abbrev pub IsPartial : List ℕ → Type 0
+IsPartial octets = (length octets < 4) ⊎ LacksBody octets
+
+-- Why octets behind some that are pending are not taken. Those past the limit on all are not looked at: among the others
+-- some packets are taken and then comes the fault, or all are taken, and there are too many octets.
+abbrev pub StopsWithin : ℕ → Mode → ℕ → Address → ℕ → List ℕ → List ℕ → Routes → Fault → Type 0
+StopsWithin bytes mode entries sender at pending octets old fault =
+    let near : List ℕ = take (bytes - (at + length pending)) octets in
+    StopsBehind mode entries sender at (pending ++ near) old fault
+    ⊎ ((fault ≡ faults.TooLong) × (bytes < at + length (pending ++ octets)) × (now : Routes) × (rest : List ℕ) × (place : ℕ)
+    × TookPackets mode entries sender at (pending ++ near) old now rest place × IsPartial rest)
+
 -- ---- a feeder
 
 -- what a feeder holds: what it was made with, the rows and the counts of the whole packets, where the next packet begins, its
@@ -121,9 +147,11 @@ pub record Progress : Type 0 where
   pub pending : List ℕ
   pub fault : Option Fault
 
--- less than a packet: nothing, less than a header, or a good header and less than its body
-abbrev pub IsPartial : List ℕ → Type 0
-IsPartial octets = (length octets < 4) ⊎ LacksBody octets
+-- without a fault: as many TLVs at most as octets, no octet past the limit, and less than a packet pending
+pub record IsReady (bytes tlvs at : ℕ) (pending : List ℕ) : Type 0 where
+  pub counted : tlvs ≤ at
+  pub in_limit : at + length pending ≤ bytes
+  pub partial : IsPartial pending
 
 -- without a fault: the octets are whole packets whose TLVs are fine, and less than another
 pub record HasTaken (progress : Progress) (fed : List ℕ) : Type 0 where
@@ -143,7 +171,7 @@ NeedsMemory mode sender octets =
 abbrev pub HasFailed : Progress → Fault → List ℕ → Type 0
 HasFailed progress fault fed =
     ((fault ≡ faults.Memory) × NeedsMemory progress.mode progress.sender fed)
-    ⊎ ((¬ IsTruncated fault) × ((more : List ℕ) → DumpFault progress.limits progress.mode progress.sender (fed ++ more) fault))
+    ⊎ (IsLasting fault × ((more : List ℕ) → DumpFault progress.limits progress.mode progress.sender (fed ++ more) fault))
 
 abbrev pub HasReadTo : Progress → Option Fault → List ℕ → Type 0
 HasReadTo progress None fed = HasTaken progress fed

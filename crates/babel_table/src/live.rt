@@ -2,9 +2,10 @@ ghost use Rattle.std.specs.Prelude.{◌≡◌, ◌^◌, ◌<◌, ◌≤◌, ◌+
 ghost use Rattle.std.specs.BTreeMap.{insert_entry, is_at};
 ghost use Rattle.std.specs.Map.{remove_entry};
 ghost use Rattle.babel_tlv.specs.declared.held.Held.TheVariants as helds;
+ghost use Rattle.babel_tlv.specs.Pair.{EventFits, IsPair};
 ghost use Rattle.babel_tlv.specs.Route.{key_cmp};
 ghost use Rattle.babel_table.specs.Live.{unreachable, current};
-ghost use Rattle.babel_table.specs.Rows.{IsRising};
+ghost use Rattle.babel_table.specs.Rows.{AreRows};
 ghost use Rattle.babel_table.specs.Feeding.{Follows, IsRefused};
 
 use crate::stored::Stored;
@@ -25,13 +26,13 @@ pub struct LiveRows {
 
 impl Model for LiveRows {
     ghost use Rattle.std.specs.Prelude.{◌≤◌, length};
-    ghost use Rattle.babel_table.specs.Live.{Live, live_rows, AreStamped};
+    ghost use Rattle.babel_table.specs.Live.{Live, live_rows, AreKept};
 
     ghost Value = { Live };
 
     ghost view = { λ r. record { mode = r.mode; entries = r.entries; wipes = r.wipes; rows = live_rows r.wipes r.map.entries } };
 
-    ghost invariant = { λ r. AreStamped r.wipes r.map.entries × (length r.map.entries ≤ r.entries) };
+    ghost invariant = { λ r. AreKept r.wipes r.map.entries × (length r.map.entries ≤ r.entries) };
 }
 
 impl LiveRows {
@@ -48,6 +49,7 @@ impl LiveRows {
 
     /// Holds this for the key, if a row may be added for it.
     fn put(&mut self, key: Key, held: Held, at: u64) -> Result<(), Fault>
+        requires { IsPair (key, held) }
         ensures settings { (self.new.mode ≡ self.old.mode) × (self.new.entries ≡ self.old.entries) × (self.new.wipes ≡ self.old.wipes) }
         ensures ok { OnOk result (self.new.rows ≡ insert_entry key_cmp self.old.rows key held) }
         ensures refused { IfErr result (λ fault. ((fault ≡ Fault.TooManyRoutes at) × (self.old.entries < length (insert_entry key_cmp self.old.rows key held))) ⊎ (fault ≡ Fault.Memory)) }
@@ -89,9 +91,9 @@ impl LiveRows {
         self.wipes += 1;
     }
 
-    /// The rows are in rising order.
-    fn keys_rise(&self)
-        ensures { IsRising self.now.rows }
+    /// The keys rise, and each row is a pair.
+    pub fn are_rows(&self)
+        ensures { AreRows self.now.rows }
     {
         key_order();
         let _ = self.map.len();
@@ -106,6 +108,7 @@ impl LiveRows {
 
     /// Takes an announcement, said at this offset, into the rows.
     fn announce(&mut self, key: Key, ann: Ann, at: u64) -> Result<(), Fault>
+        requires { EventFits (Event.Announce key ann) }
         ensures settings { (self.new.mode ≡ self.old.mode) × (self.new.entries ≡ self.old.entries) × (self.new.wipes ≡ self.old.wipes) }
         ensures ok { OnOk result (Follows self.old.mode (Event.Announce key ann) self.old.rows self.new.rows) }
         ensures refused { IfErr result (IsRefused self.old.mode self.old.entries at (Event.Announce key ann) self.old.rows) }
@@ -115,6 +118,7 @@ impl LiveRows {
 
     /// Takes a retraction of one key into the rows.
     fn retract(&mut self, key: Key, at: u64) -> Result<(), Fault>
+        requires { EventFits (Event.Retract key) }
         ensures settings { (self.new.mode ≡ self.old.mode) × (self.new.entries ≡ self.old.entries) × (self.new.wipes ≡ self.old.wipes) }
         ensures ok { OnOk result (Follows self.old.mode (Event.Retract key) self.old.rows self.new.rows) }
         ensures refused { IfErr result (IsRefused self.old.mode self.old.entries at (Event.Retract key) self.old.rows) }
@@ -142,7 +146,8 @@ impl LiveRows {
 
     /// Takes an event, said at this offset, into the rows.
     pub fn take(&mut self, event: Event, at: u64) -> Result<(), Fault>
-        requires { self.old.wipes + 1 < 2 ^ 64 }
+        requires fits { EventFits event }
+        requires room { self.old.wipes + 1 < 2 ^ 64 }
         ensures settings { (self.new.mode ≡ self.old.mode) × (self.new.entries ≡ self.old.entries) × (self.new.wipes ≤ self.old.wipes + 1) }
 
         // The rows of events are then those of these events and this one.

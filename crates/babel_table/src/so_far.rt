@@ -1,5 +1,6 @@
 ghost use Rattle.std.specs.Prelude.{◌≡◌, ◌≤◌, ◌<◌, ◌+◌, ◌^◌, ◌++◌, ◌∷◌, [], List, length, drop, OnOk, IfOk, IfErr};
 ghost use Rattle.babel_table.specs.Feeding.{IsRefused, StandsBehind, Takes, Fails, TookPackets, StopsBehind, IsPartial, routes, event_at};
+ghost use Rattle.babel_tlv.specs.Pair.{EventFits};
 ghost use Rattle.babel_tlv.specs.Says.{Saying, sayings_behind};
 ghost use Rattle.babel_tlv.specs.Framing.{Parts, tlvs_of};
 
@@ -19,7 +20,8 @@ pub struct SoFar {
 impl SoFar {
     /// Takes what a TLV says, at this offset.
     pub fn take(&mut self, event: Event, at: u64) -> Result<(), Fault>
-        requires { self.old.report.tlvs + 1 < 2 ^ 64 }
+        requires fits { EventFits event }
+        requires room { self.old.report.tlvs + 1 < 2 ^ 64 }
         ensures mode { self.new.rows.mode ≡ self.old.rows.mode }
         ensures entries { self.new.rows.entries ≡ self.old.rows.entries }
         ensures tlvs { self.new.report.tlvs ≡ self.old.report.tlvs + 1 }
@@ -71,6 +73,8 @@ impl SoFar {
         ensures entries { self.new.rows.entries ≡ self.old.rows.entries }
         ensures took { IfOk result (λ used. TookPackets self.old.rows.mode self.old.rows.entries sender at octets.now
             (routes self.old.rows.rows self.old.report) (routes self.new.rows.rows self.new.report) (drop used octets.now) (at + used)) }
+        ensures used { IfOk result (λ used. used ≤ length octets.now) }
+        ensures tlvs { IfOk result (λ used. self.new.report.tlvs ≤ self.old.report.tlvs + used) }
         ensures partial { IfOk result (λ used. IsPartial (drop used octets.now)) }
         ensures stops { IfErr result (StopsBehind self.old.rows.mode self.old.rows.entries sender at octets.now (routes self.old.rows.rows self.old.report)) }
     {

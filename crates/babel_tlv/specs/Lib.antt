@@ -4,7 +4,10 @@ pub mod Framing
 pub mod Frames
 pub mod Left
 pub mod Forming
+pub mod Fields
 pub mod SubTlv
 pub mod Context
 pub mod Says
 pub mod Group
+pub mod Writing
+pub mod News

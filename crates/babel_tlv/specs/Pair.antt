@@ -1,15 +1,24 @@
 -- A key and what is held for it: RFC 8966, 2.8; RFC 9079, 3.2.
 use Rattle.std.specs.Prelude.{◌≡◌}
+use Rattle.std.specs.declared.cmp.Ordering.{Ordering}
+use Rattle.std.specs.declared.cmp.Ordering.TheVariants.{Less, Equal, Greater}
 use Rattle.babel_prefix.specs.Address.{IsAddressPrefix}
 use Rattle.babel_tlv.specs.declared.held.Held.{Held}
 use Rattle.babel_tlv.specs.declared.held.Held.TheVariants as helds
 use Rattle.babel_tlv.specs.declared.event.Event.{Event}
 use Rattle.babel_tlv.specs.declared.event.Event.TheVariants as events
-use Rattle.babel_tlv.specs.Route.{RouteKey, IsRouteKey, IsAnnouncement}
+use Rattle.babel_tlv.specs.Route.{RouteKey, IsRouteKey, IsAnnouncement, announcement_cmp}
 
 -- a key and what is held for it
 abbrev pub Pair : Type 0
 Pair = RouteKey × Held
+
+-- routes first, by what they announce; then unreachable
+abbrev pub held_cmp : Held → Held → Ordering
+held_cmp (helds.Route a) (helds.Route b) = announcement_cmp a b
+held_cmp (helds.Route a) helds.Unreachable = Less
+held_cmp helds.Unreachable (helds.Route b) = Greater
+held_cmp helds.Unreachable helds.Unreachable = Equal
 
 -- an announcement with a next hop of the key's family, or unreachable
 abbrev pub FitsKey : RouteKey → Held → Type 0

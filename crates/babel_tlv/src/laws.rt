@@ -1,10 +1,31 @@
 //! Laws about the orders of this crate's types.
 ghost use Rattle.std.specs.Prelude.{◌≡◌};
-ghost use Rattle.babel_tlv.specs.Route.{RouteKey, key_cmp};
+ghost use Rattle.std.specs.declared.cmp.Ordering.TheVariants.{Equal};
+ghost use Rattle.babel_tlv.specs.declared.held.Held.{Held as HeldValue};
+ghost use Rattle.babel_tlv.specs.Pair.{held_cmp};
+ghost use Rattle.babel_tlv.specs.Route.{RouteKey, key_cmp, Announcement, announcement_cmp};
 
+use crate::ann::Ann;
+use crate::held::Held;
 use crate::key::Key;
 
 /// Keys are ordered by destination, then by source.
 pub fn key_order()
     ensures { (a b : RouteKey) → ⟦<Key as Ord>⟧.cmp a b ≡ key_cmp a b }
+{}
+
+/// Announcements are ordered by router-id, then by seqno, metric and next hop.
+pub fn announcement_order()
+    ensures { (a b : Announcement) → ⟦<Ann as Ord>⟧.cmp a b ≡ announcement_cmp a b }
+{}
+
+/// Of what is held routes come first, ordered by their announcements; then unreachable.
+pub fn held_order()
+    ensures { (a b : HeldValue) → ⟦<Held as Ord>⟧.cmp a b ≡ held_cmp a b }
+{}
+
+/// Held values that compare as equal are one.
+#[tactic(auto, using(crate::proofs::OrderLaws::held_exact))]
+pub fn equal_held_are_one()
+    ensures { (a b : HeldValue) → held_cmp a b ≡ Equal → a ≡ b }
 {}

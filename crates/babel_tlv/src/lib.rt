@@ -1,26 +1,35 @@
-//! Babel packets: framing, TLVs, what each TLV says, and the octets of one route.
+//! Babel packets, RFC 8966 and RFC 9079: their framing and TLVs, the parser state, what each TLV says of routes, and
+//! the octets that say one route.
+//!
+//! The crate reads octets that are in memory and keeps nothing of them but a parser state of a few addresses; no call
+//! takes memory. It knows nothing of tables, of files, or of where a packet came from.
 #![tactic(auto)]
 
+mod address;
 mod ann;
 mod event;
-mod events;
 mod fault;
-mod forming;
 mod framing;
 mod group;
 mod held;
 mod key;
 pub mod laws;
 mod mode;
+mod next_hop;
 mod octets;
 mod packet;
 mod place;
 mod reason;
+mod router_id;
 mod state;
 mod step;
 mod sub_tlv;
+#[cfg(test)]
+mod tests;
 mod tlv;
 mod tlvs;
+mod update;
+mod wire;
 mod writing;
 
 pub use ann::Ann;

@@ -1,0 +1,9 @@
+mod PairRows
+mod NoFault
+mod RoundTrip
+mod Groups
+mod Packets
+mod OneText
+mod Boxes
+mod Tables
+mod Headline

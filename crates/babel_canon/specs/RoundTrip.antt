@@ -1,0 +1,60 @@
+-- What the canonical text of pairs is read as.
+use Rattle.std.specs.Prelude.{◌≡◌, ◌≢◌, ℕ, ◌*◌, ◌^◌, ◌<◌, ◌≤◌, List, length, map, Ok, ◌↔◌, Contains, AllPairs}
+use Rattle.std.specs.List.{AllByRecursion}
+use Rattle.std.specs.Map.{keys_of}
+use Rattle.babel_prefix.specs.Address.{Address}
+use Rattle.babel_tlv.specs.declared.event.Event.{Event}
+use Rattle.babel_tlv.specs.declared.held.Held.{Held}
+use Rattle.babel_tlv.specs.declared.held.Held.TheVariants as helds
+use Rattle.babel_tlv.specs.declared.mode.Mode.{Mode}
+use Rattle.babel_tlv.specs.declared.mode.Mode.TheVariants as modes
+use Rattle.babel_tlv.specs.Route.{RouteKey}
+use Rattle.babel_tlv.specs.Pair.{Pair, IsPair}
+use Rattle.babel_tlv.specs.Framing.{TlvAt, Framed}
+use Rattle.babel_tlv.specs.Says.{sayings}
+use Rattle.babel_tlv.specs.Group.{IsText}
+use Rattle.babel_tlv.specs.News.{spoken, pair_event}
+use Rattle.babel_table.specs.Bounds.{Bounds}
+use Rattle.babel_table.specs.Holds.{Holds}
+use Rattle.babel_table.specs.Rows.{Routes}
+use Rattle.babel_table.specs.DumpFault.{HasNoFault, IsTableOf}
+
+-- no two pairs have one key
+abbrev pub HaveDistinctKeys : List Pair → Type 0
+HaveDistinctKeys pairs = AllPairs (λ key later. key ≢ later) (keys_of pairs)
+
+abbrev pub IsRoute : Held → Type 0
+IsRoute (helds.Route ann) = Unit {0}
+IsRoute helds.Unreachable = ⊥
+
+-- a mode in which the pairs can be read: in mode Plain none is unreachable
+abbrev pub AreReadableIn : Mode → List Pair → Type 0
+AreReadableIn modes.Plain pairs = AllByRecursion (λ pair. IsRoute pair.1) pairs
+AreReadableIn modes.Hold pairs = Unit {0}
+
+-- the octets are packets of which each TLV says nothing, or what the pair says whose turn it is
+pub record TellsPairs (sender : Address) (octets : List ℕ) (pairs : List Pair) : Type 0 where
+  pub packets : List (List TlvAt)
+  pub said : List Event
+  pub reads : Framed octets packets
+  pub fine : map (λ saying. saying.what) (sayings sender packets) ≡ map (λ event. Ok event) said
+  pub news : spoken said ≡ map pair_event pairs
+
+-- Read with this sender, the octets tell the pairs, and exactly these stand behind them; they have no fault where a
+-- table has room for the pairs, and are no more than 83 octets for each; and every table of them has the pairs as its
+-- rows.
+pub record ReadsBack (mode : Mode) (sender : Address) (octets : List ℕ) (pairs : List Pair) : Type 0 where
+  pub tells : TellsPairs sender octets pairs
+  pub holds : (key : RouteKey) (held : Held) → Holds mode tells.said key held ↔ Contains pairs (key, held)
+  pub no_fault : (limits : Bounds) → length pairs ≤ limits.entries → 83 * length pairs ≤ limits.bytes
+      → HasNoFault limits mode sender octets
+  pub short : length octets ≤ 83 * length pairs
+  pub table : (limits : Bounds) (table : Routes) → IsTableOf limits mode sender octets table
+      → (pair : Pair) → Contains table.rows pair ↔ Contains pairs pair
+
+-- the canonical text of pairs with distinct keys, with any sender, is read back as the pairs
+abbrev pub TextReadsBack : Type 0
+TextReadsBack =
+    (mode : Mode) (body : ℕ) (pairs : List Pair) (octets : List ℕ) (sender : Address) → body < 2 ^ 16
+    → AllByRecursion IsPair pairs → HaveDistinctKeys pairs → AreReadableIn mode pairs → IsText body pairs octets
+    → ReadsBack mode sender octets pairs

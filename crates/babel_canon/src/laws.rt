@@ -1,0 +1,28 @@
+//! Laws of the definitions.
+ghost use Rattle.babel_canon.specs.RoundTrip.{TextReadsBack};
+ghost use Rattle.babel_canon.specs.Boxes.{BoxesAnswer, BoxesTellApart};
+ghost use Rattle.babel_canon.specs.Packing.{TextIsOne};
+ghost use Rattle.babel_canon.specs.Headline.{Headline};
+
+/// Pairs have exactly one canonical text for each size of a body.
+pub fn text_is_one()
+    ensures { TextIsOne }
+{}
+
+/// The canonical text of pairs with distinct keys, read with any sender, has no fault, at most 83 octets a pair, and exactly
+/// these pairs as rows: in mode Hold, and in mode Plain if no pair is unreachable.
+pub fn text_reads_back()
+    ensures { TextReadsBack }
+{}
+
+/// The boxes of rows have the answers of the rows, and are equal exactly where the answers are.
+pub fn boxes_are_answers()
+    ensures answer { BoxesAnswer }
+    ensures tell_apart { BoxesTellApart }
+{}
+
+/// Two dumps give every destination and source the same answer exactly if their canonical octets are equal; and these, read
+/// with any sender, give those answers again, and are their own canonical form.
+pub fn canonical_octets_tell_answers()
+    ensures { Headline }
+{}

@@ -1,0 +1,96 @@
+//! The command line, as `clap` reads it.
+use clap::{Arg, ArgAction, Command};
+use std::alloc::{AllocError, Global};
+
+const AFTER_HELP: &str = "Example:
+  babel-dump lookup --from 192.0.2.1 --to 10.1.2.3 --src 0.0.0.0 examples/one-route.dump
+
+Exit statuses:
+  0  done, or the answer of a lookup is a route
+  1  a lookup has no route: its answer is none or unreachable
+  2  the command line is wrong
+  3  the dump is refused
+  4  a file can't be opened, or a read or a write failed
+  5  out of memory";
+
+const AFTER_LOOKUP: &str = "Example:
+  babel-dump lookup --from 192.0.2.1 --to 10.1.2.3 --src 0.0.0.0 examples/one-route.dump
+
+The status is 0 where the answer is a route, and 1 where it is none or unreachable. The others are those of
+babel-dump --help.";
+
+const AFTER_SHOW: &str = "Example:
+  babel-dump show --from 192.0.2.1 examples/one-route.dump
+
+The status is 0, or one of those of babel-dump --help.";
+
+/// The program's command line.
+pub(crate) fn command<'a>(alloc: Global) -> Result<Command<'a>, AllocError> {
+    Command::new(alloc, "babel-dump")
+        .about("Reads dumps of Babel packets (RFC 8966, RFC 9079), each from one sender")
+        .after_help(AFTER_HELP)
+        .no_binary_name(true)
+        .bin_name("babel-dump")?
+        .subcommand_required(true)
+        .subcommand(show(alloc)?)?
+        .subcommand(lookup(alloc)?)
+}
+
+/// The command for all rows.
+fn show<'a>(alloc: Global) -> Result<Command<'a>, AllocError> {
+    let about = "Write the routes of a dump, how many TLVs it has, and why some were ignored";
+    let command = Command::new(alloc, "show")
+        .about(about)
+        .after_help(AFTER_SHOW);
+    of_one_dump(alloc, command)
+}
+
+/// The command for one answer.
+fn lookup<'a>(alloc: Global) -> Result<Command<'a>, AllocError> {
+    let about = "Write the route that a dump gives for a destination and a source, or none";
+    let command = Command::new(alloc, "lookup")
+        .about(about)
+        .after_help(AFTER_LOOKUP);
+    of_one_dump(alloc, command)?
+        .arg(address(alloc, "to", "The destination to look up"))?
+        .arg(address(
+            alloc,
+            "src",
+            "The source to look up, of the destination's family",
+        ))
+}
+
+/// The command with what each command over one dump has.
+fn of_one_dump<'a>(alloc: Global, command: Command<'a>) -> Result<Command<'a>, AllocError> {
+    let file = Arg::new(alloc, "file")
+        .value_name("FILE")
+        .help("The dump; standard input if it is left out");
+    command
+        .arg(address(
+            alloc,
+            "from",
+            "The address that the dump's packets were sent from",
+        ))?
+        .arg(hold(alloc))?
+        .arg(file)
+}
+
+/// A required option whose value is an address.
+fn address<'a>(alloc: Global, id: &'a str, help: &'a str) -> Arg<'a> {
+    Arg::new(alloc, id)
+        .long(id)
+        .value_name("ADDRESS")
+        .required(true)
+        .action(ArgAction::Set)
+        .help(help)
+}
+
+/// The option for the mode that keeps retracted routes.
+fn hold<'a>(alloc: Global) -> Arg<'a> {
+    Arg::new(alloc, "hold")
+        .long("hold")
+        .action(ArgAction::SetTrue)
+        .help(
+            "Keep a retracted route as unreachable, so that no less specific route takes its place",
+        )
+}

@@ -1,0 +1,99 @@
+//! The lines that the runs write.
+ghost use Rattle.std.specs.Prelude.{◌≡◌, IfOk, string_bytes};
+ghost use Rattle.std.specs.Option.{option_copied};
+ghost use Rattle.babel_dump.specs.RunText.{lookup_text, show_text};
+
+use crate::reason_text::{REASONS, push_ignored};
+use babel_table::Table;
+use babel_tlv::{Held, Key};
+use std::alloc::{AllocError, Global};
+use std::{fmt, str};
+
+/// A router-id, shown as 16 lower-case hexadecimal digits.
+#[derive(Clone, Copy)]
+struct RouterId([u8; 8]);
+
+impl fmt::Display for RouterId {
+    ghost use Rattle.std.specs.Prelude.{Some};
+    ghost use Rattle.babel_dump.specs.RunText.{hex_digits};
+
+    ghost output = { λ id. Some (hex_digits id.0) };
+
+    #[tactic(auto, using(crate::proofs::TextLemmas::hex_is_text))]
+    fn fmt<W: fmt::Write>(&self, f: &mut fmt::Formatter<W>) -> fmt::Result {
+        let mut digits = [0; 16];
+        hex::encode_to_slice(self.0, &mut digits).unwrap();
+        f.write_str(str::from_utf8(&digits).unwrap())
+    }
+}
+
+/// What stands for a key, as the runs show it.
+#[derive(Clone, Copy)]
+struct Shown(Held);
+
+impl fmt::Display for Shown {
+    ghost use Rattle.std.specs.Prelude.{Some};
+    ghost use Rattle.babel_dump.specs.RunText.{held_text};
+
+    ghost output = { λ shown. Some (held_text shown.0) };
+
+    fn fmt<W: fmt::Write>(&self, f: &mut fmt::Formatter<W>) -> fmt::Result {
+        match self.0 {
+            Held::Route(ann) => {
+                let next_hop = ann.next_hop();
+                let id = RouterId(ann.router_id());
+                let seqno = ann.seqno();
+                let metric = ann.metric();
+                write!(f, "via {next_hop} id {id} seqno {seqno} metric {metric}")
+            }
+            Held::Unreachable => f.write_str("unreachable"),
+        }
+    }
+}
+
+/// A row of a table, as the runs show it.
+#[derive(Clone, Copy)]
+struct PairLine(Key, Held);
+
+impl fmt::Display for PairLine {
+    ghost use Rattle.std.specs.Prelude.{Some};
+    ghost use Rattle.babel_dump.specs.RunText.{pair_line};
+
+    ghost output = { λ line. Some (pair_line (line.0, line.1)) };
+
+    fn fmt<W: fmt::Write>(&self, f: &mut fmt::Formatter<W>) -> fmt::Result {
+        let dst = self.0.dst();
+        let src = self.0.src();
+        let shown = Shown(self.1);
+        write!(f, "{dst} from {src} {shown}\n")
+    }
+}
+
+/// The line of a lookup's answer.
+pub(crate) fn lookup_text(alloc: Global, answer: Option<&Held>) -> Result<String, AllocError>
+    ensures { IfOk result (λ text. string_bytes text ≡ lookup_text (option_copied answer.entry)) }
+{
+    match answer {
+        Some(held) => {
+            let shown = Shown(*held);
+            format!(in alloc; "{shown}\n")
+        }
+        None => String::from_str(alloc, "none\n"),
+    }
+}
+
+/// The lines of the rows, and of the report.
+pub(crate) fn show_text(alloc: Global, table: &Table) -> Result<String, AllocError>
+    ensures { IfOk result (λ text. string_bytes text ≡ show_text table.now) }
+{
+    let mut text = String::new(alloc);
+    for row in table.rows() {
+        let line = PairLine(row.0, row.1);
+        write!(text, "{line}")?;
+    }
+    let report = table.report();
+    let tlvs = report.tlvs();
+    write!(text, "tlvs {tlvs}\n")?;
+    push_ignored(&mut text, report, &REASONS)?;
+    Ok(text)
+}

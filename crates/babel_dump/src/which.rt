@@ -1,0 +1,8 @@
+/// A command of the program.
+#[derive(Clone, Copy, Debug, PartialEq, Eq)]
+pub enum Which {
+    /// `show`: the rows of a dump's table and its report.
+    Show,
+    /// `lookup`: what a dump answers for two addresses.
+    Lookup,
+}

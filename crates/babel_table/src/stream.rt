@@ -1,0 +1,119 @@
+ghost use Rattle.std.specs.Prelude.{◌≡◌, ◌≢◌, ◌≤◌, ◌<◌, ◌+◌, ◌-◌, ◌^◌, ◌++◌, [], length, take, OnOk, IfOk, IfErr};
+ghost use Rattle.babel_table.specs.Feeding.{IsPartial, IsReady, StopsBehind, StopsWithin, TookPackets, routes};
+
+use crate::pending::Pending;
+use crate::so_far::SoFar;
+use babel_prefix::Addr;
+use babel_tlv::Fault;
+
+/// Packets end to end, as far as they were read.
+#[derive(Drop)]
+pub struct Stream {
+    pub sender: Addr,
+    pub so_far: SoFar,
+    /// The offset of the packet that isn't whole.
+    pub at: u64,
+    pub pending: Pending,
+}
+
+impl Stream {
+    /// Takes the whole packets that the octets begin with, and keeps the rest. Nothing is pending.
+    fn take_in_place(&mut self, octets: &[u8]) -> Result<(), Fault>
+        requires none { self.old.pending ≡ [] }
+        requires counted { self.old.so_far.report.tlvs ≤ self.old.at }
+        requires fits { self.old.at + length octets.now < 2 ^ 64 }
+        ensures settings { (self.new.so_far.rows.mode ≡ self.old.so_far.rows.mode) × (self.new.so_far.rows.entries ≡ self.old.so_far.rows.entries) × (self.new.sender ≡ self.old.sender) }
+        ensures counted { OnOk result (self.new.so_far.report.tlvs ≤ self.new.at) }
+        ensures partial { OnOk result (IsPartial self.new.pending) }
+        ensures took { OnOk result (TookPackets self.old.so_far.rows.mode self.old.so_far.rows.entries self.old.sender self.old.at octets.now
+            (routes self.old.so_far.rows.rows self.old.so_far.report) (routes self.new.so_far.rows.rows self.new.so_far.report) self.new.pending self.new.at) }
+        ensures stops { IfErr result (StopsBehind self.old.so_far.rows.mode self.old.so_far.rows.entries self.old.sender self.old.at octets.now
+            (routes self.old.so_far.rows.rows self.old.so_far.report)) }
+    {
+        let used = match self.so_far.take_packets(self.sender, octets, self.at) {
+            Ok(used) => used,
+            Err(fault) => return Err(fault),
+        };
+        self.at += used as u64;
+        self.pending.add(&octets[used..]);
+        Ok(())
+    }
+
+    /// Takes the packet that is pending, if these octets make it whole, and gives those behind it.
+    fn take_pending<'a>(&mut self, octets: &'a [u8]) -> Result<&'a [u8], Fault>
+        requires partial { IsPartial self.old.pending }
+        requires counted { self.old.so_far.report.tlvs ≤ self.old.at }
+        requires fits { self.old.at + (length self.old.pending + length octets.now) < 2 ^ 64 }
+        ensures settings { (self.new.so_far.rows.mode ≡ self.old.so_far.rows.mode) × (self.new.so_far.rows.entries ≡ self.old.so_far.rows.entries) × (self.new.sender ≡ self.old.sender) }
+        ensures counted { IfOk result (λ rest. self.new.so_far.report.tlvs ≤ self.new.at) }
+        ensures partial { IfOk result (λ rest. IsPartial self.new.pending) }
+
+        // Octets are given back only behind a whole packet.
+        ensures whole { IfOk result (λ rest. rest.now ≢ [] → self.new.pending ≡ []) }
+        ensures took { IfOk result (λ rest. TookPackets self.old.so_far.rows.mode self.old.so_far.rows.entries self.old.sender self.old.at (self.old.pending ++ octets.now)
+            (routes self.old.so_far.rows.rows self.old.so_far.report) (routes self.new.so_far.rows.rows self.new.so_far.report) (self.new.pending ++ rest.now) self.new.at) }
+        ensures stops { IfErr result (StopsBehind self.old.so_far.rows.mode self.old.so_far.rows.entries self.old.sender self.old.at (self.old.pending ++ octets.now)
+            (routes self.old.so_far.rows.rows self.old.so_far.report)) }
+    {
+        let rest = self.pending.fill(octets);
+        let used = match self
+            .so_far
+            .take_packets(self.sender, self.pending.octets(), self.at)
+        {
+            Ok(used) => used,
+            Err(fault) => return Err(fault),
+        };
+        if used == 0 {
+            return Ok(rest);
+        }
+        self.at += used as u64;
+        self.pending.clear();
+        Ok(rest)
+    }
+
+    /// Takes the next octets: the table takes the whole packets, and the rest is kept.
+    fn take(&mut self, octets: &[u8]) -> Result<(), Fault>
+        requires partial { IsPartial self.old.pending }
+        requires counted { self.old.so_far.report.tlvs ≤ self.old.at }
+        requires fits { self.old.at + (length self.old.pending + length octets.now) < 2 ^ 64 }
+        ensures settings { (self.new.so_far.rows.mode ≡ self.old.so_far.rows.mode) × (self.new.so_far.rows.entries ≡ self.old.so_far.rows.entries) × (self.new.sender ≡ self.old.sender) }
+        ensures counted { OnOk result (self.new.so_far.report.tlvs ≤ self.new.at) }
+        ensures partial { OnOk result (IsPartial self.new.pending) }
+        ensures took { OnOk result (TookPackets self.old.so_far.rows.mode self.old.so_far.rows.entries self.old.sender self.old.at (self.old.pending ++ octets.now)
+            (routes self.old.so_far.rows.rows self.old.so_far.report) (routes self.new.so_far.rows.rows self.new.so_far.report) self.new.pending self.new.at) }
+        ensures stops { IfErr result (StopsBehind self.old.so_far.rows.mode self.old.so_far.rows.entries self.old.sender self.old.at (self.old.pending ++ octets.now)
+            (routes self.old.so_far.rows.rows self.old.so_far.report)) }
+    {
+        if self.pending.octets().is_empty() {
+            return self.take_in_place(octets);
+        }
+        let rest = match self.take_pending(octets) {
+            Ok(rest) => rest,
+            Err(fault) => return Err(fault),
+        };
+        if !self.pending.octets().is_empty() {
+            return Ok(());
+        }
+        self.take_in_place(rest)
+    }
+
+    /// Takes the next octets, but for those past this many in all, which aren't looked at.
+    pub fn take_within(&mut self, bytes: u32, octets: &[u8]) -> Result<(), Fault>
+        requires { IsReady bytes self.old.so_far.report.tlvs self.old.at self.old.pending }
+        ensures settings { (self.new.so_far.rows.mode ≡ self.old.so_far.rows.mode) × (self.new.so_far.rows.entries ≡ self.old.so_far.rows.entries) × (self.new.sender ≡ self.old.sender) }
+        ensures ready { OnOk result (IsReady bytes self.new.so_far.report.tlvs self.new.at self.new.pending) }
+        ensures took { OnOk result (TookPackets self.old.so_far.rows.mode self.old.so_far.rows.entries self.old.sender self.old.at (self.old.pending ++ octets.now)
+            (routes self.old.so_far.rows.rows self.old.so_far.report) (routes self.new.so_far.rows.rows self.new.so_far.report) self.new.pending self.new.at) }
+        ensures stops { IfErr result (StopsWithin bytes self.old.so_far.rows.mode self.old.so_far.rows.entries self.old.sender self.old.at self.old.pending octets.now
+            (routes self.old.so_far.rows.rows self.old.so_far.report)) }
+    {
+        let room = (bytes as u64 - (self.at + self.pending.octets().len() as u64)) as usize;
+        if octets.len() <= room {
+            return self.take(octets);
+        }
+        match self.take(&octets[..room]) {
+            Ok(()) => Err(Fault::TooLong),
+            Err(fault) => Err(fault),
+        }
+    }
+}

@@ -1,0 +1,246 @@
+-- The groups of a packet's pairs are read as what each pair says.
+use Rattle.std.proofs.Common.{◌≡◌, ℕ, ◌+◌, Bool, true, false, cond, List, [], ◌∷◌, length, map, drop, Option, Some, None, refl, sym, ap, subst, ◌∙◌}
+use Rattle.std.specs.Prelude.{◌==◌, ◌&&◌}
+use Rattle.std.specs.List.{AllByRecursion}
+use Rattle.std.specs.Str.{bytes_eq}
+use Rattle.std.proofs.lemmas.Bool.{eqb-true}
+use Rattle.std.proofs.lemmas.Slice.Eq.{bytes_eq-Decides}
+use Rattle.babel_prefix.specs.declared.family.Family.{Family}
+use Rattle.babel_prefix.specs.declared.family.Family.TheVariants.{V4, V6}
+use Rattle.babel_prefix.specs.Width.{same_family}
+use Rattle.babel_prefix.specs.Address.{Address, AddressPrefix, IsAddress}
+use Rattle.babel_tlv.specs.declared.event.Event.{Event}
+use Rattle.babel_tlv.specs.declared.held.Held.{Held}
+use Rattle.babel_tlv.specs.declared.held.Held.TheVariants as helds
+use Rattle.babel_tlv.specs.Route.{RouteKey}
+use Rattle.babel_tlv.specs.Pair.{Pair, FitsKey, IsPair}
+use Rattle.babel_tlv.specs.Forming.{encoding}
+use Rattle.babel_tlv.specs.Context.{Context, default_in, next_hop_in_context}
+use Rattle.babel_tlv.specs.Says.{key_event}
+use Rattle.babel_tlv.specs.Group.{pair_family, Written, written_after, hop_in, dst_in, is_id, is_hop, router_id_tlv, next_hop_tlv, route_tlvs, held_seqno, held_metric, update_tlv, shared_octets, prefix_octets, source_sub, group_in, groups_behind}
+use Rattle.babel_tlv.specs.Writing.{with_held, with_dst}
+use Rattle.babel_tlv.specs.News.{spoken, held_event, pair_event}
+use Rattle.babel_tlv.proofs.WrittenLaws.{with_pair-written_after}
+use Rattle.babel_tlv.proofs.Telling.{Tells, Tells-none, Tells-append}
+use Rattle.babel_tlv.proofs.IdTold.{with_id, id_told}
+use Rattle.babel_tlv.proofs.HopTold.{with_hop, hop_told}
+use Rattle.babel_tlv.proofs.FormedTold.{IsKnown, omits, update_octets}
+use Rattle.babel_tlv.proofs.UpdateTold.{with_default, update_told, route_told, retraction_told}
+
+-- the parser knows what the packet holds so far
+pub record Agrees (context : Context) (so_far : Written) : Type 0 where
+  pub router_id : IsKnown so_far.router_id context.router_id
+  pub next_hop : (family : Family) → IsKnown (hop_in family so_far) (next_hop_in_context family context)
+  pub default : (family : Family) → IsKnown (dst_in family so_far) (default_in family context)
+
+pub Agrees-start : (context : Context) → Agrees context (written_after [])
+Agrees-start context = record { router_id = tt; next_hop = no_hop; default = no_default }
+  where
+    no_hop : (family : Family) → IsKnown (hop_in family (written_after [])) (next_hop_in_context family context)
+    no_hop V4 = tt
+    no_hop V6 = tt
+
+    no_default : (family : Family) → IsKnown (dst_in family (written_after [])) (default_in family context)
+    no_default V4 = tt
+    no_default V6 = tt
+
+-- what a route's Router-Id and Next Hop leave behind
+abbrev context_held : Family → Held → Context → Context
+context_held family (helds.Route ann) context = with_hop family (with_id context ann.router_id) ann.next_hop
+context_held family helds.Unreachable context = context
+
+-- what a pair leaves behind
+abbrev context_with : Pair → Context → Context
+context_with pair context = with_default (pair_family pair) (context_held (pair_family pair) pair.1 context) pair.0.dst.address
+
+Agrees-held : (family : Family) (held : Held) (context : Context) (so_far : Written) → Agrees context so_far
+    → Agrees (context_held family held context) (with_held family held so_far)
+Agrees-held V4 (helds.Route ann) context so_far agrees = record { router_id = refl; next_hop = hops; default = defaults }
+  where
+    hops : (family : Family) → IsKnown (hop_in family (with_held V4 (helds.Route ann) so_far)) (next_hop_in_context family (context_held V4 (helds.Route ann) context))
+    hops V4 = refl
+    hops V6 = agrees.next_hop V6
+
+    defaults : (family : Family) → IsKnown (dst_in family (with_held V4 (helds.Route ann) so_far)) (default_in family (context_held V4 (helds.Route ann) context))
+    defaults V4 = agrees.default V4
+    defaults V6 = agrees.default V6
+Agrees-held V6 (helds.Route ann) context so_far agrees = record { router_id = refl; next_hop = hops; default = defaults }
+  where
+    hops : (family : Family) → IsKnown (hop_in family (with_held V6 (helds.Route ann) so_far)) (next_hop_in_context family (context_held V6 (helds.Route ann) context))
+    hops V4 = agrees.next_hop V4
+    hops V6 = refl
+
+    defaults : (family : Family) → IsKnown (dst_in family (with_held V6 (helds.Route ann) so_far)) (default_in family (context_held V6 (helds.Route ann) context))
+    defaults V4 = agrees.default V4
+    defaults V6 = agrees.default V6
+Agrees-held V4 helds.Unreachable context so_far agrees = agrees
+Agrees-held V6 helds.Unreachable context so_far agrees = agrees
+
+Agrees-dst : (family : Family) (dst : Address) (context : Context) (so_far : Written) → Agrees context so_far → Agrees (with_default family context dst) (with_dst family dst so_far)
+Agrees-dst V4 dst context so_far agrees = record { router_id = agrees.router_id; next_hop = hops; default = defaults }
+  where
+    hops : (family : Family) → IsKnown (hop_in family (with_dst V4 dst so_far)) (next_hop_in_context family (with_default V4 context dst))
+    hops V4 = agrees.next_hop V4
+    hops V6 = agrees.next_hop V6
+
+    defaults : (family : Family) → IsKnown (dst_in family (with_dst V4 dst so_far)) (default_in family (with_default V4 context dst))
+    defaults V4 = refl
+    defaults V6 = agrees.default V6
+Agrees-dst V6 dst context so_far agrees = record { router_id = agrees.router_id; next_hop = hops; default = defaults }
+  where
+    hops : (family : Family) → IsKnown (hop_in family (with_dst V6 dst so_far)) (next_hop_in_context family (with_default V6 context dst))
+    hops V4 = agrees.next_hop V4
+    hops V6 = agrees.next_hop V6
+
+    defaults : (family : Family) → IsKnown (dst_in family (with_dst V6 dst so_far)) (default_in family (with_default V6 context dst))
+    defaults V4 = agrees.default V4
+    defaults V6 = refl
+
+Agrees-after : (context : Context) (earlier : List Pair) (pair : Pair) → Agrees context (written_after earlier) → Agrees (context_with pair context) (written_after (pair ∷ earlier))
+Agrees-after context earlier pair agrees =
+    let family = pair_family pair in
+    subst (λ (w : Written). Agrees (context_with pair context) w) (with_pair-written_after pair earlier)
+    (Agrees-dst family pair.0.dst.address (context_held family pair.1 context) (with_held family pair.1 (written_after earlier))
+    (Agrees-held family pair.1 context (written_after earlier) agrees))
+
+-- ---- Router-Id, unless it is current
+
+abbrev some_id : List ℕ → Option (List ℕ)
+some_id id = Some id
+
+abbrev some_hop : Address → Option Address
+some_hop hop = Some hop
+
+abbrev address : Family → ℕ → Address
+address family bits = record { family = family; bits = bits }
+
+id_by : (context : Context) (at : ℕ) (current id : List ℕ) → length id ≡ 8 → context.router_id ≡ Some current → (b : Bool) → bytes_eq current id ≡ b
+    → Tells context at (cond b [] (router_id_tlv id)) [] (with_id context id)
+id_by context at current id eight known true same =
+    let e : context ≡ with_id context id = ap (λ (r : Option (List ℕ)). record context { router_id = r }) (known ∙ ap (λ (i : List ℕ). some_id i) ((bytes_eq-Decides current id).0 same)) in
+    subst (λ (c : Context). Tells context at [] [] c) e (Tells-none context at)
+id_by context at current id eight known false other = id_told context at id eight
+
+id_part : (context : Context) (at : ℕ) (current : Option (List ℕ)) (id : List ℕ) → length id ≡ 8 → IsKnown current context.router_id
+    → Tells context at (cond (is_id current id) [] (router_id_tlv id)) [] (with_id context id)
+id_part context at None id eight known = id_told context at id eight
+id_part context at (Some current) id eight known = id_by context at current id eight known (bytes_eq current id) refl
+
+-- ---- Next Hop, unless it is current
+
+kept : (family : Family) (context : Context) (hop : Address) → next_hop_in_context family context ≡ Some hop → context ≡ with_hop family context hop
+kept V4 context hop known = ap (λ (h : Option Address). record context { next_hop_v4 = h }) known
+kept V6 context hop known = ap (λ (h : Option Address). record context { next_hop_v6 = h }) known
+
+and_true : (a b : Bool) → (a && b) ≡ true → (a ≡ true) × (b ≡ true)
+and_true true b e = (refl, e)
+and_true false b e = absurd cc
+
+same_family-is : (a b : Family) → same_family a b ≡ true → a ≡ b
+same_family-is V4 V4 e = refl
+same_family-is V4 V6 e = absurd cc
+same_family-is V6 V4 e = absurd cc
+same_family-is V6 V6 e = refl
+
+same_hop : (one other : Address) → (same_family one.family other.family && (one.bits == other.bits)) ≡ true → one ≡ other
+same_hop one other e =
+    let both = and_true (same_family one.family other.family) (one.bits == other.bits) e in
+    ap (λ (f : Family). address f one.bits) (same_family-is one.family other.family both.0) ∙ ap (λ (n : ℕ). address other.family n) (eqb-true one.bits other.bits both.1)
+
+hop_by : (context : Context) (at : ℕ) (current hop : Address) → IsAddress hop → next_hop_in_context hop.family context ≡ Some current
+    → (b : Bool) → (same_family current.family hop.family && (current.bits == hop.bits)) ≡ b
+    → Tells context at (cond b [] (next_hop_tlv hop)) [] (with_hop hop.family context hop)
+hop_by context at current hop fits known true same =
+    subst (λ (c : Context). Tells context at [] [] c) (kept hop.family context hop (known ∙ ap (λ (h : Address). some_hop h) (same_hop current hop same))) (Tells-none context at)
+hop_by context at current hop fits known false other = hop_told context at hop fits
+
+hop_part : (context : Context) (at : ℕ) (current : Option Address) (hop : Address) → IsAddress hop → IsKnown current (next_hop_in_context hop.family context)
+    → Tells context at (cond (is_hop current hop) [] (next_hop_tlv hop)) [] (with_hop hop.family context hop)
+hop_part context at None hop fits known = hop_told context at hop fits
+hop_part context at (Some current) hop fits known = hop_by context at current hop fits known (same_family current.family hop.family && (current.bits == hop.bits)) refl
+
+-- ---- a route's Router-Id and Next Hop
+
+hop_stays : (family : Family) (context : Context) (id : List ℕ) (current : Option Address) → IsKnown current (next_hop_in_context family context)
+    → IsKnown current (next_hop_in_context family (with_id context id))
+hop_stays V4 context id current known = known
+hop_stays V6 context id current known = known
+
+tlvs_told : (context : Context) (at : ℕ) (so_far : Written) (key : RouteKey) (held : Held) → FitsKey key held → Agrees context so_far
+    → Tells context at (route_tlvs key.dst.address.family so_far held) [] (context_held key.dst.address.family held context)
+tlvs_told context at so_far key (helds.Route ann) fits agrees =
+    let family = key.dst.address.family in
+    let id_octets = cond (is_id so_far.router_id ann.router_id) [] (router_id_tlv ann.router_id) in
+    let hop_octets = cond (is_hop (hop_in family so_far) ann.next_hop) [] (next_hop_tlv ann.next_hop) in
+    let with_the_id = with_id context ann.router_id in
+    let with_the_hop = with_hop family with_the_id ann.next_hop in
+    let id_told = id_part context at so_far.router_id ann.router_id fits.0.eight agrees.router_id in
+    let hop_known : IsKnown (hop_in family so_far) (next_hop_in_context ann.next_hop.family with_the_id) =
+    subst (λ (f : Family). IsKnown (hop_in family so_far) (next_hop_in_context f with_the_id)) (sym fits.1) (hop_stays family context ann.router_id (hop_in family so_far) (agrees.next_hop family)) in
+    let hop_told : Tells with_the_id (at + length id_octets) hop_octets [] with_the_hop =
+    subst (λ (f : Family). Tells with_the_id (at + length id_octets) hop_octets [] (with_hop f with_the_id ann.next_hop)) fits.1
+    (hop_part with_the_id (at + length id_octets) (hop_in family so_far) ann.next_hop fits.0.next_hop_fits hop_known) in
+    Tells-append context with_the_id with_the_hop at id_octets hop_octets [] [] id_told hop_told
+tlvs_told context at so_far key helds.Unreachable fits agrees = Tells-none context at
+
+-- ---- the Update
+
+has_id : (family : Family) (context : Context) (id : List ℕ) (hop : Address) → (with_hop family (with_id context id) hop).router_id ≡ Some id
+has_id V4 context id hop = refl
+has_id V6 context id hop = refl
+
+has_hop : (family : Family) (context : Context) (id : List ℕ) (hop : Address) → next_hop_in_context family (with_hop family (with_id context id) hop) ≡ Some hop
+has_hop V4 context id hop = refl
+has_hop V6 context id hop = refl
+
+default_kept : (family : Family) (held : Held) (context : Context) → default_in family (context_held family held context) ≡ default_in family context
+default_kept V4 (helds.Route ann) context = refl
+default_kept V6 (helds.Route ann) context = refl
+default_kept V4 helds.Unreachable context = refl
+default_kept V6 helds.Unreachable context = refl
+
+held_told : (family : Family) (context : Context) (dst : AddressPrefix) (key : RouteKey) (held : Held) (ae len omit : ℕ) (field sub : List ℕ) → FitsKey key held
+    → key_event family (context_held family held context) (update_octets ae len omit (held_seqno held) (held_metric held) field sub) dst key ≡ held_event key held
+held_told family context dst key (helds.Route ann) ae len omit field sub fits =
+    route_told family (with_hop family (with_id context ann.router_id) ann.next_hop) dst key ae len omit field sub ann
+    fits.0.seqno_fits fits.0.metric_fits fits.0.finite fits.0.unreserved
+    (has_id family context ann.router_id ann.next_hop) (has_hop family context ann.router_id ann.next_hop)
+held_told family context dst key helds.Unreachable ae len omit field sub fits = retraction_told family context dst key ae len omit 0 field sub
+
+-- a pair says something
+speaks : (key : RouteKey) (held : Held) → spoken (held_event key held ∷ []) ≡ held_event key held ∷ []
+speaks key (helds.Route ann) = refl
+speaks key helds.Unreachable = refl
+
+-- ---- the group
+
+group_told : (context : Context) (at : ℕ) (so_far : Written) (pair : Pair) → IsPair pair → Agrees context so_far
+    → Tells context at (group_in so_far pair) (pair_event pair ∷ []) (context_with pair context)
+group_told context at so_far pair fits agrees =
+    let family = pair_family pair in
+    let dst = pair.0.dst in
+    let src = pair.0.src in
+    let route = route_tlvs family so_far pair.1 in
+    let omit = shared_octets (dst_in family so_far) dst in
+    let update = update_tlv omit pair.0 (held_seqno pair.1) (held_metric pair.1) in
+    let middle = context_held family pair.1 context in
+    let known : IsKnown (dst_in family so_far) (default_in family middle) =
+    subst (λ (d : Option Address). IsKnown (dst_in family so_far) d) (sym (default_kept family pair.1 context)) (agrees.default family) in
+    let says = held_told family context dst pair.0 pair.1 (encoding family) dst.len omit (drop omit (prefix_octets dst)) (source_sub src) fits.fits in
+    let up_told : Tells middle (at + length route) update (pair_event pair ∷ []) (context_with pair context) =
+    subst (λ (es : List Event). Tells middle (at + length route) update es (context_with pair context)) (speaks pair.0 pair.1)
+    (update_told middle (at + length route) dst src omit (held_seqno pair.1) (held_metric pair.1) (pair_event pair) fits.dst fits.src (sym fits.one_family)
+    (omits (dst_in family so_far) (default_in family middle) dst known) says) in
+    Tells-append context middle (context_with pair context) at route update [] (pair_event pair ∷ []) (tlvs_told context at so_far pair.0 pair.1 fits.fits agrees) up_told
+
+-- ---- the groups of a packet
+
+pub groups_told : (context : Context) (at : ℕ) (earlier pairs : List Pair) → AllByRecursion IsPair pairs → Agrees context (written_after earlier)
+    → (behind : Context) × Tells context at (groups_behind earlier pairs) (map pair_event pairs) behind
+groups_told context at earlier [] fits agrees = (context, Tells-none context at)
+groups_told context at earlier (pair ∷ pairs) fits agrees =
+    let group = group_in (written_after earlier) pair in
+    let next = context_with pair context in
+    let first = group_told context at (written_after earlier) pair fits.0 agrees in
+    let later = groups_told next (at + length group) (pair ∷ earlier) pairs fits.1 (Agrees-after context earlier pair agrees) in
+    (later.0, Tells-append context next later.0 at group (groups_behind (pair ∷ earlier) pairs) (pair_event pair ∷ []) (map pair_event pairs) first later.1)

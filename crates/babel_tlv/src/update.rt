@@ -1,0 +1,137 @@
+ghost use Rattle.std.specs.Prelude.{◌≡◌, ◌≢◌, ◌≤◌, ◌<◌, ◌+◌, length, drop, take, ◌++◌, IsSome, IfOk, OnOk, MatchOption};
+ghost use Rattle.babel_prefix.specs.Width.{octet_count, width_of};
+ghost use Rattle.babel_tlv.specs.Context.{IsOfFamily};
+ghost use Rattle.babel_tlv.specs.Forming.{default_octets, field_len, formed, omitted, prefix_from, prefix_len, sets_default, sets_router_id};
+ghost use Rattle.babel_tlv.specs.Pair.{EventFits};
+ghost use Rattle.babel_tlv.specs.Says.{wildcard_event};
+ghost use Rattle.babel_tlv.specs.Fields.{AreUpdateFields};
+
+use crate::address::{completed, octet_count};
+use crate::event::Event;
+use crate::place::Place;
+use crate::reason::Reason;
+use crate::sub_tlv::{octets_needed, read_sub_tlvs};
+use crate::wire::{INFINITY, PREFIX_FLAG, ROUTER_ID_FLAG};
+use babel_prefix::{Addr, Family, Prefix};
+
+/// The octets of an Update's body before the prefix.
+const FIXED_LEN: usize = 10;
+
+/// An Update's fields: RFC 8966, 4.6.9.
+#[derive(Clone, Copy)]
+pub(crate) struct Update<'a> {
+    pub encoding: u8,
+    flags: u8,
+    pub plen: u8,
+    pub omitted: u8,
+    pub seqno: u16,
+    pub metric: u16,
+    body: &'a [u8],
+    ghost fields: { AreUpdateFields body.now encoding flags plen omitted seqno metric },
+}
+
+impl<'a> Update<'a> {
+    /// The fields of an Update's body; `None` if it is too short for the fixed part.
+    pub fn read(body: &'a [u8]) -> Option<Update<'a>>
+        ensures { MatchOption result (length body.now < 10) (λ update. update.body.now ≡ body.now) }
+    {
+        let [encoding, flags, plen, omitted, _, _, s0, s1, m0, m1, ..] = body else {
+            return None;
+        };
+        Some(Update {
+            encoding: *encoding,
+            flags: *flags,
+            plen: *plen,
+            omitted: *omitted,
+            seqno: u16::from_be_bytes([*s0, *s1]),
+            metric: u16::from_be_bytes([*m0, *m1]),
+            body,
+        })
+    }
+
+    /// How many octets of the prefix the Update brings.
+    fn field_len(&self) -> usize
+        ensures { result ≡ field_len self.now.body.now }
+    {
+        octets_needed(self.plen).saturating_sub(self.omitted) as usize
+    }
+
+    /// The prefix that the Update forms with the default prefix of its encoding.
+    pub fn prefix(&self, family: Family, default: Option<Addr>) -> Result<Prefix, Reason>
+        requires { IsOfFamily family default }
+        ensures value { result ≡ formed family default self.now.body.now }
+        ensures field { OnOk result (10 + field_len self.now.body.now ≤ length self.now.body.now) }
+        ensures family { IfOk result (λ prefix. prefix.address.family ≡ family) }
+    {
+        if self.plen > family.width() {
+            return Err(Reason::BadPlen);
+        }
+        let omitted = self.omitted as usize;
+        if omitted > octet_count(family) {
+            return Err(Reason::BadOmitted);
+        }
+        if omitted > 0 && default.is_none() {
+            return Err(Reason::NoDefault);
+        }
+        if self.body.len() < FIXED_LEN + self.field_len() {
+            return Err(Reason::ShortPrefix);
+        }
+        Ok(self.whole_prefix(family, default))
+    }
+
+    /// The prefix, where the field and the omitted octets are there.
+    fn whole_prefix(&self, family: Family, default: Option<Addr>) -> Prefix
+        requires field { 10 + field_len self.now.body.now ≤ length self.now.body.now }
+        requires of_family { IsOfFamily family default }
+        requires in_width { prefix_len self.now.body.now ≤ width_of family }
+        requires few { omitted self.now.body.now ≤ octet_count family }
+        requires has_default { 0 < omitted self.now.body.now → IsSome default }
+        ensures value { result ≡ prefix_from family (prefix_len self.now.body.now)
+            (take (omitted self.now.body.now) (default_octets default) ++ take (field_len self.now.body.now) (drop 10 self.now.body.now)) }
+        ensures family { result.address.family ≡ family }
+    {
+        let field = &self.body[FIXED_LEN..FIXED_LEN + self.field_len()];
+        let addr = completed(family, default, self.omitted as usize, field);
+        Prefix::new(addr, self.plen).unwrap()
+    }
+
+    /// The sub-TLVs, behind the prefix.
+    pub fn sub_tlvs(&self) -> &'a [u8]
+        requires { 10 + field_len self.now.body.now ≤ length self.now.body.now }
+        ensures { result.now ≡ drop (10 + field_len self.now.body.now) self.now.body.now }
+    {
+        &self.body[FIXED_LEN + self.field_len()..]
+    }
+
+    /// Whether the Update sets the default prefix of its encoding.
+    pub fn sets_default(&self) -> bool
+        ensures { result ≡ sets_default self.now.body.now }
+    {
+        self.flags & PREFIX_FLAG != 0
+    }
+
+    /// Whether the Update sets the router-id.
+    #[tactic(auto, using(crate::proofs::FormLaws::bit_64))]
+    pub fn sets_router_id(&self) -> bool
+        ensures { result ≡ sets_router_id self.now.body.now }
+    {
+        self.flags & ROUTER_ID_FLAG != 0
+    }
+
+    /// What an Update of the wildcard encoding says: RFC 8966, 4.6.9; RFC 9079, 5.2.
+    pub fn wildcard(&self) -> Event
+        ensures said { result ≡ wildcard_event self.now.body.now }
+        ensures fits { EventFits result }
+    {
+        if self.metric != INFINITY {
+            return Event::Ignored(Reason::WildcardFinite);
+        }
+        if self.plen > 0 || self.omitted > 0 {
+            return Event::Ignored(Reason::WildcardPrefix);
+        }
+        match read_sub_tlvs(Place::InWildcard, self.sub_tlvs()) {
+            Ok(_) => Event::RetractAll,
+            Err(reason) => Event::Ignored(reason),
+        }
+    }
+}

@@ -1,0 +1,37 @@
+//! Numbers of RFC 8966 and RFC 9079, under their names there.
+
+/// The first octet of a packet: RFC 8966, 4.2.
+pub(crate) const MAGIC: u8 = 42;
+/// The second octet of a packet: RFC 8966, 4.2.
+pub(crate) const VERSION: u8 = 2;
+
+/// The type of the one TLV, and of the one sub-TLV, with no length: RFC 8966, 4.6.1, 4.7.1.
+pub(crate) const PAD1: u8 = 0;
+/// The TLV types that are read: RFC 8966, 4.6.7, 4.6.8, 4.6.9.
+pub(crate) const ROUTER_ID: u8 = 6;
+
+pub(crate) const NEXT_HOP: u8 = 7;
+
+pub(crate) const UPDATE: u8 = 8;
+
+/// Address encodings: RFC 8966, 4.1.4.
+pub(crate) const AE_WILDCARD: u8 = 0;
+
+pub(crate) const AE_IPV4: u8 = 1;
+
+pub(crate) const AE_IPV6: u8 = 2;
+
+pub(crate) const AE_LINK_LOCAL: u8 = 3;
+
+/// Flags of an Update: RFC 8966, 4.6.9.
+pub(crate) const PREFIX_FLAG: u8 = 0x80;
+
+pub(crate) const ROUTER_ID_FLAG: u8 = 0x40;
+
+/// The metric that retracts: RFC 8966, 4.6.9.
+pub(crate) const INFINITY: u16 = 0xffff;
+
+/// Sub-TLVs of this type and above are mandatory: RFC 8966, 4.4.
+pub(crate) const MANDATORY: u8 = 128;
+/// The sub-TLV with a source prefix: RFC 9079, 7.1.
+pub(crate) const SOURCE_PREFIX: u8 = 128;

@@ -1,0 +1,104 @@
+-- The parts of the rows of a block, and what they make of an answer together.
+use Rattle.std.proofs.Common.{◌≡◌, inl, inr, ℕ, ◌+◌, ◌-◌, ◌^◌, ◌<◌, ◌≤◌, List, [], ◌∷◌, ◌++◌, Option, Some, map, refl, sym, ◌∙◌, ap, subst, arith, Bool, true, false, length, ◌==◌, eqb-true}
+use Rattle.std.proofs.lemmas.List.{map-append}
+use Rattle.std.proofs.lemmas.Bool.{cases_order, false≢true}
+use Rattle.std.specs.List.{slice_get}
+use Rattle.babel_prefix.specs.Block.{Block, BlockCovers}
+use Rattle.babel_prefix.specs.Best.{Row, IsNoLonger}
+use Rattle.babel_prefix.specs.Entries.{Entry, row_of}
+use Rattle.babel_prefix.proofs.Members.{Listed}
+use Rattle.babel_trie.specs.Rows.{IsPlace, InBlock, NoneMatches, Overlays}
+use Rattle.babel_prefix.proofs.Members.{Listed-append_left}
+use Rattle.babel_trie.proofs.PlaceLaws.{place_high, block_rest, block_low, block_high, high_misses, low_misses, whole_covers}
+use Rattle.babel_trie.proofs.OverlayLaws.{overlays_left, overlays_right, overlays_then}
+
+-- a member of a mapped list comes from a member
+pub from_map : {P Q : Type 0} (f : P → Q) (xs : List P) (y : Q) → Listed (map f xs) y → (x : P) × Listed xs x × (f x ≡ y)
+from_map f [] y none = elim none [ ]
+from_map f (x ∷ xs) y (inl e) = (x, inl refl, e)
+from_map f (x ∷ xs) y (inr t) = let r = from_map f xs y t in (r.0, inr r.1, r.2)
+
+pub to_map : {P Q : Type 0} (f : P → Q) (xs : List P) (x : P) → Listed xs x → Listed (map f xs) (f x)
+to_map f [] x none = elim none [ ]
+to_map f (y ∷ xs) x (inl e) = inl (ap f e)
+to_map f (y ∷ xs) x (inr t) = inr (to_map f xs x t)
+
+-- rows of a block: those of the whole block, and those of its halves
+pub record Parts {X : Type 0} (key : X → Block) (w bits start : ℕ) (rows own low high : List X) : Type 0 where
+  pub some : 0 < bits
+  pub place : IsPlace w bits start
+  pub rows_in : InBlock key w bits start rows
+  pub whole : rows ≡ own ++ (low ++ high)
+  pub own_len : (x : X) → Listed own x → (key x).len ≡ w - bits
+  pub longer : (x : X) → Listed (low ++ high) x → w - bits < (key x).len
+  pub low_in : InBlock key w (bits - 1) start low
+  pub high_in : InBlock key w (bits - 1) (start + 2 ^ (bits - 1)) high
+
+module _ {X : Type 0} (key : X → Block) where
+  pub parts_of : (w bits start len middle : ℕ) (rows own rest low high : List X) → 0 < bits → IsPlace w bits start → InBlock key w bits start rows → len ≡ w - bits → middle ≡ start + 2 ^ (bits - 1) →
+      rows ≡ own ++ rest → ((x : X) → Listed own x → (key x).len ≡ len) → ((x : X) → Listed rest x → (key x).len ≡ len → ⊥) →
+      rest ≡ low ++ high → ((x : X) → Listed low x → (key x).start < middle) → ((x : X) → Listed high x → middle ≤ (key x).start) → Parts key w bits start rows own low high
+  parts_of w bits start len middle rows own rest low high some place rows_in len_is middle_is whole own_len other halves below above =
+      let rest_in = block_rest key w bits start rows own rest rows_in whole in
+      record {
+        some = some;
+        place = place;
+        rows_in = rows_in;
+        whole = whole ∙ ap (λ r. own ++ r) halves;
+        own_len = λ x t. own_len x t ∙ len_is;
+        longer = λ x t.
+            let in_rest : Listed rest x = subst (λ r. Listed r x) (sym halves) t in
+            let ge : w - bits ≤ (key x).len = rest_in.no_shorter x in_rest in
+            elim (cases_order (key x).len len) [ inl same ↦ absurd (other x in_rest same) | inr either ↦ elim either [ inl lt ↦ absurd (omega arith) | inr gt ↦ omega arith ] ];
+        low_in = block_low key w bits start len rest low high some place rest_in halves len_is other (λ x t. subst (λ m. (key x).start < m) middle_is (below x t));
+        high_in = block_high key w bits start len rest low high some place rest_in halves len_is other (λ x t. subst (λ m. m ≤ (key x).start) middle_is (above x t));
+      }
+
+  module _ (w bits start : ℕ) (rows own low high : List X) (p : Parts key w bits start rows own low high) where
+    -- a prefix of the upper half covers no address of the lower
+    pub high_is_apart : (x : X) → Listed high x → (a : ℕ) → a < 2 ^ (bits - 1) → BlockCovers w (key x) (start + a) → ⊥
+    high_is_apart x t a a_in =
+        high_misses w (bits - 1) (start + 2 ^ (bits - 1)) (key x) (start + a) (place_high w bits start p.place p.some) (p.high_in.no_shorter x t) (p.high_in.from_start x t) (omega arith)
+
+    -- nor the other way round
+    pub low_is_apart : (x : X) → Listed low x → (a : ℕ) → BlockCovers w (key x) (start + 2 ^ (bits - 1) + a) → ⊥
+    low_is_apart x t a =
+        low_misses w (bits - 1) (start + 2 ^ (bits - 1)) (key x) (start + 2 ^ (bits - 1) + a) (place_high w bits start p.place p.some) (p.low_in.no_shorter x t) (p.low_in.before_end x t) (omega arith)
+
+    -- the rows of the whole block cover each address of the block
+    pub own_covers : (x : X) → Listed own x → (a : ℕ) → a < 2 ^ bits → BlockCovers w (key x) (start + a)
+    own_covers x t a a_in =
+        let in_rows : Listed rows x = subst (λ r. Listed r x) (sym p.whole) (Listed-append_left own (low ++ high) x t) in
+        whole_covers w bits start (key x) p.place (p.rows_in.from_start x in_rows) (p.rows_in.before_end x in_rows) (p.own_len x t) a a_in
+
+module _ {V : Type 0} where
+  -- the rows of the block, part by part
+  pub mapped_parts : (rows own low high : List (Entry V)) → rows ≡ own ++ (low ++ high) → map row_of rows ≡ map row_of own ++ (map row_of low ++ map row_of high)
+  mapped_parts rows own low high e = ap (map row_of) e ∙ map-append row_of own (low ++ high) ∙ ap (λ r. map row_of own ++ r) (map-append row_of low high)
+
+  -- at an address of the lower half the rows of the upper do nothing
+  pub overlays_low : (w : ℕ) (rows own low high : List (Row V)) (d s : ℕ) (old mid new : Option V) → rows ≡ own ++ (low ++ high) → NoneMatches w high d s →
+      ((x y : Row V) → Listed own x → Listed (low ++ high) y → IsNoLonger x y) → Overlays w own d s old mid → Overlays w low d s mid new → Overlays w rows d s old new
+  overlays_low w rows own low high d s old mid new whole never shorter first second =
+      subst (λ r. Overlays w r d s old new) (sym whole)
+      (overlays_then w own (low ++ high) d s old mid new (λ x y t u _ _. shorter x y t u) first (overlays_left w low high d s mid new never second))
+
+  pub overlays_high : (w : ℕ) (rows own low high : List (Row V)) (d s : ℕ) (old mid new : Option V) → rows ≡ own ++ (low ++ high) → NoneMatches w low d s →
+      ((x y : Row V) → Listed own x → Listed (low ++ high) y → IsNoLonger x y) → Overlays w own d s old mid → Overlays w high d s mid new → Overlays w rows d s old new
+  overlays_high w rows own low high d s old mid new whole never shorter first second =
+      subst (λ r. Overlays w r d s old new) (sym whole)
+      (overlays_then w own (low ++ high) d s old mid new (λ x y t u _ _. shorter x y t u) first (overlays_right w low high d s mid new never second))
+
+-- a list that is not empty has a member
+pub some_member : {X : Type 0} (xs : List X) (b : Bool) → b ≡ (length xs == 0) → b ≡ false → (x : X) × Listed xs x
+some_member [] b is not_empty = absurd (false≢true (sym not_empty ∙ is))
+some_member (x ∷ xs) b is not_empty = (x, inl refl)
+
+pub no_member : {X : Type 0} (xs : List X) (b : Bool) → b ≡ (length xs == 0) → b ≡ true → xs ≡ []
+no_member [] b is empty = refl
+no_member (x ∷ xs) b is empty = absurd (let e : length (x ∷ xs) ≡ 0 = eqb-true _ _ (sym is ∙ empty) in omega (arith, e))
+
+-- the first member
+pub first_listed : {X : Type 0} (xs : List X) (x : X) → slice_get xs 0 ≡ Some x → Listed xs x
+first_listed [] x e = absurd (cc)
+first_listed (y ∷ ys) x e = inl (cc)

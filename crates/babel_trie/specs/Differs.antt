@@ -1,0 +1,41 @@
+-- The first place at which two functions differ.
+use Rattle.std.specs.Prelude.{◌≡◌, ◌≢◌, ℕ, ◌<◌, List, Option, MatchOption}
+use Rattle.babel_trie.specs.Boxes.{Answers}
+use Rattle.babel_trie.specs.Shape.{Shape, value_at}
+use Rattle.babel_trie.specs.Held.{sources_at}
+use Rattle.babel_trie.specs.declared.table.Node.{Node}
+use Rattle.babel_trie.specs.declared.table.NodeNumber.{NodeNumber}
+
+module _ {X : Type 0} where
+  -- the two agree at each number below this one
+  abbrev pub AgreeBelow : ℕ → (ℕ → X) → (ℕ → X) → Type 0
+  AgreeBelow n f g = (a : ℕ) → a < n → f a ≡ g a
+
+  -- the two differ at this number below n, and at no lower one
+  pub record DifferFirst (n : ℕ) (f g : ℕ → X) (at : ℕ) : Type 0 where
+    pub in_range : at < n
+    pub differ : f at ≢ g at
+    pub agree_below : AgreeBelow at f g
+
+  -- the first difference below n, or none
+  abbrev pub IsFirstDifference : ℕ → (ℕ → X) → (ℕ → X) → Option ℕ → Type 0
+  IsFirstDifference n f g found = MatchOption found (AgreeBelow n f g) (DifferFirst n f g)
+
+module _ {V : Type 0} where
+  -- the two agree for each destination below n and each source below m
+  abbrev pub AgreeBelowBoth : ℕ → ℕ → Answers V → Answers V → Type 0
+  AgreeBelowBoth n m f g = (d : ℕ) → d < n → AgreeBelow m (f d) (g d)
+
+  -- the two differ for this destination, first at this source, and for no lower destination
+  pub record DifferFirstAt (n m : ℕ) (f g : Answers V) (at : ℕ × ℕ) : Type 0 where
+    pub in_range : at.0 < n
+    pub differ : DifferFirst m (f at.0) (g at.0) at.1
+    pub agree_below : AgreeBelowBoth at.0 m f g
+
+  -- the first pair at which the two differ, or none
+  abbrev pub IsFirstPair : ℕ → ℕ → Answers V → Answers V → Option (ℕ × ℕ) → Type 0
+  IsFirstPair n m f g found = MatchOption found (AgreeBelowBoth n m f g) (DifferFirstAt n m f g)
+
+  -- the answers of a trie of destinations, whose leaves are numbers of tries of sources
+  abbrev pub answers_below : ℕ → List (Node (Option V)) → ℕ → Shape NodeNumber → Answers V
+  answers_below w sources bits t d = value_at (sources_at w sources (value_at t bits d)) w

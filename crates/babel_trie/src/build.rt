@@ -1,0 +1,54 @@
+//! Tries of destinations, whose leaves are numbers of tries of sources.
+ghost use Rattle.std.specs.Prelude.{◌≡◌, ◌+◌, ◌-◌, ◌^◌, ◌<◌, ◌≤◌, map, length, IfOk, OnOk, Option};
+ghost use Rattle.babel_trie.specs.Shape.{Shape};
+ghost use Rattle.babel_trie.specs.Interned.{Represents, HasTrie};
+ghost use Rattle.babel_trie.specs.Laid.{IsBuilt, IsSorted};
+ghost use Rattle.babel_prefix.specs.Entries.{row_of};
+ghost use Rattle.babel_trie.specs.Rows.{side_block, InBlock, IsPlace};
+ghost use Rattle.babel_trie.specs.Sound.{IsSound, KeepsNodes};
+ghost use Rattle.babel_trie.specs.declared.rows.Side.TheVariants.{Destination};
+
+use crate::lawful::LawfulOrd;
+use crate::nested::Nested;
+use crate::overlay::middle_of;
+use crate::rows::{Row, Side, split_by_len, split_by_start};
+use crate::table::{Node, NodeNumber, Table};
+use std::alloc::AllocError;
+
+impl<V: LawfulOrd> Nested<V> {
+    /// The number of a trie of destinations, in which each row is laid over the inherited sources.
+    pub fn built(
+        &mut self,
+        rows: &[Row<V>],
+        width: u8,
+        bits: u8,
+        start: u128,
+        inherited: NodeNumber,
+    ) -> Result<NodeNumber, AllocError>
+        requires sources { IsSound ⟦<Node<Option<V>> as Ord>⟧.cmp self.old.sources.nodes.items self.old.sources.numbers }
+        requires destinations { IsSound ⟦<Node<NodeNumber> as Ord>⟧.cmp self.old.destinations.nodes.items self.old.destinations.numbers }
+        requires trie { HasTrie width self.old.sources.nodes.items inherited.0 }
+        requires place { IsPlace width bits start }
+        requires rows { InBlock (side_block Destination) width bits start rows.now }
+        requires sorted { IsSorted width rows.now }
+        requires width { width ≤ 128 }
+        ensures sources { OnOk result (IsSound ⟦<Node<Option<V>> as Ord>⟧.cmp self.new.sources.nodes.items self.new.sources.numbers) }
+        ensures destinations { OnOk result (IsSound ⟦<Node<NodeNumber> as Ord>⟧.cmp self.new.destinations.nodes.items self.new.destinations.numbers) }
+        ensures keeps_sources { OnOk result (KeepsNodes self.old.sources.nodes.items self.new.sources.nodes.items) }
+        ensures keeps_destinations { OnOk result (KeepsNodes self.old.destinations.nodes.items self.new.destinations.nodes.items) }
+        ensures built { IfOk result (λ n. (t : Shape (Option V)) → Represents self.old.sources.nodes.items inherited.0 t → IsBuilt width bits start (map row_of rows.now) self.new.sources.nodes.items self.new.destinations.nodes.items n.0 t) }
+    {
+        let (own, rest) = split_by_len(Side::Destination, rows, width - bits);
+        let inherited = self.sources.overlaid(own, width, width, 0, inherited)?;
+        if rest.is_empty() {
+            let leaf = self.destinations.leaf(inherited)?;
+            return Ok(leaf);
+        }
+        let middle = middle_of(start, bits);
+        let (low_rows, high_rows) = split_by_start(Side::Destination, rest, middle);
+        let low = self.built(low_rows, width, bits - 1, start, inherited)?;
+        let high = self.built(high_rows, width, bits - 1, middle, inherited)?;
+        let whole = self.destinations.joined(low, high)?;
+        Ok(whole)
+    }
+}

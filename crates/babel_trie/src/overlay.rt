@@ -1,0 +1,75 @@
+//! The rows of one destination, laid over a trie of sources.
+ghost use Rattle.std.specs.Prelude.{◌≡◌, ◌+◌, ◌-◌, ◌^◌, ◌<◌, ◌≤◌, map, length, IfOk, OnOk, Option};
+ghost use Rattle.babel_trie.specs.Shape.{Shape};
+ghost use Rattle.babel_trie.specs.Interned.{Represents, HasTrie};
+ghost use Rattle.babel_trie.specs.Laid.{HasOneDestination, IsSet, IsOverlaid};
+ghost use Rattle.babel_prefix.specs.Entries.{row_of};
+ghost use Rattle.babel_trie.specs.Rows.{side_block, InBlock, IsPlace};
+ghost use Rattle.babel_trie.specs.Sound.{IsSound, KeepsNodes};
+ghost use Rattle.babel_trie.specs.declared.rows.Side.TheVariants.{Source};
+
+use crate::lawful::LawfulOrd;
+use crate::rows::{Row, Side, split_by_len, split_by_start};
+use crate::table::{Node, NodeNumber, Table};
+use std::alloc::AllocError;
+
+/// The address at which the upper half of a block starts.
+pub fn middle_of(start: u128, bits: u8) -> u128
+    requires some { 0 < bits }
+    requires width { bits ≤ 128 }
+    requires room { start + 2 ^ bits ≤ 2 ^ 128 }
+    ensures { result ≡ start + 2 ^ (bits - 1) }
+{
+    start + (1 << (bits - 1))
+}
+
+impl<V: LawfulOrd> Table<Option<V>> {
+    /// The leaf that the rows of a whole block set, or the old trie where there are none.
+    fn set(&mut self, rows: &[Row<V>], old: NodeNumber) -> Result<NodeNumber, AllocError>
+        requires sound { IsSound ⟦<Node<Option<V>> as Ord>⟧.cmp self.old.nodes.items self.old.numbers }
+        ensures sound { OnOk result (IsSound ⟦<Node<Option<V>> as Ord>⟧.cmp self.new.nodes.items self.new.numbers) }
+        ensures keeps { OnOk result (KeepsNodes self.old.nodes.items self.new.nodes.items) }
+        ensures is { IfOk result (λ n. (t : Shape (Option V)) → Represents self.old.nodes.items old.0 t → IsSet rows.now self.new.nodes.items n.0 t) }
+    {
+        match rows.first() {
+            None => Ok(old),
+            Some(row) => {
+                let leaf = self.leaf(Some(row.2))?;
+                Ok(leaf)
+            }
+        }
+    }
+
+    /// The trie with rows of one destination laid over it.
+    pub fn overlaid(
+        &mut self,
+        rows: &[Row<V>],
+        width: u8,
+        bits: u8,
+        start: u128,
+        old: NodeNumber,
+    ) -> Result<NodeNumber, AllocError>
+        requires sound { IsSound ⟦<Node<Option<V>> as Ord>⟧.cmp self.old.nodes.items self.old.numbers }
+        requires trie { HasTrie bits self.old.nodes.items old.0 }
+        requires place { IsPlace width bits start }
+        requires rows { InBlock (side_block Source) width bits start rows.now }
+        requires one { HasOneDestination rows.now }
+        requires width { width ≤ 128 }
+        ensures sound { OnOk result (IsSound ⟦<Node<Option<V>> as Ord>⟧.cmp self.new.nodes.items self.new.numbers) }
+        ensures keeps { OnOk result (KeepsNodes self.old.nodes.items self.new.nodes.items) }
+        ensures overlaid { IfOk result (λ n. (t : Shape (Option V)) → Represents self.old.nodes.items old.0 t → IsOverlaid width bits start (map row_of rows.now) self.new.nodes.items n.0 t) }
+    {
+        let (own, rest) = split_by_len(Side::Source, rows, width - bits);
+        let old = self.set(own, old)?;
+        if rest.is_empty() {
+            return Ok(old);
+        }
+        let middle = middle_of(start, bits);
+        let (low_rows, high_rows) = split_by_start(Side::Source, rest, middle);
+        let (low, high) = self.halves(old);
+        let low = self.overlaid(low_rows, width, bits - 1, start, low)?;
+        let high = self.overlaid(high_rows, width, bits - 1, middle, high)?;
+        let whole = self.joined(low, high)?;
+        Ok(whole)
+    }
+}
