@@ -82,12 +82,16 @@ pub(crate) fn lookup_text(alloc: Global, answer: Option<&Held>) -> Result<String
     }
 }
 
+/// The longest line of an IPv4 route, in octets. Room for so many is taken for each row at once.
+const LINE: usize = 108;
+
 /// The lines of the rows, and of the report.
 pub(crate) fn show_text(alloc: Global, table: &Table) -> Result<String, AllocError>
     ensures { IfOk result (λ text. string_bytes text ≡ show_text table.now) }
 {
-    let mut text = String::new(alloc);
-    for row in table.rows() {
+    let rows = table.rows();
+    let mut text = String::with_capacity(alloc, rows.len().saturating_mul(LINE))?;
+    for row in rows {
         let line = PairLine(row.0, row.1);
         write!(text, "{line}")?;
     }
