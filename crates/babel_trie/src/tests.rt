@@ -9,7 +9,13 @@ use std::process::Abort;
 use std::test::Fail;
 
 /// The boxes of these rows are these, and lookups inside and beside each give the best row's value.
-fn check(rt: &impl Abort, alloc: Global, family: Family, lines: &[Line], boxes: &[Line]) -> Result<(), Fail> {
+fn check(
+    rt: &impl Abort,
+    alloc: Global,
+    family: Family,
+    lines: &[Line],
+    boxes: &[Line],
+) -> Result<(), Fail> {
     let rows = Rows::of(alloc, family, lines)?;
     let grid = rows.grid(alloc)?;
     assert_eq!(rt; grid.count(), boxes.len() as u64);
@@ -56,7 +62,13 @@ fn check(rt: &impl Abort, alloc: Global, family: Family, lines: &[Line], boxes: 
 #[test]
 fn halves_of_a_destination(rt: HostRuntime) -> Result<(), Fail> {
     let lines = [(10 << 24, 9, 0, 0, 1), ((10 << 24) + (1 << 23), 9, 0, 0, 1)];
-    check(&rt, rt.alloc(), Family::V4, &lines, &[(10 << 24, 8, 0, 0, 1)])
+    check(
+        &rt,
+        rt.alloc(),
+        Family::V4,
+        &lines,
+        &[(10 << 24, 8, 0, 0, 1)],
+    )
 }
 
 #[test]
@@ -78,7 +90,10 @@ fn source_inside_all_sources(rt: HostRuntime) -> Result<(), Fail> {
         (0, 0, 64 << 24, 2, 2),
         (0, 0, 128 << 24, 1, 2),
     ];
-    check(&rt, rt.alloc(), Family::V4,
+    check(
+        &rt,
+        rt.alloc(),
+        Family::V4,
         &[(0, 0, 0, 0, 2), (0, 0, 10 << 24, 8, 1)],
         &boxes,
     )

@@ -32,7 +32,11 @@ impl Random {
     fn lines(&mut self, alloc: Global) -> Result<Vec<Line>, AllocError> {
         let mut lines = Vec::new(alloc);
         for _ in 0..self.below(9) {
-            let (dst, src, value) = (self.prefix(), self.prefix(), self.below(3) as u32);
+            let (dst, src, value) = (
+                self.prefix(),
+                self.prefix(),
+                u32::try_from(self.below(3)).unwrap_or(0),
+            );
             let line = (dst.0, dst.1, src.0, src.1, value);
             if lines.iter().all(|other: &Line| (other.0, other.1, other.2, other.3)
                 != (line.0, line.1, line.2, line.3))
@@ -106,8 +110,8 @@ fn boxes(alloc: Global, lines: &[Line]) -> Result<Vec<Line>, AllocError> {
 
 /// The first pair of addresses at which two lists of rows answer differently.
 fn least_difference(lines: &[Line], others: &[Line]) -> Option<(u128, u128)> {
-    for dst in 0..16 {
-        for src in 0..16 {
+    for dst in (0..16u8).map(u128::from) {
+        for src in (0..16u8).map(u128::from) {
             if wanted_at(lines, 32, dst, src) != wanted_at(others, 32, dst, src) {
                 return Some((dst, src));
             }

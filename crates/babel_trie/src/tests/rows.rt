@@ -1,5 +1,5 @@
 //! Rows as numbers, and the value of the best of them, found by looking at each.
-ghost use Rattle.std.specs.Prelude.{◌≡◌, All, IfOk};
+ghost use Rattle.std.specs.Prelude.{◌≡◌, All, IfOk, IsTrue};
 ghost use Rattle.babel_prefix.specs.Entries.{AreOfFamily, HasDistinctPrefixes};
 
 use crate::Grid;
@@ -50,11 +50,7 @@ impl Rows {
         requires { AreOfFamily self.old.family row }
         ensures { self.new.family ≡ self.old.family }
     {
-        if self
-            .rows
-            .iter()
-            .all(|other| other.0 != row.0 || other.1 != row.1)
-        {
+        if is_new(&self.rows, &row) {
             self.rows.push(row)?;
         }
         Ok(())
@@ -78,6 +74,18 @@ impl Rows {
             ))
             .collect(alloc)
     }
+}
+
+/// Whether no row has the two prefixes of this one.
+fn is_new(rows: &[Row<u32>], row: &Row<u32>) -> bool
+    ensures { IsTrue result → All (λ other. other.0 ≡ row.now.0 → other.1 ≡ row.now.1 → ⊥) rows.now }
+{
+    for other in rows {
+        if other.0 == row.0 && other.1 == row.1 {
+            return false;
+        }
+    }
+    true
 }
 
 /// The last address of a prefix.
