@@ -1,10 +1,9 @@
 -- Addresses formed from numbers: the first octets of a default prefix, octets behind them, and zeros.
-use Rattle.std.proofs.Common.{◌≡◌, ℕ, zero, suc, ◌+◌, ◌-◌, ◌*◌, ◌/◌, ◌%◌, ◌^◌, ◌<◌, ◌≤◌, true, false, eqb, List, [], ◌∷◌, ◌++◌, length, get_or, take, replicate, refl, sym, ap, subst, ◌∙◌, arith, pow-suc, mul_comm}
+use Rattle.std.proofs.Common.{◌≡◌, ℕ, zero, suc, ◌+◌, ◌-◌, ◌*◌, ◌/◌, ◌%◌, ◌^◌, ◌<◌, ◌≤◌, eqb, List, [], ◌∷◌, ◌++◌, length, get_or, take, replicate, refl, sym, ap, subst, ◌∙◌, arith, pow-suc, mul_comm}
 use Rattle.std.specs.Prelude.{not, bit_and, Option, Some, None, IsSome}
 use Rattle.std.proofs.Math.Nat.{pow-le-pow_right, mod-eq_of_lt, mul-lt-mul_of_pos_right}
-use Rattle.std.proofs.Math.Seq.{take-append-add}
 use Rattle.std.proofs.lemmas.Bool.Decides.{nat_tests}
-use Rattle.std.proofs.lemmas.List.{length-append, length-take-le, take-replicate, append-nil}
+use Rattle.std.proofs.lemmas.List.{length-append, length-take-le}
 use Rattle.std.proofs.lemmas.Nat.{pow-add, div_below}
 use Rattle.std.proofs.lemmas.Nat.Bits.{and_pow}
 use Rattle.std.proofs.lemmas.Int.Digits.{number_after_append}
@@ -16,17 +15,12 @@ use Rattle.babel_prefix.specs.Width.{width_of, octet_count}
 use Rattle.babel_prefix.proofs.OctetLaws.{take-octets, number-octets}
 use Rattle.babel_prefix.specs.Address.{Address, octets_of}
 use Rattle.babel_tlv.specs.Context.{IsOfFamily}
+use Rattle.babel_tlv.proofs.PrefixLaws.{length-octets, padded-is, pow_256}
 use Rattle.babel_tlv.specs.Forming.{padded, default_octets}
 
 -- the test of one bit
 pub bit_64 : (n : ℕ) → not (eqb (bit_and n 64) 0) ≡ eqb (n / 64 % 2) 1
 bit_64 n = let e : bit_and n 64 ≡ n / 64 % 2 * 64 = and_pow n 6 in rw e (grind (arith, nat_tests))
-
-pub pow_256 : (k : ℕ) → 256 ^ k ≡ 2 ^ (8 * k)
-pow_256 zero = refl
-pow_256 (suc k) =
-    let eight_more : 8 * suc k ≡ 8 * k + 8 = omega arith in
-    pow-suc 256 k ∙ ap (λ (n : ℕ). n * 256) (pow_256 k) ∙ sym (pow-add 2 (8 * k) 8) ∙ ap (λ (n : ℕ). 2 ^ n) (sym eight_more)
 
 -- a number that grows octet by octet stays below the power of its octets
 pub number_after-below : (a front : ℕ) (octets : List ℕ) (i : ℕ) → i ≤ length octets → front < 256 ^ a → ((j : ℕ) → get_or octets j 0 < 256)
@@ -44,14 +38,6 @@ number_after-zeros : (k front : ℕ) → number_from_digits_after 256 front (rep
 number_after-zeros zero front = omega arith
 number_after-zeros (suc k) front =
     number_after-zeros k (front * 256 + 0) ∙ (let wider : 256 ^ suc k ≡ 256 * 256 ^ k = pow-suc 256 k ∙ mul_comm (256 ^ k) 256 in rw wider (omega arith))
-
--- zeros fill up what is missing
-padded-is : (n : ℕ) (xs : List ℕ) → length xs ≤ n → padded n xs ≡ xs ++ replicate (n - length xs) 0
-padded-is n xs fits =
-    let parts : n ≡ length xs + (n - length xs) = omega arith in
-    ap (λ (m : ℕ). take m (xs ++ replicate n 0)) parts
-    ∙ take-append-add xs (replicate n 0) (n - length xs)
-    ∙ ap (λ (ys : List ℕ). xs ++ ys) (take-replicate (n - length xs) n 0 (omega arith))
 
 -- the number of octets that zeros fill up
 pub number-padded : (n : ℕ) (xs : List ℕ) → length xs ≤ n → number_from_digits 256 (padded n xs) ≡ number_from_digits 256 xs * 256 ^ (n - length xs)
@@ -144,10 +130,6 @@ moved_up-is family number count few fits =
 -- all the octets of an address are its bits
 pub whole_fits : (family : Family) (number len : ℕ) → len ≡ octet_count family → number < 256 ^ (0 + len) → number < 2 ^ width_of family
 whole_fits family number len whole fits = subst (λ (m : ℕ). number < m) (ap (λ (m : ℕ). 256 ^ m) (omega (arith, whole)) ∙ sym (width-octets family)) fits
-
-pub length-octets : (k n : ℕ) → length (bytes_high_first k n) ≡ k
-length-octets zero n = refl
-length-octets (suc k) n = ap suc (length-octets k n)
 
 -- the omitted octets are there, where a default prefix is
 pub length-omitted : (family : Family) (default : Option Address) (count : ℕ) → count ≤ octet_count family → IsOfFamily family default → (0 < count → IsSome default)

@@ -37,7 +37,7 @@ fn prefix(rt: &impl Abort, (addr, len): (&str, u8)) -> Prefix {
     Prefix::new(addr, len).expect(rt, "a length within the width")
 }
 
-fn key(rt: &impl Abort, dst: (&str, u8), src: (&str, u8)) -> Key {
+pub(crate) fn key(rt: &impl Abort, dst: (&str, u8), src: (&str, u8)) -> Key {
     Key::new(prefix(rt, dst), prefix(rt, src)).expect(rt, "one family")
 }
 
@@ -54,7 +54,13 @@ fn route(rt: &impl Abort, dst: &str, len: u8, metric: u16) -> Event {
 }
 
 /// Steps through a dump of this sender: its TLVs that say something say what is expected, each at its offset.
-fn says(rt: &impl Abort, alloc: Global, sender: &str, dump: &str, expected: &[(u64, Event)]) {
+pub(crate) fn says(
+    rt: &impl Abort,
+    alloc: Global,
+    sender: &str,
+    dump: &str,
+    expected: &[(u64, Event)],
+) {
     let sender = parse_addr(sender).expect(rt, "an address");
     let octets = octets(alloc, dump).expect(rt, "memory");
     let mut rest = octets.as_slice();

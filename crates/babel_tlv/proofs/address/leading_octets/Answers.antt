@@ -1,4 +1,3 @@
-use Rattle.std.proofs.Common.{◌≡◌}
 use Rattle.babel_tlv.proofs.FormLaws.{leading-is, leading-fits}
 use Rattle.babel_tlv.proofs.address.leading_octets.Goals as goal
 

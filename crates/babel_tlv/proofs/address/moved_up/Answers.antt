@@ -1,4 +1,3 @@
-use Rattle.std.proofs.Common.{◌≡◌}
 use Rattle.babel_tlv.proofs.FormLaws.{moved_up-is, moved_up-fits}
 use Rattle.babel_tlv.proofs.address.moved_up.Goals as goal
 

@@ -1,6 +1,4 @@
-use Rattle.std.proofs.Common.{◌≡◌, ◌<◌, ◌+◌, ◌*◌, ◌^◌, ◌∙◌, length, get_or, ap, sym, subst, arith, ℕ, List, take, ◌≤◌}
-use Rattle.std.proofs.lemmas.List.{take_all}
-use Rattle.std.specs.Int.Digits.{number_from_digits_after}
+use Rattle.std.proofs.Common.{◌≡◌, ◌<◌, ◌+◌, ◌*◌, ◌^◌, ◌∙◌, length, get_or, ap, sym, subst, arith, ℕ}
 use Rattle.babel_tlv.proofs.FormLaws.{number_after-room, number_after-more, number_after-below}
 use Rattle.babel_tlv.proofs.address.number_after.Goals as goal
 

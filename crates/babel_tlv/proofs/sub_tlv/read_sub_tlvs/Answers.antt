@@ -1,4 +1,4 @@
-use Rattle.std.proofs.Common.{Some, rules, ◌≡◌, ℕ, subst, sym, arith}
+use Rattle.std.proofs.Common.{Some, rules, ◌≡◌, ℕ, subst, arith}
 use Rattle.std.specs.Prelude.{is_some}
 use Rattle.babel_tlv.specs.SubTlv.{sub_fault}
 use Rattle.babel_tlv.specs.Framing.{BeginsTlv}

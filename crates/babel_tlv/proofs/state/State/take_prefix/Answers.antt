@@ -1,6 +1,5 @@
-use Rattle.std.proofs.Common.{◌≡◌, ◌∙◌, Option, Ok, Err, sym, ap}
+use Rattle.std.proofs.Common.{◌∙◌, Option, sym, ap}
 use Rattle.babel_prefix.specs.Address.{Address}
-use Rattle.babel_tlv.specs.Context.{default_in}
 use Rattle.babel_tlv.specs.Forming.{formed}
 use Rattle.babel_tlv.proofs.Advance.{updated-no_prefix, updated-flags}
 use Rattle.babel_tlv.proofs.state.State.take_prefix.Goals as goal

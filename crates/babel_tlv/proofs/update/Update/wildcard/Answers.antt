@@ -1,4 +1,4 @@
-use Rattle.std.proofs.Common.{◌≡◌, ◌∙◌, ℕ, List, Option, sym, ap, arith}
+use Rattle.std.proofs.Common.{◌∙◌, ℕ, List, Option, sym, ap, arith}
 use Rattle.babel_tlv.specs.declared.event.Event.TheVariants as events
 use Rattle.babel_tlv.specs.declared.place.Place.TheVariants as places
 use Rattle.babel_tlv.specs.declared.reason.Reason.{Reason}
