@@ -4,7 +4,7 @@ ghost use Rattle.std.specs.declared.cmp.Ordering.TheVariants.{Equal};
 
 use std::cmp::Ordering;
 
-/// Values that compare as equal only where they are one.
+/// Values that a grid can hold: ordered, and equal by that order only where they are one.
 pub trait LawfulOrd: Ord + Copy {
     ghost exact: { (a b : Self) → Self.cmp a b ≡ Equal → a ≡ b };
 }

@@ -1,9 +1,9 @@
 -- The row that is added has other prefixes than those before it.
-use Rattle.std.proofs.Common.{◌≡◌, Bool, true, false, cond, List, [], ◌∷◌, ◌++◌, sym, subst}
+use Rattle.std.proofs.Common.{◌≡◌, Bool, true, false, cond, [], ◌∷◌, ◌++◌, sym, subst}
 use Rattle.std.specs.List.{All}
 use Rattle.std.proofs.lemmas.List.Elements.{All-push}
 use Rattle.std.proofs.lemmas.List.Quantifiers.{all_pairs_push}
-use Rattle.babel_prefix.specs.Entries.{Entry, AreOfFamily, HasDistinctPrefixes}
+use Rattle.babel_prefix.specs.Entries.{AreOfFamily, HasDistinctPrefixes}
 use Rattle.babel_trie.proofs.tests.rows.Rows.add.Goals as goal
 
 either : {X : Type 0} (P : X → Type 0) (b : Bool) (x y : X) → P x → P y → P (cond b x y)
