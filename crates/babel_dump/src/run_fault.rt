@@ -1,3 +1,6 @@
+ghost use Rattle.std.specs.Prelude.{◌≡◌};
+ghost use Rattle.babel_dump.specs.Run.{exit_status};
+
 use crate::write::WriteFailed;
 use babel_tlv::Fault;
 use std::alloc::AllocError;
@@ -59,7 +62,9 @@ impl From<WriteFailed> for RunFault {
 
 /// The exit status of the program for what a run gave: the run's own, 3 where a dump is refused, 4 where a read or a
 /// write failed, 5 where an allocation was refused.
-pub fn status_of(outcome: &Result<u8, RunFault>) -> u8 {
+pub fn status_of(outcome: &Result<u8, RunFault>) -> u8
+    ensures { result ≡ exit_status outcome.now }
+{
     match outcome {
         Ok(status) => *status,
         Err(RunFault::Dump(Fault::Memory) | RunFault::OtherDump(Fault::Memory)) => 5,
