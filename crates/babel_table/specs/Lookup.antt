@@ -1,16 +1,26 @@
--- What a lookup finds among the rows for one destination: RFC 9079, 4.
-use Rattle.std.specs.Prelude.{◌≡◌, ◌≤◌, List, Contains}
+-- What a lookup looks for among rows: RFC 9079, 4.
+use Rattle.std.specs.Prelude.{◌≡◌, ◌≤◌, ◌↔◌, List, Option, Some, Contains}
 use Rattle.babel_prefix.specs.Address.{Address, AddressPrefix, Covers}
+use Rattle.babel_tlv.specs.declared.held.Held.{Held}
+use Rattle.babel_tlv.specs.Pair.{Pair}
 use Rattle.babel_tlv.specs.Route.{RouteKey}
 
-module _ {V : Type 0} where
-  -- no row for the destination has the source address
-  abbrev pub HasNoSource : List (RouteKey × V) → AddressPrefix → Address → Type 0
-  HasNoSource rows dst s = (row : RouteKey × V) → Contains rows row → row.0.dst ≡ dst → Covers row.0.src s → ⊥
+-- this stands for the key, or nothing does
+pub record StandsFor (rows : List Pair) (key : RouteKey) (found : Option Held) : Type 0 where
+  pub exactly : (held : Held) → (found ≡ Some held) ↔ Contains rows (key, held)
 
-  -- of the rows for the destination that have the source address, this is what one with the longest source prefix holds
-  pub record IsFromLongestSource (rows : List (RouteKey × V)) (dst : AddressPrefix) (s : Address) (value : V) : Type 0 where
-    pub src : AddressPrefix
-    pub listed : Contains rows (record { dst = dst; src = src }, value)
-    pub has : Covers src s
-    pub longest : (row : RouteKey × V) → Contains rows row → row.0.dst ≡ dst → Covers row.0.src s → row.0.src.len ≤ src.len
+-- the row leads to this destination prefix, and its source prefix has the address
+pub record LeadsFrom (dst : AddressPrefix) (src : Address) (row : Pair) : Type 0 where
+  pub to : row.0.dst ≡ dst
+  pub from : Covers row.0.src src
+
+-- no row leads to the destination prefix from the address
+pub record HasNoSource (rows : List Pair) (dst : AddressPrefix) (src : Address) : Type 0 where
+  pub none : (row : Pair) → Contains rows row → LeadsFrom dst src row → ⊥
+
+-- this stands in a row to the destination prefix from the address, and no such row has a longer source prefix
+pub record HasLongestSource (rows : List Pair) (dst : AddressPrefix) (src : Address) (held : Held) : Type 0 where
+  pub key : RouteKey
+  pub listed : Contains rows (key, held)
+  pub leads : LeadsFrom dst src (key, held)
+  pub longest : (other : Pair) → Contains rows other → LeadsFrom dst src other → other.0.src.len ≤ key.src.len

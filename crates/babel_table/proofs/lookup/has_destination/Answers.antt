@@ -1,16 +1,13 @@
-use Rattle.std.proofs.Common.{rules, ◌≡◌, ◌≢◌, Contains, ℕ, List, false, refl, sym, ap, subst, ◌∙◌}
-use Rattle.std.specs.Prelude.{is_ok}
-use Rattle.std.proofs.lemmas.Fn.{always_returns_same}
-use Rattle.babel_prefix.specs.Order.{prefix_cmp}
-use Rattle.babel_tlv.specs.declared.held.Held.{Held}
-use Rattle.babel_tlv.specs.Route.{RouteKey}
-use Rattle.babel_table.proofs.SearchLaws.{search-none, destinations-rise, prefix-itself}
+-- The keys rise, so their destinations do not fall.
+use Rattle.std.proofs.Common.{◌≡◌, ◌↔◌, IsTrue, Any, sym, subst, rules}
+use Rattle.std.specs.List.Sorted.{IsBinarySearchResult}
+use Rattle.std.proofs.lemmas.List.Sorted.{answers_always}
+use Rattle.babel_table.proofs.SearchLaws.{destination-searched}
 use Rattle.babel_table.proofs.lookup.has_destination.Goals as goal
 
 pub returns : goal.returns
 returns c =
-    let dst = c.args.dst in
-    let found = c.binary_search_by.ensures.position (λ row. prefix_cmp row.0.dst dst) (always_returns_same _ _ _ (λ a r g called. search rules)) in
-    λ none row listed same.
-    search-none (λ row. prefix_cmp row.0.dst dst) c.args.rows.now c.binary_search_by.result (sym c.is_ok.ensures.value ∙ none) (destinations-rise c.args.rows.now c.requires dst) found row listed
-    (subst (λ p. prefix_cmp p dst ≡ prefix_cmp dst dst) (sym same) refl ∙ prefix-itself dst)
+    let position = c.binary_search_by_key.ensures.position (λ row. row.0.dst) (answers_always _ _ _ (λ f a r q k. search rules)) in
+    let searched = destination-searched c.args.rows.now c.args.dst.now c.binary_search_by_key.result c.requires c.binary_search_by_key.ensures.bound
+    (subst (λ ord. IsBinarySearchResult ord c.args.rows.now c.binary_search_by_key.result) (λ i row. c.prefix_order.ensures row.0.dst c.args.dst.now i) position) in
+    subst (λ b. IsTrue b ↔ Any (λ row. row.0.dst ≡ c.args.dst.now) c.args.rows.now) (sym c.is_ok.ensures.value) searched
