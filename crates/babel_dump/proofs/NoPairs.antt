@@ -1,5 +1,5 @@
 -- No dump has the fault TooManyPairs: it is about a canonical form.
-use Rattle.std.proofs.Common.{◌≡◌, ◌≢◌, ℕ, List, [], ◌∷◌, ◌++◌, take, Option, Result, Ok, Err, ◌⊎◌, inl, inr, arith, subst, rules}
+use Rattle.std.proofs.Common.{◌≡◌, ◌≢◌, ℕ, List, [], ◌∷◌, ◌++◌, take, Option, Result, Ok, Err, inl, inr, arith, subst}
 use Rattle.std.proofs.lemmas.Grind.{common_steps}
 use Rattle.std.specs.List.{AllByRecursion}
 use Rattle.babel_prefix.specs.Address.{Address}
@@ -14,7 +14,7 @@ use Rattle.babel_dump.specs.Run.{HasCause, IsFaultOfGiven}
 use Rattle.babel_dump.specs.declared.run_fault.RunFault.{RunFault}
 use Rattle.babel_dump.specs.declared.run_fault.RunFault.TheVariants as run_faults
 use Rattle.babel_table.specs.Bounds.{Bounds}
-use Rattle.babel_table.specs.DumpFault.{DumpFault, StreamFault, RefusedBy, Refuses}
+use Rattle.babel_table.specs.DumpFault.{DumpFault, StreamFault, Refuses}
 
 -- a TLV refuses the dump for another fault, if at all
 abbrev IsOther : Saying → Type 0
