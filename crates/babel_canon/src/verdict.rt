@@ -1,0 +1,17 @@
+use babel_prefix::Addr;
+use babel_tlv::Held;
+
+/// How the answers of two tables compare.
+#[derive(Clone, Copy, Debug, PartialEq, Eq)]
+pub enum Verdict {
+    /// Every destination and source has the same answer.
+    Same,
+    /// The least pair of a destination and a source, by family, destination and source, with different answers, and the
+    /// answers of the two tables there.
+    Differ {
+        dst: Addr,
+        src: Addr,
+        left: Option<Held>,
+        right: Option<Held>,
+    },
+}
