@@ -7,6 +7,8 @@
 
 mod address;
 mod ann;
+#[cfg(test)]
+mod captured;
 mod event;
 mod fault;
 mod framing;
