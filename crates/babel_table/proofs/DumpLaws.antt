@@ -255,15 +255,35 @@ module _ (mode : Mode) (entries : ℕ) (sender : Address) where
   stops-stream : (table : Routes) (at : ℕ) (rest octets : List ℕ) (packets : List (List TlvAt)) (fault : Fault) → ReadsAs octets packets rest → at ≡ length (flat_map packet_octets packets)
       → StandsBehind mode entries table (sayings sender packets) → StopsAt mode entries sender table rest at fault → HasStopped mode entries sender octets fault
   stops-stream table at rest octets packets fault reads here stands (inl header) =
-      inr (header-lasts at rest fault header, λ more.
-      (packets, rest ++ more, record { whole = ap (λ (t : List ℕ). t ++ more) reads.whole ∙ append_assoc (flat_map packet_octets packets) rest more; placed = reads.placed },
-      inl (stands.events, stands.fine, (λ none. absurd (omega (arith, header-long at rest fault header, ap length none, length-append rest more))),
-      inr (inl (subst (λ (n : ℕ). HeaderFault n (rest ++ more) fault) here (header-more at rest more fault header))))))
+      inr (
+        header-lasts at rest fault header,
+        λ more. (
+          packets,
+          rest ++ more,
+          record { whole = ap (λ (t : List ℕ). t ++ more) reads.whole ∙ append_assoc (flat_map packet_octets packets) rest more; placed = reads.placed },
+          inl (
+            stands.events,
+            stands.fine,
+            (λ none. absurd (omega (arith, header-long at rest fault header, ap length none, length-append rest more))),
+            inr (inl (subst (λ (n : ℕ). HeaderFault n (rest ++ more) fault) here (header-more at rest more fault header))),
+          ),
+        ),
+      )
   stops-stream table at rest octets packets fault reads here stands (inr (body, begins, inl past)) =
-      inr (subst IsLasting (sym past.2) tt, λ more.
-      (packets, rest ++ more, record { whole = ap (λ (t : List ℕ). t ++ more) reads.whole ∙ append_assoc (flat_map packet_octets packets) rest more; placed = reads.placed },
-      inl (stands.events, stands.fine, (λ none. absurd (omega (arith, ap length none, length-append rest more, ap length begins.2, length-framed body begins.1))),
-      inr (inr (body, begins-more rest more body begins, subst (λ (n : ℕ). TlvPastEndAt (n + 4) body fault) here past)))))
+      inr (
+        subst IsLasting (sym past.2) tt,
+        λ more. (
+          packets,
+          rest ++ more,
+          record { whole = ap (λ (t : List ℕ). t ++ more) reads.whole ∙ append_assoc (flat_map packet_octets packets) rest more; placed = reads.placed },
+          inl (
+            stands.events,
+            stands.fine,
+            (λ none. absurd (omega (arith, ap length none, length-append rest more, ap length begins.2, length-framed body begins.1))),
+            inr (inr (body, begins-more rest more body begins, subst (λ (n : ℕ). TlvPastEndAt (n + 4) body fault) here past)),
+          ),
+        ),
+      )
   stops-stream table at rest octets packets fault reads here stands (inr (body, begins, inr (parts, fails))) =
       let tlvs : List TlvAt = tlvs_of (at + 4) body in
       let said : List Saying = sayings_behind sender [] tlvs in
@@ -274,17 +294,33 @@ module _ (mode : Mode) (entries : ℕ) (sender : Address) where
     where
       by : (tlvs : List TlvAt) (behind : List ℕ) → ReadsAs octets (packets ++ tlvs ∷ []) behind → Fails mode entries (sayings_behind sender [] tlvs) table fault → HasStopped mode entries sender octets fault
       by tlvs behind reads_on (inl (lasting, refuses)) =
-          inr (lasting, λ more.
-          (packets ++ tlvs ∷ [], behind ++ more,
-          record { whole = ap (λ (t : List ℕ). t ++ more) reads_on.whole ∙ append_assoc (flat_map packet_octets (packets ++ tlvs ∷ [])) behind more; placed = reads_on.placed },
-          inr (subst (λ (s : List Saying). RefusedBy mode entries s fault)
-          (append_assoc (sayings sender packets) (sayings_behind sender [] tlvs) [] ∙ sym (sayings-append sender packets (tlvs ∷ [])))
-          (refuses (sayings sender packets) [] stands))))
+          inr (
+            lasting,
+            λ more. (
+              packets ++ tlvs ∷ [],
+              behind ++ more,
+              record { whole = ap (λ (t : List ℕ). t ++ more) reads_on.whole ∙ append_assoc (flat_map packet_octets (packets ++ tlvs ∷ [])) behind more; placed = reads_on.placed },
+              inr (subst (λ (s : List Saying). RefusedBy mode entries s fault)
+                  (append_assoc (sayings sender packets) (sayings_behind sender [] tlvs) [] ∙ sym (sayings-append sender packets (tlvs ∷ [])))
+                  (refuses (sayings sender packets) [] stands)),
+            ),
+          )
       by tlvs behind reads_on (inr (memory, (saying, is_said, grows))) =
-          inl (memory, (packets ++ tlvs ∷ [], behind, reads_on,
-          (saying, subst (λ (s : List Saying). Contains s saying) (sym (sayings-append sender packets (tlvs ∷ [])))
-          (Contains-append_right (sayings sender packets) (sayings_behind sender [] tlvs ++ []) saying
-          (subst (λ (s : List Saying). Contains s saying) (sym (append-nil (sayings_behind sender [] tlvs))) is_said)), grows)))
+          inl (
+            memory,
+            (
+              packets ++ tlvs ∷ [],
+              behind,
+              reads_on,
+              (
+                saying,
+                subst (λ (s : List Saying). Contains s saying) (sym (sayings-append sender packets (tlvs ∷ [])))
+                    (Contains-append_right (sayings sender packets) (sayings_behind sender [] tlvs ++ []) saying
+                    (subst (λ (s : List Saying). Contains s saying) (sym (append-nil (sayings_behind sender [] tlvs))) is_said)),
+                grows,
+              ),
+            ),
+          )
 
   pub stopped-then : (old : Routes) (at : ℕ) (pending octets more : List ℕ) (fault : Fault) → HasTakenTo mode entries sender old at pending octets
       → StopsBehind mode entries sender at (pending ++ more) old fault → HasStopped mode entries sender (octets ++ more) fault

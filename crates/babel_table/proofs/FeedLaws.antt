@@ -65,24 +65,32 @@ module _ (limits : Bounds) (mode : Mode) (sender : Address) where
       by : (past : ℕ) → length (front ++ more) - limits.bytes ≡ past → DumpFault limits mode sender (front ++ more) fault
       by zero is = inl (omega (arith, is), stream more)
       by (suc n) is =
-          inr (inl (omega (arith, is),
-          subst (λ (t : List ℕ). StreamFault mode limits.entries sender t fault) (sym (take-within limits.bytes front more fits)) (stream (take (limits.bytes - length front) more)),
-          lasting-truncated fault lasting))
+          inr (inl (
+            omega (arith, is),
+            subst (λ (t : List ℕ). StreamFault mode limits.entries sender t fault) (sym (take-within limits.bytes front more fits)) (stream (take (limits.bytes - length front) more)),
+            lasting-truncated fault lasting,
+          ))
 
   -- octets up to the limit that were taken, and more behind them
   too_long : (table : Routes) (at : ℕ) (pending front more : List ℕ) → HasTakenTo mode limits.entries sender table at pending front → length front ≡ limits.bytes → more ≢ []
       → DumpFault limits mode sender (front ++ more) faults.TooLong
   too_long table at pending front [] taken fits some = absurd (some refl)
   too_long table at pending front (x ∷ more) taken fits some =
-      inr (inr (omega (arith, fits, length-append front (x ∷ more)), refl, λ other stream.
-      (only_truncated mode limits.entries sender table at pending front taken other
-      (subst (λ (t : List ℕ). StreamFault mode limits.entries sender t other) (take_at front (x ∷ more) limits.bytes fits) stream)).0))
+      inr (inr (
+        omega (arith, fits, length-append front (x ∷ more)),
+        refl,
+        λ other stream.
+            (only_truncated mode limits.entries sender table at pending front taken other
+            (subst (λ (t : List ℕ). StreamFault mode limits.entries sender t other) (take_at front (x ∷ more) limits.bytes fits) stream)).0,
+      ))
 
 needs-more : (mode : Mode) (sender : Address) (octets more : List ℕ) → NeedsMemory mode sender octets → NeedsMemory mode sender (octets ++ more)
-needs-more mode sender octets more (packets, rest, reads, grows) =
-    (packets, rest ++ more,
-    record { whole = ap (λ (t : List ℕ). t ++ more) reads.whole ∙ append_assoc (flat_map packet_octets packets) rest more; placed = reads.placed },
-    grows)
+needs-more mode sender octets more (packets, rest, reads, grows) = (
+  packets,
+  rest ++ more,
+  record { whole = ap (λ (t : List ℕ). t ++ more) reads.whole ∙ append_assoc (flat_map packet_octets packets) rest more; placed = reads.placed },
+  grows,
+)
 
 -- ---- a feeder
 
@@ -147,14 +155,20 @@ module _ (p : Progress) where
           settle : HasStopped p.mode p.limits.entries p.sender (fed ++ near) fault → HasFailed p fault ((fed ++ near) ++ far)
           settle (inl (memory, needs)) = inl (memory, needs-more p.mode p.sender (fed ++ near) far needs)
           settle (inr (lasting, stream)) =
-              inr (lasting, λ more. subst (λ (t : List ℕ). DumpFault p.limits p.mode p.sender t fault) (sym (append_assoc (fed ++ near) far more))
-              (dump_fault p.limits p.mode p.sender (fed ++ near) (far ++ more) fault fits lasting stream))
+              inr (
+                lasting,
+                λ more. subst (λ (t : List ℕ). DumpFault p.limits p.mode p.sender t fault) (sym (append_assoc (fed ++ near) far more))
+                    (dump_fault p.limits p.mode p.sender (fed ++ near) (far ++ more) fault fits lasting stream),
+              )
       by (inr (is, long, now, rest, place, took, partial)) =
-          inr (subst IsLasting (sym is) tt, λ more. subst (λ (t : List ℕ). DumpFault p.limits p.mode p.sender t fault) (sym (append_assoc (fed ++ near) far more))
-          (subst (λ (f : Fault). DumpFault p.limits p.mode p.sender ((fed ++ near) ++ (far ++ more)) f) (sym is)
-          (too_long p.limits p.mode p.sender now place rest (fed ++ near) (far ++ more)
-          (taken-then p.mode p.limits.entries p.sender p.table now p.at place p.pending rest fed near (taken-to fed taken) took partial) (exact long)
-          (some far more (behind long)))))
+          inr (
+            subst IsLasting (sym is) tt,
+            λ more. subst (λ (t : List ℕ). DumpFault p.limits p.mode p.sender t fault) (sym (append_assoc (fed ++ near) far more))
+                (subst (λ (f : Fault). DumpFault p.limits p.mode p.sender ((fed ++ near) ++ (far ++ more)) f) (sym is)
+                (too_long p.limits p.mode p.sender now place rest (fed ++ near) (far ++ more)
+                (taken-then p.mode p.limits.entries p.sender p.table now p.at place p.pending rest fed near (taken-to fed taken) took partial) (exact long)
+                (some far more (behind long)))),
+          )
         where
           some : (xs more : List ℕ) → xs ≢ [] → (xs ++ more) ≢ []
           some [] more not = absurd (not refl)
@@ -219,10 +233,13 @@ module _ (p q : Progress) (same_limits : q.limits ≡ p.limits) (same_mode : q.m
   failed-next octets fault (inl (memory, needs)) =
       inl (memory, subst (λ (m : Mode). NeedsMemory m q.sender octets) (sym same_mode) (subst (λ (s : Address). NeedsMemory p.mode s octets) (sym same_sender) needs))
   failed-next octets fault (inr (lasting, dump)) =
-      inr (lasting, λ more.
-      subst (λ (b : Bounds). DumpFault b q.mode q.sender (octets ++ more) fault) (sym same_limits)
-      (subst (λ (m : Mode). DumpFault p.limits m q.sender (octets ++ more) fault) (sym same_mode)
-      (subst (λ (s : Address). DumpFault p.limits p.mode s (octets ++ more) fault) (sym same_sender) (dump more))))
+      inr (
+        lasting,
+        λ more.
+            subst (λ (b : Bounds). DumpFault b q.mode q.sender (octets ++ more) fault) (sym same_limits)
+            (subst (λ (m : Mode). DumpFault p.limits m q.sender (octets ++ more) fault) (sym same_mode)
+            (subst (λ (s : Address). DumpFault p.limits p.mode s (octets ++ more) fault) (sym same_sender) (dump more))),
+      )
 
 -- a feeder without a fault stands where it has taken to
 pub taken-read : (p : Progress) (octets : List ℕ) → p.fault ≡ None → HasTaken p octets → HasRead p octets

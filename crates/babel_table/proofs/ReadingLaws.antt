@@ -27,9 +27,10 @@ partial-no_packet octets body (inr lacks) (fits, rest, is) =
 pub one_body : (body other rest behind : List ℕ) → IsBody body → IsBody other → framed body ++ rest ≡ framed other ++ behind → (body ≡ other) × (rest ≡ behind)
 one_body body other rest behind fits other_fits same =
     let len : length body ≡ length other = sym (body_len-framed body rest fits) ∙ ap body_len same ∙ body_len-framed other behind other_fits in
-    let bodies : body ++ rest ≡ other ++ behind = ap (drop 4) same in
-    (sym (take_at body rest (length other) len) ∙ ap (take (length other)) bodies ∙ take_at other behind (length other) refl,
-    sym (drop_at body rest (length other) len) ∙ ap (drop (length other)) bodies ∙ drop_at other behind (length other) refl)
+    let bodies : body ++ rest ≡ other ++ behind = ap (drop 4) same in (
+      sym (take_at body rest (length other) len) ∙ ap (take (length other)) bodies ∙ take_at other behind (length other) refl,
+      sym (drop_at body rest (length other) len) ∙ ap (drop (length other)) bodies ∙ drop_at other behind (length other) refl,
+    )
 
 -- ---- the TLVs of a body
 

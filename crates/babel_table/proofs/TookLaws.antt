@@ -88,11 +88,14 @@ module _ (mode : Mode) (entries : ℕ) (sender : Address) (old : Routes) (all : 
       let one : Saying = what tlv.at (said (context_after sender some.earlier) tlv) in
       let rest : List Saying = sayings_behind sender (tlv ∷ some.earlier) left in
       let whole : sayings_behind sender [] all ≡ some.done ++ (one ∷ rest) = some.whole in
-      inl (said-lasting (context_after sender some.earlier) tlv fault here, λ before later stands.
-      subst (λ (s : List Saying). RefusedBy mode entries s fault)
-      (append_assoc before some.done (one ∷ rest ++ later) ∙ ap (λ (s : List Saying). before ++ s) (sym (append_assoc some.done (one ∷ rest) later)) ∙ ap (λ (s : List Saying). before ++ (s ++ later)) (sym whole) ∙ sym (append_assoc before (sayings_behind sender [] all) later))
-      (refused_by mode entries now (before ++ some.done) one (rest ++ later) fault (some.stands before stands)
-      (λ events are. subst (λ (r : Result Event Fault). Refuses mode entries events tlv.at r fault) (sym here) refl)))
+      inl (
+        said-lasting (context_after sender some.earlier) tlv fault here,
+        λ before later stands.
+            subst (λ (s : List Saying). RefusedBy mode entries s fault)
+            (append_assoc before some.done (one ∷ rest ++ later) ∙ ap (λ (s : List Saying). before ++ s) (sym (append_assoc some.done (one ∷ rest) later)) ∙ ap (λ (s : List Saying). before ++ (s ++ later)) (sym whole) ∙ sym (append_assoc before (sayings_behind sender [] all) later))
+            (refused_by mode entries now (before ++ some.done) one (rest ++ later) fault (some.stands before stands)
+            (λ events are. subst (λ (r : Result Event Fault). Refuses mode entries events tlv.at r fault) (sym here) refl)),
+      )
 
   -- there would be too many rows, or there is no memory
   pub took-failed : (now : Routes) (context : Context) (tlv : TlvAt) (left : List TlvAt) (event : Event) (fault : Fault) → TookSome mode entries sender old all now context (tlv ∷ left)
@@ -102,11 +105,14 @@ module _ (mode : Mode) (entries : ℕ) (sender : Address) (old : Routes) (all : 
       let one : Saying = what tlv.at (said (context_after sender some.earlier) tlv) in
       let rest : List Saying = sayings_behind sender (tlv ∷ some.earlier) left in
       let whole : sayings_behind sender [] all ≡ some.done ++ (one ∷ rest) = some.whole in
-      inl (subst IsLasting (sym is) tt, λ before later stands.
-      subst (λ (s : List Saying). RefusedBy mode entries s fault)
-      (append_assoc before some.done (one ∷ rest ++ later) ∙ ap (λ (s : List Saying). before ++ s) (sym (append_assoc some.done (one ∷ rest) later)) ∙ ap (λ (s : List Saying). before ++ (s ++ later)) (sym whole) ∙ sym (append_assoc before (sayings_behind sender [] all) later))
-      (refused_by mode entries now (before ++ some.done) one (rest ++ later) fault (some.stands before stands)
-      (λ events are. subst (λ (r : Result Event Fault). Refuses mode entries events tlv.at r fault) (sym here) (is, over events are))))
+      inl (
+        subst IsLasting (sym is) tt,
+        λ before later stands.
+            subst (λ (s : List Saying). RefusedBy mode entries s fault)
+            (append_assoc before some.done (one ∷ rest ++ later) ∙ ap (λ (s : List Saying). before ++ s) (sym (append_assoc some.done (one ∷ rest) later)) ∙ ap (λ (s : List Saying). before ++ (s ++ later)) (sym whole) ∙ sym (append_assoc before (sayings_behind sender [] all) later))
+            (refused_by mode entries now (before ++ some.done) one (rest ++ later) fault (some.stands before stands)
+            (λ events are. subst (λ (r : Result Event Fault). Refuses mode entries events tlv.at r fault) (sym here) (is, over events are))),
+      )
   took-failed now context tlv left event fault some is_said (inr (memory, grow)) =
       let here : said (context_after sender some.earlier) tlv ≡ Ok event = here_said context tlv some.earlier event some.context_is is_said in
       let one : Saying = what tlv.at (said (context_after sender some.earlier) tlv) in

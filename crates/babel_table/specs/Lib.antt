@@ -5,3 +5,4 @@ pub mod Rows
 pub mod Live
 pub mod DumpFault
 pub mod Feeding
+pub mod Lookup

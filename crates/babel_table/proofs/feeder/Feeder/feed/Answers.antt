@@ -35,12 +35,14 @@ pub returns-in-Ok-clause-ok : goal.returns-in-Ok-clause-ok
 returns-in-Ok-clause-ok c =
     let old = the_view c.self.inside in
     let new = the_view (record { alloc = c.self.inside.alloc; limits = c.self.inside.limits; stream = c.take_within.new.self; fault = c.self.inside.fault }) in
-    let took = subst (λ (n : ℕ). TookPackets old.mode n old.sender old.at (old.pending ++ c.args.piece.now) old.table new.table new.pending new.at) c.self.invariant.0 c.in-Ok.ensures.took in
-    (ap (λ (p : Progress). p.fault) (sym c.self.view_is) ∙ c.in_default.is, c.in_default.is,
-    subst (λ (p : Progress). (fed : List ℕ) → HasRead p fed → MayGoOn p.limits p.mode p.sender (fed ++ c.args.piece.now)) c.self.view_is
-    (λ fed read. may_go_on-next old new refl c.take_within.ensures.settings.0 c.take_within.ensures.settings.2 (fed ++ c.args.piece.now)
-    (taken-next old new refl c.take_within.ensures.settings.0 c.take_within.ensures.settings.2 c.args.piece.now fed c.in_default.is
-    (omega (arith, c.bytes.ensures.value, c.in-Ok.ensures.ready.in_limit)) took c.in-Ok.ensures.ready.partial read)))
+    let took = subst (λ (n : ℕ). TookPackets old.mode n old.sender old.at (old.pending ++ c.args.piece.now) old.table new.table new.pending new.at) c.self.invariant.0 c.in-Ok.ensures.took in (
+      ap (λ (p : Progress). p.fault) (sym c.self.view_is) ∙ c.in_default.is,
+      c.in_default.is,
+      subst (λ (p : Progress). (fed : List ℕ) → HasRead p fed → MayGoOn p.limits p.mode p.sender (fed ++ c.args.piece.now)) c.self.view_is
+          (λ fed read. may_go_on-next old new refl c.take_within.ensures.settings.0 c.take_within.ensures.settings.2 (fed ++ c.args.piece.now)
+          (taken-next old new refl c.take_within.ensures.settings.0 c.take_within.ensures.settings.2 c.args.piece.now fed c.in_default.is
+          (omega (arith, c.bytes.ensures.value, c.in-Ok.ensures.ready.in_limit)) took c.in-Ok.ensures.ready.partial read)),
+    )
 
 pub returns-in-Err-clause-fed : goal.returns-in-Err-clause-fed
 returns-in-Err-clause-fed c =

@@ -16,8 +16,13 @@ returns-then-not-is_empty-clause-took c =
 
 pub take_in_place-requires-2-clause-fits : goal.take_in_place-requires-2-clause-fits
 take_in_place-requires-2-clause-fits c =
-    omega (arith, c.requires.fits, length-append c.args.self.now.pending c.args.octets.now, length-append c.take_pending.new.self.pending c.in-Ok.rest.now,
-    took-end _ _ _ c.args.self.now.at c.take_pending.new.self.at _ _ _ _ c.in-Ok.ensures.took)
+    omega (
+      arith,
+      c.requires.fits,
+      length-append c.args.self.now.pending c.args.octets.now,
+      length-append c.take_pending.new.self.pending c.in-Ok.rest.now,
+      took-end _ _ _ c.args.self.now.at c.take_pending.new.self.at _ _ _ _ c.in-Ok.ensures.took,
+    )
 
 pub returns-clause-took : goal.returns-clause-took
 returns-clause-took c =

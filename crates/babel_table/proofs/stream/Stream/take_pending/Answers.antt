@@ -16,8 +16,15 @@ returns-in-Err-clause-stops c =
 
 pub overflow_add-self : goal.overflow_add-self
 overflow_add-self c =
-    omega (arith, c.in-Ok.ensures.used, ap length c.octets.ensures, ap length c.fill-rest.ensures.whole,
-    length-append c.fill-rest.new.self c.fill-rest.result.now, length-append c.args.self.now.pending c.args.octets.now, c.requires.fits)
+    omega (
+      arith,
+      c.in-Ok.ensures.used,
+      ap length c.octets.ensures,
+      ap length c.fill-rest.ensures.whole,
+      length-append c.fill-rest.new.self c.fill-rest.result.now,
+      length-append c.args.self.now.pending c.args.octets.now,
+      c.requires.fits,
+    )
 
 pub returns-clause-took : goal.returns-clause-took
 returns-clause-took c =
