@@ -1,4 +1,5 @@
-//! The canonical dump of a table.
+//! The canonical dump: the longest blocks of addresses on which what a table answers is one, as pairs, and the octets that say
+//! them; and how the answers of two tables compare. It knows nothing of files, of texts, or of a command line.
 #![tactic(auto)]
 
 mod answer;
@@ -8,6 +9,8 @@ mod comparison;
 mod grids;
 pub mod laws;
 mod normal_form;
+#[cfg(test)]
+mod tests;
 mod text;
 mod verdict;
 
@@ -15,5 +18,4 @@ pub use body::Body;
 pub use canon::{Canon, canonical};
 pub use comparison::compare;
 pub use normal_form::normalise;
-pub use text::write_text;
 pub use verdict::Verdict;

@@ -9,9 +9,13 @@ pub enum Verdict {
     /// The least pair of a destination and a source, by family, destination and source, with different answers, and the
     /// answers of the two tables there.
     Differ {
+        /// The destination.
         dst: Addr,
+        /// The source.
         src: Addr,
+        /// What the first table answers, if anything.
         left: Option<Held>,
+        /// What the second table answers, if anything.
         right: Option<Held>,
     },
 }
