@@ -31,6 +31,7 @@ use Rattle.babel_tlv.proofs.OrderLaws.{held_exact}
 use Rattle.babel_table.specs.Rows.{IsRising, entries_of}
 use Rattle.babel_table.proofs.KeyOrder.{address_total}
 use Rattle.babel_table.proofs.RowsLaws.{rows-one}
+use Rattle.babel_canon.specs.Grids.{pair_at}
 use Rattle.babel_canon.specs.Boxes.{AnswerTheSame, AreBoxes, BoxesAnswer, BoxesTellApart}
 use Rattle.babel_canon.proofs.PairRows.{pairs_hold, rising-apart}
 
@@ -51,7 +52,7 @@ held_tied : (h : Held) → held_cmp h h ≡ Equal
 held_tied (helds.Route ann) = rw (octets_tied ann.router_id, nat_tied ann.seqno, nat_tied ann.metric) (tied_itself address_total ann.next_hop)
 held_tied helds.Unreachable = refl
 
-held_test : HasEqualityTest Held
+pub held_test : HasEqualityTest Held
 held_test a b = by (held_cmp a b) refl
   where
     clash : (o : Ordering) → o ≡ Equal → o ≡ Less → ⊥
@@ -70,14 +71,14 @@ held_test a b = by (held_cmp a b) refl
 abbrev pub entry_of : Pair → Entry Held
 entry_of pair = (pair.0.dst, pair.0.src, pair.1)
 
-abbrev pair_at : Family → Family → Row Held → Pair
-pair_at family other row = (record { dst = prefix_of family row.dst; src = prefix_of other row.src }, row.value)
+abbrev pair_by : Family → Family → Row Held → Pair
+pair_by family other row = (record { dst = prefix_of family row.dst; src = prefix_of other row.src }, row.value)
 
-pair-is : (family : Family) (row : Row Held) (pair : Pair) → AreOfFamily family (entry_of pair) → row_of (entry_of pair) ≡ row → pair ≡ pair_at family family row
+pub pair-is : (family : Family) (row : Row Held) (pair : Pair) → AreOfFamily family (entry_of pair) → row_of (entry_of pair) ≡ row → pair ≡ pair_at family row
 pair-is family row pair of_family is_row =
-    ap (λ (r : Row Held). pair_at pair.0.dst.address.family pair.0.src.address.family r) is_row
-    ∙ ap (λ (f : Family). pair_at f pair.0.src.address.family row) of_family.0
-    ∙ ap (λ (f : Family). pair_at family f row) of_family.1
+    ap (λ (r : Row Held). pair_by pair.0.dst.address.family pair.0.src.address.family r) is_row
+    ∙ ap (λ (f : Family). pair_by f pair.0.src.address.family row) of_family.0
+    ∙ ap (λ (f : Family). pair_by family f row) of_family.1
 
 -- a pair of the list is the row's
 pub record FromPair (family : Family) (pairs : List Pair) (row : Row Held) : Type 0 where
@@ -104,7 +105,7 @@ row_of_pair family pairs pair c of_family =
 
 -- ---- boxes are one list
 
-all_in : (P : Pair → Type 0) (pairs : List Pair) (pair : Pair) → AllByRecursion P pairs → Listed pairs pair → P pair
+pub all_in : (P : Pair → Type 0) (pairs : List Pair) (pair : Pair) → AllByRecursion P pairs → Listed pairs pair → P pair
 all_in P [] pair all none = elim none [ ]
 all_in P (first ∷ pairs) pair all (inl e) = subst P e all.0
 all_in P (first ∷ pairs) pair all (inr later) = all_in P pairs pair all.1 later

@@ -7,3 +7,7 @@ mod OneText
 mod Boxes
 mod Tables
 mod Headline
+mod Families
+mod Entries
+mod Verdicts
+mod Normal

@@ -3,3 +3,7 @@ pub mod Sizes
 pub mod Packing
 pub mod Boxes
 pub mod Headline
+pub mod Grids
+pub mod Canonical
+pub mod Verdict
+pub mod AnswerOrder

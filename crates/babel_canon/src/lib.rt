@@ -1,9 +1,21 @@
-//! The canonical dump of a table.
+//! The canonical dump: the longest blocks of addresses on which what a table answers is one, as pairs, and the octets that say
+//! them; and how the answers of two tables compare. It knows nothing of files, of texts, or of a command line.
 #![tactic(auto)]
 
+mod answer;
 mod body;
+mod canon;
+mod comparison;
+mod grids;
 pub mod laws;
+mod normal_form;
+#[cfg(test)]
+mod tests;
 mod text;
+mod verdict;
 
 pub use body::Body;
-pub use text::write_text;
+pub use canon::{Canon, canonical};
+pub use comparison::compare;
+pub use normal_form::normalise;
+pub use verdict::Verdict;

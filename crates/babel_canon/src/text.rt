@@ -8,6 +8,11 @@ use crate::body::Body;
 use babel_tlv::{Held, Key, Writing, put_group};
 use std::alloc::{AllocError, Global};
 
+/// The first two octets of a packet: RFC 8966, 4.2.
+const MAGIC: u8 = 42;
+
+const VERSION: u8 = 2;
+
 /// Writes the length of a body into the header at `at`.
 fn set_body_len(text: &mut Vec<u8>, at: usize, len: u16)
     requires { at + 4 ≤ length text.now.items }
@@ -25,7 +30,7 @@ fn put_packet(text: &mut Vec<u8>, body: Body, pairs: &[(Key, Held)]) -> Result<u
     ensures { IfOk result (PutsPacket body pairs.now text.old.items text.new.items) }
 {
     let at = text.len();
-    text.extend_from_slice(&[42, 2, 0, 0])?;
+    text.extend_from_slice(&[MAGIC, VERSION, 0, 0])?;
     let limit = body.octets() as usize;
     let mut writing = Writing::new();
     let mut len = 0;
@@ -44,7 +49,11 @@ fn put_packet(text: &mut Vec<u8>, body: Body, pairs: &[(Key, Held)]) -> Result<u
 }
 
 /// The canonical octets of pairs, in packets with bodies of at most this many octets.
-pub fn write_text(alloc: Global, body: Body, pairs: &[(Key, Held)]) -> Result<Vec<u8>, AllocError>
+pub(crate) fn write_text(
+    alloc: Global,
+    body: Body,
+    pairs: &[(Key, Held)],
+) -> Result<Vec<u8>, AllocError>
     requires { AllByRecursion IsPair pairs.now }
     ensures { IfOk result (λ text. IsText body pairs.now text.items) }
 {

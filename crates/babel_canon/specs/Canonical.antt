@@ -1,0 +1,40 @@
+-- The canonical form of a table, and why there is none.
+use Rattle.std.specs.Prelude.{◌≡◌, ℕ, ◌<◌, ◌≤◌, List, length, ◌⊎◌}
+use Rattle.babel_prefix.specs.Address.{Address}
+use Rattle.babel_tlv.specs.declared.fault.Fault.{Fault}
+use Rattle.babel_tlv.specs.declared.fault.Fault.TheVariants as faults
+use Rattle.babel_tlv.specs.declared.mode.Mode.{Mode}
+use Rattle.babel_tlv.specs.Pair.{Pair}
+use Rattle.babel_tlv.specs.Group.{IsText}
+use Rattle.babel_table.specs.Bounds.{Bounds}
+use Rattle.babel_table.specs.Rows.{Routes}
+use Rattle.babel_table.specs.DumpFault.{DumpFault, HasNoFault, IsTableOf}
+use Rattle.babel_canon.specs.Boxes.{AreBoxes}
+
+-- pairs, and their canonical octets
+pub record Canonical : Type 0 where
+  pub pairs : List Pair
+  pub octets : List ℕ
+
+-- the boxes of the rows' answers, no more than the limit, and their text
+pub record IsCanonical (limits : Bounds) (body : ℕ) (rows : List Pair) (canon : Canonical) : Type 0 where
+  pub boxes : AreBoxes rows canon.pairs
+  pub few : length canon.pairs ≤ limits.entries
+  pub text : IsText body canon.pairs canon.octets
+
+-- the boxes of the rows' answers are more than the limit
+abbrev pub HasManyBoxes : Bounds → List Pair → Type 0
+HasManyBoxes limits rows = (boxes : List Pair) × AreBoxes rows boxes × (limits.entries < length boxes)
+
+-- too many pairs, or want of memory
+abbrev pub CanonicalFault : Bounds → List Pair → Fault → Type 0
+CanonicalFault limits rows fault =
+    ((fault ≡ faults.TooManyPairs) × HasManyBoxes limits rows) ⊎ (fault ≡ faults.Memory)
+
+-- the dump's own fault; or too many pairs, where it has none; or want of memory
+abbrev pub NormaliseFault : Bounds → Mode → Address → List ℕ → Fault → Type 0
+NormaliseFault limits mode sender dump fault =
+    DumpFault limits mode sender dump fault
+    ⊎ ((fault ≡ faults.TooManyPairs) × HasNoFault limits mode sender dump
+    × ((table : Routes) × IsTableOf limits mode sender dump table × HasManyBoxes limits table.rows))
+    ⊎ (fault ≡ faults.Memory)

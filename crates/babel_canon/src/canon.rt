@@ -1,0 +1,71 @@
+ghost use Rattle.std.specs.Prelude.{◌≡◌, IfOk, IfErr};
+ghost use Rattle.babel_canon.specs.Canonical.{IsCanonical, CanonicalFault};
+
+use crate::body::Body;
+use crate::grids::Grids;
+use crate::text::write_text;
+use babel_table::{Limits, Table};
+use babel_tlv::{Fault, Held, Key};
+use std::alloc::Global;
+use std::marker::Model;
+
+/// The canonical form of a table: its canonical pairs, and their octets.
+#[derive(Drop)]
+pub struct Canon {
+    pairs: Vec<(Key, Held)>,
+    bytes: Vec<u8>,
+}
+
+impl Model for Canon {
+    ghost use Rattle.babel_canon.specs.Canonical.{Canonical};
+
+    ghost Value = { Canonical };
+
+    ghost view = { λ c. record { pairs = c.pairs.items; octets = c.bytes.items } };
+}
+
+impl Canon {
+    /// The canonical pairs: by family, IPv4 first, then by destination, then by source.
+    pub fn pairs(&self) -> &[(Key, Held)]
+        ensures { result.now ≡ self.now.pairs }
+    {
+        &self.pairs
+    }
+
+    /// The canonical octets of the pairs.
+    pub fn bytes(&self) -> &[u8]
+        ensures { result.now ≡ self.now.octets }
+    {
+        &self.bytes
+    }
+
+    pub(crate) fn into_bytes(self) -> Vec<u8>
+        ensures { result.items ≡ self.octets }
+    {
+        self.bytes
+    }
+}
+
+/// The canonical form of a table, in packets with bodies of at most this many octets. `TooManyPairs` if its canonical pairs
+/// are more than the entries of the limits, which is known before any of them is made; else `Memory`, if there is too
+/// little.
+pub fn canonical(alloc: Global, limits: Limits, body: Body, table: &Table) -> Result<Canon, Fault>
+    ensures ok { IfOk result (IsCanonical limits body table.now.rows) }
+    ensures err { IfErr result (CanonicalFault limits table.now.rows) }
+{
+    let grids = match Grids::of(alloc, table) {
+        Ok(grids) => grids,
+        Err(_) => return Err(Fault::Memory),
+    };
+    if grids.count() > limits.entries() as u64 {
+        return Err(Fault::TooManyPairs);
+    }
+    let pairs = match grids.pairs(alloc) {
+        Ok(pairs) => pairs,
+        Err(_) => return Err(Fault::Memory),
+    };
+    match write_text(alloc, body, &pairs) {
+        Ok(bytes) => Ok(Canon { pairs, bytes }),
+        Err(_) => Err(Fault::Memory),
+    }
+}

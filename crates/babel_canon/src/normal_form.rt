@@ -1,0 +1,39 @@
+ghost use Rattle.std.specs.Prelude.{IfOk, IfErr};
+ghost use Rattle.babel_prefix.specs.Address.{Address};
+ghost use Rattle.babel_canon.specs.Canonical.{NormaliseFault};
+ghost use Rattle.babel_canon.specs.Headline.{Normalises, TellsApart, ReadsAgain};
+
+use crate::body::Body;
+use crate::canon::canonical;
+use babel_prefix::Addr;
+use babel_table::{Limits, read_dump};
+use babel_tlv::{Fault, Mode};
+use std::alloc::Global;
+
+/// The canonical octets of a dump that this sender sent, in packets with bodies of at most this many octets.
+///
+/// The canonical octets of two dumps, under the same limits, mode and body size, are equal exactly where the dumps give
+/// every destination and source the same answer; read with any sender, they give these answers again, and normalising them
+/// gives them back. The faults are those of the dump, then `TooManyPairs` if its canonical pairs are more than the entries of
+/// the limits, and `Memory`.
+pub fn normalise(
+    alloc: Global,
+    limits: Limits,
+    mode: Mode,
+    body: Body,
+    sender: Addr,
+    dump: &[u8],
+) -> Result<Vec<u8>, Fault>
+    ensures ok { IfOk result (λ text. Normalises limits mode body sender dump.now text.items) }
+    ensures err { IfErr result (NormaliseFault limits mode sender dump.now) }
+    ensures tells_apart { IfOk result (λ text. TellsApart limits mode body (record { sender = sender; dump = dump.now }) text.items) }
+    ensures reads_again { IfOk result (λ text. (any : Address) → ReadsAgain limits mode body (record { sender = sender; dump = dump.now }) text.items any) }
+{
+    let _valid = (limits.entries(), body.octets());
+    let table = match read_dump(alloc, limits, mode, sender, dump) {
+        Ok(table) => table,
+        Err(fault) => return Err(fault),
+    };
+    let canon = canonical(alloc, limits, body, &table)?;
+    Ok(canon.into_bytes())
+}
