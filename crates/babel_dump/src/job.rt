@@ -3,6 +3,7 @@ ghost use Rattle.std.specs.Option.{ForSome};
 ghost use Rattle.babel_dump.specs.declared.which.Which.TheVariants as commands;
 
 use crate::which::Which;
+use babel_canon::Body;
 use babel_prefix::Addr;
 use std::alloc::AllocError;
 
@@ -19,6 +20,10 @@ pub struct Job {
     pub src: Option<Addr>,
     /// Whether retracted keys stay as unreachable rows: `--hold`.
     pub hold: bool,
+    /// Whether the canonical octets are written as hexadecimal digits: `--hex`.
+    pub hex: bool,
+    /// How many octets the body of a canonical packet has at most: `--body`.
+    pub body: Option<Body>,
     /// The name of the dump's file; standard input where it is left out.
     pub file: Option<String>,
     ghost one_family: { ForSome to (λ dst. ForSome src (λ other. dst.family ≡ other.family)) },

@@ -1,7 +1,7 @@
 //! The lines that the runs write.
 ghost use Rattle.std.specs.Prelude.{◌≡◌, IfOk, string_bytes};
 ghost use Rattle.std.specs.Option.{option_copied};
-ghost use Rattle.babel_dump.specs.RunText.{lookup_text, show_text};
+ghost use Rattle.babel_dump.specs.RunText.{hex_text, lookup_text, show_text};
 
 use crate::reason_text::{REASONS, push_ignored};
 use babel_table::Table;
@@ -80,6 +80,15 @@ pub(crate) fn lookup_text(alloc: Global, answer: Option<&Held>) -> Result<String
         }
         None => String::from_str(alloc, "none\n"),
     }
+}
+
+/// The octets as lower-case hexadecimal digits, on a line.
+pub(crate) fn hex_text(alloc: Global, octets: &[u8]) -> Result<String, AllocError>
+    ensures { IfOk result (λ text. string_bytes text ≡ hex_text octets.now) }
+{
+    let mut text = hex::encode(alloc, octets)?;
+    text.push('\n')?;
+    Ok(text)
 }
 
 /// The longest line of an IPv4 route, in octets. Room for so many is taken for each row at once.
