@@ -6,7 +6,7 @@ const AFTER_HELP: &str = "Example:
   babel-dump lookup --from 192.0.2.1 --to 10.1.2.3 --src 0.0.0.0 examples/one-route.dump
 
 Exit statuses:
-  0  done (show, normalise), or the answer of a lookup is a route
+  0  done (show, normalise, pairs), or the answer of a lookup is a route
   1  a lookup has no route: its answer is none or unreachable
   2  the command line is wrong
   3  the dump is refused
@@ -31,6 +31,11 @@ The octets of two dumps are the same exactly where the dumps give every destinat
 
 The status is 0, or one of those of babel-dump --help.";
 
+const AFTER_PAIRS: &str = "Example:
+  babel-dump pairs --from 192.0.2.1 examples/one-route.dump
+
+The status is 0, or one of those of babel-dump --help.";
+
 /// The program's command line.
 pub(crate) fn command<'a>(alloc: Global) -> Result<Command<'a>, AllocError> {
     Command::new(alloc, "babel-dump")
@@ -41,7 +46,8 @@ pub(crate) fn command<'a>(alloc: Global) -> Result<Command<'a>, AllocError> {
         .subcommand_required(true)
         .subcommand(show(alloc)?)?
         .subcommand(lookup(alloc)?)?
-        .subcommand(normalise(alloc)?)
+        .subcommand(normalise(alloc)?)?
+        .subcommand(pairs(alloc)?)
 }
 
 /// The command for all rows.
@@ -84,6 +90,19 @@ fn normalise<'a>(alloc: Global) -> Result<Command<'a>, AllocError> {
         alloc,
         "hex",
         "Write the octets as lower-case hexadecimal digits on a line",
+    ))
+}
+
+/// The command for the canonical pairs.
+fn pairs<'a>(alloc: Global) -> Result<Command<'a>, AllocError> {
+    let about = "Write the canonical pairs of a dump: the longest blocks of addresses with one answer";
+    let command = Command::new(alloc, "pairs")
+        .about(about)
+        .after_help(AFTER_PAIRS);
+    of_one_dump(alloc, command)?.arg(flag(
+        alloc,
+        "count",
+        "Write only how many rows and how many canonical pairs there are",
     ))
 }
 

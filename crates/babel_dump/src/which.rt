@@ -7,4 +7,6 @@ pub enum Which {
     Lookup,
     /// `normalise`: the canonical octets of a dump.
     Normalise,
+    /// `pairs`: the canonical pairs of a dump.
+    Pairs,
 }

@@ -5,6 +5,7 @@ use super::devices::{ScriptedIn, ScriptedOut};
 use super::{ONE_ROUTE, octets};
 use crate::lookup::run_lookup;
 use crate::normalise::run_normalise;
+use crate::pairs::run_pairs;
 use crate::run_fault::{RunFault, status_of};
 use crate::show::run_show;
 use crate::which::Which;
@@ -23,7 +24,7 @@ const NESTED_SOURCES: &str =
 const TWO_SOURCES: &str =
     "2a020030 060a0000 0200000000000001 081201001800064000010300 c00002 80030cac10 080e01000000064000010100 8002080a";
 
-const RUNS: [Which; 3] = [Which::Show, Which::Lookup, Which::Normalise];
+const RUNS: [Which; 4] = [Which::Show, Which::Lookup, Which::Normalise, Which::Pairs];
 
 const DUMPS: [&str; 3] = [ONE_ROUTE, NESTED_SOURCES, TWO_SOURCES];
 
@@ -47,6 +48,7 @@ fn run(
     match which {
         Which::Show => run_show(alloc, limits, Mode::Plain, sender, reader, writer),
         Which::Lookup => run_lookup(alloc, limits, Mode::Plain, sender, dst, src, reader, writer),
+        Which::Pairs => run_pairs(alloc, limits, Mode::Plain, sender, false, reader, writer),
         Which::Normalise => {
             let body = Body::usual();
             run_normalise(alloc, limits, Mode::Plain, body, sender, false, reader, writer)
