@@ -1,12 +1,12 @@
 //! The command line, as `clap` reads it.
-use clap::{Arg, ArgAction, Command};
+use clap::{Arg, ArgAction, Command, value_parser};
 use std::alloc::{AllocError, Global};
 
 const AFTER_HELP: &str = "Example:
   babel-dump lookup --from 192.0.2.1 --to 10.1.2.3 --src 0.0.0.0 examples/one-route.dump
 
 Exit statuses:
-  0  done, or the answer of a lookup is a route
+  0  done (show, normalise, pairs), or the answer of a lookup is a route
   1  a lookup has no route: its answer is none or unreachable
   2  the command line is wrong
   3  the dump is refused
@@ -24,6 +24,18 @@ const AFTER_SHOW: &str = "Example:
 
 The status is 0, or one of those of babel-dump --help.";
 
+const AFTER_NORMALISE: &str = "Example:
+  babel-dump normalise --from 192.0.2.1 --hex examples/one-route.dump
+
+The octets of two dumps are the same exactly where the dumps give every destination and source the same answer.
+
+The status is 0, or one of those of babel-dump --help.";
+
+const AFTER_PAIRS: &str = "Example:
+  babel-dump pairs --from 192.0.2.1 examples/one-route.dump
+
+The status is 0, or one of those of babel-dump --help.";
+
 /// The program's command line.
 pub(crate) fn command<'a>(alloc: Global) -> Result<Command<'a>, AllocError> {
     Command::new(alloc, "babel-dump")
@@ -33,7 +45,9 @@ pub(crate) fn command<'a>(alloc: Global) -> Result<Command<'a>, AllocError> {
         .bin_name("babel-dump")?
         .subcommand_required(true)
         .subcommand(show(alloc)?)?
-        .subcommand(lookup(alloc)?)
+        .subcommand(lookup(alloc)?)?
+        .subcommand(normalise(alloc)?)?
+        .subcommand(pairs(alloc)?)
 }
 
 /// The command for all rows.
@@ -58,6 +72,38 @@ fn lookup<'a>(alloc: Global) -> Result<Command<'a>, AllocError> {
             "src",
             "The source to look up, of the destination's family",
         ))
+}
+
+/// The command for the canonical octets.
+fn normalise<'a>(alloc: Global) -> Result<Command<'a>, AllocError> {
+    let about = "Write the canonical octets of a dump, which are a dump with the same answers";
+    let command = Command::new(alloc, "normalise")
+        .about(about)
+        .after_help(AFTER_NORMALISE);
+    let body = Arg::new(alloc, "body")
+        .long("body")
+        .value_name("OCTETS")
+        .value_parser(value_parser!(u16).range(128..))
+        .action(ArgAction::Set)
+        .help("How long the body of a packet may be, from 128 to 65535 octets; 1024 if it is left out");
+    of_one_dump(alloc, command)?.arg(body)?.arg(flag(
+        alloc,
+        "hex",
+        "Write the octets as lower-case hexadecimal digits on a line",
+    ))
+}
+
+/// The command for the canonical pairs.
+fn pairs<'a>(alloc: Global) -> Result<Command<'a>, AllocError> {
+    let about = "Write the canonical pairs of a dump: the longest blocks of addresses with one answer";
+    let command = Command::new(alloc, "pairs")
+        .about(about)
+        .after_help(AFTER_PAIRS);
+    of_one_dump(alloc, command)?.arg(flag(
+        alloc,
+        "count",
+        "Write only how many rows and how many canonical pairs there are",
+    ))
 }
 
 /// The command with what each command over one dump has.
@@ -85,12 +131,17 @@ fn address<'a>(alloc: Global, id: &'a str, help: &'a str) -> Arg<'a> {
         .help(help)
 }
 
+/// An option without a value.
+fn flag<'a>(alloc: Global, id: &'a str, help: &'a str) -> Arg<'a> {
+    Arg::new(alloc, id)
+        .long(id)
+        .action(ArgAction::SetTrue)
+        .help(help)
+}
+
 /// The option for the mode that keeps retracted routes.
 fn hold<'a>(alloc: Global) -> Arg<'a> {
-    Arg::new(alloc, "hold")
-        .long("hold")
-        .action(ArgAction::SetTrue)
-        .help(
-            "Keep a retracted route as unreachable, so that no less specific route takes its place",
-        )
+    let help =
+        "Keep a retracted route as unreachable, so that no less specific route takes its place";
+    flag(alloc, "hold", help)
 }

@@ -1,5 +1,6 @@
 ghost use Rattle.std.specs.Prelude.{◌≡◌, IsSome};
 ghost use Rattle.std.specs.Option.{ForSome};
+ghost use Rattle.babel_canon.specs.Sizes.{IsBodySize};
 ghost use Rattle.babel_dump.specs.declared.which.Which.TheVariants as commands;
 
 use crate::which::Which;
@@ -19,9 +20,16 @@ pub struct Job {
     pub src: Option<Addr>,
     /// Whether retracted keys stay as unreachable rows: `--hold`.
     pub hold: bool,
+    /// Whether the canonical octets are written as hexadecimal digits: `--hex`.
+    pub hex: bool,
+    /// How many octets the body of a canonical packet has at most: `--body`.
+    pub body: Option<u16>,
+    /// Whether only the rows and the canonical pairs are counted: `--count`.
+    pub count: bool,
     /// The name of the dump's file; standard input where it is left out.
     pub file: Option<String>,
     ghost one_family: { ForSome to (λ dst. ForSome src (λ other. dst.family ≡ other.family)) },
+    ghost body_size: { ForSome body (λ octets. IsBodySize octets) },
     ghost has_to: { which ≡ commands.Lookup → IsSome to },
     ghost has_src: { which ≡ commands.Lookup → IsSome src },
 }

@@ -1,7 +1,7 @@
 //! The lines that the runs write.
 ghost use Rattle.std.specs.Prelude.{◌≡◌, IfOk, string_bytes};
 ghost use Rattle.std.specs.Option.{option_copied};
-ghost use Rattle.babel_dump.specs.RunText.{lookup_text, show_text};
+ghost use Rattle.babel_dump.specs.RunText.{counts_text, hex_text, lookup_text, pairs_text, show_text};
 
 use crate::reason_text::{REASONS, push_ignored};
 use babel_table::Table;
@@ -82,19 +82,44 @@ pub(crate) fn lookup_text(alloc: Global, answer: Option<&Held>) -> Result<String
     }
 }
 
+/// The octets as lower-case hexadecimal digits, on a line.
+pub(crate) fn hex_text(alloc: Global, octets: &[u8]) -> Result<String, AllocError>
+    ensures { IfOk result (λ text. string_bytes text ≡ hex_text octets.now) }
+{
+    let mut text = hex::encode(alloc, octets)?;
+    text.push('\n')?;
+    Ok(text)
+}
+
 /// The longest line of an IPv4 route, in octets. Room for so many is taken for each row at once.
 const LINE: usize = 108;
+
+/// The lines of pairs.
+pub(crate) fn pairs_text(alloc: Global, pairs: &[(Key, Held)]) -> Result<String, AllocError>
+    ensures { IfOk result (λ text. string_bytes text ≡ pairs_text pairs.now) }
+{
+    let mut text = String::with_capacity(alloc, pairs.len().saturating_mul(LINE))?;
+    for pair in pairs {
+        let line = PairLine(pair.0, pair.1);
+        write!(text, "{line}")?;
+    }
+    Ok(text)
+}
+
+/// How many rows and pairs there are.
+pub(crate) fn counts_text(alloc: Global, rows: usize, pairs: usize) -> Result<String, AllocError>
+    ensures { IfOk result (λ text. string_bytes text ≡ counts_text rows pairs) }
+{
+    let mut text = format!(in alloc; "rows {rows}\n")?;
+    write!(text, "pairs {pairs}\n")?;
+    Ok(text)
+}
 
 /// The lines of the rows, and of the report.
 pub(crate) fn show_text(alloc: Global, table: &Table) -> Result<String, AllocError>
     ensures { IfOk result (λ text. string_bytes text ≡ show_text table.now) }
 {
-    let rows = table.rows();
-    let mut text = String::with_capacity(alloc, rows.len().saturating_mul(LINE))?;
-    for row in rows {
-        let line = PairLine(row.0, row.1);
-        write!(text, "{line}")?;
-    }
+    let mut text = pairs_text(alloc, table.rows())?;
     let report = table.report();
     let tlvs = report.tlvs();
     write!(text, "tlvs {tlvs}\n")?;

@@ -5,4 +5,8 @@ pub enum Which {
     Show,
     /// `lookup`: what a dump answers for two addresses.
     Lookup,
+    /// `normalise`: the canonical octets of a dump.
+    Normalise,
+    /// `pairs`: the canonical pairs of a dump.
+    Pairs,
 }

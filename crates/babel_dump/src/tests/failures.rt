@@ -4,9 +4,12 @@ ghost use Rattle.std.specs.Prelude.{◌≡◌, ◌^◌, ◌<◌};
 use super::devices::{ScriptedIn, ScriptedOut};
 use super::{ONE_ROUTE, octets};
 use crate::lookup::run_lookup;
+use crate::normalise::run_normalise;
+use crate::pairs::run_pairs;
 use crate::run_fault::{RunFault, status_of};
 use crate::show::run_show;
 use crate::which::Which;
+use babel_canon::Body;
 use babel_prefix::{Addr, Family};
 use babel_table::Limits;
 use babel_tlv::Mode;
@@ -20,6 +23,8 @@ const NESTED_SOURCES: &str =
 /// 192.0.2.0/24 from 172.16.0.0/12 with metric 768, and 0.0.0.0/0 from 10.0.0.0/8 with metric 256.
 const TWO_SOURCES: &str =
     "2a020030 060a0000 0200000000000001 081201001800064000010300 c00002 80030cac10 080e01000000064000010100 8002080a";
+
+const RUNS: [Which; 4] = [Which::Show, Which::Lookup, Which::Normalise, Which::Pairs];
 
 const DUMPS: [&str; 3] = [ONE_ROUTE, NESTED_SOURCES, TWO_SOURCES];
 
@@ -43,12 +48,17 @@ fn run(
     match which {
         Which::Show => run_show(alloc, limits, Mode::Plain, sender, reader, writer),
         Which::Lookup => run_lookup(alloc, limits, Mode::Plain, sender, dst, src, reader, writer),
+        Which::Pairs => run_pairs(alloc, limits, Mode::Plain, sender, false, reader, writer),
+        Which::Normalise => {
+            let body = Body::usual();
+            run_normalise(alloc, limits, Mode::Plain, body, sender, false, reader, writer)
+        }
     }
 }
 
 #[test]
 fn each_read(rt: HostRuntime) -> Result<(), Fail> {
-    for which in [Which::Show, Which::Lookup] {
+    for which in RUNS {
         for text in DUMPS {
             let dump = octets(rt.alloc(), text)?;
             for failing in 1..dump.len() as u64 + 2 {
@@ -66,7 +76,7 @@ fn each_read(rt: HostRuntime) -> Result<(), Fail> {
 
 #[test]
 fn each_write_and_the_flush(rt: HostRuntime) -> Result<(), Fail> {
-    for which in [Which::Show, Which::Lookup] {
+    for which in RUNS {
         for text in DUMPS {
             let dump = octets(rt.alloc(), text)?;
             let mut reader = ScriptedIn::new(&dump, 7, 0);
@@ -90,7 +100,7 @@ fn each_write_and_the_flush(rt: HostRuntime) -> Result<(), Fail> {
 #[test]
 fn a_write_that_takes_nothing(rt: HostRuntime) -> Result<(), Fail> {
     let dump = octets(rt.alloc(), ONE_ROUTE)?;
-    for which in [Which::Show, Which::Lookup] {
+    for which in RUNS {
         let mut reader = ScriptedIn::new(&dump, 7, 0);
         let mut writer = ScriptedOut::new(rt.alloc(), 0, 0);
         let outcome = run(rt.alloc(), which, &mut reader, &mut writer);

@@ -1,0 +1,48 @@
+-- What the canonical form of a reader's dump is, and why there is none.
+use Rattle.std.proofs.Common.{◌≡◌, ℕ, List, Option, inl, inr}
+use Rattle.babel_prefix.specs.Address.{Address}
+use Rattle.babel_tlv.specs.declared.fault.Fault.{Fault}
+use Rattle.babel_tlv.specs.declared.fault.Fault.TheVariants as faults
+use Rattle.babel_tlv.specs.declared.mode.Mode.{Mode}
+use Rattle.babel_table.specs.Bounds.{Bounds, AreBounds}
+use Rattle.babel_table.specs.Rows.{Routes}
+use Rattle.babel_canon.specs.Sizes.{IsBodySize}
+use Rattle.babel_canon.specs.Canonical.{Canonical, IsCanonical, CanonicalFault}
+use Rattle.babel_canon.specs.Headline.{Headline, Normalises}
+use Rattle.babel_dump.specs.declared.run_fault.RunFault.{RunFault}
+use Rattle.babel_dump.specs.declared.run_fault.RunFault.TheVariants as run_faults
+use Rattle.babel_dump.specs.Run.{GaveNormal, GaveTable, HasCause, IsFaultOfForm, IsFaultOfGiven}
+
+-- the canonical form of the table is that of the dump
+pub gave_normal : Headline → (limits : Bounds) (mode : Mode) (body : ℕ) (sender : Address) (old new : Option (List ℕ)) (table : Routes) (canon : Canonical)
+    → AreBounds limits → IsBodySize body → GaveTable limits mode sender old new table → IsCanonical limits body table.rows canon
+    → GaveNormal limits mode body sender old new canon.octets
+gave_normal headline limits mode body sender old new table canon bounds size given is_canon =
+    let normal : Normalises limits mode body sender given.dump canon.octets = record {
+      no_fault = given.accepted;
+      table = table;
+      is_table = given.is_table;
+      boxes = canon.pairs;
+      are_boxes = is_canon.boxes;
+      few = is_canon.few;
+      text = is_canon.text;
+    } in
+    let told = headline limits mode body bounds size (record { sender = sender; dump = given.dump }) canon.octets normal in
+    record { dump = given.dump; gave = given.gave; all = given.all; normalises = normal; tells_apart = told.0; reads_again = told.1 }
+
+-- why a dump that was read has no canonical form
+pub form_fault : (limits : Bounds) (mode : Mode) (sender : Address) (old new : Option (List ℕ)) (table : Routes) (fault : Fault)
+    → GaveTable limits mode sender old new table → CanonicalFault limits table.rows fault → (fault ≡ faults.Memory → ⊥)
+    → IsFaultOfForm limits mode sender old new fault
+form_fault limits mode sender old new table fault given (inl (is, many)) not_memory = inr (is, (table, given, many))
+form_fault limits mode sender old new table fault given (inr is) not_memory = absurd (not_memory is)
+
+-- a fault of the dump is one of its form
+pub read_fault : (limits : Bounds) (mode : Mode) (sender : Address) (old new : Option (List ℕ)) (fault : RunFault) (read : Type 0)
+    → HasCause fault read (IsFaultOfGiven limits mode sender old new) ⊥ (λ _. ⊥) ⊥
+    → HasCause fault read (IsFaultOfForm limits mode sender old new) ⊥ (λ _. ⊥) ⊥
+read_fault limits mode sender old new run_faults.Read read cause = cause
+read_fault limits mode sender old new (run_faults.Dump fault) read cause = λ not_memory. inl (cause not_memory)
+read_fault limits mode sender old new run_faults.OtherRead read cause = cause
+read_fault limits mode sender old new (run_faults.OtherDump fault) read cause = cause
+read_fault limits mode sender old new run_faults.Write read cause = cause
