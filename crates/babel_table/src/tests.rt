@@ -1,6 +1,8 @@
 //! Worked dumps, by the public calls. Expected values are those of RFC 8966 and RFC 9079, worked by hand.
+mod changes;
 mod faults;
 mod pieces;
+mod refused_memory;
 mod rows;
 
 ghost use Rattle.std.specs.Prelude.{◌≡◌};
@@ -9,7 +11,7 @@ ghost use Rattle.babel_prefix.specs.declared.family.Family.TheVariants.{V4};
 use crate::{Feeder, Limits, Table, read_dump};
 use babel_prefix::{Addr, Family, Prefix};
 use babel_tlv::{Ann, Fault, Held, Key, Mode};
-use std::alloc::Global;
+use std::alloc::{AllocError, Global};
 use std::test::Fail;
 
 fn digit(octet: u8) -> Option<u8> {
@@ -21,8 +23,8 @@ fn digit(octet: u8) -> Option<u8> {
 }
 
 /// The octets that a text spells: digits in pairs, with spaces between. `RID` is the router-id's TLV.
-fn octets(alloc: Global, text: &str) -> Result<Vec<u8>, Fail> {
-    let mut out = Vec::new(alloc);
+fn octets(alloc: Global, text: &str) -> Result<Vec<u8>, AllocError> {
+    let mut out = Vec::with_capacity(alloc, text.len())?;
     let mut high: Option<u8> = None;
     for octet in text.as_bytes() {
         if *octet == b'R' {

@@ -1,0 +1,108 @@
+//! Each allocation refused in turn, by `rt try --test --fail-alloc N`: tests/refused_memory.sh runs it for N = 1, 2, ..
+//! A test here passes where nothing was refused, and fails with `REFUSED` where a refusal was answered with `Memory`.
+use super::changes::COMPRESSED;
+use super::rows::ID_BY_FLAG;
+use super::{are, key, octets, route, router, router_v6};
+use crate::{Feeder, Limits, Table, read_dump};
+use babel_prefix::{Addr, Family, Prefix};
+use babel_tlv::{Ann, Fault, Held, Key, Mode};
+use std::alloc::Global;
+use std::test::Fail;
+
+const REFUSED: &str = "memory was refused, and Memory answered";
+
+const OTHER: &str = "neither the known answer nor Memory";
+
+/// 0.0.0.0/0, and the same from 10.0.0.0/8.
+const TWO_SOURCES: &str = "2a020028 RID 080a01000000064000010200 080e01000000064000010100 8002080a";
+
+type Row = (Option<Key>, Option<Held>);
+
+/// Fails with `REFUSED` where the answer is `Memory`, and with `OTHER` where it is not the known one.
+fn known(answer: Result<Table, Fault>, want: &[Row]) -> Result<(), Fail> {
+    match answer {
+        Ok(table) if are(&table, want) => Ok(()),
+        Err(Fault::Memory) => Err(Fail::from(REFUSED)),
+        _ => Err(Fail::from(OTHER)),
+    }
+}
+
+fn read_whole(alloc: Global, sender: Addr, text: &str, want: &[Row]) -> Result<(), Fail> {
+    match octets(alloc, text) {
+        Ok(dump) => known(
+            read_dump(alloc, Limits::usual(), Mode::Plain, sender, &dump),
+            want,
+        ),
+        Err(_) => Err(Fail::from(REFUSED)),
+    }
+}
+
+/// Octet by octet, to the end. Whatever comes behind a refusal is refused.
+fn read_by_octet(alloc: Global, sender: Addr, dump: &[u8], want: &[Row]) -> Result<(), Fail> {
+    let mut feeder = match Feeder::new(alloc, Limits::usual(), Mode::Plain, sender) {
+        Ok(feeder) => feeder,
+        Err(fault) => return known(Err(fault), want),
+    };
+    let mut so_far = Ok(());
+    for octet in dump {
+        let answer = feeder.feed(&[*octet]);
+        if so_far.is_err() && answer != so_far {
+            return Err(Fail::from(OTHER));
+        }
+        so_far = answer;
+    }
+    if feeder.feed(&[]) != so_far {
+        return Err(Fail::from(OTHER));
+    }
+    let table = feeder.finish();
+    if so_far.is_err() && table.is_ok() {
+        return Err(Fail::from(OTHER));
+    }
+    known(table, want)
+}
+
+fn two_sources() -> [Row; 2] {
+    [
+        (key(0, 0, 0, 0), route(512)),
+        (key(0, 0, 0x0a00_0000, 8), route(256)),
+    ]
+}
+
+fn compressed() -> [Row; 2] {
+    [
+        (key(0x0a01_0000, 24, 0, 0), route(256)),
+        (key(0x0a01_0200, 24, 0, 0), route(512)),
+    ]
+}
+
+/// 2001:db8::200:0:0:7/128, which set the router-id.
+fn id_by_flag() -> Option<[Row; 1]> {
+    let dst = Addr::new(Family::V6, 0x2001_0db8_0000_0000_0200_0000_0000_0007)?;
+    let any = Prefix::new(Addr::new(Family::V6, 0)?, 0)?;
+    let ann = Ann::new([2, 0, 0, 0, 0, 0, 0, 7], 1, 256, router_v6());
+    Some([(Key::new(Prefix::new(dst, 128)?, any), ann.map(Held::Route))])
+}
+
+#[test]
+fn refused_memory_of_two_sources(rt: HostRuntime) -> Result<(), Fail> {
+    read_whole(rt.alloc(), router(), TWO_SOURCES, &two_sources())
+}
+
+#[test]
+fn refused_memory_of_omitted_octets(rt: HostRuntime) -> Result<(), Fail> {
+    read_whole(rt.alloc(), router(), COMPRESSED, &compressed())
+}
+
+#[test]
+fn refused_memory_of_a_router_id_set_by_a_flag(rt: HostRuntime) -> Result<(), Fail> {
+    let rows = id_by_flag().ok_or("no row")?;
+    read_whole(rt.alloc(), router_v6(), ID_BY_FLAG, &rows)
+}
+
+#[test]
+fn refused_memory_octet_by_octet(rt: HostRuntime) -> Result<(), Fail> {
+    match octets(rt.alloc(), COMPRESSED) {
+        Ok(dump) => read_by_octet(rt.alloc(), router(), &dump, &compressed()),
+        Err(_) => Err(Fail::from(REFUSED)),
+    }
+}
