@@ -46,3 +46,21 @@ read_fault limits mode sender old new (run_faults.Dump fault) read cause = λ no
 read_fault limits mode sender old new run_faults.OtherRead read cause = cause
 read_fault limits mode sender old new (run_faults.OtherDump fault) read cause = cause
 read_fault limits mode sender old new run_faults.Write read cause = cause
+
+-- a fault of the first dump is one of a comparison
+pub first_fault : (fault : RunFault) (read other_read : Type 0) (refused other_refused : Fault → Type 0)
+    → HasCause fault read refused ⊥ (λ _. ⊥) ⊥ → HasCause fault read refused other_read other_refused ⊥
+first_fault run_faults.Read read other_read refused other_refused cause = cause
+first_fault (run_faults.Dump fault) read other_read refused other_refused cause = cause
+first_fault run_faults.OtherRead read other_read refused other_refused cause = absurd cause
+first_fault (run_faults.OtherDump fault) read other_read refused other_refused cause = λ not_memory. absurd (cause not_memory)
+first_fault run_faults.Write read other_read refused other_refused cause = cause
+
+-- so is a fault of the other dump
+pub other_fault : (fault : RunFault) (read other_read : Type 0) (refused other_refused : Fault → Type 0)
+    → HasCause fault ⊥ (λ _. ⊥) other_read other_refused ⊥ → HasCause fault read refused other_read other_refused ⊥
+other_fault run_faults.Read read other_read refused other_refused cause = absurd cause
+other_fault (run_faults.Dump fault) read other_read refused other_refused cause = λ not_memory. absurd (cause not_memory)
+other_fault run_faults.OtherRead read other_read refused other_refused cause = cause
+other_fault (run_faults.OtherDump fault) read other_read refused other_refused cause = cause
+other_fault run_faults.Write read other_read refused other_refused cause = cause

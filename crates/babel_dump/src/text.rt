@@ -1,9 +1,10 @@
 //! The lines that the runs write.
 ghost use Rattle.std.specs.Prelude.{◌≡◌, IfOk, string_bytes};
 ghost use Rattle.std.specs.Option.{option_copied};
-ghost use Rattle.babel_dump.specs.RunText.{counts_text, hex_text, lookup_text, pairs_text, show_text};
+ghost use Rattle.babel_dump.specs.RunText.{counts_text, hex_text, lookup_text, pairs_text, show_text, verdict_text};
 
 use crate::reason_text::{REASONS, push_ignored};
+use babel_canon::Verdict;
 use babel_table::Table;
 use babel_tlv::{Held, Key};
 use std::alloc::{AllocError, Global};
@@ -79,6 +80,28 @@ pub(crate) fn lookup_text(alloc: Global, answer: Option<&Held>) -> Result<String
             format!(in alloc; "{shown}\n")
         }
         None => String::from_str(alloc, "none\n"),
+    }
+}
+
+/// The lines of a verdict.
+pub(crate) fn verdict_text(alloc: Global, verdict: &Verdict) -> Result<String, AllocError>
+    ensures { IfOk result (λ text. string_bytes text ≡ verdict_text verdict.now) }
+{
+    match verdict {
+        Verdict::Same => String::from_str(alloc, "same\n"),
+        Verdict::Differ {
+            dst,
+            src,
+            left,
+            right,
+        } => {
+            let mut text = format!(in alloc; "differ {dst} from {src}\n")?;
+            let left = lookup_text(alloc, left.as_ref())?;
+            write!(text, "left {left}")?;
+            let right = lookup_text(alloc, right.as_ref())?;
+            write!(text, "right {right}")?;
+            Ok(text)
+        }
     }
 }
 
