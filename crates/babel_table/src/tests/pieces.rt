@@ -2,7 +2,7 @@
 use super::faults::{CUT, FAULTY, FOUR, NEW_ONE, PAST_END, THREE, TOO_MANY};
 use super::rows::{
     BETWEEN, HELD, ID_BY_FLAG, ONE_ROUTE, PAST_THE_LONGEST, REASONS, RETRACTIONS, SOURCES,
-    SUB_TLVS, UNKNOWN,
+    SUB_TLVS, TWO_SOURCES, UNKNOWN,
 };
 use super::{fed, fed_by_octet, limits, octets, router, router_v6, same};
 use crate::{Limits, read_dump};
@@ -108,6 +108,7 @@ fn agrees_changed(alloc: Global, sender: Addr, text: &str) -> Result<bool, Fail>
 #[test]
 fn changed_octets(rt: HostRuntime) -> Result<(), Fail> {
     let alloc = rt.alloc();
+    assert!(rt; agrees_changed(alloc, router(), TWO_SOURCES)?);
     assert!(rt; agrees_changed(alloc, router(), SUB_TLVS)?);
     assert!(rt; agrees_changed(alloc, router_v6(), ID_BY_FLAG)?);
     Ok(())

@@ -1,20 +1,17 @@
 //! Each allocation refused in turn, by `rt try --test --fail-alloc N`: tests/refused_memory.sh runs it for N = 1, 2, ..
 //! A test here passes where nothing was refused, and fails with `REFUSED` where a refusal was answered with `Memory`.
 use super::changes::COMPRESSED;
-use super::rows::ID_BY_FLAG;
+use super::rows::{ID_BY_FLAG, TWO_SOURCES};
 use super::{are, key, octets, route, router, router_v6};
 use crate::{Feeder, Limits, Table, read_dump};
 use babel_prefix::{Addr, Family, Prefix};
 use babel_tlv::{Ann, Fault, Held, Key, Mode};
-use std::alloc::Global;
+use std::alloc::{AllocError, Global};
 use std::test::Fail;
 
 const REFUSED: &str = "memory was refused, and Memory answered";
 
 const OTHER: &str = "neither the known answer nor Memory";
-
-/// 0.0.0.0/0, and the same from 10.0.0.0/8.
-const TWO_SOURCES: &str = "2a020028 RID 080a01000000064000010200 080e01000000064000010100 8002080a";
 
 type Row = (Option<Key>, Option<Held>);
 
@@ -75,6 +72,19 @@ fn compressed() -> [Row; 2] {
     ]
 }
 
+/// A dump of 24 routes, n.0.0.0/8 for each n from 1 on: more than one node of a map holds.
+fn dump_of_many(alloc: Global) -> Result<Vec<u8>, AllocError> {
+    let mut dump = octets(alloc, "2a020144 RID")?;
+    for n in 1..25 {
+        dump.extend_from_slice(&[8, 11, 1, 0, 8, 0, 6, 64, 0, 1, 1, 0, n])?;
+    }
+    Ok(dump)
+}
+
+fn many() -> [Row; 24] {
+    std::array::from_fn(|n| (key((n as u32).wrapping_add(1) << 24, 8, 0, 0), route(256)))
+}
+
 /// 2001:db8::200:0:0:7/128, which set the router-id.
 fn id_by_flag() -> Option<[Row; 1]> {
     let dst = Addr::new(Family::V6, 0x2001_0db8_0000_0000_0200_0000_0000_0007)?;
@@ -103,6 +113,14 @@ fn refused_memory_of_a_router_id_set_by_a_flag(rt: HostRuntime) -> Result<(), Fa
 fn refused_memory_octet_by_octet(rt: HostRuntime) -> Result<(), Fail> {
     match octets(rt.alloc(), COMPRESSED) {
         Ok(dump) => read_by_octet(rt.alloc(), router(), &dump, &compressed()),
+        Err(_) => Err(Fail::from(REFUSED)),
+    }
+}
+
+#[test]
+fn refused_memory_of_many_rows(rt: HostRuntime) -> Result<(), Fail> {
+    match dump_of_many(rt.alloc()) {
+        Ok(dump) => read_by_octet(rt.alloc(), router(), &dump, &many()),
         Err(_) => Err(Fail::from(REFUSED)),
     }
 }
