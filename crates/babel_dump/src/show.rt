@@ -1,5 +1,6 @@
 ghost use Rattle.std.specs.Prelude.{◌≡◌, ◌≢◌, ◌+◌, ◌^◌, ◌<◌, ◌≤◌, IfOk, IfErr, OnOk};
 ghost use Rattle.std.specs.Io.KnownBytes.{Keeps};
+ghost use Rattle.babel_tlv.specs.declared.fault.Fault.{Fault as FaultValue};
 ghost use Rattle.babel_table.specs.Rows.{Routes};
 ghost use Rattle.babel_dump.specs.Device.{AppendsPrefix};
 ghost use Rattle.babel_dump.specs.Run.{GaveTable, HasCause, IsFaultOfGiven, NeedsEnd, UnlessWrite, Wrote};
@@ -48,6 +49,7 @@ pub fn run_show<R: ByteIn, W: ByteOut>(
         (IsFaultOfGiven limits mode sender (R.remaining reader.old) (R.remaining reader.new)) ⊥ (λ _. ⊥)
         (W.failures writer.old < W.failures writer.new)) }
     ensures no_pairs { IfErr result (λ fault. fault ≢ RunFault.Dump Fault.TooManyPairs) }
+    ensures one_dump { IfErr result (λ fault. (other : FaultValue) → fault ≢ RunFault.OtherDump other) }
     ensures end_needed { IfErr result (λ fault. NeedsEnd fault (R.ends reader.old < R.ends reader.new) ⊥) }
     ensures prefix { IfErr result (λ fault. UnlessWrite fault (Keeps (W.contents writer.old) (W.contents writer.new))
         ((table : Routes) × GaveTable limits mode sender (R.remaining reader.old) (R.remaining reader.new) table
