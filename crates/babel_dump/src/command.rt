@@ -85,7 +85,9 @@ fn normalise<'a>(alloc: Global) -> Result<Command<'a>, AllocError> {
         .value_name("OCTETS")
         .value_parser(value_parser!(u16).range(128..))
         .action(ArgAction::Set)
-        .help("How long the body of a packet may be, from 128 to 65535 octets; 1024 if it is left out");
+        .help(
+            "How long the body of a packet may be, from 128 to 65535 octets; 1024 if it is left out",
+        );
     of_one_dump(alloc, command)?.arg(body)?.arg(flag(
         alloc,
         "hex",
@@ -95,7 +97,8 @@ fn normalise<'a>(alloc: Global) -> Result<Command<'a>, AllocError> {
 
 /// The command for the canonical pairs.
 fn pairs<'a>(alloc: Global) -> Result<Command<'a>, AllocError> {
-    let about = "Write the canonical pairs of a dump: the longest blocks of addresses with one answer";
+    let about =
+        "Write the canonical pairs of a dump: the longest blocks of addresses with one answer";
     let command = Command::new(alloc, "pairs")
         .about(about)
         .after_help(AFTER_PAIRS);

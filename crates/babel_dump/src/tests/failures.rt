@@ -51,7 +51,16 @@ fn run(
         Which::Pairs => run_pairs(alloc, limits, Mode::Plain, sender, false, reader, writer),
         Which::Normalise => {
             let body = Body::usual();
-            run_normalise(alloc, limits, Mode::Plain, body, sender, false, reader, writer)
+            run_normalise(
+                alloc,
+                limits,
+                Mode::Plain,
+                body,
+                sender,
+                false,
+                reader,
+                writer,
+            )
         }
     }
 }

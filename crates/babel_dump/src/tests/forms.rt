@@ -62,7 +62,8 @@ fn canonical_octets_that_a_writer_takes_in_part(rt: HostRuntime) -> Result<(), F
 #[test]
 fn more_pairs_than_rows(rt: HostRuntime) -> Result<(), Fail> {
     let limits = Limits::new(249, 3).ok_or("limits")?;
-    let dump = "2a020032 060a0000 0200000000000001 080a01000000064000010100 080b0100030006400001020000 080b0100010006400001030080";
+    let dump =
+        "2a020032 060a0000 0200000000000001 080a01000000064000010100 080b0100030006400001020000 080b0100010006400001030080";
     let (outcome, text) = normalise(rt.alloc(), limits, dump, 1, 0)?;
     assert_eq!(rt; outcome, Err(RunFault::Dump(Fault::TooManyPairs)));
     assert!(rt; text.is_empty());
@@ -71,9 +72,11 @@ fn more_pairs_than_rows(rt: HostRuntime) -> Result<(), Fail> {
 
 #[test]
 fn lines_and_counts_of_pairs(rt: HostRuntime) -> Result<(), Fail> {
-    let merged = "2a020028 060a0000 0200000000000001 080c010009000640000101000a00 080c010009000640000101000a80";
+    let merged =
+        "2a020028 060a0000 0200000000000001 080c010009000640000101000a00 080c010009000640000101000a80";
     let line = "10.0.0.0/8 from 0.0.0.0/0 via 192.0.2.1 id 0200000000000001 seqno 1 metric 256\n";
-    let nested = "2a020028 060a0000 0200000000000001 080a01000000064000010200 080e01000000064000010100 8002080a";
+    let nested =
+        "2a020028 060a0000 0200000000000001 080a01000000064000010200 080e01000000064000010100 8002080a";
     let rows = [
         ("", true, "rows 0\npairs 0\n"),
         (merged, true, "rows 2\npairs 1\n"),
