@@ -5,9 +5,9 @@ ghost use Rattle.std.specs.Prelude.{◌<◌};
 use super::devices::ScriptedIn;
 use crate::byte_out::ByteOut;
 use crate::lookup::run_lookup;
+use crate::pairs::run_pairs;
 use crate::run_fault::RunFault;
 use crate::show::run_show;
-use crate::which::Which;
 use babel_prefix::{Addr, Family};
 use babel_table::Limits;
 use babel_tlv::{Fault, Mode};
@@ -27,7 +27,17 @@ const TWO_SOURCES: &str =
 const TWO_LINES: &str =
     "0.0.0.0/0 from 0.0.0.0/0 via 192.0.2.1 id 0200000000000001 seqno 1 metric 512\n0.0.0.0/0 from 10.0.0.0/8 via 192.0.2.1 id 0200000000000001 seqno 1 metric 256\ntlvs 3\n";
 
+const COUNTS: &str = "rows 2\npairs 9\n";
+
 const ANSWER: &str = "via 192.0.2.1 id 0200000000000001 seqno 1 metric 256\n";
+
+/// A run over one dump.
+#[derive(Clone, Copy)]
+enum Run {
+    Show,
+    Lookup,
+    Pairs,
+}
 
 /// Takes this text alone, and needs no memory.
 #[derive(Drop)]
@@ -62,7 +72,7 @@ impl ByteOut for ExpectingOut<'_> {
 }
 
 /// A run over two sources, in pieces of seven octets. At `Memory` nothing was written.
-fn outcome(alloc: Global, which: Which, text: &str) -> Result<(), Fail> {
+fn outcome(alloc: Global, run: Run, text: &str) -> Result<(), Fail> {
     let mut dump = [0; 44];
     hex::decode_to_slice(TWO_SOURCES, &mut dump)?;
     let mut reader = ScriptedIn::new(&dump, 7, 0);
@@ -74,15 +84,24 @@ fn outcome(alloc: Global, which: Which, text: &str) -> Result<(), Fail> {
     let limits = Limits::usual();
     let sender = Addr::new(Family::V4, 0xc000_0201).unwrap();
     let dst = Addr::new(Family::V4, 0x0a01_0203).unwrap();
-    let outcome = match which {
-        Which::Show => run_show(alloc, limits, Mode::Plain, sender, &mut reader, &mut writer),
-        Which::Lookup => run_lookup(
+    let outcome = match run {
+        Run::Show => run_show(alloc, limits, Mode::Plain, sender, &mut reader, &mut writer),
+        Run::Lookup => run_lookup(
             alloc,
             limits,
             Mode::Plain,
             sender,
             dst,
             dst,
+            &mut reader,
+            &mut writer,
+        ),
+        Run::Pairs => run_pairs(
+            alloc,
+            limits,
+            Mode::Plain,
+            sender,
+            true,
             &mut reader,
             &mut writer,
         ),
@@ -97,10 +116,15 @@ fn outcome(alloc: Global, which: Which, text: &str) -> Result<(), Fail> {
 
 #[test]
 fn refused_memory_of_show(rt: HostRuntime) -> Result<(), Fail> {
-    outcome(rt.alloc(), Which::Show, TWO_LINES)
+    outcome(rt.alloc(), Run::Show, TWO_LINES)
 }
 
 #[test]
 fn refused_memory_of_lookup(rt: HostRuntime) -> Result<(), Fail> {
-    outcome(rt.alloc(), Which::Lookup, ANSWER)
+    outcome(rt.alloc(), Run::Lookup, ANSWER)
+}
+
+#[test]
+fn refused_memory_of_pairs(rt: HostRuntime) -> Result<(), Fail> {
+    outcome(rt.alloc(), Run::Pairs, COUNTS)
 }
