@@ -6,8 +6,8 @@ const AFTER_HELP: &str = "Example:
   babel-dump lookup --from 192.0.2.1 --to 10.1.2.3 --src 0.0.0.0 examples/one-route.dump
 
 Exit statuses:
-  0  done (show, normalise, pairs), or the answer of a lookup is a route
-  1  a lookup has no route: its answer is none or unreachable
+  0  done (show, normalise, pairs), the answer of a lookup is a route, or a comparison found no difference
+  1  a lookup has no route: its answer is none or unreachable; or compare found a difference
   2  the command line is wrong
   3  the dump is refused
   4  a file can't be opened, or a read or a write failed
@@ -36,18 +36,30 @@ const AFTER_PAIRS: &str = "Example:
 
 The status is 0, or one of those of babel-dump --help.";
 
+const AFTER_COMPARE: &str = "Example:
+  babel-dump compare --from 192.0.2.1 --other-from fe80::1 examples/one-route.dump examples/one-route.dump
+
+The status is 0 where every destination and source has the same answer, and 1 where one has not. The others are those
+of babel-dump --help.";
+
 /// The program's command line.
 pub(crate) fn command<'a>(alloc: Global) -> Result<Command<'a>, AllocError> {
-    Command::new(alloc, "babel-dump")
+    let command = Command::new(alloc, "babel-dump")
         .about("Reads dumps of Babel packets (RFC 8966, RFC 9079), each from one sender")
         .after_help(AFTER_HELP)
         .no_binary_name(true)
         .bin_name("babel-dump")?
-        .subcommand_required(true)
-        .subcommand(show(alloc)?)?
-        .subcommand(lookup(alloc)?)?
+        .subcommand_required(true);
+    let command = with_tables(alloc, command)?;
+    command
         .subcommand(normalise(alloc)?)?
-        .subcommand(pairs(alloc)?)
+        .subcommand(pairs(alloc)?)?
+        .subcommand(compare(alloc)?)
+}
+
+/// The command line with the commands for the rows of a dump.
+fn with_tables<'a>(alloc: Global, command: Command<'a>) -> Result<Command<'a>, AllocError> {
+    command.subcommand(show(alloc)?)?.subcommand(lookup(alloc)?)
 }
 
 /// The command for all rows.
@@ -107,6 +119,37 @@ fn pairs<'a>(alloc: Global) -> Result<Command<'a>, AllocError> {
         "count",
         "Write only how many rows and how many canonical pairs there are",
     ))
+}
+
+/// The command for the answers of two dumps.
+fn compare<'a>(alloc: Global) -> Result<Command<'a>, AllocError> {
+    let about = "Write same, or the least destination and source for which two dumps differ";
+    let from = address(
+        alloc,
+        "from",
+        "The address that the packets of FILE were sent from",
+    );
+    let other_from = address(
+        alloc,
+        "other-from",
+        "The address that the packets of OTHER were sent from",
+    );
+    Command::new(alloc, "compare")
+        .about(about)
+        .after_help(AFTER_COMPARE)
+        .arg(from)?
+        .arg(other_from)?
+        .arg(hold(alloc))?
+        .arg(dump(alloc, "file", "FILE", "The first dump"))?
+        .arg(dump(alloc, "other", "OTHER", "The other dump"))
+}
+
+/// A required dump.
+fn dump<'a>(alloc: Global, id: &'a str, name: &'a str, help: &'a str) -> Arg<'a> {
+    Arg::new(alloc, id)
+        .value_name(name)
+        .required(true)
+        .help(help)
 }
 
 /// The command with what each command over one dump has.

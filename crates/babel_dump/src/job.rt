@@ -14,6 +14,8 @@ pub struct Job {
     pub which: Which,
     /// The sender of the dump: `--from`.
     pub from: Addr,
+    /// The sender of the other dump of a comparison: `--other-from`.
+    pub other_from: Option<Addr>,
     /// The destination to look up: `--to`.
     pub to: Option<Addr>,
     /// The source to look up, of the destination's family: `--src`.
@@ -28,9 +30,13 @@ pub struct Job {
     pub count: bool,
     /// The name of the dump's file; standard input where it is left out.
     pub file: Option<String>,
+    /// The name of the other dump's file, of a comparison.
+    pub other: Option<String>,
     ghost one_family: { ForSome to (λ dst. ForSome src (λ other. dst.family ≡ other.family)) },
     ghost body_size: { ForSome body (λ octets. IsBodySize octets) },
     ghost has_to: { which ≡ commands.Lookup → IsSome to },
+    ghost has_other_from: { which ≡ commands.Compare → IsSome other_from },
+    ghost has_other: { which ≡ commands.Compare → IsSome other },
     ghost has_src: { which ≡ commands.Lookup → IsSome src },
 }
 

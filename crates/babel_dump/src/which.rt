@@ -9,4 +9,6 @@ pub enum Which {
     Normalise,
     /// `pairs`: the canonical pairs of a dump.
     Pairs,
+    /// `compare`: how the answers of two dumps compare.
+    Compare,
 }

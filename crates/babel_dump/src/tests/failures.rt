@@ -3,6 +3,7 @@ ghost use Rattle.std.specs.Prelude.{◌≡◌, ◌^◌, ◌<◌};
 
 use super::devices::{ScriptedIn, ScriptedOut};
 use super::{ONE_ROUTE, octets};
+use crate::compare::run_compare;
 use crate::lookup::run_lookup;
 use crate::normalise::run_normalise;
 use crate::pairs::run_pairs;
@@ -49,6 +50,13 @@ fn run(
         Which::Show => run_show(alloc, limits, Mode::Plain, sender, reader, writer),
         Which::Lookup => run_lookup(alloc, limits, Mode::Plain, sender, dst, src, reader, writer),
         Which::Pairs => run_pairs(alloc, limits, Mode::Plain, sender, false, reader, writer),
+        Which::Compare => {
+            let mut other = ScriptedIn::new(&[], 1, 0);
+            let mode = Mode::Plain;
+            run_compare(
+                alloc, limits, mode, sender, sender, reader, &mut other, writer,
+            )
+        }
         Which::Normalise => {
             let body = Body::usual();
             run_normalise(
