@@ -1,0 +1,12 @@
+-- The order of prefixes is total.
+use Rattle.std.specs.Cmp.{IsTotalOrder}
+use Rattle.std.proofs.lemmas.Cmp.{nat_cmp_total, on_total, then_total}
+use Rattle.babel_prefix.specs.Address.{Address, AddressPrefix}
+use Rattle.babel_prefix.specs.Order.{family_cmp, address_cmp, prefix_cmp}
+use Rattle.babel_prefix.specs.Width.{family_rank}
+
+address_total : IsTotalOrder address_cmp
+address_total = then_total (on_total (λ (a : Address). a.family) (on_total family_rank nat_cmp_total)) (on_total (λ (a : Address). a.bits) nat_cmp_total)
+
+pub prefix_total : IsTotalOrder prefix_cmp
+prefix_total = then_total (on_total (λ (p : AddressPrefix). p.address) address_total) (on_total (λ (p : AddressPrefix). p.len) nat_cmp_total)
