@@ -1,32 +1,36 @@
--- Orders that tell any two values apart.
-use Rattle.std.proofs.Common.{◌≡◌, ◌↔◌, ℕ, refl, ◌∙◌, ap, subst}
+-- Orders that are total, and tell any two values apart.
+use Rattle.std.proofs.Common.{◌≡◌, ◌↔◌, refl, ◌∙◌, ap, subst}
+use Rattle.std.specs.Cmp.{IsTotalOrder}
 use Rattle.std.specs.declared.cmp.Ordering.{Ordering}
 use Rattle.std.specs.declared.cmp.Ordering.TheVariants.{Less, Equal, Greater}
 use Rattle.std.specs.Ordering.{nat_cmp, ordering_then}
 use Rattle.std.proofs.lemmas.Map.Lookups.{exact_unsigned}
-use Rattle.std.proofs.lemmas.Cmp.{nat_cmp_total, tied_itself}
+use Rattle.std.proofs.lemmas.Cmp.{nat_cmp_total, on_total, then_total, tied_itself}
 use Rattle.babel_prefix.specs.declared.family.Family.{Family}
 use Rattle.babel_prefix.specs.declared.family.Family.TheVariants.{V4, V6}
+use Rattle.babel_prefix.specs.Width.{family_rank}
 use Rattle.babel_prefix.specs.Address.{Address, AddressPrefix}
 use Rattle.babel_prefix.specs.Order.{family_cmp, address_cmp, prefix_cmp}
 
-then_parts : (r s : Ordering) → ordering_then r s ≡ Equal → (r ≡ Equal) × (s ≡ Equal)
+pub family_total : IsTotalOrder family_cmp
+family_total = on_total family_rank nat_cmp_total
+
+pub address_total : IsTotalOrder address_cmp
+address_total = then_total (on_total (λ (a : Address). a.family) family_total) (on_total (λ (a : Address). a.bits) nat_cmp_total)
+
+pub prefix_total : IsTotalOrder prefix_cmp
+prefix_total = then_total (on_total (λ (p : AddressPrefix). p.address) address_total) (on_total (λ (p : AddressPrefix). p.len) nat_cmp_total)
+
+pub then_parts : (r s : Ordering) → ordering_then r s ≡ Equal → (r ≡ Equal) × (s ≡ Equal)
 then_parts Less s e = cc
 then_parts Equal s e = (refl, e)
 then_parts Greater s e = cc
-
-nat_itself : (n : ℕ) → nat_cmp n n ≡ Equal
-nat_itself n = tied_itself nat_cmp_total n
 
 family_exact : (a b : Family) → family_cmp a b ≡ Equal → a ≡ b
 family_exact V4 V4 e = refl
 family_exact V4 V6 e = cc
 family_exact V6 V4 e = cc
 family_exact V6 V6 e = refl
-
-family_itself : (a : Family) → family_cmp a a ≡ Equal
-family_itself V4 = refl
-family_itself V6 = refl
 
 address_exact : (a b : Address) → address_cmp a b ≡ Equal → a ≡ b
 address_exact a b e =
@@ -35,9 +39,6 @@ address_exact a b e =
     let bits = exact_unsigned a.bits b.bits parts.1 in
     ap (λ f. record { family = f; bits = a.bits }) family ∙ ap (λ n. record { family = b.family; bits = n }) bits
 
-address_itself : (a : Address) → address_cmp a a ≡ Equal
-address_itself a = ap (λ r. ordering_then r (nat_cmp a.bits a.bits)) (family_itself a.family) ∙ nat_itself a.bits
-
 prefix_exact : (p q : AddressPrefix) → prefix_cmp p q ≡ Equal → p ≡ q
 prefix_exact p q e =
     let parts = then_parts (address_cmp p.address q.address) (nat_cmp p.len q.len) e in
@@ -45,15 +46,12 @@ prefix_exact p q e =
     let len = exact_unsigned p.len q.len parts.1 in
     ap (λ a. record { address = a; len = p.len }) address ∙ ap (λ l. record { address = q.address; len = l }) len
 
-prefix_itself : (p : AddressPrefix) → prefix_cmp p p ≡ Equal
-prefix_itself p = ap (λ r. ordering_then r (nat_cmp p.len p.len)) (address_itself p.address) ∙ nat_itself p.len
-
 -- two are equal in the order exactly if they are one
 pub family_equality : (a b : Family) → (family_cmp a b ≡ Equal) ↔ (a ≡ b)
-family_equality a b = (family_exact a b, λ same. subst (λ c. family_cmp a c ≡ Equal) same (family_itself a))
+family_equality a b = (family_exact a b, λ same. subst (λ c. family_cmp a c ≡ Equal) same (tied_itself family_total a))
 
 pub address_equality : (a b : Address) → (address_cmp a b ≡ Equal) ↔ (a ≡ b)
-address_equality a b = (address_exact a b, λ same. subst (λ c. address_cmp a c ≡ Equal) same (address_itself a))
+address_equality a b = (address_exact a b, λ same. subst (λ c. address_cmp a c ≡ Equal) same (tied_itself address_total a))
 
 pub prefix_equality : (p q : AddressPrefix) → (prefix_cmp p q ≡ Equal) ↔ (p ≡ q)
-prefix_equality p q = (prefix_exact p q, λ same. subst (λ r. prefix_cmp p r ≡ Equal) same (prefix_itself p))
+prefix_equality p q = (prefix_exact p q, λ same. subst (λ r. prefix_cmp p r ≡ Equal) same (tied_itself prefix_total p))

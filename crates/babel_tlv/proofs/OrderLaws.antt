@@ -1,37 +1,37 @@
--- The orders of announcements and of what is held are total, and tell all values apart.
-use Rattle.std.proofs.Common.{◌≡◌, ℕ, List, refl, ap, ◌∙◌}
+-- The orders of keys, announcements and of what is held are total, and tell all values apart.
+use Rattle.std.proofs.Common.{◌≡◌, ◌↔◌, ℕ, List, refl, ap, ◌∙◌, subst}
+use Rattle.std.specs.Cmp.{IsTotalOrder}
 use Rattle.std.specs.Cmp.Lexicographic.{slice_cmp}
-use Rattle.std.specs.declared.cmp.Ordering.{Ordering}
-use Rattle.std.specs.declared.cmp.Ordering.TheVariants.{Less, Equal, Greater}
-use Rattle.std.specs.Ordering.{ordering_then, nat_cmp}
+use Rattle.std.specs.declared.cmp.Ordering.TheVariants.{Less, Equal}
+use Rattle.std.specs.Ordering.{ordering_reverse, nat_cmp}
+use Rattle.std.proofs.lemmas.Cmp.{nat_cmp_total, nat_list_cmp_total, on_total, then_total, tied_itself}
 use Rattle.std.proofs.lemmas.Map.Lookups.{CmpEqualImpliesEq, exact_unsigned, exact_bytes}
-use Rattle.babel_prefix.specs.declared.family.Family.{Family}
-use Rattle.babel_prefix.specs.declared.family.Family.TheVariants.{V4, V6}
-use Rattle.babel_prefix.specs.Address.{Address}
-use Rattle.babel_prefix.specs.Order.{family_cmp, address_cmp}
+use Rattle.babel_prefix.specs.Address.{Address, AddressPrefix}
+use Rattle.babel_prefix.specs.Order.{address_cmp, prefix_cmp}
+use Rattle.babel_prefix.proofs.OrderLaws.{address_total, prefix_total, address_equality, prefix_equality, then_parts}
+use Rattle.babel_tlv.specs.declared.held.Held.{Held}
 use Rattle.babel_tlv.specs.declared.held.Held.TheVariants as helds
 use Rattle.babel_tlv.specs.Pair.{held_cmp}
-use Rattle.babel_tlv.specs.Route.{Announcement, announcement_cmp}
+use Rattle.babel_tlv.specs.Route.{RouteKey, key_cmp, Announcement, announcement_cmp}
 
-both_equal : (a b : Ordering) → ordering_then a b ≡ Equal → (a ≡ Equal) × (b ≡ Equal)
-both_equal Less b e = absurd cc
-both_equal Equal b e = (refl, e)
-both_equal Greater b e = absurd cc
+pub key_total : IsTotalOrder key_cmp
+key_total = then_total (on_total (λ (k : RouteKey). k.dst) prefix_total) (on_total (λ (k : RouteKey). k.src) prefix_total)
 
-family_exact : (a b : Family) → family_cmp a b ≡ Equal → a ≡ b
-family_exact V4 V4 e = refl
-family_exact V4 V6 e = absurd cc
-family_exact V6 V4 e = absurd cc
-family_exact V6 V6 e = refl
+pub announcement_total : IsTotalOrder announcement_cmp
+announcement_total =
+    then_total (on_total (λ (a : Announcement). a.router_id) nat_list_cmp_total)
+    (then_total (on_total (λ (a : Announcement). a.seqno) nat_cmp_total)
+    (then_total (on_total (λ (a : Announcement). a.metric) nat_cmp_total) (on_total (λ (a : Announcement). a.next_hop) address_total)))
 
-abbrev address : Family → ℕ → Address
-address family bits = record { family = family; bits = bits }
+abbrev key_of : AddressPrefix → AddressPrefix → RouteKey
+key_of dst src = record { dst = dst; src = src }
 
-address_exact : (a b : Address) → address_cmp a b ≡ Equal → a ≡ b
-address_exact a b e =
-    let both = both_equal (family_cmp a.family b.family) (nat_cmp a.bits b.bits) e in
-    ap (λ (f : Family). address f a.bits) (family_exact a.family b.family both.0)
-    ∙ ap (λ (n : ℕ). address b.family n) (exact_unsigned a.bits b.bits both.1)
+-- keys that compare as equal are one
+key_exact : CmpEqualImpliesEq key_cmp
+key_exact a b e =
+    let parts = then_parts (prefix_cmp a.dst b.dst) (prefix_cmp a.src b.src) e in
+    ap (λ (p : AddressPrefix). key_of p a.src) ((prefix_equality a.dst b.dst).0 parts.0)
+    ∙ ap (λ (p : AddressPrefix). key_of b.dst p) ((prefix_equality a.src b.src).0 parts.1)
 
 abbrev announcement : List ℕ → ℕ → ℕ → Address → Announcement
 announcement router_id seqno metric next_hop = record { router_id = router_id; seqno = seqno; metric = metric; next_hop = next_hop }
@@ -39,13 +39,13 @@ announcement router_id seqno metric next_hop = record { router_id = router_id; s
 -- announcements that compare as equal are one
 pub announcement_exact : CmpEqualImpliesEq announcement_cmp
 announcement_exact a b e =
-    let router_id = both_equal (slice_cmp nat_cmp a.router_id b.router_id) _ e in
-    let seqno = both_equal (nat_cmp a.seqno b.seqno) _ router_id.1 in
-    let metric = both_equal (nat_cmp a.metric b.metric) (address_cmp a.next_hop b.next_hop) seqno.1 in
+    let router_id = then_parts (slice_cmp nat_cmp a.router_id b.router_id) _ e in
+    let seqno = then_parts (nat_cmp a.seqno b.seqno) _ router_id.1 in
+    let metric = then_parts (nat_cmp a.metric b.metric) (address_cmp a.next_hop b.next_hop) seqno.1 in
     ap (λ (id : List ℕ). announcement id a.seqno a.metric a.next_hop) (exact_bytes a.router_id b.router_id router_id.0)
     ∙ ap (λ (n : ℕ). announcement b.router_id n a.metric a.next_hop) (exact_unsigned a.seqno b.seqno seqno.0)
     ∙ ap (λ (n : ℕ). announcement b.router_id b.seqno n a.next_hop) (exact_unsigned a.metric b.metric metric.0)
-    ∙ ap (λ (hop : Address). announcement b.router_id b.seqno b.metric hop) (address_exact a.next_hop b.next_hop metric.1)
+    ∙ ap (λ (hop : Address). announcement b.router_id b.seqno b.metric hop) ((address_equality a.next_hop b.next_hop).0 metric.1)
 
 -- values held that compare as equal are one
 pub held_exact : CmpEqualImpliesEq held_cmp
@@ -53,3 +53,33 @@ held_exact (helds.Route a) (helds.Route b) e = ap helds.Route (announcement_exac
 held_exact (helds.Route a) helds.Unreachable e = absurd cc
 held_exact helds.Unreachable (helds.Route b) e = absurd cc
 held_exact helds.Unreachable helds.Unreachable e = refl
+
+held_turned : (a b : Held) → held_cmp a b ≡ ordering_reverse (held_cmp b a)
+held_turned (helds.Route a) (helds.Route b) = announcement_total.antisymm a b
+held_turned (helds.Route a) helds.Unreachable = refl
+held_turned helds.Unreachable (helds.Route b) = refl
+held_turned helds.Unreachable helds.Unreachable = refl
+
+held_chains : (a b c : Held) → held_cmp a b ≡ Less → held_cmp b c ≡ Less → held_cmp a c ≡ Less
+held_chains (helds.Route a) (helds.Route b) (helds.Route c) p q = announcement_total.trans a b c p q
+held_chains (helds.Route a) b helds.Unreachable p q = refl
+held_chains (helds.Route a) helds.Unreachable (helds.Route c) p q = absurd cc
+held_chains helds.Unreachable (helds.Route b) c p q = absurd cc
+held_chains helds.Unreachable helds.Unreachable c p q = absurd cc
+
+pub held_total : IsTotalOrder held_cmp
+held_total = record {
+  antisymm = held_turned;
+  trans = held_chains;
+  congr = λ a b c e. ap (λ h. held_cmp h c) (held_exact a b e);
+}
+
+-- two are equal in the order exactly if they are one
+pub key_equality : (a b : RouteKey) → (key_cmp a b ≡ Equal) ↔ (a ≡ b)
+key_equality a b = (key_exact a b, λ same. subst (λ c. key_cmp a c ≡ Equal) same (tied_itself key_total a))
+
+pub announcement_equality : (a b : Announcement) → (announcement_cmp a b ≡ Equal) ↔ (a ≡ b)
+announcement_equality a b = (announcement_exact a b, λ same. subst (λ c. announcement_cmp a c ≡ Equal) same (tied_itself announcement_total a))
+
+pub held_equality : (a b : Held) → (held_cmp a b ≡ Equal) ↔ (a ≡ b)
+held_equality a b = (held_exact a b, λ same. subst (λ c. held_cmp a c ≡ Equal) same (tied_itself held_total a))

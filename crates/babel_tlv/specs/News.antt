@@ -1,4 +1,4 @@
--- What the events of a dump tell, apart from those that say nothing.
+-- What the events of a dump tell, apart from those that say nothing: RFC 8966, 2.8, 4.6.
 use Rattle.std.specs.Prelude.{List, [], ◌∷◌}
 use Rattle.babel_tlv.specs.declared.event.Event.{Event}
 use Rattle.babel_tlv.specs.declared.event.Event.TheVariants as events

@@ -1,4 +1,4 @@
--- How what a packet holds goes on by a pair.
+-- How what a packet holds goes on by a pair: RFC 8966, 4.5.
 use Rattle.std.specs.Prelude.{Some}
 use Rattle.babel_prefix.specs.declared.family.Family.{Family}
 use Rattle.babel_prefix.specs.declared.family.Family.TheVariants.{V4, V6}

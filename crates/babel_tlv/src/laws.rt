@@ -1,5 +1,6 @@
 //! Laws about the orders of this crate's types.
-ghost use Rattle.std.specs.Prelude.{◌≡◌};
+ghost use Rattle.std.specs.Prelude.{◌≡◌, ◌↔◌};
+ghost use Rattle.std.specs.Cmp.{IsTotalOrder};
 ghost use Rattle.std.specs.declared.cmp.Ordering.TheVariants.{Equal};
 ghost use Rattle.babel_tlv.specs.declared.held.Held.{Held as HeldValue};
 ghost use Rattle.babel_tlv.specs.Pair.{held_cmp};
@@ -24,8 +25,18 @@ pub fn held_order()
     ensures { (a b : HeldValue) → ⟦<Held as Ord>⟧.cmp a b ≡ held_cmp a b }
 {}
 
-/// Held values that compare as equal are one.
-#[tactic(auto, using(crate::proofs::OrderLaws::held_exact))]
-pub fn equal_held_are_one()
-    ensures { (a b : HeldValue) → held_cmp a b ≡ Equal → a ≡ b }
+/// The orders are total.
+#[tactic(auto, using(crate::proofs::OrderLaws::key_total, crate::proofs::OrderLaws::announcement_total, crate::proofs::OrderLaws::held_total))]
+pub fn orders_are_total()
+    ensures keys { IsTotalOrder key_cmp }
+    ensures announcements { IsTotalOrder announcement_cmp }
+    ensures held { IsTotalOrder held_cmp }
+{}
+
+/// The orders agree with equality: two are equal in their order exactly if they are one.
+#[tactic(auto, using(crate::proofs::OrderLaws::key_equality, crate::proofs::OrderLaws::announcement_equality, crate::proofs::OrderLaws::held_equality))]
+pub fn equal_are_one()
+    ensures keys { (a b : RouteKey) → (key_cmp a b ≡ Equal) ↔ (a ≡ b) }
+    ensures announcements { (a b : Announcement) → (announcement_cmp a b ≡ Equal) ↔ (a ≡ b) }
+    ensures held { (a b : HeldValue) → (held_cmp a b ≡ Equal) ↔ (a ≡ b) }
 {}

@@ -47,4 +47,5 @@ pub use reason::Reason;
 pub use state::State;
 pub use tlv::{Tlv, check_body};
 pub use tlvs::Tlvs;
+pub use wire::{MAGIC, VERSION};
 pub use writing::Writing;

@@ -53,19 +53,13 @@ fn route(rt: &impl Abort, dst: &str, len: u8, metric: u16) -> Event {
     announce(rt, key, ROUTER_ID, metric, "192.0.2.1")
 }
 
-/// Steps through a dump of this sender: its TLVs that say something say what is expected, each at its offset.
-pub(crate) fn says(
-    rt: &impl Abort,
-    alloc: Global,
-    sender: &str,
-    dump: &str,
-    expected: &[(u64, Event)],
-) {
+/// What the TLVs of a dump of this sender say, each at its offset, but for those that say nothing.
+pub(crate) fn said(rt: &impl Abort, alloc: Global, sender: &str, dump: &str) -> Vec<(u64, Event)> {
     let sender = parse_addr(sender).expect(rt, "an address");
     let octets = octets(alloc, dump).expect(rt, "memory");
+    let mut said = Vec::new(alloc);
     let mut rest = octets.as_slice();
     let mut at: u64 = 0;
-    let mut expected = expected;
     for _ in 0..octets.len() {
         if rest.is_empty() {
             break;
@@ -79,17 +73,26 @@ pub(crate) fn says(
         let mut state = State::new(sender);
         for tlv in Tlvs::new(body, at + 4) {
             let event = state.step(&tlv).expect(rt, "no fault");
-            if event == Event::Nothing {
-                continue;
+            if event != Event::Nothing {
+                said.push((tlv.at, event)).expect(rt, "memory");
             }
-            let (first, others) = expected.split_first().expect(rt, "no more events");
-            assert_eq!(rt; (tlv.at, event), *first);
-            expected = others;
         }
         rest = rest.get(used..).expect(rt, "the packet's octets");
         at += used as u64;
     }
-    assert!(rt; expected.is_empty());
+    said
+}
+
+/// The TLVs of a dump of this sender that say something say what is expected, each at its offset.
+pub(crate) fn says(
+    rt: &impl Abort,
+    alloc: Global,
+    sender: &str,
+    dump: &str,
+    expected: &[(u64, Event)],
+) {
+    let said = said(rt, alloc, sender, dump);
+    assert_eq!(rt; said.as_slice(), expected);
 }
 
 #[test]
@@ -171,6 +174,12 @@ fn state_within_a_packet(rt: HostRuntime) {
 
 #[test]
 fn next_hops(rt: HostRuntime) {
+    let eight = key(&rt, ("10.0.0.0", 8), ("0.0.0.0", 0));
+    let next_hop = "198.51.100.1";
+    let long = key(&rt, ("2001:db8::", 32), ("::", 0));
+    let global = announce(&rt, long, ROUTER_ID, 256, "2001:db8::1");
+    let short = key(&rt, ("2001::", 16), ("::", 0));
+    let link_local = announce(&rt, short, ROUTER_ID, 512, "fe80::9");
     // One of each encoding, and a route behind each.
     says(
         &rt,
@@ -179,36 +188,9 @@ fn next_hops(rt: HostRuntime) {
         "2a02005f RID 07060100c6336401 080b010008000640000101000a 0712020020010db8000000000000000000000001
          080e02002000064000010100 20010db8 070a03000000000000000009 080c02001000064000010200 2001",
         &[
-            (
-                24,
-                announce(
-                    &rt,
-                    key(&rt, ("10.0.0.0", 8), ("0.0.0.0", 0)),
-                    ROUTER_ID,
-                    256,
-                    "198.51.100.1",
-                ),
-            ),
-            (
-                57,
-                announce(
-                    &rt,
-                    key(&rt, ("2001:db8::", 32), ("::", 0)),
-                    ROUTER_ID,
-                    256,
-                    "2001:db8::1",
-                ),
-            ),
-            (
-                85,
-                announce(
-                    &rt,
-                    key(&rt, ("2001::", 16), ("::", 0)),
-                    ROUTER_ID,
-                    512,
-                    "fe80::9",
-                ),
-            ),
+            (24, announce(&rt, eight, ROUTER_ID, 256, next_hop)),
+            (57, global),
+            (85, link_local),
         ],
     );
     // Faulty ones change nothing; one that is ignored for a mandatory sub-TLV counts.
@@ -225,16 +207,7 @@ fn next_hops(rt: HostRuntime) {
             (31, Event::Ignored(Reason::Short)),
             (34, Event::Ignored(Reason::Short)),
             (40, Event::Ignored(Reason::UnknownMandatory)),
-            (
-                50,
-                announce(
-                    &rt,
-                    key(&rt, ("10.0.0.0", 8), ("0.0.0.0", 0)),
-                    ROUTER_ID,
-                    256,
-                    "198.51.100.1",
-                ),
-            ),
+            (50, announce(&rt, eight, ROUTER_ID, 256, next_hop)),
             (71, Event::Ignored(Reason::ShortPrefix)),
         ],
     );
@@ -246,6 +219,15 @@ fn next_hops(rt: HostRuntime) {
         "2a020019 RID 080b010008000640000101000a",
         &[(16, Event::Ignored(Reason::NoNextHop))],
     );
+    let one_address = "2a020028 RID 081a02008000064000010100 20010db8000000000000000000000001";
+    let host = key(&rt, ("2001:db8::1", 128), ("::", 0));
+    let host = announce(&rt, host, ROUTER_ID, 256, "fe80::1");
+    for (sender, event) in [
+        ("fe80::1", host),
+        ("192.0.2.1", Event::Ignored(Reason::NoNextHop)),
+    ] {
+        says(&rt, rt.alloc(), sender, one_address, &[(16, event)]);
+    }
 }
 
 #[test]

@@ -1,9 +1,9 @@
 //! Numbers of RFC 8966 and RFC 9079, under their names there.
 
-/// The first octet of a packet: RFC 8966, 4.2.
-pub(crate) const MAGIC: u8 = 42;
-/// The second octet of a packet: RFC 8966, 4.2.
-pub(crate) const VERSION: u8 = 2;
+/// The first octet of every packet, its Magic: RFC 8966, 4.2.
+pub const MAGIC: u8 = 42;
+/// The second octet of every packet, its Version: RFC 8966, 4.2.
+pub const VERSION: u8 = 2;
 
 /// The type of the one TLV, and of the one sub-TLV, with no length: RFC 8966, 4.6.1, 4.7.1.
 pub(crate) const PAD1: u8 = 0;
