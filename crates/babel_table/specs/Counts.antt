@@ -1,4 +1,5 @@
--- What a report says of the TLVs of a dump.
+-- What a report says of the TLVs of a dump (RFC 8966, 4.3). It is this project's own: it counts what RFC 8966, 4.4 to 4.6, and
+-- RFC 9079, 5 have a reader ignore.
 use Rattle.std.specs.Prelude.{ℕ, ◌+◌, Bool, false, ◌==◌, List, [], ◌∷◌, length, map, slice_set, Option, None, Some, Result, Ok, Err, slice_get, count_by}
 use Rattle.std.specs.List.{find}
 use Rattle.std.specs.Option.{option_map, option_flatten}

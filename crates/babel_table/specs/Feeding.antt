@@ -1,4 +1,5 @@
--- What a feeder has made of the octets that it was fed.
+-- What a feeder has made of the octets that it was fed. Reading in pieces is this project's own: RFC 8966, 4 has each packet
+-- come whole, in a datagram. Where packets and TLVs end is that of RFC 8966, 4.2 and 4.3.
 use Rattle.std.specs.Prelude.{◌≡◌, ℕ, ◌+◌, ◌-◌, ◌<◌, ◌≤◌, List, [], ◌∷◌, ◌++◌, length, take, Option, Some, None, Result, Ok, Err, ◌⊎◌}
 use Rattle.std.specs.List.{flat_map, Contains}
 use Rattle.babel_prefix.specs.Address.{Address}

@@ -5,8 +5,8 @@ mod pieces;
 mod refused_memory;
 mod rows;
 
-ghost use Rattle.std.specs.Prelude.{◌≡◌};
-ghost use Rattle.babel_prefix.specs.declared.family.Family.TheVariants.{V4};
+ghost use Rattle.std.specs.Prelude.{◌≡◌, ◌<◌, ◌^◌};
+ghost use Rattle.babel_prefix.specs.declared.family.Family.TheVariants.{V4, V6};
 
 use crate::{Feeder, Limits, Table, read_dump};
 use babel_prefix::{Addr, Family, Prefix};
@@ -49,6 +49,12 @@ fn v4(bits: u32) -> Addr
     Addr::new(Family::V4, bits as u128).unwrap()
 }
 
+fn v6(bits: u128) -> Addr
+    ensures { result.family ≡ V6 }
+{
+    Addr::new(Family::V6, bits).unwrap()
+}
+
 /// 192.0.2.1, which sent the dumps.
 fn router() -> Addr {
     v4(0xc000_0201)
@@ -56,7 +62,7 @@ fn router() -> Addr {
 
 /// fe80::1, which sent those of IPv6 routes.
 fn router_v6() -> Addr {
-    Addr::new(Family::V6, 0xfe80_0000_0000_0000_0000_0000_0000_0001).unwrap()
+    v6(0xfe80_0000_0000_0000_0000_0000_0000_0001)
 }
 
 fn key(dst: u32, len: u8, src: u32, src_len: u8) -> Option<Key> {

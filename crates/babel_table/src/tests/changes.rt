@@ -1,5 +1,5 @@
 //! Dumps that omit octets, of other senders and in other encodings; and a dump with one octet changed.
-use super::rows::ONE_ROUTE;
+use super::rows::{IPV6_ROUTE, ONE_ROUTE};
 use super::{are, key, octets, read, route, router, router_v6, v4};
 use crate::{Limits, read_dump};
 use babel_tlv::{Ann, Fault, Held, Mode, Reason};
@@ -15,14 +15,23 @@ pub const COMPRESSED: &str =
     "2a020030 RID 07060100c0000201 080d01801800064000010100 0a0100 080b01801802064000010200 02";
 
 /// 10.1.2.0/24, which omits octets of an Update that is ignored.
-const FROM_IGNORED: &str =
+pub const FROM_IGNORED: &str =
     "2a02002a RID 080f01801800064000010100 0a0100 8100 080b01001802064000010200 02";
 
 /// 10.1.2.0/24, and 10.0.0.0/8, which omits three octets.
-const MORE_OMITTED: &str = "2a020027 RID 080d01801800064000010100 0a0102 080a01000803064000010200";
+pub const MORE_OMITTED: &str =
+    "2a020027 RID 080d01801800064000010100 0a0102 080a01000803064000010200";
 
 /// 10.0.0.0/8, with its next hop.
-const NEXT_HOP: &str = "2a020021 RID 07060100c0000201 080b018008000640000101000a";
+pub const NEXT_HOP: &str = "2a020021 RID 07060100c0000201 080b018008000640000101000a";
+
+/// 10.0.0.0/8, with a router-id of one bits.
+pub const RESERVED: &str = "2a020019 060a0000ffffffffffffffff 080b010008000640000101000a";
+
+/// An Update of AE 4, and one of AE 3, without the flag that would set the router-id.
+pub const V4_VIA_V6: &str = "2a02000d 080b040008000640000101000a";
+
+pub const LINK_LOCAL: &str = "2a02000d 080b030008000640000101000a";
 
 #[test]
 fn omitted_octets(rt: HostRuntime) -> Result<(), Fail> {
@@ -58,24 +67,10 @@ fn senders_and_encodings(rt: HostRuntime) -> Result<(), Fail> {
     }
     for (sender, text, reason, first) in [
         (router_v6(), ONE_ROUTE, Reason::NoNextHop, 16),
-        (
-            router(),
-            "2a020019 060a0000ffffffffffffffff 080b010008000640000101000a",
-            Reason::ReservedRouterId,
-            16,
-        ),
-        (
-            router(),
-            "2a02000d 080b040008000640000101000a",
-            Reason::UnknownEncoding,
-            4,
-        ),
-        (
-            router(),
-            "2a02000d 080b030008000640000101000a",
-            Reason::UnknownEncoding,
-            4,
-        ),
+        (router(), RESERVED, Reason::ReservedRouterId, 16),
+        (router(), V4_VIA_V6, Reason::UnknownEncoding, 4),
+        (router(), LINK_LOCAL, Reason::UnknownEncoding, 4),
+        (router(), IPV6_ROUTE, Reason::NoNextHop, 16),
     ] {
         let dump = octets(alloc, text)?;
         let table = read_dump(alloc, Limits::usual(), Mode::Plain, sender, &dump);

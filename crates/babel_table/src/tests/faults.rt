@@ -16,6 +16,8 @@ pub const NEW_ONE: &str = "2a020026 RID 080b010008000640000101000a 080b010008000
 
 pub const PAST_END: &str = "2a020027 RID 080b010008000640000101000a 080b0100080006400001020014 04";
 
+pub const TWO: &str = "2a020026 RID 080b010008000640000101000a 080b0100080006400001020014";
+
 pub const TOO_MANY: &str =
     "2a020026 RID 080b010008000640000101000a 080b0100080006400001020014 2b020000";
 
@@ -92,6 +94,7 @@ fn limits_on_entries(rt: HostRuntime) -> Result<(), Fail> {
         (three, Mode::Plain, FOUR, Fault::TooManyRoutes { at: 55 }),
         (one, Mode::Hold, NEW_ONE, Fault::TooManyRoutes { at: 29 }),
         (one, Mode::Plain, PAST_END, Fault::TlvPastEnd { at: 42 }),
+        (one, Mode::Plain, TWO, Fault::TooManyRoutes { at: 29 }),
         (one, Mode::Plain, TOO_MANY, Fault::TooManyRoutes { at: 29 }),
     ] {
         assert!(rt;

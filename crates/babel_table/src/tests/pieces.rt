@@ -1,8 +1,11 @@
 //! How a dump is cut into pieces makes no difference.
+use super::changes::{
+    COMPRESSED, FROM_IGNORED, LINK_LOCAL, MORE_OMITTED, NEXT_HOP, RESERVED, SPELLED_OUT, V4_VIA_V6,
+};
 use super::faults::{CUT, FAULTY, FOUR, NEW_ONE, PAST_END, THREE, TOO_MANY};
 use super::rows::{
-    BETWEEN, HELD, ID_BY_FLAG, ONE_ROUTE, PAST_THE_LONGEST, REASONS, RETRACTIONS, SOURCES,
-    SUB_TLVS, TWO_SOURCES, UNKNOWN,
+    BETWEEN, HELD, ID_BY_FLAG, IPV6_ROUTE, ONE_ROUTE, OVERLAPPING, PAST_THE_LONGEST, REASONS,
+    RETRACTIONS, SOURCES, SUB_TLVS, TWO_SOURCES, UNKNOWN,
 };
 use super::{fed, fed_by_octet, limits, octets, router, router_v6, same};
 use crate::{Limits, read_dump};
@@ -11,57 +14,71 @@ use babel_tlv::{Fault, Mode};
 use std::alloc::Global;
 use std::test::Fail;
 
-const DUMPS: [&str; 14] = [
+const DUMPS: [&str; 26] = [
     ONE_ROUTE,
+    TWO_SOURCES,
+    PAST_THE_LONGEST,
+    SPELLED_OUT,
+    COMPRESSED,
+    FROM_IGNORED,
+    ID_BY_FLAG,
     RETRACTIONS,
+    SUB_TLVS,
+    V4_VIA_V6,
+    LINK_LOCAL,
+    THREE,
+    FOUR,
+    OVERLAPPING,
+    NEXT_HOP,
     SOURCES,
+    REASONS,
+    RESERVED,
+    MORE_OMITTED,
+    IPV6_ROUTE,
+    PAST_END,
+    TOO_MANY,
     HELD,
     UNKNOWN,
     BETWEEN,
-    PAST_THE_LONGEST,
-    SUB_TLVS,
-    REASONS,
-    THREE,
-    FOUR,
     NEW_ONE,
-    PAST_END,
-    TOO_MANY,
 ];
 
 /// Whether the dump, cut in two at each place, and octet by octet, gives what it gives whole.
-fn agrees(alloc: Global, limits: Limits, mode: Mode, text: &str) -> Result<bool, Fail> {
-    let dump = octets(alloc, text)?;
-    let whole = read_dump(alloc, limits, mode, router(), &dump);
-    let len = dump.len();
-    for cut in 0..len {
-        let (front, back) = dump.split_at(cut.min(dump.len()));
-        if !same(&whole, &fed(alloc, limits, mode, router(), &[front, back])) {
-            return Ok(false);
+fn agrees(alloc: Global, limits: Limits, mode: Mode, sender: Addr, dump: &[u8]) -> bool {
+    let whole = read_dump(alloc, limits, mode, sender, dump);
+    for cut in 0..dump.len() {
+        let (front, back) = dump.split_at(cut);
+        if !same(&whole, &fed(alloc, limits, mode, sender, &[front, back])) {
+            return false;
         }
     }
-    Ok(same(&whole, &fed_by_octet(alloc, limits, mode, router(), &dump)))
+    same(&whole, &fed_by_octet(alloc, limits, mode, sender, dump))
 }
 
 #[test]
 fn every_cut(rt: HostRuntime) -> Result<(), Fail> {
     let alloc = rt.alloc();
-    for text in DUMPS {
-        for mode in [Mode::Plain, Mode::Hold] {
-            assert!(rt; agrees(alloc, Limits::usual(), mode, text)?, "{text}");
-            assert!(rt; agrees(alloc, limits(83, 1), mode, text)?, "{text}");
+    let faulty = FAULTY.iter().chain(&CUT).map(|(text, _)| *text);
+    for text in DUMPS.iter().copied().chain(faulty) {
+        let dump = octets(alloc, text)?;
+        for sender in [router(), router_v6()] {
+            for most in [Limits::usual(), limits(83, 1), limits(249, 3)] {
+                for mode in [Mode::Plain, Mode::Hold] {
+                    assert!(rt; agrees(alloc, most, mode, sender, &dump), "{text}");
+                }
+            }
         }
     }
-    for (text, _) in FAULTY {
-        assert!(rt;
-            agrees(alloc, Limits::usual(), Mode::Plain, text)?,
-            "{text}"
-        );
-    }
-    for (text, _) in CUT {
-        assert!(rt;
-            agrees(alloc, Limits::usual(), Mode::Plain, text)?,
-            "{text}"
-        );
+    Ok(())
+}
+
+#[test]
+fn every_cut_at_the_limit(rt: HostRuntime) -> Result<(), Fail> {
+    let alloc = rt.alloc();
+    for (magic, padding) in [(42, 79), (42, 80), (43, 80)] {
+        let mut dump = Vec::from_slice(alloc, &[magic, 2, 0, padding])?;
+        dump.resize(4 + padding as usize, 0)?;
+        assert!(rt; agrees(alloc, limits(83, 1), Mode::Plain, router(), &dump));
     }
     Ok(())
 }
@@ -85,7 +102,7 @@ fn cut_off(rt: HostRuntime) -> Result<(), Fail> {
     Ok(())
 }
 
-/// Whether the dump gives octet by octet what it gives whole, with each octet changed in turn.
+/// Whether the dump, with each octet changed in turn, gives in pieces what it gives whole.
 fn agrees_changed(alloc: Global, sender: Addr, text: &str) -> Result<bool, Fail> {
     let mut dump = octets(alloc, text)?;
     for place in 0..dump.len() {
@@ -93,9 +110,7 @@ fn agrees_changed(alloc: Global, sender: Addr, text: &str) -> Result<bool, Fail>
             let octet = dump[place];
             for changed in [0, 255, octet ^ 1] {
                 dump[place] = changed;
-                let whole = read_dump(alloc, Limits::usual(), Mode::Hold, sender, &dump);
-                let by_octet = fed_by_octet(alloc, Limits::usual(), Mode::Hold, sender, &dump);
-                if !same(&whole, &by_octet) {
+                if !agrees(alloc, Limits::usual(), Mode::Hold, sender, &dump) {
                     return Ok(false);
                 }
             }
@@ -108,6 +123,7 @@ fn agrees_changed(alloc: Global, sender: Addr, text: &str) -> Result<bool, Fail>
 #[test]
 fn changed_octets(rt: HostRuntime) -> Result<(), Fail> {
     let alloc = rt.alloc();
+    assert!(rt; agrees_changed(alloc, router(), ONE_ROUTE)?);
     assert!(rt; agrees_changed(alloc, router(), TWO_SOURCES)?);
     assert!(rt; agrees_changed(alloc, router(), SUB_TLVS)?);
     assert!(rt; agrees_changed(alloc, router_v6(), ID_BY_FLAG)?);

@@ -1,11 +1,11 @@
 //! Each allocation refused in turn, by `rt try --test --fail-alloc N`: tests/refused_memory.sh runs it for N = 1, 2, ..
 //! A test here passes where nothing was refused, and fails with `REFUSED` where a refusal was answered with `Memory`.
 use super::changes::COMPRESSED;
-use super::rows::{ID_BY_FLAG, TWO_SOURCES};
+use super::rows::{ID_BY_FLAG, TWO_SOURCES, key_v6, route_v6};
 use super::{are, key, octets, route, router, router_v6};
 use crate::{Feeder, Limits, Table, read_dump};
-use babel_prefix::{Addr, Family, Prefix};
-use babel_tlv::{Ann, Fault, Held, Key, Mode};
+use babel_prefix::Addr;
+use babel_tlv::{Fault, Held, Key, Mode};
 use std::alloc::{AllocError, Global};
 use std::test::Fail;
 
@@ -85,14 +85,6 @@ fn many() -> [Row; 24] {
     std::array::from_fn(|n| (key((n as u32).wrapping_add(1) << 24, 8, 0, 0), route(256)))
 }
 
-/// 2001:db8::200:0:0:7/128, which set the router-id.
-fn id_by_flag() -> Option<[Row; 1]> {
-    let dst = Addr::new(Family::V6, 0x2001_0db8_0000_0000_0200_0000_0000_0007)?;
-    let any = Prefix::new(Addr::new(Family::V6, 0)?, 0)?;
-    let ann = Ann::new([2, 0, 0, 0, 0, 0, 0, 7], 1, 256, router_v6());
-    Some([(Key::new(Prefix::new(dst, 128)?, any), ann.map(Held::Route))])
-}
-
 #[test]
 fn refused_memory_of_two_sources(rt: HostRuntime) -> Result<(), Fail> {
     read_whole(rt.alloc(), router(), TWO_SOURCES, &two_sources())
@@ -105,8 +97,11 @@ fn refused_memory_of_omitted_octets(rt: HostRuntime) -> Result<(), Fail> {
 
 #[test]
 fn refused_memory_of_a_router_id_set_by_a_flag(rt: HostRuntime) -> Result<(), Fail> {
-    let rows = id_by_flag().ok_or("no row")?;
-    read_whole(rt.alloc(), router_v6(), ID_BY_FLAG, &rows)
+    let row = (
+        key_v6(0x2001_0db8_0000_0000_0200_0000_0000_0007),
+        route_v6(7),
+    );
+    read_whole(rt.alloc(), router_v6(), ID_BY_FLAG, &[row])
 }
 
 #[test]
