@@ -6,7 +6,7 @@ use Rattle.babel_prefix.specs.Address.{block_of}
 use Rattle.babel_prefix.specs.Best.{Row}
 use Rattle.babel_trie.specs.Shape.{Shape, leaf, height, value_at, IsReduced}
 use Rattle.babel_trie.specs.Interned.{Represents, HasTrie}
-use Rattle.babel_prefix.proofs.Members.{Listed}
+use Rattle.babel_prefix.specs.Members.{Listed}
 use Rattle.babel_trie.specs.Rows.{InOrder, IsNoLater, Overlays}
 use Rattle.babel_trie.specs.declared.table.Node.{Node}
 use Rattle.babel_trie.specs.declared.table.NodeNumber.{NodeNumber}

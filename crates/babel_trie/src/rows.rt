@@ -1,7 +1,7 @@
 //! Rows in order, and their parts.
 ghost use Rattle.std.specs.Prelude.{◌≡◌, ◌≢◌, ◌++◌, ◌<◌, ◌≤◌, ◌==◌, nat_lt};
 ghost use Rattle.std.specs.List.Sorted.{IsPartitionedBy};
-ghost use Rattle.babel_prefix.proofs.Members.{Listed};
+ghost use Rattle.babel_prefix.specs.Members.{Listed};
 ghost use Rattle.babel_trie.specs.Rows.{side_of, side_block};
 
 use babel_prefix::Prefix;
