@@ -1,4 +1,4 @@
--- What laying rows over a trie gives.
+-- What laying rows over a trie gives: the best match of RFC 9079, 4, block by block.
 use Rattle.std.specs.Prelude.{◌≡◌, ◌⊎◌, ℕ, ◌+◌, ◌^◌, ◌<◌, ◌≤◌, List, [], Option, Some}
 use Rattle.babel_prefix.specs.Entries.{Entry}
 use Rattle.babel_prefix.specs.Block.{BlockCovers, IsBlock}

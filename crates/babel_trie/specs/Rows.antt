@@ -1,4 +1,4 @@
--- Sorted rows inside a block, and what they make of an answer.
+-- Sorted rows inside a block, and what they make of an answer by the best match of RFC 9079, 4.
 use Rattle.std.specs.Prelude.{◌≡◌, ◌⊎◌, ℕ, ◌+◌, ◌-◌, ◌*◌, ◌^◌, ◌<◌, ◌≤◌, List, [], ◌∷◌, Option, Some}
 use Rattle.babel_prefix.specs.Entries.{Entry}
 use Rattle.babel_prefix.specs.Block.{Block, IsBlock}
