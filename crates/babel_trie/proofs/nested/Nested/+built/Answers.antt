@@ -1,5 +1,5 @@
 -- The rows of the whole block are laid over the inherited sources, and the others are built over what that gives.
-use Rattle.std.proofs.Common.{◌-◌, ◌<◌, ◌≤◌, map, refl, sym, subst, arith, rules}
+use Rattle.std.proofs.Common.{◌-◌, ◌<◌, ◌≤◌, map, refl, subst, arith, rules}
 use Rattle.std.proofs.Math.Pow.{pow_mono}
 use Rattle.babel_trie.specs.Interned.{HasTrie}
 use Rattle.babel_trie.specs.Laid.{IsBuilt, IsSorted}
@@ -8,8 +8,8 @@ use Rattle.babel_trie.specs.Shape.{height, IsReduced}
 use Rattle.babel_trie.specs.Rows.{side_block, InBlock, IsPlace}
 use Rattle.babel_trie.specs.declared.rows.Side.TheVariants.{Destination}
 use Rattle.babel_trie.proofs.NumberLaws.{one_trie, Represents-in, Represents-grows, HasTrie-grows}
-use Rattle.babel_trie.proofs.PlaceLaws.{whole_first, lower_first, block_rest, some_bit, place_low, place_high}
-use Rattle.babel_trie.proofs.PartLaws.{parts_of, some_member, no_member}
+use Rattle.babel_trie.proofs.PlaceLaws.{whole_first, place_low}
+use Rattle.babel_trie.proofs.PartLaws.{rest_sorted, bit_left, parts_of, upper_place, upper_rows, no_member}
 use Rattle.babel_trie.proofs.BuildLaws.{own_one, own_sources, sorted_low, sorted_high, built_leaf, built_joined}
 use Rattle.babel_trie.proofs.nested.Nested.+built.Goals as goal
 
@@ -40,10 +40,7 @@ returns-then-is_empty-clause-built g t c u p =
 
 pub upper_start-middle-requires-clause-some : goal.upper_start-middle-requires-clause-some
 upper_start-middle-requires-clause-some g t c =
-    let a = c.args in
-    let rest = c.own_and_rest.result.1.now in
-    let member = some_member rest c.is_empty.result c.is_empty.ensures c.if-is_empty.false in
-    some_bit (side_block Destination) a.width a.bits a.start (a.width - a.bits) rest c.requires.place (block_rest (side_block Destination) a.width a.bits a.start a.rows.now c.own_and_rest.result.0.now rest c.requires.rows c.own_and_rest.ensures.parts) refl c.own_and_rest.ensures.rest member.0 member.1
+    bit_left c.own_and_rest.result.0.now c.own_and_rest.result.1.now c.requires.place c.requires.rows c.own_and_rest.ensures.parts c.own_and_rest.ensures.rest c.is_empty.ensures c.if-is_empty.false
 
 pub upper_start-middle-requires-clause-room : goal.upper_start-middle-requires-clause-room
 upper_start-middle-requires-clause-room g t c =
@@ -51,16 +48,11 @@ upper_start-middle-requires-clause-room g t c =
 
 pub low_and_high-requires : goal.low_and_high-requires
 low_and_high-requires g t c =
-    let a = c.args in
-    let rest = c.own_and_rest.result.1.now in
-    lower_first (side_block Destination) a.width a.bits a.start rest (block_rest (side_block Destination) a.width a.bits a.start a.rows.now c.own_and_rest.result.0.now rest c.requires.rows c.own_and_rest.ensures.parts) c.upper_start-middle.result
+    rest_sorted c.own_and_rest.result.0.now c.own_and_rest.result.1.now c.upper_start-middle.result c.requires.rows c.own_and_rest.ensures.parts
 
 pub overflow_sub-bits : goal.overflow_sub-bits
 overflow_sub-bits g t c =
-    let a = c.args in
-    let rest = c.own_and_rest.result.1.now in
-    let member = some_member rest c.is_empty.result c.is_empty.ensures c.if-is_empty.false in
-    some_bit (side_block Destination) a.width a.bits a.start (a.width - a.bits) rest c.requires.place (block_rest (side_block Destination) a.width a.bits a.start a.rows.now c.own_and_rest.result.0.now rest c.requires.rows c.own_and_rest.ensures.parts) refl c.own_and_rest.ensures.rest member.0 member.1
+    bit_left c.own_and_rest.result.0.now c.own_and_rest.result.1.now c.requires.place c.requires.rows c.own_and_rest.ensures.parts c.own_and_rest.ensures.rest c.is_empty.ensures c.if-is_empty.false
 
 pub built-requires : goal.built-requires
 built-requires g t c κs within =
@@ -69,10 +61,9 @@ built-requires g t c κs within =
     let rest = c.own_and_rest.result.1.now in
     let low = c.low_and_high.result.0.now in
     let high = c.low_and_high.result.1.now in
-    let member = some_member rest c.is_empty.result c.is_empty.ensures c.if-is_empty.false in
-    let some : 0 < a.bits = some_bit (side_block Destination) a.width a.bits a.start (a.width - a.bits) rest c.requires.place (block_rest (side_block Destination) a.width a.bits a.start a.rows.now own rest c.requires.rows c.own_and_rest.ensures.parts) refl c.own_and_rest.ensures.rest member.0 member.1 in
-    let parts = parts_of (side_block Destination) a.width a.bits a.start (a.width - a.bits) c.upper_start-middle.result a.rows.now own rest low high some c.requires.place c.requires.rows refl c.upper_start-middle.ensures
-    c.own_and_rest.ensures.parts c.own_and_rest.ensures.own c.own_and_rest.ensures.rest c.low_and_high.ensures.parts c.low_and_high.ensures.low c.low_and_high.ensures.high in
+    let some = bit_left own rest c.requires.place c.requires.rows c.own_and_rest.ensures.parts c.own_and_rest.ensures.rest c.is_empty.ensures c.if-is_empty.false in
+    let parts = parts_of some c.requires.place c.requires.rows c.own_and_rest.ensures.parts c.own_and_rest.ensures.own c.own_and_rest.ensures.rest c.upper_start-middle.ensures
+    c.low_and_high.ensures.parts c.low_and_high.ensures.low c.low_and_high.ensures.high in
     let laid = c.in_ok-inherited.ensures.overlaid c.requires.trie.trie c.requires.trie.stands in
     let falls : a.bits - 1 < t = omega (arith, c.decreases) in
     let trie : HasTrie a.width c.overlaid.new.self.nodes.items c.in_ok-inherited.inherited.0 = record { trie = laid.new; stands = laid.stands; fits = laid.fits c.requires.trie.fits; reduced = laid.reduced c.requires.trie.reduced } in
@@ -83,10 +74,7 @@ built-requires g t c κs within =
 
 pub overflow_sub-bits-2 : goal.overflow_sub-bits-2
 overflow_sub-bits-2 g t c =
-    let a = c.args in
-    let rest = c.own_and_rest.result.1.now in
-    let member = some_member rest c.is_empty.result c.is_empty.ensures c.if-is_empty.false in
-    some_bit (side_block Destination) a.width a.bits a.start (a.width - a.bits) rest c.requires.place (block_rest (side_block Destination) a.width a.bits a.start a.rows.now c.own_and_rest.result.0.now rest c.requires.rows c.own_and_rest.ensures.parts) refl c.own_and_rest.ensures.rest member.0 member.1
+    bit_left c.own_and_rest.result.0.now c.own_and_rest.result.1.now c.requires.place c.requires.rows c.own_and_rest.ensures.parts c.own_and_rest.ensures.rest c.is_empty.ensures c.if-is_empty.false
 
 pub built-requires-2 : goal.built-requires-2
 built-requires-2 g t c κs within =
@@ -95,16 +83,15 @@ built-requires-2 g t c κs within =
     let rest = c.own_and_rest.result.1.now in
     let low = c.low_and_high.result.0.now in
     let high = c.low_and_high.result.1.now in
-    let member = some_member rest c.is_empty.result c.is_empty.ensures c.if-is_empty.false in
-    let some : 0 < a.bits = some_bit (side_block Destination) a.width a.bits a.start (a.width - a.bits) rest c.requires.place (block_rest (side_block Destination) a.width a.bits a.start a.rows.now own rest c.requires.rows c.own_and_rest.ensures.parts) refl c.own_and_rest.ensures.rest member.0 member.1 in
-    let parts = parts_of (side_block Destination) a.width a.bits a.start (a.width - a.bits) c.upper_start-middle.result a.rows.now own rest low high some c.requires.place c.requires.rows refl c.upper_start-middle.ensures
-    c.own_and_rest.ensures.parts c.own_and_rest.ensures.own c.own_and_rest.ensures.rest c.low_and_high.ensures.parts c.low_and_high.ensures.low c.low_and_high.ensures.high in
+    let some = bit_left own rest c.requires.place c.requires.rows c.own_and_rest.ensures.parts c.own_and_rest.ensures.rest c.is_empty.ensures c.if-is_empty.false in
+    let parts = parts_of some c.requires.place c.requires.rows c.own_and_rest.ensures.parts c.own_and_rest.ensures.own c.own_and_rest.ensures.rest c.upper_start-middle.ensures
+    c.low_and_high.ensures.parts c.low_and_high.ensures.low c.low_and_high.ensures.high in
     let laid = c.in_ok-inherited.ensures.overlaid c.requires.trie.trie c.requires.trie.stands in
     let falls : a.bits - 1 < t = omega (arith, c.decreases) in
     let before : HasTrie a.width c.overlaid.new.self.nodes.items c.in_ok-inherited.inherited.0 = record { trie = laid.new; stands = laid.stands; fits = laid.fits c.requires.trie.fits; reduced = laid.reduced c.requires.trie.reduced } in
     let trie : HasTrie a.width c.built.new.self.sources.nodes.items c.in_ok-inherited.inherited.0 = HasTrie-grows a.width c.overlaid.new.self.nodes.items c.built.new.self.sources.nodes.items c.in_ok-low.ensures.keeps_sources c.in_ok-inherited.inherited.0 before in
-    let place : IsPlace a.width (a.bits - 1) c.upper_start-middle.result = subst (IsPlace a.width (a.bits - 1)) (sym c.upper_start-middle.ensures) (place_high a.width a.bits a.start c.requires.place some) in
-    let rows : InBlock (side_block Destination) a.width (a.bits - 1) c.upper_start-middle.result high = subst (λ m. InBlock (side_block Destination) a.width (a.bits - 1) m high) (sym c.upper_start-middle.ensures) parts.high_in in
+    let place : IsPlace a.width (a.bits - 1) c.upper_start-middle.result = upper_place c.upper_start-middle.ensures parts in
+    let rows : InBlock (side_block Destination) a.width (a.bits - 1) c.upper_start-middle.result high = upper_rows c.upper_start-middle.ensures parts in
     let sorted : IsSorted a.width high = sorted_high a.width a.rows.now own low high parts.whole c.requires.sorted in
     search rules
 
@@ -131,10 +118,9 @@ returns-clause-built g t c u p =
     let rest = c.own_and_rest.result.1.now in
     let low = c.low_and_high.result.0.now in
     let high = c.low_and_high.result.1.now in
-    let member = some_member rest c.is_empty.result c.is_empty.ensures c.if-is_empty.false in
-    let some : 0 < a.bits = some_bit (side_block Destination) a.width a.bits a.start (a.width - a.bits) rest c.requires.place (block_rest (side_block Destination) a.width a.bits a.start a.rows.now own rest c.requires.rows c.own_and_rest.ensures.parts) refl c.own_and_rest.ensures.rest member.0 member.1 in
-    let parts = parts_of (side_block Destination) a.width a.bits a.start (a.width - a.bits) c.upper_start-middle.result a.rows.now own rest low high some c.requires.place c.requires.rows refl c.upper_start-middle.ensures
-    c.own_and_rest.ensures.parts c.own_and_rest.ensures.own c.own_and_rest.ensures.rest c.low_and_high.ensures.parts c.low_and_high.ensures.low c.low_and_high.ensures.high in
+    let some = bit_left own rest c.requires.place c.requires.rows c.own_and_rest.ensures.parts c.own_and_rest.ensures.rest c.is_empty.ensures c.if-is_empty.false in
+    let parts = parts_of some c.requires.place c.requires.rows c.own_and_rest.ensures.parts c.own_and_rest.ensures.own c.own_and_rest.ensures.rest c.upper_start-middle.ensures
+    c.low_and_high.ensures.parts c.low_and_high.ensures.low c.low_and_high.ensures.high in
     let sources1 = c.overlaid.new.self.nodes.items in
     let sources2 = c.built.new.self.sources.nodes.items in
     let sources3 = c.built-2.new.self.sources.nodes.items in

@@ -1,5 +1,5 @@
 -- The rows of the whole block set a leaf, and the others are laid over its halves.
-use Rattle.std.proofs.Common.{◌-◌, ◌<◌, ◌≤◌, ◌++◌, map, refl, sym, subst, arith, rules}
+use Rattle.std.proofs.Common.{◌-◌, ◌<◌, ◌≤◌, ◌++◌, map, refl, subst, arith, rules}
 use Rattle.std.proofs.Math.Pow.{pow_mono}
 use Rattle.babel_trie.specs.Interned.{HasTrie}
 use Rattle.babel_trie.specs.Laid.{HasOneDestination, IsOverlaid}
@@ -8,8 +8,8 @@ use Rattle.babel_trie.specs.Shape.{height}
 use Rattle.babel_trie.specs.Rows.{side_block, InBlock, IsPlace}
 use Rattle.babel_trie.specs.declared.rows.Side.TheVariants.{Source}
 use Rattle.babel_trie.proofs.NumberLaws.{one_trie, Represents-in, Represents-grows, HasTrie-grows}
-use Rattle.babel_trie.proofs.PlaceLaws.{whole_first, lower_first, block_rest, some_bit, place_low, place_high}
-use Rattle.babel_trie.proofs.PartLaws.{parts_of, some_member, no_member}
+use Rattle.babel_trie.proofs.PlaceLaws.{whole_first, place_low}
+use Rattle.babel_trie.proofs.PartLaws.{rest_sorted, bit_left, parts_of, upper_place, upper_rows, no_member}
 use Rattle.babel_trie.proofs.SourceLaws.{overlaid_set, overlaid_joined, halved_tries, one_left, one_right}
 use Rattle.babel_trie.proofs.overlay.Table+Option+V.+overlaid.Goals as goal
 
@@ -26,10 +26,7 @@ returns-then-is_empty-clause-overlaid g t c u p =
 
 pub upper_start-middle-requires-clause-some : goal.upper_start-middle-requires-clause-some
 upper_start-middle-requires-clause-some g t c =
-    let a = c.args in
-    let rest = c.own_and_rest.result.1.now in
-    let member = some_member rest c.is_empty.result c.is_empty.ensures c.if-is_empty.false in
-    some_bit (side_block Source) a.width a.bits a.start (a.width - a.bits) rest c.requires.place (block_rest (side_block Source) a.width a.bits a.start a.rows.now c.own_and_rest.result.0.now rest c.requires.rows c.own_and_rest.ensures.parts) refl c.own_and_rest.ensures.rest member.0 member.1
+    bit_left c.own_and_rest.result.0.now c.own_and_rest.result.1.now c.requires.place c.requires.rows c.own_and_rest.ensures.parts c.own_and_rest.ensures.rest c.is_empty.ensures c.if-is_empty.false
 
 pub upper_start-middle-requires-clause-room : goal.upper_start-middle-requires-clause-room
 upper_start-middle-requires-clause-room g t c =
@@ -37,9 +34,7 @@ upper_start-middle-requires-clause-room g t c =
 
 pub low_and_high-requires : goal.low_and_high-requires
 low_and_high-requires g t c =
-    let a = c.args in
-    let rest = c.own_and_rest.result.1.now in
-    lower_first (side_block Source) a.width a.bits a.start rest (block_rest (side_block Source) a.width a.bits a.start a.rows.now c.own_and_rest.result.0.now rest c.requires.rows c.own_and_rest.ensures.parts) c.upper_start-middle.result
+    rest_sorted c.own_and_rest.result.0.now c.own_and_rest.result.1.now c.upper_start-middle.result c.requires.rows c.own_and_rest.ensures.parts
 
 pub halves-requires : goal.halves-requires
 halves-requires g t c =
@@ -48,10 +43,7 @@ halves-requires g t c =
 
 pub overflow_sub-bits : goal.overflow_sub-bits
 overflow_sub-bits g t c =
-    let a = c.args in
-    let rest = c.own_and_rest.result.1.now in
-    let member = some_member rest c.is_empty.result c.is_empty.ensures c.if-is_empty.false in
-    some_bit (side_block Source) a.width a.bits a.start (a.width - a.bits) rest c.requires.place (block_rest (side_block Source) a.width a.bits a.start a.rows.now c.own_and_rest.result.0.now rest c.requires.rows c.own_and_rest.ensures.parts) refl c.own_and_rest.ensures.rest member.0 member.1
+    bit_left c.own_and_rest.result.0.now c.own_and_rest.result.1.now c.requires.place c.requires.rows c.own_and_rest.ensures.parts c.own_and_rest.ensures.rest c.is_empty.ensures c.if-is_empty.false
 
 pub overlaid-requires : goal.overlaid-requires
 overlaid-requires g t c κs within =
@@ -61,10 +53,9 @@ overlaid-requires g t c κs within =
     let rest = c.own_and_rest.result.1.now in
     let low = c.low_and_high.result.0.now in
     let high = c.low_and_high.result.1.now in
-    let member = some_member rest c.is_empty.result c.is_empty.ensures c.if-is_empty.false in
-    let some : 0 < a.bits = some_bit (side_block Source) a.width a.bits a.start (a.width - a.bits) rest c.requires.place (block_rest (side_block Source) a.width a.bits a.start a.rows.now own rest c.requires.rows c.own_and_rest.ensures.parts) refl c.own_and_rest.ensures.rest member.0 member.1 in
-    let parts = parts_of (side_block Source) a.width a.bits a.start (a.width - a.bits) c.upper_start-middle.result a.rows.now own rest low high some c.requires.place c.requires.rows refl c.upper_start-middle.ensures
-    c.own_and_rest.ensures.parts c.own_and_rest.ensures.own c.own_and_rest.ensures.rest c.low_and_high.ensures.parts c.low_and_high.ensures.low c.low_and_high.ensures.high in
+    let some = bit_left own rest c.requires.place c.requires.rows c.own_and_rest.ensures.parts c.own_and_rest.ensures.rest c.is_empty.ensures c.if-is_empty.false in
+    let parts = parts_of some c.requires.place c.requires.rows c.own_and_rest.ensures.parts c.own_and_rest.ensures.own c.own_and_rest.ensures.rest c.upper_start-middle.ensures
+    c.low_and_high.ensures.parts c.low_and_high.ensures.low c.low_and_high.ensures.high in
     let set = c.in_ok-old.ensures.is c.requires.trie.trie c.requires.trie.stands in
     let tries = halved_tries a.bits own nodes c.in_ok-old.old.0 c.halves.result.0.0 c.halves.result.1.0 c.requires.trie.trie set c.requires.trie.fits c.requires.trie.reduced some (c.halves.ensures set.new set.stands) in
     let falls : a.bits - 1 < t = omega (arith, c.decreases) in
@@ -76,10 +67,7 @@ overlaid-requires g t c κs within =
 
 pub overflow_sub-bits-2 : goal.overflow_sub-bits-2
 overflow_sub-bits-2 g t c =
-    let a = c.args in
-    let rest = c.own_and_rest.result.1.now in
-    let member = some_member rest c.is_empty.result c.is_empty.ensures c.if-is_empty.false in
-    some_bit (side_block Source) a.width a.bits a.start (a.width - a.bits) rest c.requires.place (block_rest (side_block Source) a.width a.bits a.start a.rows.now c.own_and_rest.result.0.now rest c.requires.rows c.own_and_rest.ensures.parts) refl c.own_and_rest.ensures.rest member.0 member.1
+    bit_left c.own_and_rest.result.0.now c.own_and_rest.result.1.now c.requires.place c.requires.rows c.own_and_rest.ensures.parts c.own_and_rest.ensures.rest c.is_empty.ensures c.if-is_empty.false
 
 pub overlaid-requires-2 : goal.overlaid-requires-2
 overlaid-requires-2 g t c κs within =
@@ -89,16 +77,15 @@ overlaid-requires-2 g t c κs within =
     let rest = c.own_and_rest.result.1.now in
     let low = c.low_and_high.result.0.now in
     let high = c.low_and_high.result.1.now in
-    let member = some_member rest c.is_empty.result c.is_empty.ensures c.if-is_empty.false in
-    let some : 0 < a.bits = some_bit (side_block Source) a.width a.bits a.start (a.width - a.bits) rest c.requires.place (block_rest (side_block Source) a.width a.bits a.start a.rows.now own rest c.requires.rows c.own_and_rest.ensures.parts) refl c.own_and_rest.ensures.rest member.0 member.1 in
-    let parts = parts_of (side_block Source) a.width a.bits a.start (a.width - a.bits) c.upper_start-middle.result a.rows.now own rest low high some c.requires.place c.requires.rows refl c.upper_start-middle.ensures
-    c.own_and_rest.ensures.parts c.own_and_rest.ensures.own c.own_and_rest.ensures.rest c.low_and_high.ensures.parts c.low_and_high.ensures.low c.low_and_high.ensures.high in
+    let some = bit_left own rest c.requires.place c.requires.rows c.own_and_rest.ensures.parts c.own_and_rest.ensures.rest c.is_empty.ensures c.if-is_empty.false in
+    let parts = parts_of some c.requires.place c.requires.rows c.own_and_rest.ensures.parts c.own_and_rest.ensures.own c.own_and_rest.ensures.rest c.upper_start-middle.ensures
+    c.low_and_high.ensures.parts c.low_and_high.ensures.low c.low_and_high.ensures.high in
     let set = c.in_ok-old.ensures.is c.requires.trie.trie c.requires.trie.stands in
     let tries = halved_tries a.bits own nodes c.in_ok-old.old.0 c.halves.result.0.0 c.halves.result.1.0 c.requires.trie.trie set c.requires.trie.fits c.requires.trie.reduced some (c.halves.ensures set.new set.stands) in
     let falls : a.bits - 1 < t = omega (arith, c.decreases) in
     let trie : HasTrie (a.bits - 1) c.overlaid.new.self.nodes.items c.halves.result.1.0 = HasTrie-grows (a.bits - 1) nodes c.overlaid.new.self.nodes.items c.in_ok-low.ensures.keeps c.halves.result.1.0 tries.1 in
-    let place : IsPlace a.width (a.bits - 1) c.upper_start-middle.result = subst (IsPlace a.width (a.bits - 1)) (sym c.upper_start-middle.ensures) (place_high a.width a.bits a.start c.requires.place some) in
-    let rows : InBlock (side_block Source) a.width (a.bits - 1) c.upper_start-middle.result high = subst (λ m. InBlock (side_block Source) a.width (a.bits - 1) m high) (sym c.upper_start-middle.ensures) parts.high_in in
+    let place : IsPlace a.width (a.bits - 1) c.upper_start-middle.result = upper_place c.upper_start-middle.ensures parts in
+    let rows : InBlock (side_block Source) a.width (a.bits - 1) c.upper_start-middle.result high = upper_rows c.upper_start-middle.ensures parts in
     let one : HasOneDestination high = one_right low high (one_right own (low ++ high) (subst HasOneDestination parts.whole c.requires.one)) in
     search rules
 
@@ -127,10 +114,9 @@ returns-clause-overlaid g t c u p =
     let rest = c.own_and_rest.result.1.now in
     let low = c.low_and_high.result.0.now in
     let high = c.low_and_high.result.1.now in
-    let member = some_member rest c.is_empty.result c.is_empty.ensures c.if-is_empty.false in
-    let some : 0 < a.bits = some_bit (side_block Source) a.width a.bits a.start (a.width - a.bits) rest c.requires.place (block_rest (side_block Source) a.width a.bits a.start a.rows.now own rest c.requires.rows c.own_and_rest.ensures.parts) refl c.own_and_rest.ensures.rest member.0 member.1 in
-    let parts = parts_of (side_block Source) a.width a.bits a.start (a.width - a.bits) c.upper_start-middle.result a.rows.now own rest low high some c.requires.place c.requires.rows refl c.upper_start-middle.ensures
-    c.own_and_rest.ensures.parts c.own_and_rest.ensures.own c.own_and_rest.ensures.rest c.low_and_high.ensures.parts c.low_and_high.ensures.low c.low_and_high.ensures.high in
+    let some = bit_left own rest c.requires.place c.requires.rows c.own_and_rest.ensures.parts c.own_and_rest.ensures.rest c.is_empty.ensures c.if-is_empty.false in
+    let parts = parts_of some c.requires.place c.requires.rows c.own_and_rest.ensures.parts c.own_and_rest.ensures.own c.own_and_rest.ensures.rest c.upper_start-middle.ensures
+    c.low_and_high.ensures.parts c.low_and_high.ensures.low c.low_and_high.ensures.high in
     let nodes1 = c.set.new.self.nodes.items in
     let nodes2 = c.overlaid.new.self.nodes.items in
     let nodes3 = c.overlaid-2.new.self.nodes.items in
