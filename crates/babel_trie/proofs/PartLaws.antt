@@ -1,15 +1,16 @@
 -- The parts of the rows of a block, and what they make of an answer together.
-use Rattle.std.proofs.Common.{◌≡◌, inl, inr, ℕ, ◌+◌, ◌-◌, ◌^◌, ◌<◌, ◌≤◌, List, [], ◌∷◌, ◌++◌, Option, Some, map, refl, sym, ◌∙◌, ap, subst, arith, Bool, true, false, length, ◌==◌, eqb-true}
+use Rattle.std.proofs.Common.{◌≡◌, inl, inr, ℕ, ◌+◌, ◌-◌, ◌^◌, ◌<◌, ◌≤◌, List, [], ◌∷◌, ◌++◌, Option, Some, map, refl, sym, ◌∙◌, ap, subst, arith, Bool, true, false, length, ◌==◌, nat_lt, eqb-true}
 use Rattle.std.proofs.lemmas.List.{map-append}
 use Rattle.std.proofs.lemmas.Bool.{cases_order, false≢true}
 use Rattle.std.specs.List.{slice_get}
+use Rattle.std.specs.List.Sorted.{IsPartitionedBy}
 use Rattle.babel_prefix.specs.Block.{Block, BlockCovers}
 use Rattle.babel_prefix.specs.Best.{Row, IsNoLonger}
 use Rattle.babel_prefix.specs.Entries.{Entry, row_of}
 use Rattle.babel_prefix.proofs.Members.{Listed}
 use Rattle.babel_trie.specs.Rows.{IsPlace, InBlock, NoneMatches, Overlays}
 use Rattle.babel_prefix.proofs.Members.{Listed-append_left}
-use Rattle.babel_trie.proofs.PlaceLaws.{place_high, block_rest, block_low, block_high, high_misses, low_misses, whole_covers}
+use Rattle.babel_trie.proofs.PlaceLaws.{place_high, block_rest, lower_first, some_bit, block_low, block_high, high_misses, low_misses, whole_covers}
 use Rattle.babel_trie.proofs.OverlayLaws.{overlays_left, overlays_right, overlays_then}
 
 -- a member of a mapped list comes from a member
@@ -34,26 +35,55 @@ pub record Parts {X : Type 0} (key : X → Block) (w bits start : ℕ) (rows own
   pub low_in : InBlock key w (bits - 1) start low
   pub high_in : InBlock key w (bits - 1) (start + 2 ^ (bits - 1)) high
 
-module _ {X : Type 0} (key : X → Block) where
-  pub parts_of : (w bits start len middle : ℕ) (rows own rest low high : List X) → 0 < bits → IsPlace w bits start → InBlock key w bits start rows → len ≡ w - bits → middle ≡ start + 2 ^ (bits - 1) →
-      rows ≡ own ++ rest → ((x : X) → Listed own x → (key x).len ≡ len) → ((x : X) → Listed rest x → (key x).len ≡ len → ⊥) →
+-- a list that is not empty has a member
+some_member : {X : Type 0} (xs : List X) (b : Bool) → b ≡ (length xs == 0) → b ≡ false → (x : X) × Listed xs x
+some_member [] b is not_empty = absurd (false≢true (sym not_empty ∙ is))
+some_member (x ∷ xs) b is not_empty = (x, inl refl)
+
+pub no_member : {X : Type 0} (xs : List X) (b : Bool) → b ≡ (length xs == 0) → b ≡ true → xs ≡ []
+no_member [] b is empty = refl
+no_member (x ∷ xs) b is empty = absurd (let e : length (x ∷ xs) ≡ 0 = eqb-true _ _ (sym is ∙ empty) in omega (arith, e))
+
+module _ {X : Type 0} {key : X → Block} {w bits start : ℕ} where
+  -- the rows left behind those of the whole block, of which the lower half comes first
+  pub rest_sorted : {rows : List X} (own rest : List X) (middle : ℕ) → InBlock key w bits start rows → rows ≡ own ++ rest → IsPartitionedBy (λ x. nat_lt (key x).start middle) rest
+  rest_sorted {rows} own rest middle rows_in whole = lower_first key w bits start rest (block_rest key w bits start rows own rest rows_in whole) middle
+
+  -- where some are left a bit is left
+  pub bit_left : {rows : List X} {empty : Bool} (own rest : List X) → IsPlace w bits start → InBlock key w bits start rows → rows ≡ own ++ rest → ((x : X) → Listed rest x → (key x).len ≡ w - bits → ⊥) →
+      empty ≡ (length rest == 0) → empty ≡ false → 0 < bits
+  bit_left {rows} {empty} own rest place rows_in whole other is not_empty =
+      let member = some_member rest empty is not_empty in
+      some_bit key w bits start (w - bits) rest place (block_rest key w bits start rows own rest rows_in whole) refl other member.0 member.1
+
+  -- the parts, as they are split off one after the other
+  pub parts_of : {middle : ℕ} {rows own rest low high : List X} → 0 < bits → IsPlace w bits start → InBlock key w bits start rows →
+      rows ≡ own ++ rest → ((x : X) → Listed own x → (key x).len ≡ w - bits) → ((x : X) → Listed rest x → (key x).len ≡ w - bits → ⊥) → middle ≡ start + 2 ^ (bits - 1) →
       rest ≡ low ++ high → ((x : X) → Listed low x → (key x).start < middle) → ((x : X) → Listed high x → middle ≤ (key x).start) → Parts key w bits start rows own low high
-  parts_of w bits start len middle rows own rest low high some place rows_in len_is middle_is whole own_len other halves below above =
+  parts_of {middle} {rows} {own} {rest} {low} {high} some place rows_in whole own_len other middle_is halves below above =
       let rest_in = block_rest key w bits start rows own rest rows_in whole in
       record {
         some = some;
         place = place;
         rows_in = rows_in;
         whole = whole ∙ ap (λ r. own ++ r) halves;
-        own_len = λ x t. own_len x t ∙ len_is;
+        own_len = own_len;
         longer = λ x t.
             let in_rest : Listed rest x = subst (λ r. Listed r x) (sym halves) t in
             let ge : w - bits ≤ (key x).len = rest_in.no_shorter x in_rest in
-            elim (cases_order (key x).len len) [ inl same ↦ absurd (other x in_rest same) | inr either ↦ elim either [ inl lt ↦ absurd (omega arith) | inr gt ↦ omega arith ] ];
-        low_in = block_low key w bits start len rest low high some place rest_in halves len_is other (λ x t. subst (λ m. (key x).start < m) middle_is (below x t));
-        high_in = block_high key w bits start len rest low high some place rest_in halves len_is other (λ x t. subst (λ m. m ≤ (key x).start) middle_is (above x t));
+            elim (cases_order (key x).len (w - bits)) [ inl same ↦ absurd (other x in_rest same) | inr either ↦ elim either [ inl lt ↦ absurd (omega arith) | inr gt ↦ omega arith ] ];
+        low_in = block_low key w bits start (w - bits) rest low high some place rest_in halves refl other (λ x t. subst (λ m. (key x).start < m) middle_is (below x t));
+        high_in = block_high key w bits start (w - bits) rest low high some place rest_in halves refl other (λ x t. subst (λ m. m ≤ (key x).start) middle_is (above x t));
       }
 
+  -- the upper half, from its start on
+  pub upper_place : {middle : ℕ} {rows own low high : List X} → middle ≡ start + 2 ^ (bits - 1) → Parts key w bits start rows own low high → IsPlace w (bits - 1) middle
+  upper_place is p = subst (IsPlace w (bits - 1)) (sym is) (place_high w bits start p.place p.some)
+
+  pub upper_rows : {middle : ℕ} {rows own low high : List X} → middle ≡ start + 2 ^ (bits - 1) → Parts key w bits start rows own low high → InBlock key w (bits - 1) middle high
+  upper_rows {high = high} is p = subst (λ m. InBlock key w (bits - 1) m high) (sym is) p.high_in
+
+module _ {X : Type 0} (key : X → Block) where
   module _ (w bits start : ℕ) (rows own low high : List X) (p : Parts key w bits start rows own low high) where
     -- a prefix of the upper half covers no address of the lower
     pub high_is_apart : (x : X) → Listed high x → (a : ℕ) → a < 2 ^ (bits - 1) → BlockCovers w (key x) (start + a) → ⊥
@@ -88,15 +118,6 @@ module _ {V : Type 0} where
   overlays_high w rows own low high d s old mid new whole never shorter first second =
       subst (λ r. Overlays w r d s old new) (sym whole)
       (overlays_then w own (low ++ high) d s old mid new (λ x y t u _ _. shorter x y t u) first (overlays_right w low high d s mid new never second))
-
--- a list that is not empty has a member
-pub some_member : {X : Type 0} (xs : List X) (b : Bool) → b ≡ (length xs == 0) → b ≡ false → (x : X) × Listed xs x
-some_member [] b is not_empty = absurd (false≢true (sym not_empty ∙ is))
-some_member (x ∷ xs) b is not_empty = (x, inl refl)
-
-pub no_member : {X : Type 0} (xs : List X) (b : Bool) → b ≡ (length xs == 0) → b ≡ true → xs ≡ []
-no_member [] b is empty = refl
-no_member (x ∷ xs) b is empty = absurd (let e : length (x ∷ xs) ≡ 0 = eqb-true _ _ (sym is ∙ empty) in omega (arith, e))
 
 -- the first member
 pub first_listed : {X : Type 0} (xs : List X) (x : X) → slice_get xs 0 ≡ Some x → Listed xs x

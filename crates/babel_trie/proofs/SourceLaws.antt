@@ -15,7 +15,7 @@ use Rattle.babel_trie.specs.declared.rows.Side.TheVariants.{Source}
 use Rattle.babel_trie.proofs.BitLaws.{pow_twice}
 use Rattle.babel_trie.proofs.Reduced.{value_at-low, value_at-high}
 use Rattle.babel_prefix.proofs.Members.{Listed-append_left, Listed-append_right}
-use Rattle.babel_trie.proofs.OverlayLaws.{overlays_none}
+use Rattle.babel_trie.proofs.OverlayLaws.{overlays_none, overlays_top}
 use Rattle.babel_trie.proofs.PlaceLaws.{whole_covers}
 use Rattle.babel_trie.proofs.PartLaws.{Parts, from_map, to_map, high_is_apart, low_is_apart, own_covers, mapped_parts, overlays_low, overlays_high}
 
@@ -33,19 +33,17 @@ module _ {V : Type 0} where
       subst (λ (rows : List (Entry V)). Overlays w (map row_of rows) d (start + a) (value_at old bits a) (value_at new bits a)) (sym none)
       (subst (λ t. Overlays w [] d (start + a) (value_at old bits a) (value_at t bits a)) (sym same) (overlays_none w d (start + a) (value_at old bits a)))
   set_overlays w bits start own old new (inr (row, listed, is)) one lens covers d a dst a_in =
-      inl (
-        row_of row,
-        record {
-          listed = to_map row_of own row listed;
-          matching = (dst (row_of row) (to_map row_of own row listed), covers row listed a a_in);
-          longest = λ other t m.
-              let from = from_map row_of own other t in
-              let other_len : other.src.len ≡ w - bits = subst (λ (r : Row V). r.src.len ≡ w - bits) from.2 (lens from.0 from.1) in
-              let row_len : (block_of row.1).len ≡ w - bits = lens row listed in
-              inr (subst (λ (r : Row V). r.dst ≡ (block_of row.0)) from.2 (one from.0 row from.1 listed), omega arith);
-        },
-        ap (λ t. value_at t bits a) is,
-      )
+      overlays_top w (map row_of own) d (start + a) (value_at old bits a) (value_at new bits a) (row_of row)
+      (record {
+        listed = to_map row_of own row listed;
+        matching = (dst (row_of row) (to_map row_of own row listed), covers row listed a a_in);
+        longest = λ other t m.
+            let from = from_map row_of own other t in
+            let other_len : other.src.len ≡ w - bits = subst (λ (r : Row V). r.src.len ≡ w - bits) from.2 (lens from.0 from.1) in
+            let row_len : (block_of row.1).len ≡ w - bits = lens row listed in
+            inr (subst (λ (r : Row V). r.dst ≡ (block_of row.0)) from.2 (one from.0 row from.1 listed), omega arith);
+      })
+      (ap (λ t. value_at t bits a) is)
 
   -- the height of what is set
   set_fits : (rows : List (Entry V)) (old new : Shape (Option V)) (bits : ℕ) →

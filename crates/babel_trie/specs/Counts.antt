@@ -1,4 +1,4 @@
--- How many leaves with a value the tries of a table have.
+-- How many leaves with a value the tries of a table have: this project's own.
 use Rattle.std.specs.Prelude.{◌≡◌, ℕ, ◌+◌, ◌-◌, ◌^◌, ◌<◌, min, List, length, get_or, Option, Some, None}
 use Rattle.babel_trie.specs.Shape.{Shape, leaf, fork}
 use Rattle.babel_trie.specs.Interned.{Represents}

@@ -1,4 +1,4 @@
--- The first place at which two functions differ.
+-- The first place at which two functions differ: this project's own.
 use Rattle.std.specs.Prelude.{◌≡◌, ◌≢◌, ℕ, ◌<◌, List, Option, MatchOption}
 use Rattle.babel_trie.specs.Boxes.{Answers}
 use Rattle.babel_trie.specs.Shape.{Shape, value_at}

@@ -1,4 +1,5 @@
--- What a grid holds: a trie of destinations whose leaves are numbers of tries of sources.
+-- What a grid holds, a trie of destinations whose leaves are numbers of tries of sources: this project's own, for the
+-- best match of RFC 9079, 4.
 use Rattle.std.specs.Prelude.{◌≡◌, ℕ, suc, zero, ◌-◌, ◌^◌, ◌≤◌, min, length, List, Option, Some, None}
 use Rattle.babel_prefix.specs.Entries.{Entry}
 use Rattle.std.specs.List.{slice_get}

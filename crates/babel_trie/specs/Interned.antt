@@ -1,4 +1,4 @@
--- Tries as numbers of a table of nodes.
+-- Tries as numbers of a table of nodes: this project's own.
 use Rattle.std.specs.Prelude.{◌≡◌, ◌↔◌, ℕ, ◌+◌, ◌-◌, ◌≤◌, max, List, Some, slice_get}
 use Rattle.babel_trie.specs.Shape.{Shape, leaf, fork, height, HasHalves, IsReduced}
 use Rattle.babel_trie.specs.declared.table.Node.{Node}

@@ -1,4 +1,4 @@
--- What laying rows over a trie gives.
+-- What laying rows over a trie gives: the best match of RFC 9079, 4, block by block.
 use Rattle.std.specs.Prelude.{◌≡◌, ◌⊎◌, ℕ, ◌+◌, ◌^◌, ◌<◌, ◌≤◌, List, [], Option, Some}
 use Rattle.babel_prefix.specs.Entries.{Entry}
 use Rattle.babel_prefix.specs.Block.{BlockCovers, IsBlock}
@@ -6,7 +6,7 @@ use Rattle.babel_prefix.specs.Address.{block_of}
 use Rattle.babel_prefix.specs.Best.{Row}
 use Rattle.babel_trie.specs.Shape.{Shape, leaf, height, value_at, IsReduced}
 use Rattle.babel_trie.specs.Interned.{Represents, HasTrie}
-use Rattle.babel_prefix.proofs.Members.{Listed}
+use Rattle.babel_prefix.specs.Members.{Listed}
 use Rattle.babel_trie.specs.Rows.{InOrder, IsNoLater, Overlays}
 use Rattle.babel_trie.specs.declared.table.Node.{Node}
 use Rattle.babel_trie.specs.declared.table.NodeNumber.{NodeNumber}

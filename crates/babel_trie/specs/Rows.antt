@@ -1,11 +1,10 @@
--- Sorted rows inside a block, and what they make of an answer.
+-- Sorted rows inside a block, and what they make of an answer by the best match of RFC 9079, 4.
 use Rattle.std.specs.Prelude.{◌≡◌, ◌⊎◌, ℕ, ◌+◌, ◌-◌, ◌*◌, ◌^◌, ◌<◌, ◌≤◌, List, [], ◌∷◌, Option, Some}
 use Rattle.babel_prefix.specs.Entries.{Entry}
 use Rattle.babel_prefix.specs.Block.{Block, IsBlock}
 use Rattle.babel_prefix.specs.Address.{block_of, AddressPrefix}
-use Rattle.babel_prefix.specs.Best.{Row, Matches}
-use Rattle.babel_prefix.proofs.Members.{Listed}
-use Rattle.babel_prefix.proofs.AnswerLaws.{IsTop}
+use Rattle.babel_prefix.specs.Best.{Row, Matches, IsBest}
+use Rattle.babel_prefix.specs.Members.{Listed}
 use Rattle.babel_trie.specs.declared.rows.Side.{Side}
 use Rattle.babel_trie.specs.declared.rows.Side.TheVariants.{Destination, Source}
 
@@ -47,7 +46,7 @@ module _ {V : Type 0} where
   abbrev pub NoneMatches : ℕ → List (Row V) → ℕ → ℕ → Type 0
   NoneMatches w rows d s = (row : Row V) → Listed rows row → Matches w d s row → ⊥
 
-  -- the new answer is the value of a longest row that matches, or the old one where none does
+  -- the new answer is the value of the best row, or the old one where none matches
   abbrev pub Overlays : ℕ → List (Row V) → ℕ → ℕ → Option V → Option V → Type 0
   Overlays w rows d s old new =
-      ((row : Row V) × IsTop w rows d s row × (new ≡ Some row.value)) ⊎ (NoneMatches w rows d s × (new ≡ old))
+      ((row : Row V) × IsBest w rows d s row × (new ≡ Some row.value)) ⊎ (NoneMatches w rows d s × (new ≡ old))

@@ -1,4 +1,4 @@
--- A table whose map has the number of each node.
+-- A table whose map has the number of each node: this project's own.
 use Rattle.std.specs.Prelude.{◌≡◌, ◌↔◌, ℕ, ◌<◌, List, Some, slice_get}
 use Rattle.std.specs.declared.cmp.Ordering.{Ordering}
 use Rattle.std.specs.BTreeMap.{BTreeMap, get}

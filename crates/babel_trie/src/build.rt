@@ -10,8 +10,8 @@ ghost use Rattle.babel_trie.specs.declared.rows.Side.TheVariants.{Destination};
 
 use crate::lawful::LawfulOrd;
 use crate::nested::Nested;
-use crate::overlay::middle_of;
-use crate::rows::{Row, Side, split_by_len, split_by_start};
+use crate::overlay::upper_start;
+use crate::rows::{Row, Side};
 use crate::table::{Node, NodeNumber, Table};
 use std::alloc::AllocError;
 
@@ -38,14 +38,14 @@ impl<V: LawfulOrd> Nested<V> {
         ensures keeps_destinations { OnOk result (KeepsNodes self.old.destinations.nodes.items self.new.destinations.nodes.items) }
         ensures built { IfOk result (λ n. (t : Shape (Option V)) → Represents self.old.sources.nodes.items inherited.0 t → IsBuilt width bits start (map row_of rows.now) self.new.sources.nodes.items self.new.destinations.nodes.items n.0 t) }
     {
-        let (own, rest) = split_by_len(Side::Destination, rows, width - bits);
+        let (own, rest) = Side::Destination.own_and_rest(rows, width - bits);
         let inherited = self.sources.overlaid(own, width, width, 0, inherited)?;
         if rest.is_empty() {
             let leaf = self.destinations.leaf(inherited)?;
             return Ok(leaf);
         }
-        let middle = middle_of(start, bits);
-        let (low_rows, high_rows) = split_by_start(Side::Destination, rest, middle);
+        let middle = upper_start(start, bits);
+        let (low_rows, high_rows) = Side::Destination.low_and_high(rest, middle);
         let low = self.built(low_rows, width, bits - 1, start, inherited)?;
         let high = self.built(high_rows, width, bits - 1, middle, inherited)?;
         let whole = self.destinations.joined(low, high)?;

@@ -9,12 +9,12 @@ ghost use Rattle.babel_trie.specs.Sound.{IsSound, KeepsNodes};
 ghost use Rattle.babel_trie.specs.declared.rows.Side.TheVariants.{Source};
 
 use crate::lawful::LawfulOrd;
-use crate::rows::{Row, Side, split_by_len, split_by_start};
+use crate::rows::{Row, Side};
 use crate::table::{Node, NodeNumber, Table};
 use std::alloc::AllocError;
 
 /// The address at which the upper half of a block starts.
-pub fn middle_of(start: u128, bits: u8) -> u128
+pub fn upper_start(start: u128, bits: u8) -> u128
     requires some { 0 < bits }
     requires width { bits ≤ 128 }
     requires room { start + 2 ^ bits ≤ 2 ^ 128 }
@@ -59,13 +59,13 @@ impl<V: LawfulOrd> Table<Option<V>> {
         ensures keeps { OnOk result (KeepsNodes self.old.nodes.items self.new.nodes.items) }
         ensures overlaid { IfOk result (λ n. (t : Shape (Option V)) → Represents self.old.nodes.items old.0 t → IsOverlaid width bits start (map row_of rows.now) self.new.nodes.items n.0 t) }
     {
-        let (own, rest) = split_by_len(Side::Source, rows, width - bits);
+        let (own, rest) = Side::Source.own_and_rest(rows, width - bits);
         let old = self.set(own, old)?;
         if rest.is_empty() {
             return Ok(old);
         }
-        let middle = middle_of(start, bits);
-        let (low_rows, high_rows) = split_by_start(Side::Source, rest, middle);
+        let middle = upper_start(start, bits);
+        let (low_rows, high_rows) = Side::Source.low_and_high(rest, middle);
         let (low, high) = self.halves(old);
         let low = self.overlaid(low_rows, width, bits - 1, start, low)?;
         let high = self.overlaid(high_rows, width, bits - 1, middle, high)?;

@@ -1,10 +1,13 @@
 //! Rows in order, and their parts.
 ghost use Rattle.std.specs.Prelude.{◌≡◌, ◌≢◌, ◌++◌, ◌<◌, ◌≤◌, ◌==◌, nat_lt};
 ghost use Rattle.std.specs.List.Sorted.{IsPartitionedBy};
-ghost use Rattle.babel_prefix.proofs.Members.{Listed};
+ghost use Rattle.babel_prefix.specs.Members.{Listed};
 ghost use Rattle.babel_trie.specs.Rows.{side_of, side_block};
 
 use babel_prefix::Prefix;
+
+/// A row: a destination, a source and what they are given.
+pub type Row<V> = (Prefix, Prefix, V);
 
 /// Which prefix of a row is looked at.
 #[derive(Clone, Copy)]
@@ -23,29 +26,26 @@ impl Side {
             Side::Source => row.1,
         }
     }
-}
 
-/// A row: a destination, a source and what they are given.
-pub type Row<V> = (Prefix, Prefix, V);
+    /// The rows of this length, which come first, and the others.
+    pub fn own_and_rest<V>(self, rows: &[Row<V>], len: u8) -> (&[Row<V>], &[Row<V>])
+        requires { IsPartitionedBy (λ x. (side_block self x).len == len) rows.now }
+        ensures parts { rows.now ≡ result.0.now ++ result.1.now }
+        ensures own { (x : _) → Listed result.0.now x → (side_block self x).len ≡ len }
+        ensures rest { (x : _) → Listed result.1.now x → (side_block self x).len ≢ len }
+    {
+        let own = rows.partition_point(|row| self.of(row).len() == len);
+        rows.split_at(own)
+    }
 
-/// The rows of this length, which come first, and the others.
-pub fn split_by_len<V>(side: Side, rows: &[Row<V>], len: u8) -> (&[Row<V>], &[Row<V>])
-    requires { IsPartitionedBy (λ x. (side_block side x).len == len) rows.now }
-    ensures parts { rows.now ≡ result.0.now ++ result.1.now }
-    ensures own { (x : _) → Listed result.0.now x → (side_block side x).len ≡ len }
-    ensures rest { (x : _) → Listed result.1.now x → (side_block side x).len ≢ len }
-{
-    let own = rows.partition_point(|row| side.of(row).len() == len);
-    rows.split_at(own)
-}
-
-/// The rows that start below an address, which come first, and the others.
-pub fn split_by_start<V>(side: Side, rows: &[Row<V>], middle: u128) -> (&[Row<V>], &[Row<V>])
-    requires { IsPartitionedBy (λ x. nat_lt (side_block side x).start middle) rows.now }
-    ensures parts { rows.now ≡ result.0.now ++ result.1.now }
-    ensures low { (x : _) → Listed result.0.now x → (side_block side x).start < middle }
-    ensures high { (x : _) → Listed result.1.now x → middle ≤ (side_block side x).start }
-{
-    let low = rows.partition_point(|row| side.of(row).addr().bits() < middle);
-    rows.split_at(low)
+    /// The rows that start below an address, which come first, and the others.
+    pub fn low_and_high<V>(self, rows: &[Row<V>], middle: u128) -> (&[Row<V>], &[Row<V>])
+        requires { IsPartitionedBy (λ x. nat_lt (side_block self x).start middle) rows.now }
+        ensures parts { rows.now ≡ result.0.now ++ result.1.now }
+        ensures low { (x : _) → Listed result.0.now x → (side_block self x).start < middle }
+        ensures high { (x : _) → Listed result.1.now x → middle ≤ (side_block self x).start }
+    {
+        let low = rows.partition_point(|row| self.of(row).addr().bits() < middle);
+        rows.split_at(low)
+    }
 }

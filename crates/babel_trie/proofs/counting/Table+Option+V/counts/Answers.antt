@@ -16,7 +16,7 @@ loop-node-preserved g c =
     let i_in : i < length nodes = subst (λ xs. i < length xs) same c.loop-node-test.true in
     let is : node ≡ get_or nodes i node = c.node-item.is ∙ ap (λ xs. get_or xs i node) same in
     let at : slice_get nodes i ≡ Some node = slice_get_at nodes i node i_in is in
-    let pushed = c.in_ok-push.ensures.items ∙ ap (λ n. counts ++ n ∷ []) (c.count_of-count.ensures ∙ ap (λ ns. node_count ns node) c.deref.ensures.value) in
+    let pushed = c.in_ok-push.ensures.items ∙ ap (λ n. counts ++ n ∷ []) (c.value_count-count.ensures ∙ ap (λ ns. node_count ns node) c.deref.ensures.value) in
     subst (AreCounted nodes (i + 1)) (sym pushed) (counted_more nodes i counts node c.loop-node.invariant (c.requires.lower i node at) at)
 
 pub returns : goal.returns

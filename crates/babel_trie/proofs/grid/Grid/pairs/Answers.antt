@@ -23,7 +23,7 @@ returns-clause-boxes g c =
     let held = c.self.invariant.held in
     let trie = shape_map (sources_at w sources) held.trie in
     c.in_ok-push_all.ensures.rows held.trie held.stands
-    ∙ ap (λ (xs : List (Entry g.row.V.Denot)). map row_of xs ++ rows_of w (leaves w c.width-width.result 0 trie)) c.new-pairs.ensures.items
+    ∙ ap (λ (xs : List (Entry g.row.V.Denot)). map row_of xs ++ rows_of w (leaves w c.width-width.result 0 trie)) c.in_ok-pairs.ensures.items
     ∙ ap (λ n. rows_of w (leaves w n 0 trie)) c.width-width.ensures
     ∙ ap (λ t. rows_of w (leaves w w 0 t)) (sym (nested_is w sources destinations inside.root held))
     ∙ ap (λ (t : BoxTable g.row.V.Denot). t.boxes) c.self.view_is
