@@ -48,7 +48,7 @@ nat_tied n = grind (arith, nat_tests)
 octets_tied : (xs : List ℕ) → slice_cmp nat_cmp xs xs ≡ Equal
 octets_tied xs = equal_of (slice_cmp nat_cmp xs xs) (is_eq-slice_cmp xs xs ∙ (bytes_eq-Decides xs xs).1 refl)
 
-held_tied : (h : Held) → held_cmp h h ≡ Equal
+pub held_tied : (h : Held) → held_cmp h h ≡ Equal
 held_tied (helds.Route ann) = rw (octets_tied ann.router_id, nat_tied ann.seqno, nat_tied ann.metric) (tied_itself address_total ann.next_hop)
 held_tied helds.Unreachable = refl
 

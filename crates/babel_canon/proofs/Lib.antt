@@ -11,3 +11,5 @@ mod Families
 mod Entries
 mod Verdicts
 mod Normal
+mod Numbered
+mod ValueLists

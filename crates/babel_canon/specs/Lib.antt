@@ -6,4 +6,5 @@ pub mod Headline
 pub mod Grids
 pub mod Canonical
 pub mod Verdict
-pub mod AnswerOrder
+pub mod NumberOrder
+pub mod Values

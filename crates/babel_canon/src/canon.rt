@@ -1,9 +1,11 @@
-ghost use Rattle.std.specs.Prelude.{◌≡◌, IfOk, IfErr};
+ghost use Rattle.std.specs.Prelude.{◌≡◌, ◌≤◌, IfOk, IfErr, length};
+ghost use Rattle.babel_canon.specs.Boxes.{AreBoxes};
 ghost use Rattle.babel_canon.specs.Canonical.{IsCanonical, CanonicalFault};
 
 use crate::body::Body;
 use crate::grids::Grids;
 use crate::text::write_text;
+use crate::values::Values;
 use babel_table::{Limits, Table};
 use babel_tlv::{Fault, Held, Key};
 use std::alloc::Global;
@@ -46,6 +48,27 @@ impl Canon {
     }
 }
 
+/// The canonical pairs of a table, which are known to be no more than the limit before any of them is made. The grids that
+/// they are made from are gone behind it.
+fn canonical_pairs(alloc: Global, limits: Limits, table: &Table) -> Result<Vec<(Key, Held)>, Fault>
+    ensures ok { IfOk result (λ pairs. AreBoxes table.now.rows pairs.items) }
+    ensures few { IfOk result (λ pairs. length pairs.items ≤ limits.entries) }
+    ensures err { IfErr result (CanonicalFault limits table.now.rows) }
+{
+    let mut values = Values::new(alloc);
+    let grids = match Grids::of(alloc, table, &mut values) {
+        Ok(grids) => grids,
+        Err(_) => return Err(Fault::Memory),
+    };
+    if grids.count() > limits.entries() as u64 {
+        return Err(Fault::TooManyPairs);
+    }
+    match grids.into_pairs(alloc, &values) {
+        Ok(pairs) => Ok(pairs),
+        Err(_) => Err(Fault::Memory),
+    }
+}
+
 /// The canonical form of a table, in packets with bodies of at most this many octets. `TooManyPairs` if its canonical pairs
 /// are more than the entries of the limits, which is known before any of them is made; else `Memory`, if there is too
 /// little.
@@ -53,17 +76,7 @@ pub fn canonical(alloc: Global, limits: Limits, body: Body, table: &Table) -> Re
     ensures ok { IfOk result (IsCanonical limits body table.now.rows) }
     ensures err { IfErr result (CanonicalFault limits table.now.rows) }
 {
-    let grids = match Grids::of(alloc, table) {
-        Ok(grids) => grids,
-        Err(_) => return Err(Fault::Memory),
-    };
-    if grids.count() > limits.entries() as u64 {
-        return Err(Fault::TooManyPairs);
-    }
-    let pairs = match grids.pairs(alloc) {
-        Ok(pairs) => pairs,
-        Err(_) => return Err(Fault::Memory),
-    };
+    let pairs = canonical_pairs(alloc, limits, table)?;
     match write_text(alloc, body, &pairs) {
         Ok(bytes) => Ok(Canon { pairs, bytes }),
         Err(_) => Err(Fault::Memory),

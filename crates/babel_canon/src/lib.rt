@@ -2,7 +2,6 @@
 //! them; and how the answers of two tables compare. It knows nothing of files, of texts, or of a command line.
 #![tactic(auto)]
 
-mod answer;
 mod body;
 mod canon;
 mod comparison;
@@ -12,6 +11,7 @@ mod normal_form;
 #[cfg(test)]
 mod tests;
 mod text;
+mod values;
 mod verdict;
 
 pub use body::Body;

@@ -1,24 +1,46 @@
-use Rattle.std.proofs.Common.{◌≡◌, ◌+◌, ◌++◌, ◌∷◌, [], rules}
+use Rattle.std.proofs.Common.{◌≡◌, ◌+◌, ◌++◌, ◌∷◌, List, [], Some, rules, slice_get, subst, sym}
 use Rattle.std.specs.Prelude.{◌≢◌}
-use Rattle.babel_canon.proofs.Boxes.{entry_of}
-use Rattle.babel_canon.proofs.Entries.{IsKept, kept, passed}
-use Rattle.babel_canon.proofs.grids.family_entries.Goals.{then-eq+in_ok-push, else-eq}
+use Rattle.babel_prefix.specs.Entries.{Entry}
+use Rattle.babel_canon.specs.declared.values.ValueNumber.{ValueNumber}
+use Rattle.babel_canon.specs.declared.values.Values.{Values}
+use Rattle.babel_canon.specs.Values.{AreNumbered, KeepsValues}
+use Rattle.babel_canon.proofs.ValueLists.{IsKeptBy, kept_by, passed_by}
+use Rattle.babel_canon.proofs.grids.family_entries.Goals.{then-eq+in_ok-number+in_ok-push, else-eq}
 use Rattle.babel_canon.proofs.grids.family_entries.Goals as goal
 
 pub loop-key-preserved : goal.loop-key-preserved
 loop-key-preserved c =
     let row = c.loop-key-item.result in
-    let old = c.loop-key.entries.items in
-    let new = c.if-eq.entries.items in
     let rows = c.args.rows.now in
-    let whole : IsKept c.args.family rows (c.loop-key.key-index + 1) new = elim c.if-eq.branch [
-      | then-eq+in_ok-push w ↦
+    let i = c.loop-key.key-index in
+    let old = c.loop-key.values.list.items in
+    let new = c.if-eq.values.list.items in
+    let so_far : IsKeptBy c.args.family rows i old c.loop-key.entries.items = record { of_family = c.loop-key.invariant.family; numbers = c.loop-key.invariant.numbers; items = c.loop-key.invariant.items } in
+    let whole : AreNumbered new c.if-eq.values.numbers × KeepsValues old new × IsKeptBy c.args.family rows (i + 1) new c.if-eq.entries.items = elim c.if-eq.branch [
+      | then-eq+in_ok-number+in_ok-push w ↦
+          let number = w.in_ok-number.number in
           let here : row.0.dst.address.family ≡ c.args.family = search rules in
-          let new_is : new ≡ old ++ entry_of row ∷ [] = search rules in
-          kept c.args.family rows c.loop-key.key-index row old new c.loop-key-item.is c.loop-key-test.true c.dst.ensures.valid here new_is c.loop-key.invariant.family c.loop-key.invariant.items
+          let new_is : c.if-eq.entries.items ≡ c.loop-key.entries.items ++ (row.0.dst, row.0.src, number) ∷ [] = search rules in
+          let keeps : KeepsValues old new = subst (λ (v : Values). KeepsValues old v.list.items) (sym w.values-is) w.in_ok-number.ensures.keeps in
+          let found : slice_get new number.0 ≡ Some row.1 = subst (λ (v : Values). slice_get v.list.items number.0 ≡ Some row.1) (sym w.values-is) w.in_ok-number.ensures.found in (
+            subst (λ (v : Values). AreNumbered v.list.items v.numbers) (sym w.values-is) w.in_ok-number.ensures.numbered,
+            keeps,
+            kept_by c.args.family rows i row old new number c.loop-key.entries.items c.if-eq.entries.items c.loop-key-item.is c.loop-key-test.true c.dst.ensures.valid here new_is keeps found so_far,
+          )
       | else-eq w ↦
           let apart : row.0.dst.address.family ≢ c.args.family = search rules in
-          let new_is : new ≡ old = search rules in
-          passed c.args.family rows c.loop-key.key-index row old new c.loop-key-item.is c.loop-key-test.true apart new_is c.loop-key.invariant.family c.loop-key.invariant.items
+          let items : c.loop-key.entries.items ≡ c.if-eq.entries.items = search rules in
+          let passed = passed_by c.args.family rows i row old c.loop-key.entries.items c.loop-key-item.is c.loop-key-test.true apart so_far in (
+            subst (λ (v : Values). AreNumbered v.list.items v.numbers) (sym w.values-is) c.loop-key.invariant.numbered,
+            subst (λ (v : Values). KeepsValues old v.list.items) (sym w.values-is) (λ k held at. at),
+            subst (λ (v : Values). IsKeptBy c.args.family rows (i + 1) v.list.items c.if-eq.entries.items) (sym w.values-is)
+                (subst (λ (es : List (Entry ValueNumber)). IsKeptBy c.args.family rows (i + 1) old es) items passed),
+          )
     ] in
-    record { family = whole.of_family; items = whole.items }
+    record {
+      numbered = whole.0;
+      keeps = λ k held at. whole.1 k held (c.loop-key.invariant.keeps k held at);
+      family = whole.2.of_family;
+      numbers = whole.2.numbers;
+      items = whole.2.items;
+    }

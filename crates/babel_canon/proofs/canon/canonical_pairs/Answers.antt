@@ -1,0 +1,26 @@
+use Rattle.std.proofs.Common.{◌≡◌, ◌+◌, ◌<◌, List, length, map, sym, subst, arith, inl, refl}
+use Rattle.std.proofs.lemmas.List.{length-map}
+use Rattle.babel_tlv.specs.Pair.{Pair}
+use Rattle.babel_canon.specs.Boxes.{AreBoxes}
+use Rattle.babel_canon.specs.Grids.{both_families}
+use Rattle.babel_canon.specs.Values.{valued}
+use Rattle.babel_canon.proofs.Families.{both_are_boxes, both-length}
+use Rattle.babel_canon.proofs.canon.canonical_pairs.Goals as goal
+
+pub returns-then-count-entries-clause-err : goal.returns-then-count-entries-clause-err
+returns-then-count-entries-clause-err c =
+    let values = c.of.new.values.list.items in
+    let v4 = map (valued values) c.in-Ok.grids.v4.boxes in
+    let v6 = map (valued values) c.in-Ok.grids.v6.boxes in
+    let are = both_are_boxes c.args.table.now.rows v4 v6 c.of.ensures.rows c.in-Ok.ensures.v4_boxes.boxes_are c.in-Ok.ensures.v6_boxes.boxes_are in
+    let many : c.args.limits.entries < length (both_families v4 v6) =
+    omega (arith, both-length v4 v6, length-map c.in-Ok.grids.v4.boxes (valued values), length-map c.in-Ok.grids.v6.boxes (valued values), c.count.ensures, c.entries.ensures.value, c.if-count-entries.true) in
+    inl (refl, (both_families v4 v6, are, many))
+
+pub returns-in-Ok-into_pairs-clause-ok : goal.returns-in-Ok-into_pairs-clause-ok
+returns-in-Ok-into_pairs-clause-ok c =
+    let values = c.of.new.values.list.items in
+    let v4 = map (valued values) c.in-Ok.grids.v4.boxes in
+    let v6 = map (valued values) c.in-Ok.grids.v6.boxes in
+    let are = both_are_boxes c.args.table.now.rows v4 v6 c.of.ensures.rows c.in-Ok.ensures.v4_boxes.boxes_are c.in-Ok.ensures.v6_boxes.boxes_are in
+    subst (λ (l : List Pair). AreBoxes c.args.table.now.rows l) (sym c.in-Ok-into_pairs.ensures) are
