@@ -11,7 +11,7 @@ use Rattle.babel_canon.specs.Canonical.{Canonical, IsCanonical, CanonicalFault}
 use Rattle.babel_canon.specs.Headline.{Headline, Normalises}
 use Rattle.babel_dump.specs.declared.run_fault.RunFault.{RunFault}
 use Rattle.babel_dump.specs.declared.run_fault.RunFault.TheVariants as run_faults
-use Rattle.babel_dump.specs.Run.{GaveNormal, GaveTable, HasCause, IsFaultOfForm, IsFaultOfGiven}
+use Rattle.babel_dump.specs.Run.{GaveNormal, GaveTable, HasCause, IsFaultOfForm, IsFaultOfGiven, KeepsOther}
 
 -- the canonical form of the table is that of the dump
 pub gave_normal : Headline → (limits : Bounds) (mode : Mode) (body : ℕ) (sender : Address) (old new : Option (List ℕ)) (table : Routes) (canon : Canonical)
@@ -64,3 +64,20 @@ other_fault (run_faults.Dump fault) read other_read refused other_refused cause 
 other_fault run_faults.OtherRead read other_read refused other_refused cause = cause
 other_fault (run_faults.OtherDump fault) read other_read refused other_refused cause = cause
 other_fault run_faults.Write read other_read refused other_refused cause = cause
+
+-- a fault leaves alone what was not touched before it
+pub untouched : (fault : RunFault) (kept : Type 0) → kept → KeepsOther fault kept
+untouched run_faults.Read kept is = is
+untouched (run_faults.Dump fault) kept is = λ _. is
+untouched run_faults.OtherRead kept is = tt
+untouched (run_faults.OtherDump fault) kept is = tt
+untouched run_faults.Write kept is = tt
+
+-- a fault of the other dump is none of the first
+pub others_own : (fault : RunFault) (kept other_read : Type 0) (other_refused : Fault → Type 0)
+    → HasCause fault ⊥ (λ _. ⊥) other_read other_refused ⊥ → KeepsOther fault kept
+others_own run_faults.Read kept other_read other_refused cause = absurd cause
+others_own (run_faults.Dump fault) kept other_read other_refused cause = λ not_memory. absurd (cause not_memory)
+others_own run_faults.OtherRead kept other_read other_refused cause = tt
+others_own (run_faults.OtherDump fault) kept other_read other_refused cause = tt
+others_own run_faults.Write kept other_read other_refused cause = tt
