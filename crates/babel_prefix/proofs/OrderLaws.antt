@@ -1,25 +1,15 @@
--- Orders that are total, and tell any two values apart.
+-- Orders that tell any two values apart.
 use Rattle.std.proofs.Common.{◌≡◌, ◌↔◌, refl, ◌∙◌, ap, subst}
-use Rattle.std.specs.Cmp.{IsTotalOrder}
 use Rattle.std.specs.declared.cmp.Ordering.{Ordering}
 use Rattle.std.specs.declared.cmp.Ordering.TheVariants.{Less, Equal, Greater}
 use Rattle.std.specs.Ordering.{nat_cmp, ordering_then}
 use Rattle.std.proofs.lemmas.Map.Lookups.{exact_unsigned}
-use Rattle.std.proofs.lemmas.Cmp.{nat_cmp_total, on_total, then_total, tied_itself}
+use Rattle.std.proofs.lemmas.Cmp.{tied_itself}
 use Rattle.babel_prefix.specs.declared.family.Family.{Family}
 use Rattle.babel_prefix.specs.declared.family.Family.TheVariants.{V4, V6}
-use Rattle.babel_prefix.specs.Width.{family_rank}
 use Rattle.babel_prefix.specs.Address.{Address, AddressPrefix}
 use Rattle.babel_prefix.specs.Order.{family_cmp, address_cmp, prefix_cmp}
-
-pub family_total : IsTotalOrder family_cmp
-family_total = on_total family_rank nat_cmp_total
-
-pub address_total : IsTotalOrder address_cmp
-address_total = then_total (on_total (λ (a : Address). a.family) family_total) (on_total (λ (a : Address). a.bits) nat_cmp_total)
-
-pub prefix_total : IsTotalOrder prefix_cmp
-prefix_total = then_total (on_total (λ (p : AddressPrefix). p.address) address_total) (on_total (λ (p : AddressPrefix). p.len) nat_cmp_total)
+pub use Rattle.babel_prefix.specs.TotalOrder.{family_total, address_total, prefix_total}
 
 pub then_parts : (r s : Ordering) → ordering_then r s ≡ Equal → (r ≡ Equal) × (s ≡ Equal)
 then_parts Less s e = cc
