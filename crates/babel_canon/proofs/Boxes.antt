@@ -29,7 +29,7 @@ use Rattle.babel_tlv.specs.Group.{pair_family}
 use Rattle.babel_tlv.specs.News.{spoken, pair_event}
 use Rattle.babel_tlv.proofs.OrderLaws.{held_exact}
 use Rattle.babel_table.specs.Rows.{IsRising, entries_of}
-use Rattle.babel_table.proofs.KeyOrder.{address_total}
+use Rattle.babel_prefix.specs.TotalOrder.{address_total}
 use Rattle.babel_table.proofs.RowsLaws.{rows-one}
 use Rattle.babel_canon.specs.Grids.{pair_at}
 use Rattle.babel_canon.specs.Boxes.{AnswerTheSame, AreBoxes, BoxesAnswer, BoxesTellApart}

@@ -30,7 +30,7 @@ use Rattle.babel_tlv.specs.declared.held.Held.TheVariants as helds
 use Rattle.babel_tlv.specs.Route.{RouteKey, key_cmp}
 use Rattle.babel_tlv.specs.Pair.{Pair, FitsKey, IsPair}
 use Rattle.babel_table.specs.Rows.{AreRows, entries_of}
-use Rattle.babel_table.proofs.KeyOrder.{key_total}
+use Rattle.babel_tlv.proofs.OrderLaws.{key_total}
 use Rattle.babel_canon.specs.Boxes.{AreBoxes}
 use Rattle.babel_canon.specs.Grids.{pair_at, pair_of, both_families, AreFamilyBoxes}
 use Rattle.babel_canon.proofs.Boxes.{entry_of, pair-is, pair_of_row, all_in}

@@ -24,7 +24,7 @@ use Rattle.babel_tlv.specs.Pair.{Pair}
 use Rattle.babel_tlv.specs.News.{spoken, held_event, pair_event}
 use Rattle.babel_table.specs.Holds.{Names, Holds, HoldsMoreThan}
 use Rattle.babel_table.specs.Rows.{IsRising}
-use Rattle.babel_table.proofs.KeyOrder.{key_total}
+use Rattle.babel_tlv.proofs.OrderLaws.{key_total}
 use Rattle.babel_table.proofs.HoldsLaws.{same, same-is, same-of, next, stands, stands_from, Holds-stands, stands-Holds}
 use Rattle.babel_table.proofs.RowsLaws.{row_at}
 use Rattle.babel_canon.specs.RoundTrip.{HaveDistinctKeys, IsRoute, AreReadableIn}

@@ -29,7 +29,7 @@ address_exact a b e =
     let bits = exact_unsigned a.bits b.bits parts.1 in
     ap (λ f. record { family = f; bits = a.bits }) family ∙ ap (λ n. record { family = b.family; bits = n }) bits
 
-prefix_exact : (p q : AddressPrefix) → prefix_cmp p q ≡ Equal → p ≡ q
+pub prefix_exact : (p q : AddressPrefix) → prefix_cmp p q ≡ Equal → p ≡ q
 prefix_exact p q e =
     let parts = then_parts (address_cmp p.address q.address) (nat_cmp p.len q.len) e in
     let address = address_exact p.address q.address parts.0 in

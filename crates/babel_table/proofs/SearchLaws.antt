@@ -21,7 +21,9 @@ use Rattle.babel_tlv.specs.Pair.{Pair}
 use Rattle.babel_tlv.specs.Route.{RouteKey, key_cmp}
 use Rattle.babel_table.specs.Lookup.{StandsFor}
 use Rattle.babel_table.specs.Rows.{IsRising}
-use Rattle.babel_table.proofs.KeyOrder.{key_total, key_exact, prefix_total, prefix_exact}
+use Rattle.babel_prefix.specs.TotalOrder.{prefix_total}
+use Rattle.babel_prefix.proofs.OrderLaws.{prefix_exact}
+use Rattle.babel_tlv.proofs.OrderLaws.{key_total, key_exact}
 use Rattle.babel_table.proofs.EntryLaws.{rising_rows}
 
 not_less-reverse : (a b : Ordering) → a ≡ ordering_reverse b → (b ≡ Greater → ⊥) → is_lt a ≡ false

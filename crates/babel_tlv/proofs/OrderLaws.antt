@@ -27,7 +27,7 @@ abbrev key_of : AddressPrefix → AddressPrefix → RouteKey
 key_of dst src = record { dst = dst; src = src }
 
 -- keys that compare as equal are one
-key_exact : CmpEqualImpliesEq key_cmp
+pub key_exact : CmpEqualImpliesEq key_cmp
 key_exact a b e =
     let parts = then_parts (prefix_cmp a.dst b.dst) (prefix_cmp a.src b.src) e in
     ap (λ (p : AddressPrefix). key_of p a.src) ((prefix_equality a.dst b.dst).0 parts.0)
