@@ -12,10 +12,8 @@ ghost use Rattle.babel_prefix.specs.declared.family.Family.TheVariants.{V4};
 use babel_prefix::{Addr, Family};
 use babel_table::{Limits, Table, read_dump};
 use babel_tlv::{Held, Mode};
-use std::env;
-use std::fs;
-use std::io;
 use std::time::CpuClock;
+use std::{env, fs, io};
 
 fn main(rt: HostRuntime) -> io::Result<()> {
     let words: Vec<String> = env::args(&rt)?.collect(rt.alloc())?;

@@ -22,7 +22,10 @@ struct Prefix {
 impl Prefix {
     fn new(bits: u32, len: u32) -> Prefix {
         let host = u32::MAX.checked_shr(len).unwrap_or(0);
-        Prefix { bits: bits & !host, len }
+        Prefix {
+            bits: bits & !host,
+            len,
+        }
     }
 
     fn read(text: &str) -> Option<Prefix> {
@@ -45,7 +48,8 @@ type Row = ((Prefix, Prefix), Route);
 /// `DESTINATION from SOURCE via NEXTHOP id ROUTERID seqno N metric N`
 fn read_row(line: &str) -> Option<Row> {
     let words: Vec<&str> = line.split(' ').collect();
-    let [dst, "from", src, "via", next_hop, "id", id, "seqno", seqno, "metric", metric] = words[..] else {
+    let [dst, "from", src, "via", next_hop, "id", id, "seqno", seqno, "metric", metric] = words[..]
+    else {
         return None;
     };
     let route = Route {
@@ -78,7 +82,11 @@ fn main() -> std::io::Result<()> {
     let pairs = std::fs::read(pairs)?;
     let mut rows: Vec<Row> = text.lines().filter_map(read_row).collect();
     rows.sort_by_key(|row| row.0);
-    let address = |octets: &[u8]| octets.iter().fold(0, |bits, &octet| bits << 8 | u32::from(octet));
+    let address = |octets: &[u8]| {
+        octets
+            .iter()
+            .fold(0, |bits, &octet| bits << 8 | u32::from(octet))
+    };
     // SAFETY: clock takes nothing and only answers a number.
     let before = unsafe { clock() };
     let (mut found, mut metrics) = (0u64, 0u64);
