@@ -36,6 +36,7 @@ impl Model for LiveRows {
 }
 
 impl LiveRows {
+    /// No rows, of which there may be at most `entries`.
     pub fn new(alloc: Global, mode: Mode, entries: u32) -> LiveRows
         ensures { result ≡ record { mode = mode; entries = entries; wipes = 0; rows = [] } }
     {

@@ -29,6 +29,7 @@ impl Model for Pending {
 }
 
 impl Pending {
+    /// No octets; an error if there is no room for the longest packet.
     pub fn new(alloc: Global) -> Result<Pending, AllocError>
         ensures { IfOk result (λ pending. pending ≡ []) }
     {
@@ -36,12 +37,14 @@ impl Pending {
         Ok(Pending { octets })
     }
 
+    /// The octets so far.
     pub fn octets(&self) -> &[u8]
         ensures { result.now ≡ self.now }
     {
         &self.octets
     }
 
+    /// Drops the octets, and keeps the room.
     pub fn clear(&mut self)
         ensures { self.new ≡ [] }
     {

@@ -12,7 +12,9 @@ use babel_tlv::{Event, Fault, Frame, State, Tlvs, check_body, frame};
 /// The table so far. All was retracted at most as often as TLVs were seen.
 #[derive(Drop)]
 pub struct SoFar {
+    /// What is held for each key.
     pub rows: LiveRows,
+    /// What was seen of TLVs.
     pub report: Report,
     ghost counted: { rows.wipes ≤ report.tlvs },
 }

@@ -9,10 +9,13 @@ use babel_tlv::Fault;
 /// Packets end to end, as far as they were read.
 #[derive(Drop)]
 pub struct Stream {
+    /// Who sent the packets.
     pub sender: Addr,
+    /// What the whole packets gave.
     pub so_far: SoFar,
     /// The offset of the packet that isn't whole.
     pub at: u64,
+    /// Its octets so far.
     pub pending: Pending,
 }
 
