@@ -1,6 +1,6 @@
 #!/bin/sh
 # Refuses the Nth allocation of each test named refused_memory.., for N = 1, 2, .. until none of them meets a refusal.
-# Says for each N which tests answered Memory. Ends in 1 where an answer is neither the known one nor Memory.
+# Says for each N which tests answered Memory, or AllocError. Ends in 1 where an answer is neither that nor the known one.
 # With numbers behind the crate's name, only these N: tests/refused_memory.sh [CRATE [N..]]
 cd "$(dirname "$0")/.." || exit 2
 
@@ -17,7 +17,7 @@ refuse() {
             if (open && $NF == "ok") judge("known")
             next
         }
-        open { judge(/memory was refused, and Memory answered/ ? "memory" : "other") }
+        open { judge(/memory was refused, and Memory answered|error: AllocError/ ? "memory" : "other") }
         END {
             if (open) judge("other")
             printf "%s %d: %d known;", crate, n, count["known"]
@@ -29,7 +29,7 @@ refuse() {
 }
 
 status=0
-crates=${1:-babel_table babel_dump}
+crates=${1:-babel_table babel_trie babel_dump}
 [ $# -gt 0 ] && shift
 for crate in $crates; do
     if [ $# -gt 0 ]; then

@@ -1,5 +1,6 @@
 -- Rows laid over the sources inherited from outside, destination by destination.
-use Rattle.std.proofs.Common.{◌≡◌, inl, inr, ℕ, ◌+◌, ◌-◌, ◌*◌, ◌^◌, ◌<◌, ◌≤◌, List, [], ◌∷◌, ◌++◌, Option, map, cond, refl, sym, ◌∙◌, ap, subst, arith}
+use Rattle.std.proofs.Common.{◌≡◌, append-nil, inl, inr, ℕ, ◌+◌, ◌-◌, ◌*◌, ◌^◌, ◌<◌, ◌≤◌, List, [], ◌∷◌, ◌++◌, Option, map, cond, refl, sym, ◌∙◌, ap, subst, arith}
+use Rattle.std.proofs.lemmas.List.{map-append}
 use Rattle.std.proofs.lemmas.Bool.{cases_lt, cases_Bool}
 use Rattle.std.proofs.lemmas.Nat.{pow_pos}
 use Rattle.babel_prefix.specs.Block.{BlockCovers}
@@ -92,7 +93,7 @@ module _ {V : Type 0} where
       IsPlace w bits start → InBlock (side_block Destination) w bits start rows → rows ≡ own ++ rest → rest ≡ [] → ((x : Entry V) → Listed own x → (block_of x.0).len ≡ w - bits) →
       (laid : IsOverlaid w w 0 (map row_of own) sources x.0 old) → height old ≤ w → IsReduced old → Represents nodes n (leaf x) → IsBuilt w bits start (map row_of rows) sources nodes n old
   built_leaf w bits start rows own rest sources nodes x n old place rows_in whole none lens laid fits reduced at =
-      let all : own ≡ rows = sym (whole ∙ ap (λ r. own ++ r) none ∙ append_nil own) in
+      let all : own ≡ rows = sym (whole ∙ ap (λ r. own ++ r) none ∙ append-nil own) in
       record {
         new = leaf x;
         stands = at;
@@ -105,10 +106,6 @@ module _ {V : Type 0} where
             (subst (λ u. Overlays w (map row_of own) (start + a) s (value_at old w s) (value_at u w s)) is
             (own_overlays w bits start rows own rest sources x.0 old place rows_in whole lens laid a s a_in s_in));
       }
-    where
-      append_nil : (xs : List (Entry V)) → xs ++ [] ≡ xs
-      append_nil [] = refl
-      append_nil (x ∷ xs) = ap (λ ys. x ∷ ys) (append_nil xs)
 
   -- the halves, each with its rows, are joined
   pub built_joined : (w bits start : ℕ) (rows own low high : List (Entry V)) → Parts (side_block Destination) w bits start rows own low high →
@@ -126,7 +123,7 @@ module _ {V : Type 0} where
       let low_each : (b a : ℕ) → HasTrie w sources3 (value_at in_low.new b a).0 = λ b a. HasTrie-grows w sources2 sources3 keeps (value_at in_low.new b a).0 (in_low.each_stands b a) in
       let no_longer : (x y : Row V) → Listed (map row_of own) x → Listed (map row_of low ++ map row_of high) y → IsNoLonger x y = λ x y t u.
       let fx = from_map row_of own x t in
-      let fy = from_map row_of (low ++ high) y (subst (λ r. Listed r y) (sym (map_append low high)) u) in
+      let fy = from_map row_of (low ++ high) y (subst (λ r. Listed r y) (sym (map-append row_of low high)) u) in
       let x_len : (block_of fx.0.0).len ≡ w - bits = p.own_len fx.0 fx.1 in
       let y_len : w - bits < (block_of fy.0.0).len = p.longer fy.0 fy.1 in
       let here : IsNoLonger (row_of fx.0) (row_of fy.0) = inl (omega arith) in
@@ -167,7 +164,3 @@ module _ {V : Type 0} where
                   no_longer first second
             ];
       }
-    where
-      map_append : (xs ys : List (Entry V)) → map row_of (xs ++ ys) ≡ map row_of xs ++ map row_of ys
-      map_append [] ys = refl
-      map_append (x ∷ xs) ys = ap (λ r. row_of x ∷ r) (map_append xs ys)

@@ -1,5 +1,6 @@
 -- Rows of one destination, laid over a trie of sources.
-use Rattle.std.proofs.Common.{◌≡◌, ◌⊎◌, inl, inr, ℕ, ◌+◌, ◌-◌, ◌*◌, ◌^◌, ◌<◌, ◌≤◌, List, [], ◌∷◌, ◌++◌, Option, Some, map, refl, sym, ◌∙◌, ap, subst, arith}
+use Rattle.std.proofs.Common.{◌≡◌, append-nil, ◌⊎◌, inl, inr, ℕ, ◌+◌, ◌-◌, ◌*◌, ◌^◌, ◌<◌, ◌≤◌, List, [], ◌++◌, Option, Some, map, sym, ◌∙◌, ap, subst, arith}
+use Rattle.std.proofs.lemmas.List.{map-append}
 use Rattle.std.proofs.lemmas.Bool.{cases_lt}
 use Rattle.babel_prefix.specs.Block.{Block, BlockCovers}
 use Rattle.babel_prefix.specs.Address.{block_of}
@@ -60,7 +61,7 @@ module _ {V : Type 0} where
   pub overlaid_set : (w bits start : ℕ) (rows own rest : List (Entry V)) (nodes : List (Node (Option V))) (n : ℕ) (old : Shape (Option V)) → IsPlace w bits start → InBlock (side_block Source) w bits start rows →
       HasOneDestination rows → rows ≡ own ++ rest → rest ≡ [] → ((x : Entry V) → Listed own x → (block_of x.1).len ≡ w - bits) → IsSet own nodes n old → IsOverlaid w bits start (map row_of rows) nodes n old
   overlaid_set w bits start rows own rest nodes n old place rows_in one whole none lens set =
-      let all : rows ≡ own = whole ∙ ap (λ r. own ++ r) none ∙ append_nil own in
+      let all : rows ≡ own = whole ∙ ap (λ r. own ++ r) none ∙ append-nil own in
       let own_in : InBlock (side_block Source) w bits start own = subst (InBlock (side_block Source) w bits start) all rows_in in
       subst (λ (r : List (Entry V)). IsOverlaid w bits start (map row_of r) nodes n old) (sym all) (record {
         new = set.new;
@@ -70,10 +71,6 @@ module _ {V : Type 0} where
         values = set_overlays w bits start own old set.new set.is (subst HasOneDestination all one) lens
             (λ x t a a_in. whole_covers w bits start (block_of x.1) place (own_in.from_start x t) (own_in.before_end x t) (lens x t) a a_in);
       })
-    where
-      append_nil : (xs : List (Entry V)) → xs ++ [] ≡ xs
-      append_nil [] = refl
-      append_nil (x ∷ xs) = ap (λ ys. x ∷ ys) (append_nil xs)
 
   -- the halves, with their rows laid over them, are joined
   pub overlaid_joined : (w bits start : ℕ) (rows own low high : List (Entry V)) → Parts (side_block Source) w bits start rows own low high → HasOneDestination rows →
@@ -96,7 +93,7 @@ module _ {V : Type 0} where
       one x y (subst (λ r. Listed r x) (sym p.whole) (Listed-append_left own (low ++ high) x t)) (subst (λ r. Listed r y) (sym p.whole) (Listed-append_left own (low ++ high) y u)) in
       let no_longer : (x y : Row V) → Listed (map row_of own) x → Listed (map row_of low ++ map row_of high) y → IsNoLonger x y = λ x y t u.
       let fx = from_map row_of own x t in
-      let fy = from_map row_of (low ++ high) y (subst (λ r. Listed r y) (sym (map_append low high)) u) in
+      let fy = from_map row_of (low ++ high) y (subst (λ r. Listed r y) (sym (map-append row_of low high)) u) in
       let same : (block_of fx.0.0) ≡ (block_of fy.0.0) = one fx.0 fy.0 (subst (λ r. Listed r fx.0) (sym p.whole) (Listed-append_left own (low ++ high) fx.0 fx.1)) (subst (λ r. Listed r fy.0) (sym p.whole) (Listed-append_right own (low ++ high) fy.0 fy.1)) in
       let x_len : (block_of fx.0.1).len ≡ w - bits = p.own_len fx.0 fx.1 in
       let y_len : w - bits < (block_of fy.0.1).len = p.longer fy.0 fy.1 in
@@ -143,10 +140,6 @@ module _ {V : Type 0} where
                   no_longer first second
             ];
       }
-    where
-      map_append : (xs ys : List (Entry V)) → map row_of (xs ++ ys) ≡ map row_of xs ++ map row_of ys
-      map_append [] ys = refl
-      map_append (x ∷ xs) ys = ap (λ r. row_of x ∷ r) (map_append xs ys)
 
   -- the halves of what is set
   pub halved_tries : (bits : ℕ) (own : List (Entry V)) (nodes : List (Node (Option V))) (n l h : ℕ) (old : Shape (Option V)) → (set : IsSet own nodes n old) → height old ≤ bits → IsReduced old → 0 < bits →

@@ -1,5 +1,6 @@
 -- Tries as numbers of a table of nodes: this project's own.
-use Rattle.std.specs.Prelude.{◌≡◌, ◌↔◌, ℕ, ◌+◌, ◌-◌, ◌≤◌, max, List, Some, slice_get}
+use Rattle.std.specs.Prelude.{◌≡◌, ◌↔◌, ℕ, ◌+◌, ◌-◌, ◌≤◌, max, Bool, true, false, ◌&&◌, ◌==◌, List, Option, Some, None}
+use Rattle.std.specs.Prelude.{slice_get}
 use Rattle.babel_trie.specs.Shape.{Shape, leaf, fork, height, HasHalves, IsReduced}
 use Rattle.babel_trie.specs.declared.table.Node.{Node}
 use Rattle.babel_trie.specs.declared.table.Node.TheVariants.{Leaf, Fork}
@@ -12,6 +13,15 @@ module _ {V : Type 0} where
   Represents nodes n (fork low high) =
       (l : NodeNumber) × (h : NodeNumber) × (slice_get nodes n ≡ Some (Fork l h)) × Represents nodes l.0 low
       × Represents nodes h.0 high
+
+  -- whether both numbers are that of one leaf
+  abbrev pub is_leaf : Option (Node V) → Bool
+  is_leaf None = false
+  is_leaf (Some (Leaf v)) = true
+  is_leaf (Some (Fork low high)) = false
+
+  abbrev pub is_leaf_twice : List (Node V) → ℕ → ℕ → Bool
+  is_leaf_twice nodes low high = is_leaf (slice_get nodes low) && (low == high)
 
   -- no node stands twice
   abbrev pub HasDistinctNodes : List (Node V) → Type 0

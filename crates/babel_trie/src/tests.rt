@@ -1,12 +1,39 @@
 //! Tables with known boxes, and random ones against the definition.
+ghost use Rattle.std.specs.Prelude.{◌≡◌};
+
 mod random;
+mod refused_memory;
 mod rows;
 
+use crate::Grid;
 use crate::tests::rows::{Line, Rows, answer, last, wanted_at};
 use babel_prefix::Family;
 use std::alloc::Global;
 use std::process::Abort;
 use std::test::Fail;
+
+/// Lookups at the corners of each block and beside them give the best row's value.
+fn check_lookups(rt: &impl Abort, grid: &Grid<u32>, family: Family, lines: &[Line], blocks: &[Line])
+    requires { grid.now.family ≡ family }
+{
+    let width = family.width();
+    let greatest = last(0, 0, width);
+    for line in blocks {
+        let (dst, src) = (line.0, line.2);
+        let (dst_last, src_last) = (last(dst, line.1, width), last(src, line.3, width));
+        for dst in [dst.wrapping_sub(1), dst, dst_last, dst_last.wrapping_add(1)] {
+            for src in [src.wrapping_sub(1), src, src_last, src_last.wrapping_add(1)] {
+                if greatest >= dst && greatest >= src {
+                    assert_eq!(rt;
+                        answer(grid, family, dst, src),
+                        wanted_at(lines, width, dst, src),
+                        "{dst:x} from {src:x}"
+                    );
+                }
+            }
+        }
+    }
+}
 
 /// The boxes of these rows are these, and lookups inside and beside each give the best row's value.
 fn check(
@@ -34,28 +61,8 @@ fn check(
                 );
             }
         }
-        for dst in [
-            line.0.wrapping_sub(1),
-            line.0,
-            dst_last,
-            dst_last.wrapping_add(1),
-        ] {
-            for src in [
-                line.2.wrapping_sub(1),
-                line.2,
-                src_last,
-                src_last.wrapping_add(1),
-            ] {
-                if last(0, 0, width) >= dst && last(0, 0, width) >= src {
-                    assert_eq!(rt;
-                        answer(&grid, family, dst, src),
-                        wanted_at(lines, width, dst, src),
-                        "{dst:x} from {src:x}"
-                    );
-                }
-            }
-        }
     }
+    check_lookups(rt, &grid, family, lines, boxes);
     Ok(())
 }
 
@@ -174,16 +181,27 @@ fn on_past_the_longest_destination(rt: HostRuntime) -> Result<(), Fail> {
 #[test]
 fn counts(rt: HostRuntime) -> Result<(), Fail> {
     let upper = (10 << 24) + (1 << 23);
+    let host = 0x20010db8000000000000000000000001;
+    let one_address = [(0, 0, 0, 0, 1), (host, 128, 0, 0, 2)];
+    let past_the_longest = [(0xc0000200, 24, 0xac100000, 12, 3), (0, 0, 10 << 24, 8, 1)];
     let one_source = [
         (10 << 24, 9, 0, 0, 1),
         (upper, 9, 0, 0, 1),
         (upper, 9, 0xc0000201, 32, 2),
     ];
     let inside = [(10 << 24, 8, 0, 0, 2), (0x0a010200, 24, 0, 0, 1)];
-    for (lines, count) in [(&one_source[..], 34), (&inside[..], 17)] {
-        let grid = Rows::of(rt.alloc(), Family::V4, lines)?.grid(rt.alloc())?;
+    for (family, lines, count) in [
+        (Family::V6, &one_address[..], 129),
+        (Family::V4, &past_the_longest[..], 26),
+        (Family::V4, &one_source[..], 34),
+        (Family::V4, &inside[..], 17),
+    ] {
+        let grid = Rows::of(rt.alloc(), family, lines)?.grid(rt.alloc())?;
         assert_eq!(rt; grid.count(), count);
-        assert_eq!(rt; grid.pairs(rt.alloc())?.len() as u64, count);
+        let pairs = Rows::lines(rt.alloc(), &grid.pairs(rt.alloc())?)?;
+        assert_eq!(rt; pairs.len() as u64, count);
+        check_lookups(&rt, &grid, family, lines, lines);
+        check_lookups(&rt, &grid, family, lines, &pairs);
     }
     Ok(())
 }

@@ -2,6 +2,7 @@
 use crate::tests::rows::{Line, Rows, last, wanted_at};
 use babel_prefix::Family;
 use std::alloc::{AllocError, Global};
+use std::process::Abort;
 use std::test::Fail;
 
 /// A linear congruential generator.
@@ -48,14 +49,31 @@ impl Random {
     }
 }
 
-fn is_uniform(lines: &[Line], start: u128, len: u8) -> bool {
-    (start..=last(start, len, 32)).all(|dst| (0..16).all(|src| wanted_at(lines, 32, dst, src)
-        == wanted_at(lines, 32, start, src)))
+/// What sixteen destinations are answered for sixteen sources.
+type Answers = [[Option<u32>; 16]; 16];
+
+fn answers(lines: &[Line]) -> Answers {
+    let mut answers = [[None; 16]; 16];
+    for (dst, row) in answers.iter_mut().enumerate() {
+        for (src, answer) in row.iter_mut().enumerate() {
+            *answer = wanted_at(lines, 32, dst as u128, src as u128);
+        }
+    }
+    answers
 }
 
-fn is_constant(lines: &[Line], dst: u128, start: u128, len: u8) -> bool {
-    (start..=last(start, len, 32)).all(|src| wanted_at(lines, 32, dst, src)
-        == wanted_at(lines, 32, dst, start))
+fn at(answers: &Answers, dst: u128, src: u128) -> Option<u32> {
+    let row = answers.get(usize::try_from(dst).ok()?)?;
+    *row.get(usize::try_from(src).ok()?)?
+}
+
+fn is_uniform(answers: &Answers, start: u128, len: u8) -> bool {
+    (start..=last(start, len, 32)).all(|dst| (0..16).all(|src| at(answers, dst, src)
+        == at(answers, start, src)))
+}
+
+fn is_constant(answers: &Answers, dst: u128, start: u128, len: u8) -> bool {
+    (start..=last(start, len, 32)).all(|src| at(answers, dst, src) == at(answers, dst, start))
 }
 
 /// The prefixes of the first eight addresses, in order of their addresses.
@@ -90,15 +108,16 @@ fn parent(prefix: (u128, u8)) -> (u128, u8) {
 /// The boxes of rows that lie in the first eight addresses, by their definition.
 fn boxes(alloc: Global, lines: &[Line]) -> Result<Vec<Line>, AllocError> {
     let mut boxes = Vec::new(alloc);
+    let answers = answers(lines);
     for dst in PREFIXES {
         let wide = parent(dst);
-        if is_uniform(lines, dst.0, dst.1) && !is_uniform(lines, wide.0, wide.1) {
+        if is_uniform(&answers, dst.0, dst.1) && !is_uniform(&answers, wide.0, wide.1) {
             for src in PREFIXES {
                 let wide = parent(src);
-                if is_constant(lines, dst.0, src.0, src.1)
-                    && !is_constant(lines, dst.0, wide.0, wide.1)
+                if is_constant(&answers, dst.0, src.0, src.1)
+                    && !is_constant(&answers, dst.0, wide.0, wide.1)
                 {
-                    if let Some(value) = wanted_at(lines, 32, dst.0, src.0) {
+                    if let Some(value) = at(&answers, dst.0, src.0) {
                         boxes.push((dst.0, dst.1, src.0, src.1, value))?;
                     }
                 }
@@ -120,18 +139,51 @@ fn least_difference(lines: &[Line], others: &[Line]) -> Option<(u128, u128)> {
     None
 }
 
-#[test]
-fn boxes_by_definition(rt: HostRuntime) -> Result<(), Fail> {
-    let mut random = Random { state: 1 };
-    for _ in 0..400 {
-        let lines = random.lines(rt.alloc())?;
-        let grid = Rows::of(rt.alloc(), Family::V4, &lines)?.grid(rt.alloc())?;
-        let pairs = Rows::lines(rt.alloc(), &grid.pairs(rt.alloc())?)?;
-        let wanted = boxes(rt.alloc(), &lines)?;
+/// The same rows with longer prefixes, at the lowest addresses of IPv6.
+fn among_v6(alloc: Global, lines: &[Line]) -> Result<Vec<Line>, AllocError> {
+    lines
+        .iter()
+        .map(|line| (
+            line.0,
+            line.1.wrapping_add(96),
+            line.2,
+            line.3.wrapping_add(96),
+            line.4,
+        ))
+        .collect(alloc)
+}
+
+/// The pairs of a thousand lists of rows are the boxes by definition.
+fn check_boxes(rt: &impl Abort, alloc: Global, family: Family, seed: u64) -> Result<(), Fail> {
+    let mut random = Random { state: seed };
+    for _ in 0..1000 {
+        let mut lines = random.lines(alloc)?;
+        let mut wanted = boxes(alloc, &lines)?;
+        if family == Family::V6 {
+            lines = among_v6(alloc, &lines)?;
+            wanted = among_v6(alloc, &wanted)?;
+        }
+        let grid = Rows::of(alloc, family, &lines)?.grid(alloc)?;
+        let pairs = Rows::lines(alloc, &grid.pairs(alloc)?)?;
         assert_eq!(rt; pairs.as_slice(), wanted.as_slice());
         assert_eq!(rt; grid.count(), wanted.len() as u64);
     }
     Ok(())
+}
+
+#[test]
+fn boxes_by_definition(rt: HostRuntime) -> Result<(), Fail> {
+    check_boxes(&rt, rt.alloc(), Family::V4, 1)
+}
+
+#[test]
+fn more_boxes_by_definition(rt: HostRuntime) -> Result<(), Fail> {
+    check_boxes(&rt, rt.alloc(), Family::V4, 3)
+}
+
+#[test]
+fn boxes_of_ipv6_by_definition(rt: HostRuntime) -> Result<(), Fail> {
+    check_boxes(&rt, rt.alloc(), Family::V6, 4)
 }
 
 #[test]

@@ -62,17 +62,20 @@ impl Rows {
         Grid::of(alloc, self.family, &self.rows)
     }
 
+    /// A pair as numbers.
+    pub fn line(row: &Row<u32>) -> Line {
+        (
+            row.0.addr().bits(),
+            row.0.len(),
+            row.1.addr().bits(),
+            row.1.len(),
+            row.2,
+        )
+    }
+
     /// Pairs as numbers.
     pub fn lines(alloc: Global, rows: &[Row<u32>]) -> Result<Vec<Line>, AllocError> {
-        rows.iter()
-            .map(|row| (
-                row.0.addr().bits(),
-                row.0.len(),
-                row.1.addr().bits(),
-                row.1.len(),
-                row.2,
-            ))
-            .collect(alloc)
+        rows.iter().map(|row| Rows::line(row)).collect(alloc)
     }
 }
 
