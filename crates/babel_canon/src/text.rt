@@ -5,13 +5,8 @@ ghost use Rattle.babel_tlv.specs.Group.{IsText};
 ghost use Rattle.babel_canon.specs.Packing.{PutsPacket, HasLength};
 
 use crate::body::Body;
-use babel_tlv::{Held, Key, Writing, put_group};
+use babel_tlv::{Held, Key, MAGIC, VERSION, Writing, put_group};
 use std::alloc::{AllocError, Global};
-
-/// The first two octets of a packet: RFC 8966, 4.2.
-const MAGIC: u8 = 42;
-
-const VERSION: u8 = 2;
 
 /// Writes the length of a body into the header at `at`.
 fn set_body_len(text: &mut Vec<u8>, at: usize, len: u16)
