@@ -1,6 +1,6 @@
 -- The counts of sayings and one more.
 use Rattle.std.proofs.Common.{◌≡◌, ℕ, zero, suc, ◌+◌, ◌≤◌, ◌<◌, subst, get_or, Bool, true, false, cond, List, [], ◌∷◌, ◌++◌, length, map, Option, Some, None, refl, sym, ap, ◌∙◌, arith}
-use Rattle.std.specs.Prelude.{Result, Ok, Err, count_by, ◌==◌, slice_set, IfSome}
+use Rattle.std.specs.Prelude.{Ok, count_by, slice_set, IfSome}
 use Rattle.std.specs.List.{find}
 use Rattle.std.specs.Option.{option_map, option_or, option_flatten}
 use Rattle.std.proofs.lemmas.List.Folds.{find-append}
@@ -8,11 +8,10 @@ use Rattle.std.proofs.lemmas.List.Sums.{sum_by-append}
 use Rattle.std.proofs.lemmas.List.{length-append}
 use Rattle.babel_tlv.specs.declared.event.Event.{Event}
 use Rattle.babel_tlv.specs.declared.event.Event.TheVariants as events
-use Rattle.babel_tlv.specs.declared.fault.Fault.{Fault}
 use Rattle.babel_tlv.specs.declared.reason.Reason.{Reason}
 use Rattle.babel_tlv.specs.declared.reason.Reason.TheVariants as reasons
 use Rattle.babel_tlv.specs.Says.{Saying}
-use Rattle.babel_table.specs.Counts.{Counts, reason_place, all_reasons, is_ignored_for, ignored_in, counts_of, count_at, one_more, ignored_with, counted_with}
+use Rattle.babel_table.specs.Counts.{Counts, all_reasons, is_ignored_for, ignored_in, counts_of, count_at, one_more, ignored_with, counted_with}
 
 abbrev Count : Type 0
 Count = Option (ℕ × ℕ)

@@ -1,5 +1,5 @@
 -- What was taken of a dump, and which fault it has.
-use Rattle.std.proofs.Common.{◌≡◌, ◌≢◌, ℕ, ◌+◌, ◌-◌, ◌<◌, ◌≤◌, Bool, true, false, List, [], ◌∷◌, ◌++◌, length, take, drop, Option, Some, None, refl, sym, ap, subst, ◌∙◌, append_assoc, inl, inr, arith}
+use Rattle.std.proofs.Common.{◌≡◌, ◌≢◌, ℕ, ◌+◌, ◌≤◌, true, false, List, [], ◌∷◌, ◌++◌, length, refl, sym, ap, subst, ◌∙◌, append_assoc, inl, inr, arith}
 use Rattle.std.specs.Prelude.{◌⊎◌, slice_index, Result, Ok, Err, OnOk, IfErr, ◌==◌}
 use Rattle.std.specs.List.{flat_map, Contains}
 use Rattle.std.proofs.lemmas.Bool.{eqb-true, false≢true}
@@ -11,10 +11,10 @@ use Rattle.babel_tlv.specs.declared.event.Event.{Event}
 use Rattle.babel_tlv.specs.declared.fault.Fault.{Fault}
 use Rattle.babel_tlv.specs.declared.fault.Fault.TheVariants as faults
 use Rattle.babel_tlv.specs.declared.mode.Mode.{Mode}
-use Rattle.babel_tlv.specs.Framing.{TlvAt, ArePackets, ArePlaced, IsBody, TlvPastEndAt, HasNoTlvAt, BeginsPacket, HasHeader, HeaderFault, PacketFault, ReadsAs, Parts, body_octets, body_len, framed, packet_octets, tlvs_of}
+use Rattle.babel_tlv.specs.Framing.{TlvAt, ArePackets, ArePlaced, IsBody, TlvPastEndAt, HasNoTlvAt, BeginsPacket, HasHeader, HeaderFault, PacketFault, ReadsAs, body_octets, body_len, framed, packet_octets, tlvs_of}
 use Rattle.babel_tlv.specs.Says.{Saying, sayings, sayings_behind}
 use Rattle.babel_table.specs.DumpFault.{AreFine, RefusedBy, StreamFault, IsTruncated}
-use Rattle.babel_table.specs.Feeding.{StandsBehind, Takes, Fails, SomeMayGrow, TookPackets, StopsAt, StopsBehind, IsPartial, IsReady, IsLasting, NeedsMemory}
+use Rattle.babel_table.specs.Feeding.{StandsBehind, Takes, Fails, TookPackets, StopsAt, StopsBehind, IsPartial, IsReady, IsLasting, NeedsMemory}
 use Rattle.babel_table.specs.Rows.{Routes}
 use Rattle.babel_table.proofs.FineLaws.{fine-not-refused}
 use Rattle.babel_table.proofs.ReadingLaws.{body_len-framed, length-framed, partial-no_packet, one_body, placed-no_stop, packets_one}

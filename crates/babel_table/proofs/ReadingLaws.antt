@@ -1,11 +1,9 @@
 -- Octets are read as whole packets, and less than another, in one way.
-use Rattle.std.proofs.Common.{◌≡◌, ◌≢◌, ℕ, zero, suc, ◌+◌, ◌-◌, ◌*◌, ◌/◌, ◌%◌, ◌<◌, ◌≤◌, true, List, [], ◌∷◌, ◌++◌, length, take, drop, refl, sym, ap, subst, ◌∙◌, append_assoc, inl, inr, arith}
-use Rattle.std.specs.Prelude.{◌⊎◌, slice_index}
+use Rattle.std.proofs.Common.{◌≡◌, ℕ, zero, suc, ◌+◌, List, [], ◌∷◌, ◌++◌, length, take, drop, refl, sym, ap, subst, ◌∙◌, append_assoc, inl, inr, arith}
 use Rattle.std.specs.List.{flat_map}
 use Rattle.std.proofs.lemmas.Bool.{lt-ltb}
 use Rattle.std.proofs.lemmas.List.{append-nil, append_cancel_left, length-append, take_at, drop_at}
-use Rattle.std.proofs.lemmas.List.Concat.{flat_map-append}
-use Rattle.babel_tlv.specs.Framing.{TlvAt, ArePlaced, ArePackets, Parts, BeginsNoTlv, HasNoTlvAt, BeginsPacket, IsBody, LacksBody, HasHeader, ReadsAs, body_len, body_octets, framed, packet_octets, tlv_octets, tlvs_of}
+use Rattle.babel_tlv.specs.Framing.{TlvAt, ArePlaced, ArePackets, Parts, BeginsNoTlv, HasNoTlvAt, BeginsPacket, IsBody, body_len, body_octets, framed, packet_octets, tlv_octets, tlvs_of}
 use Rattle.babel_tlv.proofs.Reading.{tlvs_of-append, tlvs_of-Parts}
 use Rattle.babel_table.specs.Feeding.{IsPartial}
 

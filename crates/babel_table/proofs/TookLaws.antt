@@ -1,21 +1,19 @@
 -- TLVs of a packet, taken one by one.
-use Rattle.std.proofs.Common.{◌≡◌, ℕ, zero, suc, ◌+◌, ◌<◌, ◌≤◌, ltb, Bool, true, false, cond, take, List, [], ◌∷◌, ◌++◌, length, refl, sym, ap, subst, ◌∙◌, append_assoc, inl, inr, arith}
-use Rattle.std.specs.Prelude.{Result, Ok, Err, OnOk, IfErr, ◌⊎◌, ◌==◌, nat_lt, nat_le}
+use Rattle.std.proofs.Common.{◌≡◌, ℕ, zero, suc, ◌+◌, ◌≤◌, ltb, Bool, true, false, cond, take, List, [], ◌∷◌, ◌++◌, length, refl, sym, ap, subst, ◌∙◌, append_assoc, inl, inr, arith}
+use Rattle.std.specs.Prelude.{Result, Ok, Err, IfErr, ◌==◌, nat_lt, nat_le}
 use Rattle.std.specs.List.{Contains}
 use Rattle.std.proofs.lemmas.List.{append-nil}
-use Rattle.std.proofs.lemmas.List.Elements.{Contains-append_left, Contains-append_right}
+use Rattle.std.proofs.lemmas.List.Elements.{Contains-append_right}
 use Rattle.babel_prefix.specs.Address.{Address}
 use Rattle.babel_tlv.specs.declared.event.Event.{Event}
 use Rattle.babel_tlv.specs.declared.fault.Fault.{Fault}
-use Rattle.babel_tlv.specs.declared.fault.Fault.TheVariants as faults
 use Rattle.babel_tlv.specs.declared.mode.Mode.{Mode}
 use Rattle.babel_tlv.specs.Framing.{TlvAt, tlvs_past, tlvs_of}
 use Rattle.babel_tlv.specs.Forming.{update_encoding, sets_router_id}
 use Rattle.babel_tlv.specs.Context.{Context, context_after}
 use Rattle.babel_tlv.specs.Says.{Saying, said, update_said, sayings_behind}
 use Rattle.babel_table.specs.DumpFault.{Refuses, RefusedBy}
-use Rattle.babel_table.specs.Feeding.{StandsBehind, Takes, Fails, TookSome, SomeMayGrow, MayGrow, MayGrowAt, IsRefused, IsLasting, event_at}
-use Rattle.babel_table.specs.Holds.{HoldsMoreThan}
+use Rattle.babel_table.specs.Feeding.{StandsBehind, Takes, Fails, TookSome, MayGrowAt, IsRefused, IsLasting, event_at}
 use Rattle.babel_table.specs.Rows.{Routes}
 use Rattle.babel_table.proofs.FineLaws.{refused_by}
 

@@ -18,7 +18,7 @@ use Rattle.babel_table.specs.Bounds.{Bounds}
 use Rattle.babel_table.specs.Counts.{Counts, counts_of}
 use Rattle.babel_table.specs.Holds.{AreRowsOf, HoldsMoreThan}
 use Rattle.babel_table.specs.Rows.{Routes}
-use Rattle.babel_table.specs.DumpFault.{AreFine, RefusedBy, DumpFault, IsTruncated}
+use Rattle.babel_table.specs.DumpFault.{AreFine, RefusedBy, DumpFault}
 
 -- ---- the table so far
 

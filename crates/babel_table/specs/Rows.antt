@@ -1,6 +1,6 @@
 -- The rows of a table, by destination and source prefix: the route table of RFC 8966, 3.2.6, and RFC 9079, 3.2, of one
 -- neighbour. Their order is this project's own.
-use Rattle.std.specs.Prelude.{◌≡◌, List, map}
+use Rattle.std.specs.Prelude.{List, map}
 use Rattle.std.specs.List.{AllByRecursion}
 use Rattle.std.specs.List.Sorted.{IsStrictlySortedBy}
 use Rattle.std.specs.Map.{keys_of}

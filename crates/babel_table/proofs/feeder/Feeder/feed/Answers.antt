@@ -1,7 +1,7 @@
-use Rattle.std.proofs.Common.{◌≡◌, ◌≢◌, ◌≤◌, ◌+◌, ◌++◌, ℕ, List, [], Some, None, length, arith, refl, sym, ap, subst, ◌∙◌}
+use Rattle.std.proofs.Common.{◌≡◌, ◌≢◌, ◌++◌, ℕ, List, Some, arith, refl, sym, ap, subst, ◌∙◌}
 use Rattle.babel_tlv.specs.declared.fault.Fault.TheVariants as faults
 use Rattle.babel_table.specs.DumpFault.{DumpFault, MayGoOn}
-use Rattle.babel_table.specs.Feeding.{Progress, HasRead, NeedsMemory, TookPackets, StopsWithin, routes}
+use Rattle.babel_table.specs.Feeding.{Progress, HasRead, NeedsMemory, TookPackets}
 use Rattle.babel_table.specs.contracts.feeder.Feeder.{the_view}
 use Rattle.babel_table.proofs.FeedLaws.{stays-read, stays-failed, failed-fault, failed-memory, taken-next, taken-read, failed-next, stops-failed, stops-within, may_go_on-next}
 use Rattle.babel_table.proofs.feeder.Feeder.feed.Goals as goal

@@ -1,4 +1,4 @@
-use Rattle.std.proofs.Common.{◌≡◌, refl, ap}
+use Rattle.std.proofs.Common.{refl, ap}
 use Rattle.babel_table.specs.Live.{Live}
 use Rattle.babel_table.proofs.FeedLaws.{taken-none}
 use Rattle.babel_table.proofs.feeder.Feeder.new.Goals as goal

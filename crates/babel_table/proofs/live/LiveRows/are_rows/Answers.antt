@@ -1,4 +1,3 @@
-use Rattle.std.proofs.Common.{arith}
 use Rattle.babel_table.proofs.LiveLaws.{pairs-live_rows, rising-live_rows}
 use Rattle.babel_table.proofs.live.LiveRows.are_rows.Goals as goal
 

@@ -1,9 +1,8 @@
-use Rattle.std.proofs.Common.{rules, ◌≡◌, ◌≤◌, ◌<◌, ◌+◌, ◌∷◌, [], ℕ, List, map, length, arith, refl, sym, ap, subst, ◌∙◌}
-use Rattle.babel_tlv.specs.Framing.{TlvAt, tlvs_of}
+use Rattle.std.proofs.Common.{◌≡◌, ◌≤◌, ◌∷◌, length, arith, refl, ap, ◌∙◌}
+use Rattle.babel_tlv.specs.Framing.{tlvs_of}
 use Rattle.babel_tlv.specs.Frames.{tlv_value}
-use Rattle.babel_tlv.specs.Context.{Context, context_after}
 use Rattle.babel_tlv.specs.Left.{tlvs_left}
-use Rattle.babel_table.specs.Feeding.{TookSome, routes}
+use Rattle.babel_table.specs.Feeding.{routes}
 use Rattle.babel_table.proofs.TookLaws.{took-start, body-next, body-refused, body-failed, length-tlvs_of}
 use Rattle.babel_table.proofs.so_far.SoFar.take_body.Goals as goal
 

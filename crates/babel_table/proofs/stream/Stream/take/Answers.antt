@@ -1,7 +1,6 @@
-use Rattle.std.proofs.Common.{◌≡◌, ◌≢◌, ◌≤◌, ◌+◌, ◌++◌, [], ℕ, List, length, drop, arith, refl, sym, ap, subst, ◌∙◌}
+use Rattle.std.proofs.Common.{◌≢◌, ◌++◌, [], ℕ, List, arith, sym, ap, subst, ◌∙◌}
 use Rattle.std.proofs.lemmas.List.{append-nil, length-append}
-use Rattle.babel_table.specs.Feeding.{StopsBehind, TookPackets, routes}
-use Rattle.babel_table.specs.Rows.{Routes}
+use Rattle.babel_table.specs.Feeding.{TookPackets, routes}
 use Rattle.babel_table.proofs.DumpLaws.{took-last, stops-last, took-end, is_none, is_some, none_left}
 use Rattle.babel_table.proofs.stream.Stream.take.Goals as goal
 

@@ -1,4 +1,4 @@
-use Rattle.std.proofs.Common.{◌≡◌, ◌≤◌, ◌+◌, ◌++◌, [], ℕ, List, length, arith, refl, sym, ap, ◌∙◌}
+use Rattle.std.proofs.Common.{length, arith, ap}
 use Rattle.babel_table.proofs.DumpLaws.{ready-next}
 use Rattle.babel_table.proofs.stream.Stream.take_within.Goals as goal
 
