@@ -29,7 +29,7 @@ refuse() {
 }
 
 status=0
-crates=${1:-babel_table babel_trie babel_dump}
+crates=${1:-babel_table babel_trie babel_canon babel_dump}
 [ $# -gt 0 ] && shift
 for crate in $crates; do
     if [ $# -gt 0 ]; then

@@ -1,21 +1,19 @@
 -- Answers and boxes by number are those by value.
-use Rattle.std.proofs.Common.{◌≡◌, ℕ, zero, suc, ◌+◌, ◌<◌, ◌^◌, Bool, true, false, not, cond, ◌&&◌, ◌||◌, List, [], ◌∷◌, length, map, get_or, Option, Some, None, refl, sym, ap, subst, ◌∙◌, arith, Contains}
-use Rattle.std.specs.Prelude.{◌≢◌}
+use Rattle.std.proofs.Common.{◌≡◌, ℕ, zero, suc, ◌<◌, Bool, true, false, not, cond, ◌&&◌, ◌||◌, List, [], ◌∷◌, length, map, get_or, Option, Some, None, refl, sym, ap, subst, ◌∙◌, arith, Contains}
 use Rattle.std.specs.List.{All, AllPairs, find, list_all, slice_get}
 use Rattle.std.specs.Option.{option_map}
-use Rattle.std.proofs.Math.ListN.{get_or-map}
 use Rattle.std.proofs.lemmas.List.{length-map}
 use Rattle.std.proofs.lemmas.List.Elements.{All-head, All-tail}
 use Rattle.std.proofs.lemmas.Option.{slice_get-get_or, get_or_from_slice_get, slice_get_within}
 use Rattle.babel_prefix.specs.Block.{Block}
 use Rattle.babel_prefix.specs.Best.{Row, matches, is_no_longer, is_best, answer}
 use Rattle.babel_prefix.proofs.EntryLaws.{Listed-map, map-Listed}
-use Rattle.babel_prefix.proofs.Members.{Listed, Listed-from_Contains, Contains-from_Listed, find-same}
+use Rattle.babel_prefix.proofs.Members.{Listed-from_Contains, Contains-from_Listed, find-same}
 use Rattle.babel_trie.specs.Boxes.{Answers, IsUniform, IsConstant, IsBox, IsBefore, IsBoxList, SameAnswers, IsLeastDifference}
 use Rattle.babel_tlv.specs.declared.held.Held.{Held}
 use Rattle.babel_tlv.specs.declared.held.Held.TheVariants as helds
 use Rattle.babel_canon.specs.declared.values.ValueNumber.{ValueNumber}
-use Rattle.babel_canon.specs.Values.{HasValue, KeepsValues, value_of, valued}
+use Rattle.babel_canon.specs.Values.{HasValue, value_of, valued}
 
 -- ---- the best row depends on prefixes alone
 

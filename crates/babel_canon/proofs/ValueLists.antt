@@ -1,6 +1,6 @@
 -- Lists of values that grow, and the rows, boxes and pairs that have numbers in them.
 use Rattle.std.proofs.Common.{◌≡◌, ℕ, zero, suc, ◌+◌, ◌<◌, cond, List, [], ◌∷◌, ◌++◌, length, map, take, get_or, Option, Some, None, Ordering, refl, sym, ap, subst, ◌∙◌, arith, inl, inr, rules}
-use Rattle.std.specs.List.{All, AllPairs, filter, slice_get}
+use Rattle.std.specs.List.{All, filter, slice_get}
 use Rattle.std.specs.BTreeMap.{BTreeMap, get, is_at}
 use Rattle.std.specs.Ordering.{is_eq}
 use Rattle.std.specs.declared.cmp.Ordering.TheVariants.{Less, Equal, Greater}
@@ -12,7 +12,7 @@ use Rattle.std.proofs.lemmas.Option.{slice_get-get_or, get_or_from_slice_get, sl
 use Rattle.babel_prefix.specs.declared.family.Family.{Family}
 use Rattle.babel_prefix.specs.Width.{width_of}
 use Rattle.babel_prefix.specs.Best.{Row, answer}
-use Rattle.babel_prefix.specs.Entries.{Entry, AreOfFamily, are_of_family, row_of, rows_in, answers_in, HasDistinctPrefixes}
+use Rattle.babel_prefix.specs.Entries.{Entry, AreOfFamily, are_of_family, row_of, answers_in, HasDistinctPrefixes}
 use Rattle.babel_prefix.proofs.EntryLaws.{rows_in-all}
 use Rattle.babel_trie.specs.Boxes.{IsBoxList}
 use Rattle.babel_trie.proofs.NumberLaws.{slice_get-push, slice_get-kept, slice_get-push_cases}

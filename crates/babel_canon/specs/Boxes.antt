@@ -1,4 +1,4 @@
--- The boxes of what a table answers, in both families.
+-- The boxes of what a table answers (RFC 9079, 4), in both families. Boxes are this project's own.
 use Rattle.std.specs.Prelude.{◌≡◌, ◌↔◌, List}
 use Rattle.babel_prefix.specs.declared.family.Family.{Family}
 use Rattle.babel_prefix.specs.Width.{width_of}

@@ -1,4 +1,4 @@
--- The canonical form of a table, and why there is none.
+-- The canonical form of a table, and why there is none: this project's own. Its octets are packets of RFC 8966, 4.2.
 use Rattle.std.specs.Prelude.{◌≡◌, ℕ, ◌<◌, ◌≤◌, List, length, ◌⊎◌}
 use Rattle.babel_prefix.specs.Address.{Address}
 use Rattle.babel_tlv.specs.declared.fault.Fault.{Fault}

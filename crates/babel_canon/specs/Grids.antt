@@ -1,4 +1,4 @@
--- The boxes of the two families as pairs.
+-- The boxes of the two families as pairs: this project's own.
 use Rattle.std.specs.Prelude.{List, ◌++◌, map}
 use Rattle.babel_prefix.specs.declared.family.Family.{Family}
 use Rattle.babel_prefix.specs.declared.family.Family.TheVariants.{V4, V6}

@@ -1,4 +1,4 @@
--- What canonical octets tell of the dumps that they were made from.
+-- What canonical octets tell of the dumps that they were made from: this project's own.
 use Rattle.std.specs.Prelude.{◌≡◌, ℕ, ◌≤◌, List, length, ◌↔◌}
 use Rattle.babel_prefix.specs.Address.{Address}
 use Rattle.babel_tlv.specs.declared.mode.Mode.{Mode}

@@ -1,4 +1,4 @@
--- A packet that is put behind others, and the laws of the text.
+-- A packet that is put behind others (RFC 8966, 4.2), and the laws of the text, which is this project's own.
 use Rattle.std.specs.Prelude.{◌≡◌, ℕ, ◌<◌, ◌≤◌, List, ◌∷◌, ◌++◌, length, take, drop}
 use Rattle.std.specs.Int.{w16, to_be_bytes}
 use Rattle.std.specs.List.{AllByRecursion}

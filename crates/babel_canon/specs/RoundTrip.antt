@@ -1,4 +1,4 @@
--- What the canonical text of pairs is read as.
+-- What the canonical text of pairs is read as: RFC 8966, 4.5 and 4.6.9; RFC 9079, 5.
 use Rattle.std.specs.Prelude.{◌≡◌, ◌≢◌, ℕ, ◌*◌, ◌^◌, ◌<◌, ◌≤◌, List, length, map, Ok, ◌↔◌, Contains, AllPairs}
 use Rattle.std.specs.List.{AllByRecursion}
 use Rattle.std.specs.Map.{keys_of}

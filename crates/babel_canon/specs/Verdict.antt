@@ -1,4 +1,4 @@
--- The least pair of addresses at which two tables answer differently.
+-- The least pair of addresses at which two tables answer (RFC 9079, 4) differently. Their order is this project's own.
 use Rattle.std.specs.Prelude.{◌≡◌, ◌≢◌, ◌⊎◌, ◌<◌, List, Option}
 use Rattle.babel_prefix.specs.declared.family.Family.{Family}
 use Rattle.babel_prefix.specs.Width.{width_of, family_rank}

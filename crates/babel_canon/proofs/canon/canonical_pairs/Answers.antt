@@ -1,4 +1,4 @@
-use Rattle.std.proofs.Common.{◌≡◌, ◌+◌, ◌<◌, List, length, map, sym, subst, arith, inl, refl}
+use Rattle.std.proofs.Common.{◌<◌, List, length, map, sym, subst, arith, inl, refl}
 use Rattle.std.proofs.lemmas.List.{length-map}
 use Rattle.babel_tlv.specs.Pair.{Pair}
 use Rattle.babel_canon.specs.Boxes.{AreBoxes}

@@ -1,8 +1,5 @@
-use Rattle.std.proofs.Common.{◌≡◌, rules}
-use Rattle.babel_prefix.specs.declared.family.Family.{Family}
+use Rattle.std.proofs.Common.{rules}
 use Rattle.babel_prefix.specs.Width.{width_of}
-use Rattle.babel_prefix.specs.Best.{answer}
-use Rattle.babel_canon.specs.Values.{valued}
 use Rattle.babel_canon.proofs.Numbered.{same_by_value, difference_by_value}
 use Rattle.babel_canon.proofs.ValueLists.{distinct}
 use Rattle.babel_canon.proofs.comparison.compare_family.Goals as goal

@@ -1,4 +1,4 @@
-use Rattle.std.proofs.Common.{◌≡◌, ◌++◌, ◌∷◌, [], Ordering, List, Some, None, cond, ap, sym, subst, ◌∙◌, rules}
+use Rattle.std.proofs.Common.{◌++◌, ◌∷◌, [], List, ap, sym, subst, ◌∙◌}
 use Rattle.std.specs.List.{slice_get}
 use Rattle.babel_tlv.specs.declared.held.Held.{Held}
 use Rattle.babel_trie.proofs.NumberLaws.{slice_get-push, slice_get-kept}
