@@ -1,5 +1,5 @@
 -- What the canonical form of a reader's dump is, and why there is none.
-use Rattle.std.proofs.Common.{◌≡◌, ℕ, List, Option, inl, inr}
+use Rattle.std.proofs.Common.{◌≡◌, ◌≢◌, refl, ℕ, List, Option, inl, inr}
 use Rattle.babel_prefix.specs.Address.{Address}
 use Rattle.babel_tlv.specs.declared.fault.Fault.{Fault}
 use Rattle.babel_tlv.specs.declared.fault.Fault.TheVariants as faults
@@ -11,7 +11,7 @@ use Rattle.babel_canon.specs.Canonical.{Canonical, IsCanonical, CanonicalFault}
 use Rattle.babel_canon.specs.Headline.{Headline, Normalises}
 use Rattle.babel_dump.specs.declared.run_fault.RunFault.{RunFault}
 use Rattle.babel_dump.specs.declared.run_fault.RunFault.TheVariants as run_faults
-use Rattle.babel_dump.specs.Run.{GaveNormal, GaveTable, HasCause, IsFaultOfForm, IsFaultOfGiven, KeepsOther}
+use Rattle.babel_dump.specs.Run.{GaveNormal, GaveTable, HasCause, IsFaultOfForm, IsFaultOfGiven, InTurn}
 
 -- the canonical form of the table is that of the dump
 pub gave_normal : Headline → (limits : Bounds) (mode : Mode) (body : ℕ) (sender : Address) (old new : Option (List ℕ)) (table : Routes) (canon : Canonical)
@@ -65,19 +65,21 @@ other_fault run_faults.OtherRead read other_read refused other_refused cause = c
 other_fault (run_faults.OtherDump fault) read other_read refused other_refused cause = cause
 other_fault run_faults.Write read other_read refused other_refused cause = cause
 
--- a fault leaves alone what was not touched before it
-pub untouched : (fault : RunFault) (kept : Type 0) → kept → KeepsOther fault kept
-untouched run_faults.Read kept is = is
-untouched (run_faults.Dump fault) kept is = λ _. is
-untouched run_faults.OtherRead kept is = tt
-untouched (run_faults.OtherDump fault) kept is = tt
-untouched run_faults.Write kept is = tt
+-- the fault is one of the first dump
+pub first_in_turn : (fault : RunFault) (read at_first at_other : Type 0) (refused : Fault → Type 0)
+    → HasCause fault read refused ⊥ (λ _. ⊥) ⊥ → ((other : Fault) → fault ≢ run_faults.OtherDump other) → at_first
+    → InTurn fault at_first at_other
+first_in_turn run_faults.Read read at_first at_other refused cause one_dump is = is
+first_in_turn (run_faults.Dump fault) read at_first at_other refused cause one_dump is = λ _. is
+first_in_turn run_faults.OtherRead read at_first at_other refused cause one_dump is = absurd cause
+first_in_turn (run_faults.OtherDump fault) read at_first at_other refused cause one_dump is = absurd (one_dump fault refl)
+first_in_turn run_faults.Write read at_first at_other refused cause one_dump is = absurd cause
 
--- a fault of the other dump is none of the first
-pub others_own : (fault : RunFault) (kept other_read : Type 0) (other_refused : Fault → Type 0)
-    → HasCause fault ⊥ (λ _. ⊥) other_read other_refused ⊥ → KeepsOther fault kept
-others_own run_faults.Read kept other_read other_refused cause = absurd cause
-others_own (run_faults.Dump fault) kept other_read other_refused cause = λ not_memory. absurd (cause not_memory)
-others_own run_faults.OtherRead kept other_read other_refused cause = tt
-others_own (run_faults.OtherDump fault) kept other_read other_refused cause = tt
-others_own run_faults.Write kept other_read other_refused cause = tt
+-- the fault is one of the other dump
+pub other_in_turn : (fault : RunFault) (at_first at_other other_read : Type 0) (other_refused : Fault → Type 0)
+    → HasCause fault ⊥ (λ _. ⊥) other_read other_refused ⊥ → at_other → InTurn fault at_first at_other
+other_in_turn run_faults.Read at_first at_other other_read other_refused cause is = absurd cause
+other_in_turn (run_faults.Dump fault) at_first at_other other_read other_refused cause is = λ not_memory. absurd (cause not_memory)
+other_in_turn run_faults.OtherRead at_first at_other other_read other_refused cause is = is
+other_in_turn (run_faults.OtherDump fault) at_first at_other other_read other_refused cause is = is
+other_in_turn run_faults.Write at_first at_other other_read other_refused cause is = tt

@@ -2,45 +2,46 @@
 use clap::{Arg, ArgAction, Command, value_parser};
 use std::alloc::{AllocError, Global};
 
-const AFTER_HELP: &str = "Example:
-  babel-dump lookup --from 192.0.2.1 --to 10.1.2.3 --src 0.0.0.0 examples/one-route.dump
+/// The end of a help text: an example, and the exit statuses, of which only 0 and 1 differ from command to command.
+macro_rules! after_help {
+    ($example:literal, $($status:literal),+) => {
+        concat!(
+            "Example:\n  babel-dump ", $example, "\n\nExit statuses:",
+            $("\n  ", $status,)+
+            "\n  2  the command line is wrong",
+            "\n  3  a dump is refused",
+            "\n  4  a file can't be opened, or a read or a write failed",
+            "\n  5  out of memory"
+        )
+    };
+}
 
-Exit statuses:
-  0  done (show, normalise, pairs), the answer of a lookup is a route, or a comparison found no difference
-  1  a lookup has no route: its answer is none or unreachable; or compare found a difference
-  2  the command line is wrong
-  3  the dump is refused
-  4  a file can't be opened, or a read or a write failed
-  5  out of memory";
+const AFTER_HELP: &str = after_help!(
+    "lookup --from 192.0.2.1 --to 10.1.2.3 --src 0.0.0.0 examples/one-route.dump",
+    "0  done; a lookup has a route; the compared dumps answer the same",
+    "1  a lookup has no route: none or unreachable; the compared dumps differ"
+);
 
-const AFTER_LOOKUP: &str = "Example:
-  babel-dump lookup --from 192.0.2.1 --to 10.1.2.3 --src 0.0.0.0 examples/one-route.dump
+const AFTER_SHOW: &str = after_help!("show --from 192.0.2.1 examples/one-route.dump", "0  done");
 
-The status is 0 where the answer is a route, and 1 where it is none or unreachable. The others are those of
-babel-dump --help.";
+const AFTER_LOOKUP: &str = after_help!(
+    "lookup --from 192.0.2.1 --to 10.1.2.3 --src 0.0.0.0 examples/one-route.dump",
+    "0  the answer is a route",
+    "1  the answer is none or unreachable"
+);
 
-const AFTER_SHOW: &str = "Example:
-  babel-dump show --from 192.0.2.1 examples/one-route.dump
+const AFTER_NORMALISE: &str = after_help!(
+    "normalise --from 192.0.2.1 --hex examples/one-route.dump",
+    "0  done"
+);
 
-The status is 0, or one of those of babel-dump --help.";
+const AFTER_PAIRS: &str = after_help!("pairs --from 192.0.2.1 examples/one-route.dump", "0  done");
 
-const AFTER_NORMALISE: &str = "Example:
-  babel-dump normalise --from 192.0.2.1 --hex examples/one-route.dump
-
-The octets of two dumps are the same exactly where the dumps give every destination and source the same answer.
-
-The status is 0, or one of those of babel-dump --help.";
-
-const AFTER_PAIRS: &str = "Example:
-  babel-dump pairs --from 192.0.2.1 examples/one-route.dump
-
-The status is 0, or one of those of babel-dump --help.";
-
-const AFTER_COMPARE: &str = "Example:
-  babel-dump compare --from 192.0.2.1 --other-from fe80::1 examples/one-route.dump examples/one-route.dump
-
-The status is 0 where every destination and source has the same answer, and 1 where one has not. The others are those
-of babel-dump --help.";
+const AFTER_COMPARE: &str = after_help!(
+    "compare --from 192.0.2.1 --other-from 192.0.2.1 examples/one-route.dump other.dump",
+    "0  every destination and source has the same answer",
+    "1  some destination and source has not"
+);
 
 /// The program's command line.
 pub(crate) fn command<'a>(alloc: Global) -> Result<Command<'a>, AllocError> {
@@ -88,7 +89,8 @@ fn lookup<'a>(alloc: Global) -> Result<Command<'a>, AllocError> {
 
 /// The command for the canonical octets.
 fn normalise<'a>(alloc: Global) -> Result<Command<'a>, AllocError> {
-    let about = "Write the canonical octets of a dump, which are a dump with the same answers";
+    let about =
+        "Write the canonical octets of a dump, which are the same for all dumps with the same answers";
     let command = Command::new(alloc, "normalise")
         .about(about)
         .after_help(AFTER_NORMALISE);

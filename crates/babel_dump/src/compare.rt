@@ -1,8 +1,9 @@
 ghost use Rattle.std.specs.Prelude.{◌≡◌, ◌+◌, ◌^◌, ◌<◌, ◌≤◌, IfOk, IfErr, OnOk};
 ghost use Rattle.std.specs.Io.KnownBytes.{Keeps};
+ghost use Rattle.babel_table.specs.Rows.{Routes};
 ghost use Rattle.babel_canon.specs.declared.verdict.Verdict.{Verdict};
 ghost use Rattle.babel_dump.specs.Device.{AppendsPrefix};
-ghost use Rattle.babel_dump.specs.Run.{GaveTable, GaveVerdict, HasCause, IsFaultOfGiven, KeepsOther, NeedsEnd, UnlessWrite, Wrote};
+ghost use Rattle.babel_dump.specs.Run.{GaveTable, GaveVerdict, HasCause, InTurn, IsFaultOfGiven, NeedsEnd, UnlessWrite, Wrote};
 ghost use Rattle.babel_dump.specs.RunText.{verdict_text, verdict_status};
 
 use crate::byte_in::ByteIn;
@@ -67,8 +68,9 @@ pub fn run_compare<R: ByteIn, S: ByteIn, W: ByteOut>(
         (S.remaining other.old) (S.remaining other.new) verdict
         × AppendsPrefix (W.contents writer.old) (W.contents writer.new) (verdict_text verdict))) }
 
-    // The first reader's fault is answered before the other is read.
-    ensures other_unread { IfErr result (λ fault. KeepsOther fault (other.new ≡ other.old)) }
+    // A fault of the first dump leaves the other reader as it was; one of the other comes where the first dump has none.
+    ensures in_turn { IfErr result (λ fault. InTurn fault (other.new ≡ other.old)
+        ((table : Routes) × GaveTable limits mode sender (R.remaining reader.old) (R.remaining reader.new) table)) }
 
     ensures few_reads { R.reads reader.new ≤ R.reads reader.old + limits.bytes + 2 }
     ensures reader_failure { R.failures reader.new ≤ R.failures reader.old + 1 }
@@ -86,7 +88,7 @@ pub fn run_compare<R: ByteIn, S: ByteIn, W: ByteOut>(
 }
 
 /// Reads two dumps, the first to its end before the other, and compares their answers.
-#[tactic(auto, using(crate::proofs::Forms::first_fault, crate::proofs::Forms::other_fault, crate::proofs::Forms::untouched, crate::proofs::Forms::others_own))]
+#[tactic(auto, using(crate::proofs::Forms::first_fault, crate::proofs::Forms::other_fault, crate::proofs::Forms::first_in_turn, crate::proofs::Forms::other_in_turn))]
 fn read_verdict<R: ByteIn, S: ByteIn>(
     alloc: Global,
     limits: Limits,
@@ -113,7 +115,8 @@ fn read_verdict<R: ByteIn, S: ByteIn>(
         (IsFaultOfGiven limits mode other_sender (S.remaining other.old) (S.remaining other.new)) ⊥) }
     ensures end_needed { IfErr result (λ fault. NeedsEnd fault (R.ends reader.old < R.ends reader.new)
         (S.ends other.old < S.ends other.new)) }
-    ensures other_unread { IfErr result (λ fault. KeepsOther fault (other.new ≡ other.old)) }
+    ensures in_turn { IfErr result (λ fault. InTurn fault (other.new ≡ other.old)
+        ((table : Routes) × GaveTable limits mode sender (R.remaining reader.old) (R.remaining reader.new) table)) }
 
     ensures few_reads { R.reads reader.new ≤ R.reads reader.old + limits.bytes + 2 }
     ensures one_failure { R.failures reader.new ≤ R.failures reader.old + 1 }

@@ -1,5 +1,6 @@
-ghost use Rattle.std.specs.Prelude.{◌≡◌, ◌+◌, ◌^◌, ◌<◌, ◌≤◌, List, ℕ, IfOk, IfErr, OnOk};
+ghost use Rattle.std.specs.Prelude.{◌≡◌, ◌≢◌, ◌+◌, ◌^◌, ◌<◌, ◌≤◌, List, ℕ, IfOk, IfErr, OnOk};
 ghost use Rattle.std.specs.Io.KnownBytes.{Keeps};
+ghost use Rattle.babel_tlv.specs.declared.fault.Fault.{Fault as FaultValue};
 ghost use Rattle.babel_dump.specs.Device.{AppendsPrefix};
 ghost use Rattle.babel_dump.specs.Run.{GaveNormal, HasCause, IsFaultOfForm, NeedsEnd, UnlessWrite, Wrote};
 ghost use Rattle.babel_dump.specs.RunText.{form_text};
@@ -53,6 +54,7 @@ pub fn run_normalise<R: ByteIn, W: ByteOut>(
     ensures cause { IfErr result (λ fault. HasCause fault (R.failures reader.old < R.failures reader.new)
         (IsFaultOfForm limits mode sender (R.remaining reader.old) (R.remaining reader.new)) ⊥ (λ _. ⊥)
         (W.failures writer.old < W.failures writer.new)) }
+    ensures one_dump { IfErr result (λ fault. (other : FaultValue) → fault ≢ RunFault.OtherDump other) }
     ensures end_needed { IfErr result (λ fault. NeedsEnd fault (R.ends reader.old < R.ends reader.new) ⊥) }
     ensures prefix { IfErr result (λ fault. UnlessWrite fault (Keeps (W.contents writer.old) (W.contents writer.new))
         ((octets : List ℕ) × GaveNormal limits mode body sender (R.remaining reader.old) (R.remaining reader.new) octets

@@ -1,5 +1,6 @@
-ghost use Rattle.std.specs.Prelude.{◌≡◌, ◌+◌, ◌^◌, ◌<◌, ◌≤◌, List, ℕ, IfOk, IfErr, OnOk, string_bytes};
+ghost use Rattle.std.specs.Prelude.{◌≡◌, ◌≢◌, ◌+◌, ◌^◌, ◌<◌, ◌≤◌, List, ℕ, IfOk, IfErr, OnOk, string_bytes};
 ghost use Rattle.std.specs.Io.KnownBytes.{Keeps};
+ghost use Rattle.babel_tlv.specs.declared.fault.Fault.{Fault as FaultValue};
 ghost use Rattle.babel_dump.specs.Device.{AppendsPrefix};
 ghost use Rattle.babel_dump.specs.Run.{GavePairs, HasCause, IsFaultOfForm, NeedsEnd, UnlessWrite, Wrote};
 ghost use Rattle.babel_dump.specs.RunText.{pairs_or_counts};
@@ -49,6 +50,7 @@ pub fn run_pairs<R: ByteIn, W: ByteOut>(
     ensures cause { IfErr result (λ fault. HasCause fault (R.failures reader.old < R.failures reader.new)
         (IsFaultOfForm limits mode sender (R.remaining reader.old) (R.remaining reader.new)) ⊥ (λ _. ⊥)
         (W.failures writer.old < W.failures writer.new)) }
+    ensures one_dump { IfErr result (λ fault. (other : FaultValue) → fault ≢ RunFault.OtherDump other) }
     ensures end_needed { IfErr result (λ fault. NeedsEnd fault (R.ends reader.old < R.ends reader.new) ⊥) }
     ensures prefix { IfErr result (λ fault. UnlessWrite fault (Keeps (W.contents writer.old) (W.contents writer.new))
         ((text : List ℕ) × GavePairs limits mode sender count (R.remaining reader.old) (R.remaining reader.new) text
@@ -83,6 +85,7 @@ fn read_pairs<R: ByteIn>(
     ensures met_end { OnOk result (R.ends reader.old < R.ends reader.new) }
     ensures cause { IfErr result (λ fault. HasCause fault (R.failures reader.old < R.failures reader.new)
         (IsFaultOfForm limits mode sender (R.remaining reader.old) (R.remaining reader.new)) ⊥ (λ _. ⊥) ⊥) }
+    ensures one_dump { IfErr result (λ fault. (other : FaultValue) → fault ≢ RunFault.OtherDump other) }
     ensures end_needed { IfErr result (λ fault. NeedsEnd fault (R.ends reader.old < R.ends reader.new) ⊥) }
 
     ensures few_reads { R.reads reader.new ≤ R.reads reader.old + limits.bytes + 2 }

@@ -1,17 +1,45 @@
-use super::devices::{EndlessIn, ScriptedOut};
-use super::{address, lookup, show};
+//! Dumps that are refused, and the texts and statuses of faults.
+use super::devices::{EndlessIn, ScriptedIn, ScriptedOut};
+use super::dumps::{ONE_ROUTE, V4};
+use super::{Asked, all_asked, answer, octets, run};
 use crate::run_fault::{RunFault, status_of};
-use crate::show::run_show;
 use babel_table::Limits;
 use babel_tlv::{Fault, Mode};
+use std::alloc::Global;
+use std::process::Abort;
 use std::test::Fail;
 
-/// The dump and its fault.
-type Row = (&'static str, Fault);
+/// 40 octets of zeros.
+const ZEROS: &str =
+    "00000000000000000000000000000000000000000000000000000000000000000000000000000000";
+
+/// Whatever is asked of these dumps, also of a comparison's other, they are refused with these faults.
+fn expect_refusals(
+    rt: &impl Abort,
+    alloc: Global,
+    limits: Limits,
+    mode: Mode,
+    rows: &[(&str, Fault)],
+) -> Result<(), Fail> {
+    for (dump, fault) in rows {
+        for asked in all_asked("10.1.2.3") {
+            let (outcome, text) = answer(alloc, limits, mode, V4, dump, asked, 1)?;
+            assert_eq!(rt; outcome, Err(RunFault::Dump(*fault)), "{asked:?} of {dump}");
+            assert_eq!(rt; status_of(&outcome), 3);
+            assert!(rt; text.is_empty());
+        }
+        let asked = Asked::Comparison(V4, dump);
+        let (outcome, text) = answer(alloc, limits, mode, V4, ONE_ROUTE, asked, 2)?;
+        assert_eq!(rt; outcome, Err(RunFault::OtherDump(*fault)), "{asked:?}");
+        assert_eq!(rt; status_of(&outcome), 3);
+        assert!(rt; text.is_empty());
+    }
+    Ok(())
+}
 
 #[test]
 fn dumps_that_are_refused(rt: HostRuntime) -> Result<(), Fail> {
-    let rows: [Row; 9] = [
+    let rows = [
         (
             "2a020019 060a0000 0200000000000001 080b010008000640000101000a 2b020000",
             Fault::BadMagic { at: 29 },
@@ -37,125 +65,100 @@ fn dumps_that_are_refused(rt: HostRuntime) -> Result<(), Fail> {
         ),
         ("2b030000", Fault::BadMagic { at: 0 }),
     ];
-    for (dump, fault) in rows {
-        let refused = Err(RunFault::Dump(fault));
-        assert_eq!(rt; status_of(&refused), 3);
-        for piece in 1..3 {
-            let alloc = rt.alloc();
-            let (outcome, text) = show(
-                alloc,
-                Limits::usual(),
-                Mode::Plain,
-                "192.0.2.1",
-                dump,
-                piece,
-            )?;
-            assert_eq!(rt; outcome, refused, "of {dump}");
-            assert!(rt; text.is_empty());
-            let (outcome, text) = lookup(
-                alloc,
-                Mode::Plain,
-                "192.0.2.1",
-                dump,
-                "10.1.2.3",
-                "0.0.0.0",
-                piece,
-            )?;
-            assert_eq!(rt; outcome, refused, "of {dump}");
-            assert!(rt; text.is_empty());
-        }
-    }
-    Ok(())
+    expect_refusals(&rt, rt.alloc(), Limits::usual(), Mode::Plain, &rows)
 }
 
 #[test]
 fn dumps_past_their_limits(rt: HostRuntime) -> Result<(), Fail> {
-    let zeros = "00000000000000000000000000000000000000000000000000000000000000000000000000000000";
+    let limits = Limits::new(83, 1).ok_or("limits")?;
+    let long = format!(in rt.alloc(); "2a020050{ZEROS}{ZEROS}")?;
+    let not_a_packet = format!(in rt.alloc(); "2b020050{ZEROS}{ZEROS}")?;
     let rows = [
-        (Mode::Plain, "2a020050", zeros, zeros, Fault::TooLong),
+        (long.as_str(), Fault::TooLong),
+        (not_a_packet.as_str(), Fault::BadMagic { at: 0 }),
         (
-            Mode::Plain,
-            "2b020050",
-            zeros,
-            zeros,
-            Fault::BadMagic { at: 0 },
-        ),
-        (
-            Mode::Plain,
-            "2a020027 060a0000 0200000000000001",
-            "080b010008000640000101000a",
-            "080b0100080006400001020014 04",
+            "2a020027 060a0000 0200000000000001 080b010008000640000101000a 080b0100080006400001020014 04",
             Fault::TlvPastEnd { at: 42 },
         ),
         (
-            Mode::Plain,
-            "2a020026 060a0000 0200000000000001",
-            "080b010008000640000101000a",
-            "080b0100080006400001020014 2b020000",
-            Fault::TooManyRoutes { at: 29 },
-        ),
-        (
-            Mode::Hold,
-            "2a020026 060a0000 0200000000000001",
-            "080b010008000640000101000a",
-            "080b0100080006400000ffff14",
+            "2a020026 060a0000 0200000000000001 080b010008000640000101000a 080b0100080006400001020014 2b020000",
             Fault::TooManyRoutes { at: 29 },
         ),
     ];
-    let limits = Limits::new(83, 1).ok_or("limits")?;
-    for (mode, front, middle, rest, fault) in rows {
-        let dump = format!(in rt.alloc(); "{front}{middle}{rest}")?;
-        for piece in 1..3 {
-            let (outcome, text) = show(
-                rt.alloc(),
-                limits,
-                mode,
-                "192.0.2.1",
-                dump.as_str(),
-                piece,
-            )?;
-            assert_eq!(rt; outcome, Err(RunFault::Dump(fault)), "of {dump}");
-            assert!(rt; text.is_empty());
-        }
-    }
-    Ok(())
+    expect_refusals(&rt, rt.alloc(), limits, Mode::Plain, &rows)?;
+    let held = [(
+        "2a020026 060a0000 0200000000000001 080b010008000640000101000a 080b0100080006400000ffff14",
+        Fault::TooManyRoutes { at: 29 },
+    )];
+    expect_refusals(&rt, rt.alloc(), limits, Mode::Hold, &held)
 }
 
 #[test]
 fn dumps_at_their_limits(rt: HostRuntime) -> Result<(), Fail> {
     let limits = Limits::new(83, 1).ok_or("limits")?;
-    let zeros = "00000000000000000000000000000000000000000000000000000000000000000000000000000000";
-    let dump = format!(in rt.alloc(); "2a02004f{zeros}{}", &zeros[2..])?;
-    let sender = "192.0.2.1";
-    let (outcome, text) = show(rt.alloc(), limits, Mode::Plain, sender, dump.as_str(), 1)?;
-    assert_eq!(rt; outcome, Ok(0));
-    assert_eq!(rt; text.as_slice(), b"tlvs 79\n".as_slice());
-    let dump =
-        "2a020026 060a0000 0200000000000001 080b010008000640000101000a 080b0100080006400000ffff14";
-    let (outcome, text) = show(rt.alloc(), limits, Mode::Plain, sender, dump, 1)?;
-    let lines =
+    let zeros = format!(in rt.alloc(); "2a02004f{ZEROS}{}", &ZEROS[2..])?;
+    let one_row =
         "10.0.0.0/8 from 0.0.0.0/0 via 192.0.2.1 id 0200000000000001 seqno 1 metric 256\ntlvs 3\n";
-    assert_eq!(rt; outcome, Ok(0));
-    assert_eq!(rt; text.as_slice(), lines.as_bytes());
+    let rows = [
+        (zeros.as_str(), "tlvs 79\n"),
+        (
+            "2a020026 060a0000 0200000000000001 080b010008000640000101000a 080b0100080006400000ffff14",
+            one_row,
+        ),
+    ];
+    for (dump, lines) in rows {
+        let asked = Asked::Rows;
+        let (outcome, text) = answer(rt.alloc(), limits, Mode::Plain, V4, dump, asked, 1)?;
+        assert_eq!(rt; outcome, Ok(0));
+        assert_eq!(rt; text.as_slice(), lines.as_bytes());
+    }
     Ok(())
 }
 
 #[test]
 fn a_dump_without_end(rt: HostRuntime) -> Result<(), Fail> {
     let limits = Limits::new(83, 1).ok_or("limits")?;
-    let mut reader = EndlessIn::new(b"*\x02\0\0");
+    for asked in all_asked("10.1.2.3") {
+        let mut reader = EndlessIn::new(b"*\x02\0\0");
+        let mut other = ScriptedIn::new(&[], 1, 0);
+        let mut writer = ScriptedOut::new(rt.alloc(), 1, 0);
+        let outcome = run(
+            rt.alloc(),
+            limits,
+            Mode::Plain,
+            V4,
+            asked,
+            &mut reader,
+            &mut other,
+            &mut writer,
+        )?;
+        assert_eq!(rt; outcome, Err(RunFault::Dump(Fault::TooLong)), "{asked:?}");
+        assert!(rt; reader.reads() <= 85);
+        assert_eq!(rt; other.reads(), 0);
+        assert!(rt; writer.taken().is_empty());
+    }
+    Ok(())
+}
+
+#[test]
+fn another_dump_without_end(rt: HostRuntime) -> Result<(), Fail> {
+    let limits = Limits::new(83, 1).ok_or("limits")?;
+    let dump = octets(rt.alloc(), ONE_ROUTE)?;
+    let mut reader = ScriptedIn::new(&dump, 1, 0);
+    let mut other = EndlessIn::new(b"*\x02\0\0");
     let mut writer = ScriptedOut::new(rt.alloc(), 1, 0);
-    let sender = address("192.0.2.1")?;
-    let outcome = run_show(
+    let outcome = run(
         rt.alloc(),
         limits,
         Mode::Plain,
-        sender,
+        V4,
+        Asked::Comparison(V4, ""),
         &mut reader,
+        &mut other,
         &mut writer,
-    );
-    assert_eq!(rt; outcome, Err(RunFault::Dump(Fault::TooLong)));
-    assert!(rt; reader.reads() <= 85);
+    )?;
+    assert_eq!(rt; outcome, Err(RunFault::OtherDump(Fault::TooLong)));
+    assert!(rt; other.reads() <= 85);
     assert!(rt; writer.taken().is_empty());
     Ok(())
 }

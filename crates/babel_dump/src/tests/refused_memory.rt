@@ -1,14 +1,9 @@
 //! Each allocation refused in turn, by `rt try --test --fail-alloc N`: tests/refused_memory.sh runs it for N = 1, 2, ..
 //! A test here passes where nothing was refused, and fails with `REFUSED` where a refusal was answered with `Memory`.
-ghost use Rattle.std.specs.Prelude.{◌<◌};
-
 use super::devices::ScriptedIn;
+use super::{Asked, run};
 use crate::byte_out::ByteOut;
-use crate::lookup::run_lookup;
-use crate::pairs::run_pairs;
 use crate::run_fault::RunFault;
-use crate::show::run_show;
-use babel_prefix::{Addr, Family};
 use babel_table::Limits;
 use babel_tlv::{Fault, Mode};
 use std::alloc::Global;
@@ -21,23 +16,31 @@ const REFUSED: &str = "memory was refused, and Memory answered";
 const OTHER: &str = "neither the known answer nor Memory";
 
 /// 0.0.0.0/0 with metric 512, and from 10.0.0.0/8 with metric 256.
-const TWO_SOURCES: &str =
+const NESTED_SOURCES: &str =
     "2a020028060a00000200000000000001080a01000000064000010200080e010000000640000101008002080a";
 
-const TWO_LINES: &str =
-    "0.0.0.0/0 from 0.0.0.0/0 via 192.0.2.1 id 0200000000000001 seqno 1 metric 512\n0.0.0.0/0 from 10.0.0.0/8 via 192.0.2.1 id 0200000000000001 seqno 1 metric 256\ntlvs 3\n";
+/// ::/0 with metric 256, and 255.255.255.255/32 from 0.0.0.1/32 with metric 256 by next hop 192.0.2.1.
+const TWO_FAMILIES: &str =
+    "2a020037060a0000020000000000000107060100c0000201080a02000000064000010100081501002000064000010100ffffffff80052000000001";
 
-const COUNTS: &str = "rows 2\npairs 9\n";
+/// ::/0 with metric 256.
+const ONE_FAMILY: &str = "2a020020060a0000020000000000000107060100c0000201080a02000000064000010100";
+
+const ROWS: &str =
+    "0.0.0.0/0 from 0.0.0.0/0 via 192.0.2.1 id 0200000000000001 seqno 1 metric 512\n0.0.0.0/0 from 10.0.0.0/8 via 192.0.2.1 id 0200000000000001 seqno 1 metric 256\ntlvs 3\n";
 
 const ANSWER: &str = "via 192.0.2.1 id 0200000000000001 seqno 1 metric 256\n";
 
-/// A run over one dump.
-#[derive(Clone, Copy)]
-enum Run {
-    Show,
-    Lookup,
-    Pairs,
-}
+const COUNTS: &str = "rows 2\npairs 9\n";
+
+const PAIRS: &str =
+    "255.255.255.255/32 from 0.0.0.1/32 via 192.0.2.1 id 0200000000000001 seqno 1 metric 256\n0:0:0:0:0:0:0:0/0 from 0:0:0:0:0:0:0:0/0 via fe80:0:0:0:0:0:0:1 id 0200000000000001 seqno 1 metric 256\n";
+
+const DIGITS: &str =
+    "2a0200a4060a0000020000000000000107060100c0000201080e0180000006400001020080020500080e0180000006400001020080020708080e018000000640000101008002080a080e018000000640000102008002080b080e018000000640000102008002060c080e0180000006400001020080020410080e0180000006400001020080020320080e0180000006400001020080020240080e0180000006400001020080020180\n";
+
+const DIFFERENCE: &str =
+    "differ 255.255.255.255 from 0.0.0.1\nleft via 192.0.2.1 id 0200000000000001 seqno 1 metric 256\nright none\n";
 
 /// Takes this text alone, and needs no memory.
 #[derive(Drop)]
@@ -71,60 +74,127 @@ impl ByteOut for ExpectingOut<'_> {
     }
 }
 
-/// A run over two sources, in pieces of seven octets. At `Memory` nothing was written.
-fn outcome(alloc: Global, run: Run, text: &str) -> Result<(), Fail> {
-    let mut dump = [0; 44];
-    hex::decode_to_slice(TWO_SOURCES, &mut dump)?;
-    let mut reader = ScriptedIn::new(&dump, 7, 0);
+/// What is asked of a dump, in pieces of seven octets. At `Memory` nothing was written.
+fn outcome(
+    alloc: Global,
+    sender: &str,
+    dump: &str,
+    other: &str,
+    asked: Asked<'_>,
+    status: u8,
+    text: &str,
+) -> Result<(), Fail> {
+    let (mut room, mut other_room) = ([0; 64], [0; 64]);
+    let dump = decoded(dump, &mut room)?;
+    let other = decoded(other, &mut other_room)?;
+    let mut reader = ScriptedIn::new(dump, 7, 0);
+    let mut other = ScriptedIn::new(other, 7, 0);
     let mut writer = ExpectingOut {
         rest: text.as_bytes(),
         failures: 0,
         flushes: 0,
     };
-    let limits = Limits::usual();
-    let sender = Addr::new(Family::V4, 0xc000_0201).unwrap();
-    let dst = Addr::new(Family::V4, 0x0a01_0203).unwrap();
-    let outcome = match run {
-        Run::Show => run_show(alloc, limits, Mode::Plain, sender, &mut reader, &mut writer),
-        Run::Lookup => run_lookup(
-            alloc,
-            limits,
-            Mode::Plain,
-            sender,
-            dst,
-            dst,
-            &mut reader,
-            &mut writer,
-        ),
-        Run::Pairs => run_pairs(
-            alloc,
-            limits,
-            Mode::Plain,
-            sender,
-            true,
-            &mut reader,
-            &mut writer,
-        ),
-    };
+    let outcome = run(
+        alloc,
+        Limits::usual(),
+        Mode::Plain,
+        sender,
+        asked,
+        &mut reader,
+        &mut other,
+        &mut writer,
+    )?;
     match outcome {
-        Ok(0) if writer.rest.is_empty() && writer.flushes == 1 => Ok(()),
-        Err(RunFault::Dump(Fault::Memory))
+        Ok(given) if given == status && writer.rest.is_empty() && writer.flushes == 1 => Ok(()),
+        Err(RunFault::Dump(Fault::Memory) | RunFault::OtherDump(Fault::Memory))
             if writer.rest == text.as_bytes() && writer.flushes == 0 => { Err(Fail::from(REFUSED)) }
         _ => Err(Fail::from(OTHER)),
     }
 }
 
+/// The octets that the digits spell, without taking memory.
+fn decoded<'a>(digits: &str, room: &'a mut [u8; 64]) -> Result<&'a [u8], Fail> {
+    let room = room.get_mut(..digits.len() / 2).ok_or("too many digits")?;
+    hex::decode_to_slice(digits, room)?;
+    Ok(room)
+}
+
 #[test]
 fn refused_memory_of_show(rt: HostRuntime) -> Result<(), Fail> {
-    outcome(rt.alloc(), Run::Show, TWO_LINES)
+    outcome(
+        rt.alloc(),
+        "192.0.2.1",
+        NESTED_SOURCES,
+        "",
+        Asked::Rows,
+        0,
+        ROWS,
+    )
 }
 
 #[test]
 fn refused_memory_of_lookup(rt: HostRuntime) -> Result<(), Fail> {
-    outcome(rt.alloc(), Run::Lookup, ANSWER)
+    let asked = Asked::Answer("10.1.2.3", "10.1.2.3");
+    outcome(
+        rt.alloc(),
+        "192.0.2.1",
+        NESTED_SOURCES,
+        "",
+        asked,
+        0,
+        ANSWER,
+    )
+}
+
+#[test]
+fn refused_memory_of_normalise(rt: HostRuntime) -> Result<(), Fail> {
+    outcome(
+        rt.alloc(),
+        "192.0.2.1",
+        NESTED_SOURCES,
+        "",
+        Asked::Digits,
+        0,
+        DIGITS,
+    )
 }
 
 #[test]
 fn refused_memory_of_pairs(rt: HostRuntime) -> Result<(), Fail> {
-    outcome(rt.alloc(), Run::Pairs, COUNTS)
+    outcome(
+        rt.alloc(),
+        "fe80::1",
+        TWO_FAMILIES,
+        "",
+        Asked::Pairs,
+        0,
+        PAIRS,
+    )
+}
+
+#[test]
+fn refused_memory_of_count(rt: HostRuntime) -> Result<(), Fail> {
+    outcome(
+        rt.alloc(),
+        "192.0.2.1",
+        NESTED_SOURCES,
+        "",
+        Asked::Counts,
+        0,
+        COUNTS,
+    )
+}
+
+#[test]
+fn refused_memory_of_compare(rt: HostRuntime) -> Result<(), Fail> {
+    let asked = Asked::Comparison("fe80::1", "");
+    outcome(
+        rt.alloc(),
+        "fe80::1",
+        TWO_FAMILIES,
+        ONE_FAMILY,
+        asked,
+        1,
+        DIFFERENCE,
+    )
 }
