@@ -25,7 +25,7 @@ pub fn held_order()
     ensures { (a b : HeldValue) → ⟦<Held as Ord>⟧.cmp a b ≡ held_cmp a b }
 {}
 
-/// The orders are total.
+/// The orders of keys, announcements and held values are total: any two compare, one way round, and what is less chains.
 #[tactic(auto, using(crate::proofs::OrderLaws::key_total, crate::proofs::OrderLaws::announcement_total, crate::proofs::OrderLaws::held_total))]
 pub fn orders_are_total()
     ensures keys { IsTotalOrder key_cmp }
