@@ -1,7 +1,7 @@
 //! Each allocation refused in turn, by `rt try --test --fail-alloc N`: tests/refused_memory.sh runs it for N = 1, 2, ..
 //! A test here passes where nothing was refused, and fails with `REFUSED` where a refusal was answered with `Memory`.
 use super::changes::COMPRESSED;
-use super::rows::{ID_BY_FLAG, TWO_SOURCES, key_v6, route_v6};
+use super::rows::{ID_BY_FLAG, RETRACTIONS, TWO_SOURCES, key_v6, route_v6};
 use super::{are, key, octets, route, router, router_v6};
 use crate::{Feeder, Limits, Table, read_dump};
 use babel_prefix::Addr;
@@ -24,12 +24,15 @@ fn known(answer: Result<Table, Fault>, want: &[Row]) -> Result<(), Fail> {
     }
 }
 
-fn read_whole(alloc: Global, sender: Addr, text: &str, want: &[Row]) -> Result<(), Fail> {
+fn read_whole(
+    alloc: Global,
+    mode: Mode,
+    sender: Addr,
+    text: &str,
+    want: &[Row],
+) -> Result<(), Fail> {
     match octets(alloc, text) {
-        Ok(dump) => known(
-            read_dump(alloc, Limits::usual(), Mode::Plain, sender, &dump),
-            want,
-        ),
+        Ok(dump) => known(read_dump(alloc, Limits::usual(), mode, sender, &dump), want),
         Err(_) => Err(Fail::from(REFUSED)),
     }
 }
@@ -87,12 +90,18 @@ fn many() -> [Row; 24] {
 
 #[test]
 fn refused_memory_of_two_sources(rt: HostRuntime) -> Result<(), Fail> {
-    read_whole(rt.alloc(), router(), TWO_SOURCES, &two_sources())
+    read_whole(
+        rt.alloc(),
+        Mode::Plain,
+        router(),
+        TWO_SOURCES,
+        &two_sources(),
+    )
 }
 
 #[test]
 fn refused_memory_of_omitted_octets(rt: HostRuntime) -> Result<(), Fail> {
-    read_whole(rt.alloc(), router(), COMPRESSED, &compressed())
+    read_whole(rt.alloc(), Mode::Plain, router(), COMPRESSED, &compressed())
 }
 
 #[test]
@@ -101,7 +110,20 @@ fn refused_memory_of_a_router_id_set_by_a_flag(rt: HostRuntime) -> Result<(), Fa
         key_v6(0x2001_0db8_0000_0000_0200_0000_0000_0007),
         route_v6(7),
     );
-    read_whole(rt.alloc(), router_v6(), ID_BY_FLAG, &[row])
+    read_whole(rt.alloc(), Mode::Plain, router_v6(), ID_BY_FLAG, &[row])
+}
+
+#[test]
+fn refused_memory_of_held_retractions(rt: HostRuntime) -> Result<(), Fail> {
+    let lost = (key(0x0a00_0000, 8, 0, 0), Some(Held::Unreachable));
+    let twenty = (key(0x1400_0000, 8, 0, 0), route(256));
+    read_whole(
+        rt.alloc(),
+        Mode::Hold,
+        router(),
+        RETRACTIONS,
+        &[lost, twenty],
+    )
 }
 
 #[test]
