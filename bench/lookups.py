@@ -3,7 +3,7 @@
 
     lookups.py LOADS [--load NAME] [--lookups N] [--rounds N] [--scratch FOLDER]
 
-Builds lookups/main.rt as a crate of a copy of the repository in the scratch folder, and lookups/plain.rs with rustc -O; runs
+Builds lookups/main.rt.txt as a crate of a copy of the repository in the scratch folder, and lookups/plain.rs with rustc -O; runs
 the two in turn on the same pairs of addresses, and prints the processor time of the lookups alone, least and median.
 """
 
@@ -34,7 +34,7 @@ def build_proved(scratch, dump, pairs):
             shutil.copytree(TOP / "crates" / crate, scratch / "crates" / crate, symlinks=True)
     crate = scratch / "crates" / "lookups"
     (crate / "src").mkdir(parents=True, exist_ok=True)
-    shutil.copy(HERE / "lookups" / "main.rt", crate / "src" / "main.rt")
+    shutil.copy(HERE / "lookups" / "main.rt.txt", crate / "src" / "main.rt")
     lines = (TOP / "crates.txt").read_text().splitlines()
     kept = [line for line in lines if line.split(":")[0] in CRATES]
     (scratch / "crates.txt").write_text("\n".join([*kept, "lookups: " + " ".join(CRATES)]) + "\n")

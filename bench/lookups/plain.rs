@@ -1,4 +1,4 @@
-//! The lookups of main.rt as a plain Rust program makes them: std alone, no proofs. It takes the rows as `show` prints them.
+//! The lookups of main.rt.txt as a plain Rust program makes them: std alone, no proofs. It takes the rows as `show` prints them.
 //!
 //!     rustc -O --edition 2021 plain.rs
 //!     plain ROWS PAIRS
