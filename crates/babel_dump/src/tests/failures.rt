@@ -69,12 +69,23 @@ fn each_read(rt: HostRuntime) -> Result<(), Fail> {
                 assert!(rt; taken.is_empty());
             }
         }
-        let compared = Asked::Comparison(sender, other);
+    }
+    Ok(())
+}
+
+#[test]
+fn each_read_of_the_other_dump(rt: HostRuntime) -> Result<(), Fail> {
+    let alloc = rt.alloc();
+    for (sender, text, other, _dst) in GIVEN {
+        let dump = octets(alloc, text)?;
+        let other_dump = octets(alloc, other)?;
+        let dumps = (dump.as_slice(), other_dump.as_slice());
+        let asked = Asked::Comparison(sender, other);
         for failing in 1..other_dump.len() as u64 + 2 {
             let (outcome, reads, other_reads, taken) = failing_run(
                 alloc,
                 sender,
-                compared,
+                asked,
                 dumps,
                 (0, failing, 0),
             )?;

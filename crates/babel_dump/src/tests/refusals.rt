@@ -163,57 +163,59 @@ fn another_dump_without_end(rt: HostRuntime) -> Result<(), Fail> {
     Ok(())
 }
 
+/// Each fault, its status and its text.
+const TEXTS: [(RunFault, u8, &str); 14] = [
+    (
+        RunFault::Dump(Fault::Truncated { at: 29 }),
+        3,
+        "truncated packet at 29",
+    ),
+    (
+        RunFault::Dump(Fault::BadMagic { at: 0 }),
+        3,
+        "bad magic at 0",
+    ),
+    (
+        RunFault::Dump(Fault::BadVersion { at: 7 }),
+        3,
+        "bad version at 7",
+    ),
+    (
+        RunFault::Dump(Fault::TlvPastEnd { at: 4 }),
+        3,
+        "TLV past the end of its packet at 4",
+    ),
+    (
+        RunFault::Dump(Fault::EncodingSetsRouterId { at: 4 }),
+        3,
+        "router-id flag in an unread address encoding at 4",
+    ),
+    (
+        RunFault::Dump(Fault::TooManyRoutes { at: 55 }),
+        3,
+        "too many routes at 55",
+    ),
+    (RunFault::Dump(Fault::TooLong), 3, "dump too long"),
+    (RunFault::Dump(Fault::TooManyPairs), 3, "too many pairs"),
+    (RunFault::Dump(Fault::Memory), 5, "out of memory"),
+    (
+        RunFault::OtherDump(Fault::BadVersion { at: 0 }),
+        3,
+        "other: bad version at 0",
+    ),
+    (
+        RunFault::OtherDump(Fault::Memory),
+        5,
+        "other: out of memory",
+    ),
+    (RunFault::Read, 4, "read failed"),
+    (RunFault::OtherRead, 4, "other: read failed"),
+    (RunFault::Write, 4, "write failed"),
+];
+
 #[test]
 fn texts_and_statuses_of_faults(rt: HostRuntime) -> Result<(), Fail> {
-    let rows = [
-        (
-            RunFault::Dump(Fault::Truncated { at: 29 }),
-            3,
-            "truncated packet at 29",
-        ),
-        (
-            RunFault::Dump(Fault::BadMagic { at: 0 }),
-            3,
-            "bad magic at 0",
-        ),
-        (
-            RunFault::Dump(Fault::BadVersion { at: 7 }),
-            3,
-            "bad version at 7",
-        ),
-        (
-            RunFault::Dump(Fault::TlvPastEnd { at: 4 }),
-            3,
-            "TLV past the end of its packet at 4",
-        ),
-        (
-            RunFault::Dump(Fault::EncodingSetsRouterId { at: 4 }),
-            3,
-            "router-id flag in an unread address encoding at 4",
-        ),
-        (
-            RunFault::Dump(Fault::TooManyRoutes { at: 55 }),
-            3,
-            "too many routes at 55",
-        ),
-        (RunFault::Dump(Fault::TooLong), 3, "dump too long"),
-        (RunFault::Dump(Fault::TooManyPairs), 3, "too many pairs"),
-        (RunFault::Dump(Fault::Memory), 5, "out of memory"),
-        (
-            RunFault::OtherDump(Fault::BadVersion { at: 0 }),
-            3,
-            "other: bad version at 0",
-        ),
-        (
-            RunFault::OtherDump(Fault::Memory),
-            5,
-            "other: out of memory",
-        ),
-        (RunFault::Read, 4, "read failed"),
-        (RunFault::OtherRead, 4, "other: read failed"),
-        (RunFault::Write, 4, "write failed"),
-    ];
-    for (fault, status, text) in rows {
+    for (fault, status, text) in TEXTS {
         let shown = format!(in rt.alloc(); "{fault}")?;
         assert_eq!(rt; shown.as_str(), text);
         assert_eq!(rt; status_of(&Err(fault)), status);

@@ -155,51 +155,42 @@ fn sizes_of_bodies(rt: HostRuntime) -> Result<(), Fail> {
 }
 
 #[test]
-fn addresses_that_are_refused(rt: HostRuntime) -> Result<(), Fail> {
-    let families = "--to and --src are of different families\n";
-    let rows: [(&[&str], &str); 8] = [
-        (
-            &[
-                "lookup",
-                "--from",
-                "192.0.2.1",
-                "--to",
-                "10.0.0.1",
-                "--src",
-                "::1",
-                "x",
-            ],
-            families,
-        ),
-        (
-            &["lookup", "--from", "::", "--to", "::1", "--src", "10.0.0.1"],
-            families,
-        ),
-        (
-            &["lookup", "--src", "v", "--to", "w", "--from", "q"],
-            "not an address: q\n",
-        ),
-        (
-            &["lookup", "--src", "v", "--to", "w", "--from", "::"],
-            "not an address: w\n",
-        ),
-        (
-            &["lookup", "--from", "::", "--to", "::", "--src", "01.2.3.4"],
-            "not an address: 01.2.3.4\n",
-        ),
-        (&["show", "--from", ""], "not an address: \n"),
-        (
-            &["compare", "--other-from", "w", "--from", "q", "a", "b"],
-            "not an address: q\n",
-        ),
-        (
-            &["compare", "--other-from", "w", "--from", "::", "a", "b"],
-            "not an address: w\n",
-        ),
+fn addresses_of_two_families(rt: HostRuntime) -> Result<(), Fail> {
+    for (to, src) in [("10.0.0.1", "::1"), ("::1", "10.0.0.1")] {
+        let words = [
+            "lookup",
+            "--from",
+            "192.0.2.1",
+            "--to",
+            to,
+            "--src",
+            src,
+            "x",
+        ];
+        let text = usage(&rt, rt.alloc(), &words)?;
+        assert_eq!(rt; text.as_str(), "--to and --src are of different families\n");
+    }
+    Ok(())
+}
+
+/// Of several words that are no addresses the first is named, in the order `--from`, `--other-from`, `--to`, `--src`.
+#[test]
+fn words_that_are_no_addresses(rt: HostRuntime) -> Result<(), Fail> {
+    let lookups = [
+        ("q", "w", "v", "not an address: q\n"),
+        ("::", "w", "v", "not an address: w\n"),
+        ("::", "::", "01.2.3.4", "not an address: 01.2.3.4\n"),
+        ("", "::", "::", "not an address: \n"),
     ];
-    for (words, text) in rows {
-        let refusal = usage(&rt, rt.alloc(), words)?;
-        assert_eq!(rt; refusal.as_str(), text, "of {words:?}");
+    for (from, to, src, text) in lookups {
+        let words = ["lookup", "--src", src, "--to", to, "--from", from];
+        let refusal = usage(&rt, rt.alloc(), &words)?;
+        assert_eq!(rt; refusal.as_str(), text);
+    }
+    for (from, text) in [("q", "not an address: q\n"), ("::", "not an address: w\n")] {
+        let words = ["compare", "--other-from", "w", "--from", from, "a", "b"];
+        let refusal = usage(&rt, rt.alloc(), &words)?;
+        assert_eq!(rt; refusal.as_str(), text);
     }
     Ok(())
 }
@@ -229,76 +220,73 @@ fn words_that_are_refused(rt: HostRuntime) -> Result<(), Fail> {
     Ok(())
 }
 
+/// The words of the options that each command over one dump has.
+const OF_ONE_DUMP: [&str; 3] = [
+    "--from <ADDRESS>  The address that the dump's packets were sent from",
+    "--hold            Keep a retracted route as unreachable, so",
+    "[FILE]  The dump; standard input if it is left out",
+];
+
+const COMMANDS: [&str; 5] = [
+    "  show  ",
+    "  lookup  ",
+    "  normalise  ",
+    "  pairs  ",
+    "  compare  ",
+];
+
+const OF_LOOKUP: [&str; 4] = [
+    "--to <ADDRESS>    The destination to look up",
+    "--src <ADDRESS>   The source to look up, of the destination's family",
+    "babel-dump lookup --from",
+    "  1  the answer is none or unreachable",
+];
+
+const OF_NORMALISE: [&str; 3] = [
+    "--body <OCTETS>   How long the body of a packet may be, from 128 to 65535 octets; 1024 if it is left out",
+    "--hex             Write the octets as lower-case hexadecimal digits on a line",
+    "babel-dump normalise --from",
+];
+
+const OF_PAIRS: [&str; 2] = [
+    "--count           Write only how many rows and how many canonical pairs there are",
+    "babel-dump pairs --from",
+];
+
+const OF_COMPARE: [&str; 7] = [
+    "--from <ADDRESS>        The address that the packets of FILE were sent from",
+    "--other-from <ADDRESS>  The address that the packets of OTHER were sent from",
+    "--hold                  Keep a retracted route as unreachable, so",
+    "<FILE>   The first dump",
+    "<OTHER>  The other dump",
+    "babel-dump compare --from",
+    "  1  some destination and source has not",
+];
+
+const ENDS: [&str; 3] = [
+    "\nExample:\n",
+    "\nExit statuses:\n  0  ",
+    "\n  5  out of memory",
+];
+
 /// Each help text names its options, each with a sentence, and has an example and the exit statuses.
 #[test]
 fn words_that_ask_for_help(rt: HostRuntime) -> Result<(), Fail> {
-    let of_one_dump: [&str; 3] = [
-        "--from <ADDRESS>  The address that the dump's packets were sent from",
-        "--hold            Keep a retracted route as unreachable, so",
-        "[FILE]  The dump; standard input if it is left out",
-    ];
-    let commands = [
-        "  show  ",
-        "  lookup  ",
-        "  normalise  ",
-        "  pairs  ",
-        "  compare  ",
-    ];
+    let example = ["babel-dump lookup --from"];
+    let show = ["babel-dump show --from"];
     let rows: [(&[&str], &[&str], &[&str]); 7] = [
-        (&["--help"], &commands, &["babel-dump lookup --from"]),
-        (&["help"], &commands, &["babel-dump lookup --from"]),
-        (&["show", "-h"], &of_one_dump, &["babel-dump show --from"]),
-        (
-            &["lookup", "--help"],
-            &of_one_dump,
-            &[
-                "--to <ADDRESS>    The destination to look up",
-                "--src <ADDRESS>   The source to look up, of the destination's family",
-                "babel-dump lookup --from",
-                "  1  the answer is none or unreachable",
-            ],
-        ),
-        (
-            &["normalise", "--help"],
-            &of_one_dump,
-            &[
-                "--body <OCTETS>   How long the body of a packet may be, from 128 to 65535 octets; 1024 if it is left out",
-                "--hex             Write the octets as lower-case hexadecimal digits on a line",
-                "babel-dump normalise --from",
-            ],
-        ),
-        (
-            &["help", "pairs"],
-            &of_one_dump,
-            &[
-                "--count           Write only how many rows and how many canonical pairs there are",
-                "babel-dump pairs --from",
-            ],
-        ),
-        (
-            &["compare", "--help"],
-            &[
-                "--from <ADDRESS>        The address that the packets of FILE were sent from",
-                "--other-from <ADDRESS>  The address that the packets of OTHER were sent from",
-                "--hold                  Keep a retracted route as unreachable, so",
-            ],
-            &[
-                "<FILE>   The first dump",
-                "<OTHER>  The other dump",
-                "babel-dump compare --from",
-                "  1  some destination and source has not",
-            ],
-        ),
-    ];
-    let ends = [
-        "\nExample:\n",
-        "\nExit statuses:\n  0  ",
-        "\n  5  out of memory",
+        (&["--help"], &COMMANDS, &example),
+        (&["help"], &COMMANDS, &example),
+        (&["show", "-h"], &OF_ONE_DUMP, &show),
+        (&["lookup", "--help"], &OF_ONE_DUMP, &OF_LOOKUP),
+        (&["normalise", "--help"], &OF_ONE_DUMP, &OF_NORMALISE),
+        (&["help", "pairs"], &OF_ONE_DUMP, &OF_PAIRS),
+        (&["compare", "--help"], &OF_COMPARE, &[]),
     ];
     for (words, parts, own) in rows {
         match read_words(rt.alloc(), words) {
             Err(Refusal::Help(help)) => {
-                for part in parts.iter().chain(own.iter()).chain(ends.iter()) {
+                for part in parts.iter().chain(own.iter()).chain(ENDS.iter()) {
                     assert!(rt; help.contains(*part), "no {part} in {help}");
                 }
             }
