@@ -55,14 +55,8 @@ impl SoFar {
     {
         let mut state = State::new(sender);
         for tlv in Tlvs::new(body, at) {
-            let event = match state.step(&tlv) {
-                Ok(event) => event,
-                Err(fault) => return Err(fault),
-            };
-            match self.take(event, tlv.at) {
-                Ok(()) => {}
-                Err(fault) => return Err(fault),
-            }
+            let event = state.step(&tlv)?;
+            self.take(event, tlv.at)?;
         }
         Ok(())
     }
@@ -85,14 +79,8 @@ impl SoFar {
         loop {
             match frame(rest, place) {
                 Frame::Whole { body, used } => {
-                    match check_body(body, place + 4) {
-                        Ok(()) => {}
-                        Err(fault) => return Err(fault),
-                    }
-                    match self.take_body(sender, body, place + 4) {
-                        Ok(()) => {}
-                        Err(fault) => return Err(fault),
-                    }
+                    check_body(body, place + 4)?;
+                    self.take_body(sender, body, place + 4)?;
                     rest = &rest[used..];
                     place += used as u64;
                 }

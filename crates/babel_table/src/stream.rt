@@ -33,10 +33,7 @@ impl Stream {
         ensures stops { IfErr result (StopsBehind self.old.so_far.rows.mode self.old.so_far.rows.entries self.old.sender self.old.at octets.now
             (routes self.old.so_far.rows.rows self.old.so_far.report)) }
     {
-        let used = match self.so_far.take_packets(self.sender, octets, self.at) {
-            Ok(used) => used,
-            Err(fault) => return Err(fault),
-        };
+        let used = self.so_far.take_packets(self.sender, octets, self.at)?;
         self.at += used as u64;
         self.pending.add(&octets[used..]);
         Ok(())
@@ -59,13 +56,9 @@ impl Stream {
             (routes self.old.so_far.rows.rows self.old.so_far.report)) }
     {
         let rest = self.pending.fill(octets);
-        let used = match self
+        let used = self
             .so_far
-            .take_packets(self.sender, self.pending.octets(), self.at)
-        {
-            Ok(used) => used,
-            Err(fault) => return Err(fault),
-        };
+            .take_packets(self.sender, self.pending.octets(), self.at)?;
         if used == 0 {
             return Ok(rest);
         }
@@ -90,10 +83,7 @@ impl Stream {
         if self.pending.octets().is_empty() {
             return self.take_in_place(octets);
         }
-        let rest = match self.take_pending(octets) {
-            Ok(rest) => rest,
-            Err(fault) => return Err(fault),
-        };
+        let rest = self.take_pending(octets)?;
         if !self.pending.octets().is_empty() {
             return Ok(());
         }

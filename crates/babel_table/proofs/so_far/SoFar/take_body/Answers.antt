@@ -1,4 +1,5 @@
 use Rattle.std.proofs.Common.{◌≡◌, ◌≤◌, ◌∷◌, length, arith, refl, ap, ◌∙◌}
+use Rattle.std.proofs.lemmas.Result.{err_from_is_err_and}
 use Rattle.babel_tlv.specs.Framing.{tlvs_of}
 use Rattle.babel_tlv.specs.Frames.{tlv_value}
 use Rattle.babel_tlv.specs.Left.{tlvs_left}
@@ -16,10 +17,11 @@ loop-tlv-init c =
       some = took-start c.args.self.now.rows.mode c.args.self.now.rows.entries c.args.sender (routes c.args.self.now.rows.rows c.args.self.now.report) (tlvs_of c.args.at c.args.body.now) c.new-state.result _ c.new-state.ensures left;
     }
 
-pub returns-in-Err-clause-fails : goal.returns-in-Err-clause-fails
-returns-in-Err-clause-fails c =
-    body-refused c.args.self.now.rows.mode c.args.self.now.rows.entries c.args.sender _ _ c.loop-tlv.self.rows.mode c.loop-tlv.self.rows.entries c.loop-tlv.invariant.mode c.loop-tlv.invariant.entries
-    _ c.loop-tlv.state (tlv_value c.in-Some.tlv) (tlvs_left c.loop-tlv.tlv-iterator) (tlvs_left c.next.new.self) c.in-Err.fault c.in-Some.ensures.steps c.loop-tlv.invariant.some c.in-Err.ensures.said
+pub returns-in_err-event-clause-fails : goal.returns-in_err-event-clause-fails
+returns-in_err-event-clause-fails c =
+    let exit = err_from_is_err_and c.from_residual.result c.from_residual.ensures.1 in
+    rw (exit.1, exit.2) (body-refused c.args.self.now.rows.mode c.args.self.now.rows.entries c.args.sender _ _ c.loop-tlv.self.rows.mode c.loop-tlv.self.rows.entries c.loop-tlv.invariant.mode c.loop-tlv.invariant.entries
+    _ c.loop-tlv.state (tlv_value c.in-Some.tlv) (tlvs_left c.loop-tlv.tlv-iterator) (tlvs_left c.next.new.self) c.in_err-event.field-0.0 c.in-Some.ensures.steps c.loop-tlv.invariant.some c.in_err-event.ensures.said)
 
 pub loop-tlv-preserved : goal.loop-tlv-preserved
 loop-tlv-preserved c =
@@ -29,12 +31,13 @@ loop-tlv-preserved c =
       entries = c.take.ensures.entries ∙ c.loop-tlv.invariant.entries;
       room = omega (arith, ap length steps, c.take.ensures.tlvs, c.loop-tlv.invariant.room);
       some = body-next c.args.self.now.rows.mode c.args.self.now.rows.entries c.args.sender _ _ c.loop-tlv.self.rows.mode c.loop-tlv.self.rows.entries c.loop-tlv.invariant.mode c.loop-tlv.invariant.entries
-          (routes c.loop-tlv.self.rows.rows c.loop-tlv.self.report) _ c.loop-tlv.state c.step.new.self (tlv_value c.in-Some.tlv) (tlvs_left c.loop-tlv.tlv-iterator) (tlvs_left c.next.new.self) c.in-Ok.event steps c.loop-tlv.invariant.some
-          c.in-Ok.ensures.said (λ earlier is. c.in-Ok.ensures.state c.args.sender earlier is) c.in-Ok-take.ensures.ok;
+          (routes c.loop-tlv.self.rows.rows c.loop-tlv.self.report) _ c.loop-tlv.state c.step.new.self (tlv_value c.in-Some.tlv) (tlvs_left c.loop-tlv.tlv-iterator) (tlvs_left c.next.new.self) c.in_ok-event.event steps c.loop-tlv.invariant.some
+          c.in_ok-event.ensures.said (λ earlier is. c.in_ok-event.ensures.state c.args.sender earlier is) c.in_ok-take.ensures.ok;
     }
 
-pub returns-in-Err-take-clause-fails : goal.returns-in-Err-take-clause-fails
-returns-in-Err-take-clause-fails c =
-    body-failed c.args.self.now.rows.mode c.args.self.now.rows.entries c.args.sender _ _ c.loop-tlv.self.rows.mode c.loop-tlv.self.rows.entries c.loop-tlv.invariant.mode c.loop-tlv.invariant.entries
-    (routes c.loop-tlv.self.rows.rows c.loop-tlv.self.report) c.loop-tlv.state (tlv_value c.in-Some.tlv) (tlvs_left c.loop-tlv.tlv-iterator) (tlvs_left c.next.new.self) c.in-Ok.event c.in-Err-take.fault c.in-Some.ensures.steps
-    c.loop-tlv.invariant.some c.in-Ok.ensures.said c.in-Err-take.ensures.refused
+pub returns-in_err-take-clause-fails : goal.returns-in_err-take-clause-fails
+returns-in_err-take-clause-fails c =
+    let exit = err_from_is_err_and c.from_residual-in_err-take.result c.from_residual-in_err-take.ensures.1 in
+    rw (exit.1, exit.2) (body-failed c.args.self.now.rows.mode c.args.self.now.rows.entries c.args.sender _ _ c.loop-tlv.self.rows.mode c.loop-tlv.self.rows.entries c.loop-tlv.invariant.mode c.loop-tlv.invariant.entries
+    (routes c.loop-tlv.self.rows.rows c.loop-tlv.self.report) c.loop-tlv.state (tlv_value c.in-Some.tlv) (tlvs_left c.loop-tlv.tlv-iterator) (tlvs_left c.next.new.self) c.in_ok-event.event c.in_err-take.field-0.0 c.in-Some.ensures.steps
+    c.loop-tlv.invariant.some c.in_ok-event.ensures.said c.in_err-take.ensures.refused)

@@ -8,10 +8,10 @@ pub returns-then-not-is_empty-clause-took : goal.returns-then-not-is_empty-claus
 returns-then-not-is_empty-clause-took c =
     let pending = c.take_pending.new.self.pending in
     let some = subst (λ (t : List ℕ). t ≢ []) c.octets-2.ensures (is_some c.octets-2.result.now c.if-not-is_empty.ensures) in
-    let none = none_left c.in-Ok.rest.now pending c.in-Ok.ensures.whole some in
+    let none = none_left c.in_ok-rest.rest.now pending c.in_ok-rest.ensures.whole some in
     subst (λ (t : List ℕ). TookPackets c.args.self.now.so_far.rows.mode c.args.self.now.so_far.rows.entries c.args.self.now.sender c.args.self.now.at (c.args.self.now.pending ++ c.args.octets.now)
     (routes c.args.self.now.so_far.rows.rows c.args.self.now.so_far.report) (routes c.take_pending.new.self.so_far.rows.rows c.take_pending.new.self.so_far.report) t c.take_pending.new.self.at)
-    (ap (λ (t : List ℕ). pending ++ t) none ∙ append-nil pending) c.in-Ok.ensures.took
+    (ap (λ (t : List ℕ). pending ++ t) none ∙ append-nil pending) c.in_ok-rest.ensures.took
 
 pub take_in_place-requires-2-clause-fits : goal.take_in_place-requires-2-clause-fits
 take_in_place-requires-2-clause-fits c =
@@ -19,16 +19,16 @@ take_in_place-requires-2-clause-fits c =
       arith,
       c.requires.fits,
       length-append c.args.self.now.pending c.args.octets.now,
-      length-append c.take_pending.new.self.pending c.in-Ok.rest.now,
-      took-end _ _ _ c.args.self.now.at c.take_pending.new.self.at _ _ _ _ c.in-Ok.ensures.took,
+      length-append c.take_pending.new.self.pending c.in_ok-rest.rest.now,
+      took-end _ _ _ c.args.self.now.at c.take_pending.new.self.at _ _ _ _ c.in_ok-rest.ensures.took,
     )
 
 pub returns-clause-took : goal.returns-clause-took
 returns-clause-took c =
-    took-last _ _ _ _ _ _ c.take_pending.ensures.settings c.take_in_place-2.result c.args.self.now.at c.take_pending.new.self.at _ _ c.take_pending.new.self.pending c.in-Ok.rest.now _ _ _ _
-    c.in-Ok.ensures.took (sym c.octets-2.ensures ∙ is_none c.octets-2.result.now c.if-not-is_empty.ensures) c.take_in_place-2.ensures.took
+    took-last _ _ _ _ _ _ c.take_pending.ensures.settings c.take_in_place-2.result c.args.self.now.at c.take_pending.new.self.at _ _ c.take_pending.new.self.pending c.in_ok-rest.rest.now _ _ _ _
+    c.in_ok-rest.ensures.took (sym c.octets-2.ensures ∙ is_none c.octets-2.result.now c.if-not-is_empty.ensures) c.take_in_place-2.ensures.took
 
 pub returns-clause-stops : goal.returns-clause-stops
 returns-clause-stops c =
-    stops-last _ _ _ _ _ _ c.take_pending.ensures.settings c.take_in_place-2.result c.args.self.now.at c.take_pending.new.self.at _ c.take_pending.new.self.pending c.in-Ok.rest.now _ _
-    c.in-Ok.ensures.took (sym c.octets-2.ensures ∙ is_none c.octets-2.result.now c.if-not-is_empty.ensures) c.take_in_place-2.ensures.stops
+    stops-last _ _ _ _ _ _ c.take_pending.ensures.settings c.take_in_place-2.result c.args.self.now.at c.take_pending.new.self.at _ c.take_pending.new.self.pending c.in_ok-rest.rest.now _ _
+    c.in_ok-rest.ensures.took (sym c.octets-2.ensures ∙ is_none c.octets-2.result.now c.if-not-is_empty.ensures) c.take_in_place-2.ensures.stops
