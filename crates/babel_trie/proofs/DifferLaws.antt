@@ -3,8 +3,9 @@ use Rattle.std.proofs.Common.{◌≡◌, ◌≢◌, inl, inr, ℕ, ◌+◌, ◌-
 use Rattle.std.proofs.lemmas.Bool.{cases_lt}
 use Rattle.std.proofs.Math.Pow.{pow_mono}
 use Rattle.std.proofs.lemmas.Nat.{pow_pos}
-use Rattle.babel_trie.specs.Differs.{AgreeBelow, DifferFirst, AgreeBelowBoth, DifferFirstAt, answers_below}
-use Rattle.babel_trie.specs.Held.{sources_at}
+use Rattle.babel_trie.specs.Boxes.{Answers, IsLeastDifference}
+use Rattle.babel_trie.specs.Differs.{AgreeBelow, DifferFirst, AgreeBelowBoth, DifferFirstAt}
+use Rattle.babel_trie.specs.Held.{sources_at, answers_below}
 use Rattle.std.specs.List.{slice_get}
 use Rattle.babel_trie.specs.declared.table.Node.TheVariants.{Leaf}
 use Rattle.babel_trie.specs.Shape.{Shape, leaf, fork, height, value_at}
@@ -173,3 +174,30 @@ module _ {V : Type 0} (w : ℕ) (left right : List (Node (Option V))) (nodes oth
       DifferFirstAt (2 ^ bits) (2 ^ w) (answers_below w left bits t) (answers_below w right bits u) (0, src)
   differ_at_sources src d =
       record { in_range = pow_pos bits; differ = at_sources (λ f g. DifferFirst (2 ^ w) f g src) d 0; agree_below = λ a none. absurd (omega arith) }
+
+-- in one table one number stands for one trie
+module _ {V : Type 0} where
+  pub same_trie : (nodes others : List (Node V)) (n m : ℕ) (t u : Shape V) → nodes ≡ others → n ≡ m → Represents nodes n t → Represents others m u → t ≡ u
+  same_trie nodes others n m t u one same p q =
+      one_trie others m t u (subst (λ k. Represents others k t) same (subst (λ ns. Represents ns n t) one p)) q
+
+  pub agree_in_one : (nodes others : List (Node V)) (n m bits : ℕ) (t u : Shape V) → nodes ≡ others → n ≡ m → Represents nodes n t → Represents others m u → AgreeBelow (2 ^ bits) (value_at t bits) (value_at u bits)
+  agree_in_one nodes others n m bits t u one same p q a a_in = ap (λ x. value_at x bits a) (same_trie nodes others n m t u one same p q)
+
+pub agree_in_one_pair : {V : Type 0} (w : ℕ) (left right : List (Node (Option V))) (nodes others : List (Node NodeNumber)) (n m bits : ℕ) (t u : Shape NodeNumber) → left ≡ right → nodes ≡ others → n ≡ m →
+    Represents nodes n t → Represents others m u → AgreeBelowBoth (2 ^ bits) (2 ^ w) (answers_below w left bits t) (answers_below w right bits u)
+agree_in_one_pair w left right nodes others n m bits t u one_left one same p q d d_in s s_in =
+    ap (λ (x : Shape NodeNumber). answers_below w left bits x d s) (same_trie nodes others n m t u one same p q) ∙ ap (λ sources. answers_below w sources bits u d s) one_left
+
+-- the first pair by destination, then source, is the least
+pub least_from_first : {V : Type 0} (w : ℕ) (f g : Answers V) (at : ℕ × ℕ) → DifferFirstAt (2 ^ w) (2 ^ w) f g at → IsLeastDifference w f g at.0 at.1
+least_from_first w f g at d =
+    record {
+      dst_in_range = d.in_range;
+      src_in_range = d.differ.in_range;
+      differs = d.differ.differ;
+      same_below = λ x s x_in s_in below. elim below [
+        | inl lt ↦ d.agree_below x lt s s_in
+        | inr same ↦ subst (λ y. f y s ≡ g y s) (sym same.0) (d.differ.agree_below s same.1)
+      ];
+    }

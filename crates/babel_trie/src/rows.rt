@@ -1,13 +1,36 @@
 //! Rows in order, and their parts.
-ghost use Rattle.std.specs.Prelude.{◌≡◌, ◌≢◌, ◌++◌, ◌<◌, ◌≤◌, ◌==◌, nat_lt};
-ghost use Rattle.std.specs.List.Sorted.{IsPartitionedBy};
+ghost use Rattle.std.specs.Prelude.{◌≡◌, ◌≢◌, ◌++◌, ◌<◌, ◌≤◌, ◌==◌, nat_lt, All, IfOk};
+ghost use Rattle.std.specs.List.Sorted.{IsPartitionedBy, IsPermutation};
+ghost use Rattle.babel_prefix.specs.Entries.{HasPrefixes};
 ghost use Rattle.babel_prefix.specs.Members.{Listed};
-ghost use Rattle.babel_trie.specs.Rows.{side_of, side_block};
+ghost use Rattle.babel_trie.specs.Held.{RowOrder};
+ghost use Rattle.babel_trie.specs.Rows.{InOrder, side_of, side_block};
 
 use babel_prefix::Prefix;
+use std::alloc::{AllocError, Global};
 
 /// A row: a destination, a source and what they are given.
 pub type Row<V> = (Prefix, Prefix, V);
+
+/// The rows in order: a prefix stands before those inside it.
+pub fn sorted_rows<V: Copy>(alloc: Global, rows: &[Row<V>]) -> Result<Vec<Row<V>>, AllocError>
+    ensures permutation { IfOk result (λ sorted. IsPermutation rows.now sorted.items) }
+    ensures in_order { IfOk result (λ sorted. InOrder RowOrder sorted.items) }
+    ensures prefixes { IfOk result (λ _. All HasPrefixes rows.now) }
+{
+    let mut sorted = Vec::with_capacity(alloc, rows.len())?;
+    for row in rows {
+        let _ = (row.0.len(), row.1.len());
+        sorted.push(*row)?;
+    }
+    sorted.sort_unstable_by_key(|row| {
+        (
+            (row.0.addr().bits(), row.0.len()),
+            (row.1.addr().bits(), row.1.len()),
+        )
+    });
+    Ok(sorted)
+}
 
 /// Which prefix of a row is looked at.
 #[derive(Clone, Copy)]

@@ -1,8 +1,8 @@
 -- Two leaves differ at the first address or nowhere; else the lower halves are looked at before the upper.
 use Rattle.std.proofs.Common.{◌-◌, ◌^◌, ◌<◌, sym, subst, arith, rules}
-use Rattle.babel_trie.specs.Differs.{DifferFirstAt, IsFirstPair, answers_below}
-use Rattle.babel_trie.specs.Held.{HasNested}
-use Rattle.babel_trie.proofs.DifferLaws.{agree_at_sources, differ_at_sources, SameSources, side_by_side, in_both, pair_low, pair_high, fits_any, in_width}
+use Rattle.babel_trie.specs.Differs.{DifferFirstAt, IsFirstPair}
+use Rattle.babel_trie.specs.Held.{HasNested, answers_below}
+use Rattle.babel_trie.proofs.DifferLaws.{agree_at_sources, agree_in_one_pair, differ_at_sources, SameSources, side_by_side, in_both, pair_low, pair_high, fits_any, in_width}
 use Rattle.babel_trie.proofs.HeldLaws.{nested_trie, nested_halves}
 use Rattle.babel_trie.proofs.NumberLaws.{nested_in, nested_leaf}
 use Rattle.babel_trie.proofs.nested.Nested.+first_pair.Goals as goal
@@ -68,6 +68,13 @@ pub first_difference-requires-clause-other_trie : goal.first_difference-requires
 first_difference-requires-clause-other_trie g t c =
     let a = c.args in
     nested_leaf a.width a.bits a.other.now.sources.nodes.items a.other.now.destinations.nodes.items a.other_number.0 _ c.in-Some.ensures.leaves.1 c.requires.other_trie
+
+pub returns-then-are_one_trie : goal.returns-then-are_one_trie
+returns-then-are_one_trie g t c u v p q =
+    let a = c.args in
+    let one = c.are_one_trie.ensures.one c.if-are_one_trie.true in
+    agree_in_one_pair a.width a.self.now.sources.nodes.items a.other.now.sources.nodes.items a.self.now.destinations.nodes.items a.other.now.destinations.nodes.items a.number.0 a.other_number.0 a.bits u v
+    (c.requires.one_sources one) (c.requires.one_destinations one) (c.are_one_trie.ensures.same c.if-are_one_trie.true) p q
 
 pub returns-in_err-src : goal.returns-in_err-src
 returns-in_err-src g t c u v stands stands' =

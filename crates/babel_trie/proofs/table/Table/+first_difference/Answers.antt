@@ -4,7 +4,7 @@ use Rattle.std.proofs.lemmas.Bool.{false≢true}
 use Rattle.babel_trie.specs.Differs.{DifferFirst, IsFirstDifference}
 use Rattle.babel_trie.specs.Interned.{HasTrie}
 use Rattle.babel_trie.specs.Shape.{value_at}
-use Rattle.babel_trie.proofs.DifferLaws.{agree_at_leaves, differ_at_leaves, side_by_side, in_both, differ_low, differ_high, halves_are_tries, fits_any, in_width}
+use Rattle.babel_trie.proofs.DifferLaws.{agree_at_leaves, agree_in_one, differ_at_leaves, side_by_side, in_both, differ_low, differ_high, halves_are_tries, fits_any, in_width}
 use Rattle.babel_trie.proofs.NumberLaws.{Represents-in}
 use Rattle.babel_trie.proofs.table.Table.+first_difference.Goals as goal
 
@@ -59,6 +59,11 @@ in_upper_half-requires-clause-room g t c =
     let above : DifferFirst (2 ^ (a.bits - 1)) (value_at p.high_half (a.bits - 1)) (value_at q.high_half (a.bits - 1)) c.in_ok-at.at =
     c.in_ok-at.ensures p.high_half q.high_half p.high_stands q.high_stands in
     in_width a.bits c.in_ok-at.at (c.in_default.ensures.fork a.bits c.requires.trie c.requires.other_trie) c.requires.width above.in_range
+
+pub returns-then-are_one_trie : goal.returns-then-are_one_trie
+returns-then-are_one_trie g t c u v p q =
+    let a = c.args in
+    agree_in_one a.self.now.nodes.items a.other.now.nodes.items a.number.0 a.other_number.0 a.bits u v (c.requires.one (c.are_one_trie.ensures.one c.if-are_one_trie.true)) (c.are_one_trie.ensures.same c.if-are_one_trie.true) p q
 
 pub returns-then-are_same : goal.returns-then-are_same
 returns-then-are_same g t c u v p q =
