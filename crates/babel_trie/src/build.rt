@@ -12,7 +12,6 @@ ghost use Rattle.babel_trie.specs.declared.rows.Side.TheVariants.{Destination};
 
 use crate::lawful::LawfulOrd;
 use crate::nested::Nested;
-use crate::overlay::upper_start;
 use crate::rows::{Row, Side, sorted_rows};
 use crate::table::{Node, NodeNumber, Table};
 use babel_prefix::Family;
@@ -41,16 +40,14 @@ impl<V: LawfulOrd> Nested<V> {
         ensures keeps_destinations { OnOk result (KeepsNodes self.old.destinations.nodes.items self.new.destinations.nodes.items) }
         ensures built { IfOk result (λ n. (t : Shape (Option V)) → Represents self.old.sources.nodes.items inherited.0 t → IsBuilt width bits start (map row_of rows.now) self.new.sources.nodes.items self.new.destinations.nodes.items n.0 t) }
     {
-        let (own, rest) = Side::Destination.own_and_rest(rows, width - bits);
+        let (own, rest) = Side::Destination.parts(rows, width, bits, start);
         let inherited = self.sources.overlaid(own, width, width, 0, inherited)?;
-        if rest.is_empty() {
+        let Some(rest) = rest else {
             let leaf = self.destinations.leaf(inherited)?;
             return Ok(leaf);
-        }
-        let middle = upper_start(start, bits);
-        let (low_rows, high_rows) = Side::Destination.low_and_high(rest, middle);
-        let low = self.built(low_rows, width, bits - 1, start, inherited)?;
-        let high = self.built(high_rows, width, bits - 1, middle, inherited)?;
+        };
+        let low = self.built(rest.low, width, bits - 1, start, inherited)?;
+        let high = self.built(rest.high, width, bits - 1, rest.middle, inherited)?;
         let whole = self.destinations.joined(low, high)?;
         Ok(whole)
     }
