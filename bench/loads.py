@@ -163,6 +163,22 @@ def write_sources(path, rng):
     dump.close()
 
 
+def write_shared(folder, rng):
+    """20,000 sources of all destinations, and as many destinations that each have one of them otherwise; and the same with
+    one other metric at the last destination. Nearly all that the destinations answer is shared by all of them."""
+    sources = disjoint(rng, 4, 100 << 24, {24: 1}, 20_000, 1 << 8)
+    destinations = disjoint(rng, 4, 1 << 24, {24: 1}, 20_000, 1 << 8)
+    anns = announcements(rng, 20)
+    routes = [(0, 0, rng.choice(anns), source) for source in sources]
+    routes += [(bits, length, rng.choice(anns), source) for (bits, length), source in zip(destinations, sources)]
+    for name, other in (("shared.dump", 0), ("shared-other.dump", 1)):
+        dump = Dump(folder / name)
+        for place, (bits, length, (router_id, seqno, metric), source) in enumerate(routes, 1):
+            metric += other if place == len(routes) else 0
+            dump.put(4, bits, length, (router_id, seqno, metric), source)
+        dump.close()
+
+
 def write_merging(path, rng):
     """512 blocks of 256 sibling prefixes with one announcement each."""
     anns = announcements(rng, 20)
@@ -189,6 +205,7 @@ def main():
     rng = random.Random(f"{seed} ipv6")
     write(folder / "ipv6.dump", rng, 6, disjoint(rng, 6, 0x2001 << 112, IPV6_LENGTHS, 100_000, 1 << 84))
     write_sources(folder / "sources.dump", random.Random(f"{seed} sources"))
+    write_shared(folder, random.Random(f"{seed} shared"))
     write_merging(folder / "merging.dump", random.Random(f"{seed} merging"))
     for size in (1, 4, 16, 64, 256):
         rng = random.Random(f"{seed} growth {size}")

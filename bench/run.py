@@ -28,7 +28,12 @@ def cases():
         yield load, ["lookup", *FROM, *lookup]
         for command in ("show", "pairs", "normalise"):
             yield load, [command, *FROM]
-    for load, other in (("ipv4.dump", "ipv4-other.dump"), ("ipv6.dump", "ipv6.dump"), ("sources.dump", "sources.dump")):
+    for load, other in (
+        ("ipv4.dump", "ipv4-other.dump"),
+        ("ipv6.dump", "ipv6.dump"),
+        ("sources.dump", "sources.dump"),
+        ("shared.dump", "shared-other.dump"),
+    ):
         yield load, ["compare", *FROM, "--other-from", "192.0.2.1", other]
     for size in (1, 4, 16, 64, 256):
         for command in ("show", "normalise"):

@@ -11,7 +11,7 @@ use Rattle.babel_trie.specs.Shape.{Shape, leaf, height, value_at, is_low, IsRedu
 use Rattle.babel_trie.specs.Interned.{Represents, HasTrie, IsJoined}
 use Rattle.babel_trie.specs.Sound.{KeepsNodes}
 use Rattle.babel_prefix.proofs.Members.{Listed}
-use Rattle.babel_trie.specs.Rows.{InOrder, IsNoLater, IsPlace, InBlock, Overlays, side_block}
+use Rattle.babel_trie.specs.Rows.{InOrder, IsNoLater, IsPlace, InBlock, Overlays, side_block, AreParted}
 use Rattle.babel_trie.specs.Laid.{HasOneDestination, IsOverlaid, IsBuilt, IsSorted}
 use Rattle.babel_trie.specs.declared.table.Node.{Node}
 use Rattle.babel_trie.specs.declared.table.NodeNumber.{NodeNumber}
@@ -22,7 +22,7 @@ use Rattle.babel_prefix.proofs.Members.{Listed-append_left, Listed-append_right}
 use Rattle.babel_prefix.proofs.BlockLaws.{same_block}
 use Rattle.babel_trie.proofs.NumberLaws.{one_trie, Represents-grows, HasTrie-grows}
 use Rattle.babel_trie.proofs.PlaceLaws.{whole_covers, InOrder-left, InOrder-right}
-use Rattle.babel_trie.proofs.PartLaws.{Parts, from_map, high_is_apart, low_is_apart, mapped_parts, overlays_low, overlays_high}
+use Rattle.babel_trie.proofs.PartLaws.{from_map, high_is_apart, low_is_apart, mapped_parts, overlays_low, overlays_high}
 
 -- all addresses
 pub whole_place : (w : ℕ) → IsPlace w w 0
@@ -89,11 +89,10 @@ module _ {V : Type 0} where
       subst (λ (r : Row V). BlockCovers w r.dst (start + a)) f.2 (whole_covers w bits start (block_of f.0.0) place (rows_in.from_start f.0 in_rows) (rows_in.before_end f.0 in_rows) (lens f.0 f.1) a a_in)) s_in)
 
   -- where no other rows are left, the whole block has these sources
-  pub built_leaf : (w bits start : ℕ) (rows own rest : List (Entry V)) (sources : List (Node (Option V))) (nodes : List (Node NodeNumber)) (x : NodeNumber) (n : ℕ) (old : Shape (Option V)) →
-      IsPlace w bits start → InBlock (side_block Destination) w bits start rows → rows ≡ own ++ rest → rest ≡ [] → ((x : Entry V) → Listed own x → (block_of x.0).len ≡ w - bits) →
+  pub built_leaf : (w bits start : ℕ) (rows own : List (Entry V)) (sources : List (Node (Option V))) (nodes : List (Node NodeNumber)) (x : NodeNumber) (n : ℕ) (old : Shape (Option V)) →
+      IsPlace w bits start → InBlock (side_block Destination) w bits start rows → rows ≡ own → ((x : Entry V) → Listed own x → (block_of x.0).len ≡ w - bits) →
       (laid : IsOverlaid w w 0 (map row_of own) sources x.0 old) → height old ≤ w → IsReduced old → Represents nodes n (leaf x) → IsBuilt w bits start (map row_of rows) sources nodes n old
-  built_leaf w bits start rows own rest sources nodes x n old place rows_in whole none lens laid fits reduced at =
-      let all : own ≡ rows = sym (whole ∙ ap (λ r. own ++ r) none ∙ append-nil own) in
+  built_leaf w bits start rows own sources nodes x n old place rows_in all lens laid fits reduced at =
       record {
         new = leaf x;
         stands = at;
@@ -102,13 +101,13 @@ module _ {V : Type 0} where
         each_stands = λ b a. record { trie = laid.new; stands = laid.stands; fits = laid.fits fits; reduced = laid.reduced reduced };
         values = λ a s a_in s_in t p.
             let is : laid.new ≡ t = one_trie sources x.0 laid.new t laid.stands p in
-            subst (λ r. Overlays w (map row_of r) (start + a) s (value_at old w s) (value_at t w s)) all
+            subst (λ r. Overlays w (map row_of r) (start + a) s (value_at old w s) (value_at t w s)) (sym all)
             (subst (λ u. Overlays w (map row_of own) (start + a) s (value_at old w s) (value_at u w s)) is
-            (own_overlays w bits start rows own rest sources x.0 old place rows_in whole lens laid a s a_in s_in));
+            (own_overlays w bits start rows own [] sources x.0 old place rows_in (all ∙ sym (append-nil own)) lens laid a s a_in s_in));
       }
 
   -- the halves, each with its rows, are joined
-  pub built_joined : (w bits start : ℕ) (rows own low high : List (Entry V)) → Parts (side_block Destination) w bits start rows own low high →
+  pub built_joined : (w bits start : ℕ) (rows own low high : List (Entry V)) → AreParted (side_block Destination) w bits start rows own low high →
       (sources1 sources2 sources3 : List (Node (Option V))) (nodes2 nodes3 nodes4 : List (Node NodeNumber)) (x l h n : ℕ) (old : Shape (Option V)) → KeepsNodes sources2 sources3 →
       (laid : IsOverlaid w w 0 (map row_of own) sources1 x old) →
       (in_low : IsBuilt w (bits - 1) start (map row_of low) sources2 nodes2 l laid.new) →

@@ -3,8 +3,9 @@ use Rattle.std.proofs.Common.{◌≡◌, ◌≢◌, inl, inr, ℕ, ◌+◌, ◌-
 use Rattle.std.proofs.lemmas.Bool.{cases_lt}
 use Rattle.std.proofs.Math.Pow.{pow_mono}
 use Rattle.std.proofs.lemmas.Nat.{pow_pos}
-use Rattle.babel_trie.specs.Differs.{AgreeBelow, DifferFirst, AgreeBelowBoth, DifferFirstAt, answers_below}
-use Rattle.babel_trie.specs.Held.{sources_at}
+use Rattle.babel_trie.specs.Boxes.{Answers, IsLeastDifference}
+use Rattle.babel_trie.specs.Differs.{AgreeBelow, DifferFirst, AgreeBelowBoth, DifferFirstAt}
+use Rattle.babel_trie.specs.Held.{sources_at, answers_below}
 use Rattle.std.specs.List.{slice_get}
 use Rattle.babel_trie.specs.declared.table.Node.TheVariants.{Leaf}
 use Rattle.babel_trie.specs.Shape.{Shape, leaf, fork, height, value_at}
@@ -40,7 +41,7 @@ module _ {V U : Type 0} where
             subst (R (value_at t bits (m + a))) (sym right) (subst (λ x. R x (value_at q.high_half (bits - 1) a)) (sym left) r);
       }
 
-  module _ (bits : ℕ) (t low high : Shape V) (u low' high' : Shape U) (s : SideBySide bits t low high u low' high') (R : V → U → Type 0) where
+  module _ {bits : ℕ} {t low high : Shape V} {u low' high' : Shape U} (s : SideBySide bits t low high u low' high') (R : V → U → Type 0) where
     -- what holds in both halves below a number of the upper one holds below it
     pub below_high : (n : ℕ) → n ≤ 2 ^ (bits - 1) → ((a : ℕ) → a < 2 ^ (bits - 1) → R (value_at low (bits - 1) a) (value_at low' (bits - 1) a)) →
         ((a : ℕ) → a < n → R (value_at high (bits - 1) a) (value_at high' (bits - 1) a)) → (a : ℕ) → a < 2 ^ (bits - 1) + n → R (value_at t bits a) (value_at u bits a)
@@ -63,7 +64,7 @@ module _ {V U : Type 0} where
         below_high (2 ^ (bits - 1)) (omega arith) in_low in_high a (omega arith)
 
 -- values of one level
-module _ {V : Type 0} (bits : ℕ) (t low high u low' high' : Shape V) (s : SideBySide bits t low high u low' high') where
+module _ {V : Type 0} {bits : ℕ} {t low high u low' high' : Shape V} (s : SideBySide bits t low high u low' high') where
   pub differ_low : (at : ℕ) → DifferFirst (2 ^ (bits - 1)) (value_at low (bits - 1)) (value_at low' (bits - 1)) at → DifferFirst (2 ^ bits) (value_at t bits) (value_at u bits) at
   differ_low at d =
       let twice = pow_twice bits s.some in
@@ -82,7 +83,7 @@ module _ {V : Type 0} (bits : ℕ) (t low high u low' high' : Shape V) (s : Side
       record {
         in_range = omega arith;
         differ = s.at_high (λ x y. x ≢ y) at at_in d.differ;
-        agree_below = below_high bits t low high u low' high' s (λ x y. x ≡ y) at (omega arith) in_low d.agree_below;
+        agree_below = below_high s (λ x y. x ≡ y) at (omega arith) in_low d.agree_below;
       }
 
 module _ {V : Type 0} (w : ℕ) (left right : List (Node (Option V))) where
@@ -94,7 +95,7 @@ module _ {V : Type 0} (w : ℕ) (left right : List (Node (Option V))) where
   DifferAt src x y = DifferFirst (2 ^ w) (value_at (sources_at w left x) w) (value_at (sources_at w right y) w) src
 
 -- values that stand for functions of sources
-module _ {V : Type 0} (w : ℕ) (left right : List (Node (Option V))) (bits : ℕ) (t low high u low' high' : Shape NodeNumber) (s : SideBySide bits t low high u low' high') where
+module _ {V : Type 0} (w : ℕ) (left right : List (Node (Option V))) {bits : ℕ} {t low high u low' high' : Shape NodeNumber} (s : SideBySide bits t low high u low' high') where
   pub pair_low : (at : ℕ × ℕ) → DifferFirstAt (2 ^ (bits - 1)) (2 ^ w) (answers_below w left (bits - 1) low) (answers_below w right (bits - 1) low') at →
       DifferFirstAt (2 ^ bits) (2 ^ w) (answers_below w left bits t) (answers_below w right bits u) at
   pair_low at d =
@@ -115,7 +116,7 @@ module _ {V : Type 0} (w : ℕ) (left right : List (Node (Option V))) (bits : �
       record {
         in_range = omega arith;
         differ = s.at_high (DifferAt w left right at.1) at.0 at_in d.differ;
-        agree_below = below_high bits t low high u low' high' s (SameSources w left right) at.0 (omega arith) in_low d.agree_below;
+        agree_below = below_high s (SameSources w left right) at.0 (omega arith) in_low d.agree_below;
       }
 
 module _ {V : Type 0} where
@@ -131,6 +132,12 @@ module _ {V : Type 0} where
   -- the height of whatever trie the number stands for
   pub fits_any : (bits : ℕ) (nodes : List (Node V)) (n : ℕ) → HasTrie bits nodes n → (u : Shape V) → Represents nodes n u → height u ≤ bits
   fits_any bits nodes n t u p = subst (λ x. height x ≤ bits) (one_trie nodes n t.trie u t.stands p) t.fits
+
+  -- the halves of two tries of which not both are leaves
+  pub sides : {bits : ℕ} {nodes others : List (Node V)} {n m l h l' h' : ℕ} {t u : Shape V} → HasTrie bits nodes n → HasTrie bits others m → ((b : ℕ) → HasTrie b nodes n → HasTrie b others m → 0 < b) →
+      Represents nodes n t → Represents others m u → (p : IsHalved nodes t l h) → (q : IsHalved others u l' h') → SideBySide bits t p.low_half p.high_half u q.low_half q.high_half
+  sides {bits} {nodes} {others} {n} {m} {l} {h} {l'} {h'} {t} {u} own theirs some stands stands' p q =
+      side_by_side nodes others bits t u l h l' h' (fits_any bits nodes n own t stands) (fits_any bits others m theirs u stands') (some bits own theirs) p q
 
   -- where no leaf stands some bit is left
   pub some_without_leaf : (bits : ℕ) (nodes : List (Node V)) (n : ℕ) → ((v : V) → slice_get nodes n ≡ Some (Leaf v) → ⊥) → HasTrie bits nodes n → 0 < bits
@@ -173,3 +180,30 @@ module _ {V : Type 0} (w : ℕ) (left right : List (Node (Option V))) (nodes oth
       DifferFirstAt (2 ^ bits) (2 ^ w) (answers_below w left bits t) (answers_below w right bits u) (0, src)
   differ_at_sources src d =
       record { in_range = pow_pos bits; differ = at_sources (λ f g. DifferFirst (2 ^ w) f g src) d 0; agree_below = λ a none. absurd (omega arith) }
+
+-- in one table one number stands for one trie
+module _ {V : Type 0} where
+  pub same_trie : (nodes others : List (Node V)) (n m : ℕ) (t u : Shape V) → nodes ≡ others → n ≡ m → Represents nodes n t → Represents others m u → t ≡ u
+  same_trie nodes others n m t u one same p q =
+      one_trie others m t u (subst (λ k. Represents others k t) same (subst (λ ns. Represents ns n t) one p)) q
+
+  pub agree_in_one : (nodes others : List (Node V)) (n m bits : ℕ) (t u : Shape V) → nodes ≡ others → n ≡ m → Represents nodes n t → Represents others m u → AgreeBelow (2 ^ bits) (value_at t bits) (value_at u bits)
+  agree_in_one nodes others n m bits t u one same p q a a_in = ap (λ x. value_at x bits a) (same_trie nodes others n m t u one same p q)
+
+pub agree_in_one_pair : {V : Type 0} (w : ℕ) (left right : List (Node (Option V))) (nodes others : List (Node NodeNumber)) (n m bits : ℕ) (t u : Shape NodeNumber) → left ≡ right → nodes ≡ others → n ≡ m →
+    Represents nodes n t → Represents others m u → AgreeBelowBoth (2 ^ bits) (2 ^ w) (answers_below w left bits t) (answers_below w right bits u)
+agree_in_one_pair w left right nodes others n m bits t u one_left one same p q d d_in s s_in =
+    ap (λ (x : Shape NodeNumber). answers_below w left bits x d s) (same_trie nodes others n m t u one same p q) ∙ ap (λ sources. answers_below w sources bits u d s) one_left
+
+-- the first pair by destination, then source, is the least
+pub least_from_first : {V : Type 0} (w : ℕ) (f g : Answers V) (at : ℕ × ℕ) → DifferFirstAt (2 ^ w) (2 ^ w) f g at → IsLeastDifference w f g at.0 at.1
+least_from_first w f g at d =
+    record {
+      dst_in_range = d.in_range;
+      src_in_range = d.differ.in_range;
+      differs = d.differ.differ;
+      same_below = λ x s x_in s_in below. elim below [
+        | inl lt ↦ d.agree_below x lt s s_in
+        | inr same ↦ subst (λ y. f y s ≡ g y s) (sym same.0) (d.differ.agree_below s same.1)
+      ];
+    }

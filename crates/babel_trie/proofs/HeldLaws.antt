@@ -96,8 +96,8 @@ module _ {V : Type 0} where
   sources_at-stands w sources n h = trie_at-stands (λ v. v) None sources (suc w) n.0 h.trie h.stands (omega (arith, h.fits)) ∙ shape_map-itself h.trie
 
   -- without the tries of sources
-  abbrev pub nested_trie : (w bits : ℕ) (sources : List (Node (Option V))) (nodes : List (Node NodeNumber)) (n : ℕ) → HasNested w bits sources nodes n → HasTrie bits nodes n
-  nested_trie w bits sources nodes n h = record { trie = h.trie; stands = h.stands; fits = h.fits; reduced = h.reduced }
+  abbrev pub nested_trie : {w bits : ℕ} {sources : List (Node (Option V))} {nodes : List (Node NodeNumber)} {n : ℕ} → HasNested w bits sources nodes n → HasTrie bits nodes n
+  nested_trie h = record { trie = h.trie; stands = h.stands; fits = h.fits; reduced = h.reduced }
 
   -- the halves of a nested trie are nested tries
   pub nested_halves : (w bits : ℕ) (sources : List (Node (Option V))) (nodes : List (Node NodeNumber)) (n l k : ℕ) → (h : HasNested w bits sources nodes n) → 0 < bits → IsHalved nodes h.trie l k →

@@ -1,14 +1,15 @@
 -- The parts of the rows of a block, and what they make of an answer together.
-use Rattle.std.proofs.Common.{◌≡◌, inl, inr, ℕ, ◌+◌, ◌-◌, ◌^◌, ◌<◌, ◌≤◌, List, [], ◌∷◌, ◌++◌, Option, Some, map, refl, sym, ◌∙◌, ap, subst, arith, Bool, true, false, length, ◌==◌, nat_lt, eqb-true}
+use Rattle.std.proofs.Common.{◌≡◌, inl, inr, ℕ, ◌+◌, ◌-◌, ◌^◌, ◌<◌, ◌≤◌, List, [], ◌∷◌, ◌++◌, Option, Some, None, map, refl, sym, ◌∙◌, ap, subst, arith, Bool, true, false, length, ◌==◌, nat_lt, eqb-true}
 use Rattle.std.proofs.lemmas.List.{map-append}
 use Rattle.std.proofs.lemmas.Bool.{cases_order, false≢true}
 use Rattle.std.specs.List.{slice_get}
+use Rattle.std.specs.Option.{IfSome, IfNone}
 use Rattle.std.specs.List.Sorted.{IsPartitionedBy}
 use Rattle.babel_prefix.specs.Block.{Block, BlockCovers}
 use Rattle.babel_prefix.specs.Best.{Row, IsNoLonger}
 use Rattle.babel_prefix.specs.Entries.{Entry, row_of}
 use Rattle.babel_prefix.proofs.Members.{Listed}
-use Rattle.babel_trie.specs.Rows.{IsPlace, InBlock, NoneMatches, Overlays}
+use Rattle.babel_trie.specs.Rows.{IsPlace, InBlock, AreParted, NoneMatches, Overlays}
 use Rattle.babel_prefix.proofs.Members.{Listed-append_left}
 use Rattle.babel_trie.proofs.PlaceLaws.{place_high, block_rest, lower_first, some_bit, block_low, block_high, high_misses, low_misses, whole_covers}
 use Rattle.babel_trie.proofs.OverlayLaws.{overlays_left, overlays_right, overlays_then}
@@ -24,16 +25,12 @@ to_map f [] x none = elim none [ ]
 to_map f (y ∷ xs) x (inl e) = inl (ap f e)
 to_map f (y ∷ xs) x (inr t) = inr (to_map f xs x t)
 
--- rows of a block: those of the whole block, and those of its halves
-pub record Parts {X : Type 0} (key : X → Block) (w bits start : ℕ) (rows own low high : List X) : Type 0 where
-  pub some : 0 < bits
-  pub place : IsPlace w bits start
-  pub rows_in : InBlock key w bits start rows
-  pub whole : rows ≡ own ++ (low ++ high)
-  pub own_len : (x : X) → Listed own x → (key x).len ≡ w - bits
-  pub longer : (x : X) → Listed (low ++ high) x → w - bits < (key x).len
-  pub low_in : InBlock key w (bits - 1) start low
-  pub high_in : InBlock key w (bits - 1) (start + 2 ^ (bits - 1)) high
+-- what is said of a value, if there is one, holds of the one that is there
+pub some_holds : {X : Type 0} (P : X → Type 0) {o : Option X} {x : X} → IfSome o P → o ≡ Some x → P x
+some_holds P holds is = subst (λ o. IfSome o P) is holds
+
+pub none_holds : {X : Type 0} {P : Type 0} {o : Option X} → IfNone o P → o ≡ None → P
+none_holds {P = P} holds is = subst (λ o. IfNone o P) is holds
 
 -- a list that is not empty has a member
 some_member : {X : Type 0} (xs : List X) (b : Bool) → b ≡ (length xs == 0) → b ≡ false → (x : X) × Listed xs x
@@ -59,7 +56,7 @@ module _ {X : Type 0} {key : X → Block} {w bits start : ℕ} where
   -- the parts, as they are split off one after the other
   pub parts_of : {middle : ℕ} {rows own rest low high : List X} → 0 < bits → IsPlace w bits start → InBlock key w bits start rows →
       rows ≡ own ++ rest → ((x : X) → Listed own x → (key x).len ≡ w - bits) → ((x : X) → Listed rest x → (key x).len ≡ w - bits → ⊥) → middle ≡ start + 2 ^ (bits - 1) →
-      rest ≡ low ++ high → ((x : X) → Listed low x → (key x).start < middle) → ((x : X) → Listed high x → middle ≤ (key x).start) → Parts key w bits start rows own low high
+      rest ≡ low ++ high → ((x : X) → Listed low x → (key x).start < middle) → ((x : X) → Listed high x → middle ≤ (key x).start) → AreParted key w bits start rows own low high
   parts_of {middle} {rows} {own} {rest} {low} {high} some place rows_in whole own_len other middle_is halves below above =
       let rest_in = block_rest key w bits start rows own rest rows_in whole in
       record {
@@ -77,14 +74,14 @@ module _ {X : Type 0} {key : X → Block} {w bits start : ℕ} where
       }
 
   -- the upper half, from its start on
-  pub upper_place : {middle : ℕ} {rows own low high : List X} → middle ≡ start + 2 ^ (bits - 1) → Parts key w bits start rows own low high → IsPlace w (bits - 1) middle
+  pub upper_place : {middle : ℕ} {rows own low high : List X} → middle ≡ start + 2 ^ (bits - 1) → AreParted key w bits start rows own low high → IsPlace w (bits - 1) middle
   upper_place is p = subst (IsPlace w (bits - 1)) (sym is) (place_high w bits start p.place p.some)
 
-  pub upper_rows : {middle : ℕ} {rows own low high : List X} → middle ≡ start + 2 ^ (bits - 1) → Parts key w bits start rows own low high → InBlock key w (bits - 1) middle high
+  pub upper_rows : {middle : ℕ} {rows own low high : List X} → middle ≡ start + 2 ^ (bits - 1) → AreParted key w bits start rows own low high → InBlock key w (bits - 1) middle high
   upper_rows {high = high} is p = subst (λ m. InBlock key w (bits - 1) m high) (sym is) p.high_in
 
 module _ {X : Type 0} (key : X → Block) where
-  module _ (w bits start : ℕ) (rows own low high : List X) (p : Parts key w bits start rows own low high) where
+  module _ (w bits start : ℕ) (rows own low high : List X) (p : AreParted key w bits start rows own low high) where
     -- a prefix of the upper half covers no address of the lower
     pub high_is_apart : (x : X) → Listed high x → (a : ℕ) → a < 2 ^ (bits - 1) → BlockCovers w (key x) (start + a) → ⊥
     high_is_apart x t a a_in =

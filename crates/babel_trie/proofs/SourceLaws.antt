@@ -1,5 +1,5 @@
 -- Rows of one destination, laid over a trie of sources.
-use Rattle.std.proofs.Common.{◌≡◌, append-nil, ◌⊎◌, inl, inr, ℕ, ◌+◌, ◌-◌, ◌*◌, ◌^◌, ◌<◌, ◌≤◌, List, [], ◌++◌, Option, Some, map, sym, ◌∙◌, ap, subst, arith}
+use Rattle.std.proofs.Common.{◌≡◌, ◌⊎◌, inl, inr, ℕ, ◌+◌, ◌-◌, ◌*◌, ◌^◌, ◌<◌, ◌≤◌, List, [], ◌++◌, Option, Some, map, sym, ◌∙◌, ap, subst, arith}
 use Rattle.std.proofs.lemmas.List.{map-append}
 use Rattle.std.proofs.lemmas.Bool.{cases_lt}
 use Rattle.babel_prefix.specs.Block.{Block, BlockCovers}
@@ -9,7 +9,7 @@ use Rattle.babel_prefix.specs.Entries.{Entry, row_of}
 use Rattle.babel_trie.specs.Shape.{Shape, leaf, height, value_at, IsReduced}
 use Rattle.babel_trie.specs.Interned.{HasTrie, IsHalved, IsJoined}
 use Rattle.babel_prefix.proofs.Members.{Listed}
-use Rattle.babel_trie.specs.Rows.{IsPlace, InBlock, Overlays, side_block}
+use Rattle.babel_trie.specs.Rows.{IsPlace, InBlock, Overlays, side_block, AreParted}
 use Rattle.babel_trie.specs.Laid.{HasOneDestination, IsSet, IsOverlaid}
 use Rattle.babel_trie.specs.declared.table.Node.{Node}
 use Rattle.babel_trie.specs.declared.rows.Side.TheVariants.{Source}
@@ -18,7 +18,7 @@ use Rattle.babel_trie.proofs.Reduced.{value_at-low, value_at-high}
 use Rattle.babel_prefix.proofs.Members.{Listed-append_left, Listed-append_right}
 use Rattle.babel_trie.proofs.OverlayLaws.{overlays_none, overlays_top}
 use Rattle.babel_trie.proofs.PlaceLaws.{whole_covers}
-use Rattle.babel_trie.proofs.PartLaws.{Parts, from_map, to_map, high_is_apart, low_is_apart, own_covers, mapped_parts, overlays_low, overlays_high}
+use Rattle.babel_trie.proofs.PartLaws.{from_map, to_map, high_is_apart, low_is_apart, own_covers, mapped_parts, overlays_low, overlays_high}
 
 module _ {V : Type 0} where
   source_of : Entry V → Block
@@ -58,10 +58,9 @@ module _ {V : Type 0} where
   set_reduced rows old new (inr (row, listed, is)) r = subst IsReduced (sym is) tt
 
   -- where all rows are of the whole block, what is set is the whole
-  pub overlaid_set : (w bits start : ℕ) (rows own rest : List (Entry V)) (nodes : List (Node (Option V))) (n : ℕ) (old : Shape (Option V)) → IsPlace w bits start → InBlock (side_block Source) w bits start rows →
-      HasOneDestination rows → rows ≡ own ++ rest → rest ≡ [] → ((x : Entry V) → Listed own x → (block_of x.1).len ≡ w - bits) → IsSet own nodes n old → IsOverlaid w bits start (map row_of rows) nodes n old
-  overlaid_set w bits start rows own rest nodes n old place rows_in one whole none lens set =
-      let all : rows ≡ own = whole ∙ ap (λ r. own ++ r) none ∙ append-nil own in
+  pub overlaid_set : (w bits start : ℕ) (rows own : List (Entry V)) (nodes : List (Node (Option V))) (n : ℕ) (old : Shape (Option V)) → IsPlace w bits start → InBlock (side_block Source) w bits start rows →
+      HasOneDestination rows → rows ≡ own → ((x : Entry V) → Listed own x → (block_of x.1).len ≡ w - bits) → IsSet own nodes n old → IsOverlaid w bits start (map row_of rows) nodes n old
+  overlaid_set w bits start rows own nodes n old place rows_in one all lens set =
       let own_in : InBlock (side_block Source) w bits start own = subst (InBlock (side_block Source) w bits start) all rows_in in
       subst (λ (r : List (Entry V)). IsOverlaid w bits start (map row_of r) nodes n old) (sym all) (record {
         new = set.new;
@@ -73,7 +72,7 @@ module _ {V : Type 0} where
       })
 
   -- the halves, with their rows laid over them, are joined
-  pub overlaid_joined : (w bits start : ℕ) (rows own low high : List (Entry V)) → Parts (side_block Source) w bits start rows own low high → HasOneDestination rows →
+  pub overlaid_joined : (w bits start : ℕ) (rows own low high : List (Entry V)) → AreParted (side_block Source) w bits start rows own low high → HasOneDestination rows →
       (nodes1 nodes2 nodes3 nodes4 : List (Node (Option V))) (n1 l1 h1 l h n : ℕ) (old : Shape (Option V)) →
       (set : IsSet own nodes1 n1 old) → (halved : IsHalved nodes1 set.new l1 h1) →
       (in_low : IsOverlaid w (bits - 1) start (map row_of low) nodes2 l halved.low_half) →

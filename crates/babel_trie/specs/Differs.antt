@@ -1,10 +1,6 @@
 -- The first place at which two functions differ: this project's own.
-use Rattle.std.specs.Prelude.{◌≡◌, ◌≢◌, ℕ, ◌<◌, List, Option, MatchOption}
+use Rattle.std.specs.Prelude.{◌≡◌, ◌≢◌, ℕ, ◌<◌, Option, MatchOption}
 use Rattle.babel_trie.specs.Boxes.{Answers}
-use Rattle.babel_trie.specs.Shape.{Shape, value_at}
-use Rattle.babel_trie.specs.Held.{sources_at}
-use Rattle.babel_trie.specs.declared.table.Node.{Node}
-use Rattle.babel_trie.specs.declared.table.NodeNumber.{NodeNumber}
 
 module _ {X : Type 0} where
   -- the two agree at each number below this one
@@ -35,7 +31,3 @@ module _ {V : Type 0} where
   -- the first pair at which the two differ, or none
   abbrev pub IsFirstPair : ℕ → ℕ → Answers V → Answers V → Option (ℕ × ℕ) → Type 0
   IsFirstPair n m f g found = MatchOption found (AgreeBelowBoth n m f g) (DifferFirstAt n m f g)
-
-  -- the answers of a trie of destinations, whose leaves are numbers of tries of sources
-  abbrev pub answers_below : ℕ → List (Node (Option V)) → ℕ → Shape NodeNumber → Answers V
-  answers_below w sources bits t d = value_at (sources_at w sources (value_at t bits d)) w

@@ -4,6 +4,7 @@ use Rattle.std.specs.Prelude.{◌≡◌, ℕ, suc, zero, ◌-◌, ◌^◌, ◌�
 use Rattle.babel_prefix.specs.Entries.{Entry}
 use Rattle.std.specs.List.{slice_get}
 use Rattle.babel_prefix.specs.Address.{block_of}
+use Rattle.babel_trie.specs.Boxes.{Answers, SameAnswers}
 use Rattle.babel_trie.specs.Shape.{Shape, leaf, fork, height, value_at, IsReduced}
 use Rattle.babel_trie.specs.Nested.{leaves, rows_of}
 use Rattle.babel_trie.specs.Interned.{Represents, HasTrie, HasDistinctNodes}
@@ -50,6 +51,10 @@ module _ {V : Type 0} where
   abbrev pub sources_at : ℕ → List (Node (Option V)) → NodeNumber → Shape (Option V)
   sources_at w sources n = trie_at None (λ v. v) sources (suc w) n.0
 
+  -- the answers of a trie of destinations, whose leaves are numbers of tries of sources
+  abbrev pub answers_below : ℕ → List (Node (Option V)) → ℕ → Shape NodeNumber → Answers V
+  answers_below w sources bits t d = value_at (sources_at w sources (value_at t bits d)) w
+
   -- the nested trie that a number stands for
   abbrev pub nested_at : ℕ → List (Node (Option V)) → List (Node NodeNumber) → NodeNumber → Shape (Shape (Option V))
   nested_at w sources destinations root = trie_at (leaf None) (sources_at w sources) destinations (suc w) root.0
@@ -64,6 +69,12 @@ module _ {V : Type 0} where
     pub reduced : IsReduced trie
     pub each : (b a : ℕ) → HasTrie w sources (value_at trie b a).0
     pub distinct : HasDistinctNodes sources
+
+  -- what the root stands for has these answers
+  pub record HasAnswers (w : ℕ) (sources : List (Node (Option V))) (destinations : List (Node NodeNumber))
+      (root : NodeNumber) (f : Answers V) : Type 0 where
+    pub held : IsHeld w sources destinations root
+    pub answers : SameAnswers w (answers_below w sources w held.trie) f
 
   -- the count is that of the boxes of what is held
   pub record HasGrid (w : ℕ) (sources : List (Node (Option V))) (destinations : List (Node NodeNumber))

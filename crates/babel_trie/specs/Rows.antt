@@ -1,5 +1,5 @@
 -- Sorted rows inside a block, and what they make of an answer by the best match of RFC 9079, 4.
-use Rattle.std.specs.Prelude.{◌≡◌, ◌⊎◌, ℕ, ◌+◌, ◌-◌, ◌*◌, ◌^◌, ◌<◌, ◌≤◌, List, [], ◌∷◌, Option, Some}
+use Rattle.std.specs.Prelude.{◌≡◌, ◌⊎◌, ℕ, ◌+◌, ◌-◌, ◌*◌, ◌^◌, ◌<◌, ◌≤◌, List, [], ◌∷◌, ◌++◌, Option, Some}
 use Rattle.babel_prefix.specs.Entries.{Entry}
 use Rattle.babel_prefix.specs.Block.{Block, IsBlock}
 use Rattle.babel_prefix.specs.Address.{block_of, AddressPrefix}
@@ -32,6 +32,17 @@ pub record InBlock {X : Type 0} (key : X → Block) (w bits start : ℕ) (rows :
   pub before_end : (x : X) → Listed rows x → (key x).start < start + 2 ^ bits
   pub no_shorter : (x : X) → Listed rows x → w - bits ≤ (key x).len
   pub in_order : InOrder (λ x y. IsNoLater (key x) (key y)) rows
+
+-- rows of a block: those of the whole block come first, then those of its lower and then those of its upper half
+pub record AreParted {X : Type 0} (key : X → Block) (w bits start : ℕ) (rows own low high : List X) : Type 0 where
+  pub some : 0 < bits
+  pub place : IsPlace w bits start
+  pub rows_in : InBlock key w bits start rows
+  pub whole : rows ≡ own ++ (low ++ high)
+  pub own_len : (x : X) → Listed own x → (key x).len ≡ w - bits
+  pub longer : (x : X) → Listed (low ++ high) x → w - bits < (key x).len
+  pub low_in : InBlock key w (bits - 1) start low
+  pub high_in : InBlock key w (bits - 1) (start + 2 ^ (bits - 1)) high
 
 module _ {V : Type 0} where
   -- the prefix of one side

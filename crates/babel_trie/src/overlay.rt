@@ -13,16 +13,6 @@ use crate::rows::{Row, Side};
 use crate::table::{Node, NodeNumber, Table};
 use std::alloc::AllocError;
 
-/// The address at which the upper half of a block starts.
-pub fn upper_start(start: u128, bits: u8) -> u128
-    requires some { 0 < bits }
-    requires width { bits ≤ 128 }
-    requires room { start + 2 ^ bits ≤ 2 ^ 128 }
-    ensures { result ≡ start + 2 ^ (bits - 1) }
-{
-    start + (1 << (bits - 1))
-}
-
 impl<V: LawfulOrd> Table<Option<V>> {
     /// The leaf that the rows of a whole block set, or the old trie where there are none.
     fn set(&mut self, rows: &[Row<V>], old: NodeNumber) -> Result<NodeNumber, AllocError>
@@ -59,16 +49,14 @@ impl<V: LawfulOrd> Table<Option<V>> {
         ensures keeps { OnOk result (KeepsNodes self.old.nodes.items self.new.nodes.items) }
         ensures overlaid { IfOk result (λ n. (t : Shape (Option V)) → Represents self.old.nodes.items old.0 t → IsOverlaid width bits start (map row_of rows.now) self.new.nodes.items n.0 t) }
     {
-        let (own, rest) = Side::Source.own_and_rest(rows, width - bits);
+        let (own, rest) = Side::Source.parts(rows, width, bits, start);
         let old = self.set(own, old)?;
-        if rest.is_empty() {
+        let Some(rest) = rest else {
             return Ok(old);
-        }
-        let middle = upper_start(start, bits);
-        let (low_rows, high_rows) = Side::Source.low_and_high(rest, middle);
+        };
         let (low, high) = self.halves(old);
-        let low = self.overlaid(low_rows, width, bits - 1, start, low)?;
-        let high = self.overlaid(high_rows, width, bits - 1, middle, high)?;
+        let low = self.overlaid(rest.low, width, bits - 1, start, low)?;
+        let high = self.overlaid(rest.high, width, bits - 1, rest.middle, high)?;
         let whole = self.joined(low, high)?;
         Ok(whole)
     }

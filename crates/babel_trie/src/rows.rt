@@ -1,13 +1,54 @@
 //! Rows in order, and their parts.
-ghost use Rattle.std.specs.Prelude.{◌≡◌, ◌≢◌, ◌++◌, ◌<◌, ◌≤◌, ◌==◌, nat_lt};
-ghost use Rattle.std.specs.List.Sorted.{IsPartitionedBy};
+ghost use Rattle.std.specs.Prelude.{◌≡◌, ◌≢◌, ◌+◌, ◌-◌, ◌^◌, ◌++◌, ◌<◌, ◌≤◌, ◌==◌, nat_lt, List, All, IfOk, IfSome, IfNone};
+ghost use Rattle.std.specs.List.Sorted.{IsPartitionedBy, IsPermutation};
+ghost use Rattle.babel_prefix.specs.Entries.{HasPrefixes};
 ghost use Rattle.babel_prefix.specs.Members.{Listed};
-ghost use Rattle.babel_trie.specs.Rows.{side_of, side_block};
+ghost use Rattle.babel_trie.specs.Held.{RowOrder};
+ghost use Rattle.babel_trie.specs.Rows.{InOrder, InBlock, IsPlace, AreParted, side_of, side_block};
 
 use babel_prefix::Prefix;
+use std::alloc::{AllocError, Global};
 
 /// A row: a destination, a source and what they are given.
 pub type Row<V> = (Prefix, Prefix, V);
+
+/// The rows in order: a prefix stands before those inside it.
+pub fn sorted_rows<V: Copy>(alloc: Global, rows: &[Row<V>]) -> Result<Vec<Row<V>>, AllocError>
+    ensures permutation { IfOk result (λ sorted. IsPermutation rows.now sorted.items) }
+    ensures in_order { IfOk result (λ sorted. InOrder RowOrder sorted.items) }
+    ensures prefixes { IfOk result (λ _. All HasPrefixes rows.now) }
+{
+    let mut sorted = Vec::with_capacity(alloc, rows.len())?;
+    for row in rows {
+        let _ = (row.0.len(), row.1.len());
+        sorted.push(*row)?;
+    }
+    sorted.sort_unstable_by_key(|row| {
+        (
+            (row.0.addr().bits(), row.0.len()),
+            (row.1.addr().bits(), row.1.len()),
+        )
+    });
+    Ok(sorted)
+}
+
+/// The rows that lie in the halves of a block, and the address at which the upper half starts.
+#[derive(Clone, Copy)]
+pub struct Halves<'a, V> {
+    pub low: &'a [Row<V>],
+    pub high: &'a [Row<V>],
+    pub middle: u128,
+}
+
+/// The address at which the upper half of a block starts.
+fn upper_start(start: u128, bits: u8) -> u128
+    requires some { 0 < bits }
+    requires width { bits ≤ 128 }
+    requires room { start + 2 ^ bits ≤ 2 ^ 128 }
+    ensures { result ≡ start + 2 ^ (bits - 1) }
+{
+    start + (1 << (bits - 1))
+}
 
 /// Which prefix of a row is looked at.
 #[derive(Clone, Copy)]
@@ -28,7 +69,7 @@ impl Side {
     }
 
     /// The rows of this length, which come first, and the others.
-    pub fn own_and_rest<V>(self, rows: &[Row<V>], len: u8) -> (&[Row<V>], &[Row<V>])
+    fn own_and_rest<V>(self, rows: &[Row<V>], len: u8) -> (&[Row<V>], &[Row<V>])
         requires { IsPartitionedBy (λ x. (side_block self x).len == len) rows.now }
         ensures parts { rows.now ≡ result.0.now ++ result.1.now }
         ensures own { (x : _) → Listed result.0.now x → (side_block self x).len ≡ len }
@@ -39,7 +80,7 @@ impl Side {
     }
 
     /// The rows that start below an address, which come first, and the others.
-    pub fn low_and_high<V>(self, rows: &[Row<V>], middle: u128) -> (&[Row<V>], &[Row<V>])
+    fn low_and_high<V>(self, rows: &[Row<V>], middle: u128) -> (&[Row<V>], &[Row<V>])
         requires { IsPartitionedBy (λ x. nat_lt (side_block self x).start middle) rows.now }
         ensures parts { rows.now ≡ result.0.now ++ result.1.now }
         ensures low { (x : _) → Listed result.0.now x → (side_block self x).start < middle }
@@ -47,5 +88,31 @@ impl Side {
     {
         let low = rows.partition_point(|row| self.of(row).addr().bits() < middle);
         rows.split_at(low)
+    }
+
+    /// The rows of a block: those of the whole block, and those of its halves, if there are any.
+    pub fn parts<V>(
+        self,
+        rows: &[Row<V>],
+        width: u8,
+        bits: u8,
+        start: u128,
+    ) -> (&[Row<V>], Option<Halves<'_, V>>)
+        requires place { IsPlace width bits start }
+        requires rows { InBlock (side_block self) width bits start rows.now }
+        requires width { width ≤ 128 }
+        ensures first { (rest : List _) × (rows.now ≡ result.0.now ++ rest) }
+        ensures own { (x : _) → Listed result.0.now x → (side_block self x).len ≡ width - bits }
+        ensures none { IfNone result.1 (rows.now ≡ result.0.now) }
+        ensures middle { IfSome result.1 (λ rest. rest.middle ≡ start + 2 ^ (bits - 1)) }
+        ensures halves { IfSome result.1 (λ rest. AreParted (side_block self) width bits start rows.now result.0.now rest.low.now rest.high.now) }
+    {
+        let (own, rest) = self.own_and_rest(rows, width - bits);
+        if rest.is_empty() {
+            return (own, None);
+        }
+        let middle = upper_start(start, bits);
+        let (low, high) = self.low_and_high(rest, middle);
+        (own, Some(Halves { low, high, middle }))
     }
 }

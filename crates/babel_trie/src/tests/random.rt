@@ -128,7 +128,7 @@ fn boxes(alloc: Global, lines: &[Line]) -> Result<Vec<Line>, AllocError> {
 }
 
 /// The first pair of addresses at which two lists of rows answer differently.
-fn least_difference(lines: &[Line], others: &[Line]) -> Option<(u128, u128)> {
+fn difference_by_definition(lines: &[Line], others: &[Line]) -> Option<(u128, u128)> {
     for dst in (0..16u8).map(u128::from) {
         for src in (0..16u8).map(u128::from) {
             if wanted_at(lines, 32, dst, src) != wanted_at(others, 32, dst, src) {
@@ -196,12 +196,15 @@ fn least_differences(rt: HostRuntime) -> Result<(), Fail> {
             others.pop();
             others.push((7, 32, u128::from(random.below(8)), 32, 1))?;
         }
-        let left = Rows::of(rt.alloc(), Family::V4, &lines)?.grid(rt.alloc())?;
-        let right = Rows::of(rt.alloc(), Family::V4, &others)?.grid(rt.alloc())?;
+        let wanted = difference_by_definition(&lines, &others);
+        let left = Rows::of(rt.alloc(), Family::V4, &lines)?;
+        let right = Rows::of(rt.alloc(), Family::V4, &others)?;
+        assert_eq!(rt; left.difference(rt.alloc(), &right)?, wanted);
         let found = left
-            .first_difference(&right)
+            .grid(rt.alloc())?
+            .first_difference(&right.grid(rt.alloc())?)
             .map(|(dst, src)| (dst.bits(), src.bits()));
-        assert_eq!(rt; found, least_difference(&lines, &others));
+        assert_eq!(rt; found, wanted);
     }
     Ok(())
 }

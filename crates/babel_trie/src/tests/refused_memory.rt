@@ -43,3 +43,14 @@ fn refused_memory_of_halves_that_differ_at_one_source(rt: HostRuntime) -> Result
     ];
     known(rt.alloc(), Family::V4, &lines, 34)
 }
+
+#[test]
+fn refused_memory_of_a_difference(rt: HostRuntime) -> Result<(), Fail> {
+    let lines = [(0, 0, 0, 0, 2), (0, 0, 10 << 24, 8, 1)];
+    let left = Rows::of(rt.alloc(), Family::V4, &lines)?;
+    let right = Rows::of(rt.alloc(), Family::V4, &[lines[0]])?;
+    match left.difference(rt.alloc(), &right)? {
+        Some((0, src)) if src == 10 << 24 => Ok(()),
+        _ => Err(Fail::from("neither the known answer nor a refusal")),
+    }
+}

@@ -2,9 +2,9 @@
 ghost use Rattle.std.specs.Prelude.{◌≡◌, All, IfOk, IsTrue};
 ghost use Rattle.babel_prefix.specs.Entries.{AreOfFamily, HasDistinctPrefixes};
 
-use crate::Grid;
 use crate::lawful::LawfulOrd;
 use crate::rows::Row;
+use crate::{Grid, least_difference};
 use babel_prefix::{Addr, Family, Prefix};
 use std::alloc::{AllocError, Global};
 use std::test::Fail;
@@ -60,6 +60,18 @@ impl Rows {
         ensures { IfOk result (λ grid. grid.family ≡ self.now.family) }
     {
         Grid::of(alloc, self.family, &self.rows)
+    }
+
+    /// The least pair of addresses that these rows and others answer differently.
+    pub fn difference(
+        &self,
+        alloc: Global,
+        other: &Rows,
+    ) -> Result<Option<(u128, u128)>, AllocError>
+        requires { self.now.family ≡ other.now.family }
+    {
+        let found = least_difference(alloc, self.family, &self.rows, &other.rows)?;
+        Ok(found.map(|(dst, src)| (dst.bits(), src.bits())))
     }
 
     /// A pair as numbers.

@@ -1,8 +1,8 @@
 -- Two leaves differ at the first address or nowhere; else the lower halves are looked at before the upper.
 use Rattle.std.proofs.Common.{◌-◌, ◌^◌, ◌<◌, sym, subst, arith, rules}
-use Rattle.babel_trie.specs.Differs.{DifferFirstAt, IsFirstPair, answers_below}
-use Rattle.babel_trie.specs.Held.{HasNested}
-use Rattle.babel_trie.proofs.DifferLaws.{agree_at_sources, differ_at_sources, SameSources, side_by_side, in_both, pair_low, pair_high, fits_any, in_width}
+use Rattle.babel_trie.specs.Differs.{DifferFirstAt, IsFirstPair}
+use Rattle.babel_trie.specs.Held.{HasNested, answers_below}
+use Rattle.babel_trie.proofs.DifferLaws.{agree_at_sources, agree_in_one_pair, differ_at_sources, SameSources, sides, in_both, pair_low, pair_high, in_width}
 use Rattle.babel_trie.proofs.HeldLaws.{nested_trie, nested_halves}
 use Rattle.babel_trie.proofs.NumberLaws.{nested_in, nested_leaf}
 use Rattle.babel_trie.proofs.nested.Nested.+first_pair.Goals as goal
@@ -20,12 +20,12 @@ pub halves-requires-2 : goal.halves-requires-2
 halves-requires-2 g t c = nested_in c.args.width c.args.bits c.args.other.now.sources.nodes.items c.args.other.now.destinations.nodes.items c.args.other_number.0 c.requires.other_trie
 
 pub overflow_sub-bits : goal.overflow_sub-bits
-overflow_sub-bits g t c = c.in_default.ensures.fork c.args.bits (nested_trie c.args.width c.args.bits c.args.self.now.sources.nodes.items c.args.self.now.destinations.nodes.items c.args.number.0 c.requires.trie) (nested_trie c.args.width c.args.bits c.args.other.now.sources.nodes.items c.args.other.now.destinations.nodes.items c.args.other_number.0 c.requires.other_trie)
+overflow_sub-bits g t c = c.in_default.ensures.fork c.args.bits (nested_trie c.requires.trie) (nested_trie c.requires.other_trie)
 
 pub first_pair-requires : goal.first_pair-requires
 first_pair-requires g t c κs within =
     let a = c.args in
-    let some : 0 < a.bits = c.in_default.ensures.fork a.bits (nested_trie a.width a.bits a.self.now.sources.nodes.items a.self.now.destinations.nodes.items a.number.0 c.requires.trie) (nested_trie a.width a.bits a.other.now.sources.nodes.items a.other.now.destinations.nodes.items a.other_number.0 c.requires.other_trie) in
+    let some : 0 < a.bits = c.in_default.ensures.fork a.bits (nested_trie c.requires.trie) (nested_trie c.requires.other_trie) in
     let falls : a.bits - 1 < t = omega (arith, c.decreases) in
     let own = nested_halves a.width a.bits a.self.now.sources.nodes.items a.self.now.destinations.nodes.items a.number.0 c.halves.result.0.0 c.halves.result.1.0 c.requires.trie some (c.halves.ensures c.requires.trie.trie c.requires.trie.stands) in
     let theirs = nested_halves a.width a.bits a.other.now.sources.nodes.items a.other.now.destinations.nodes.items a.other_number.0 c.halves-2.result.0.0 c.halves-2.result.1.0 c.requires.other_trie some (c.halves-2.ensures c.requires.other_trie.trie c.requires.other_trie.stands) in
@@ -34,12 +34,12 @@ first_pair-requires g t c κs within =
     search rules
 
 pub overflow_sub-bits-2 : goal.overflow_sub-bits-2
-overflow_sub-bits-2 g t c = c.in_default.ensures.fork c.args.bits (nested_trie c.args.width c.args.bits c.args.self.now.sources.nodes.items c.args.self.now.destinations.nodes.items c.args.number.0 c.requires.trie) (nested_trie c.args.width c.args.bits c.args.other.now.sources.nodes.items c.args.other.now.destinations.nodes.items c.args.other_number.0 c.requires.other_trie)
+overflow_sub-bits-2 g t c = c.in_default.ensures.fork c.args.bits (nested_trie c.requires.trie) (nested_trie c.requires.other_trie)
 
 pub first_pair-requires-2 : goal.first_pair-requires-2
 first_pair-requires-2 g t c κs within =
     let a = c.args in
-    let some : 0 < a.bits = c.in_default.ensures.fork a.bits (nested_trie a.width a.bits a.self.now.sources.nodes.items a.self.now.destinations.nodes.items a.number.0 c.requires.trie) (nested_trie a.width a.bits a.other.now.sources.nodes.items a.other.now.destinations.nodes.items a.other_number.0 c.requires.other_trie) in
+    let some : 0 < a.bits = c.in_default.ensures.fork a.bits (nested_trie c.requires.trie) (nested_trie c.requires.other_trie) in
     let falls : a.bits - 1 < t = omega (arith, c.decreases) in
     let own = nested_halves a.width a.bits a.self.now.sources.nodes.items a.self.now.destinations.nodes.items a.number.0 c.halves.result.0.0 c.halves.result.1.0 c.requires.trie some (c.halves.ensures c.requires.trie.trie c.requires.trie.stands) in
     let theirs = nested_halves a.width a.bits a.other.now.sources.nodes.items a.other.now.destinations.nodes.items a.other_number.0 c.halves-2.result.0.0 c.halves-2.result.1.0 c.requires.other_trie some (c.halves-2.ensures c.requires.other_trie.trie c.requires.other_trie.stands) in
@@ -48,7 +48,7 @@ first_pair-requires-2 g t c κs within =
     search rules
 
 pub in_upper_half-requires-clause-some : goal.in_upper_half-requires-clause-some
-in_upper_half-requires-clause-some g t c = c.in_default.ensures.fork c.args.bits (nested_trie c.args.width c.args.bits c.args.self.now.sources.nodes.items c.args.self.now.destinations.nodes.items c.args.number.0 c.requires.trie) (nested_trie c.args.width c.args.bits c.args.other.now.sources.nodes.items c.args.other.now.destinations.nodes.items c.args.other_number.0 c.requires.other_trie)
+in_upper_half-requires-clause-some g t c = c.in_default.ensures.fork c.args.bits (nested_trie c.requires.trie) (nested_trie c.requires.other_trie)
 
 pub in_upper_half-requires-clause-room : goal.in_upper_half-requires-clause-room
 in_upper_half-requires-clause-room g t c =
@@ -57,7 +57,7 @@ in_upper_half-requires-clause-room g t c =
     let q = c.halves-2.ensures c.requires.other_trie.trie c.requires.other_trie.stands in
     let above : DifferFirstAt (2 ^ (a.bits - 1)) (2 ^ a.width) (answers_below a.width a.self.now.sources.nodes.items (a.bits - 1) p.high_half) (answers_below a.width a.other.now.sources.nodes.items (a.bits - 1) q.high_half) (c.in_ok-dst.dst, c.in_ok-dst.src) =
     c.in_ok-dst.ensures p.high_half q.high_half p.high_stands q.high_stands in
-    in_width a.bits c.in_ok-dst.dst (c.in_default.ensures.fork a.bits (nested_trie a.width a.bits a.self.now.sources.nodes.items a.self.now.destinations.nodes.items a.number.0 c.requires.trie) (nested_trie a.width a.bits a.other.now.sources.nodes.items a.other.now.destinations.nodes.items a.other_number.0 c.requires.other_trie)) (omega (arith, c.requires.bits, c.requires.width)) above.in_range
+    in_width a.bits c.in_ok-dst.dst (c.in_default.ensures.fork a.bits (nested_trie c.requires.trie) (nested_trie c.requires.other_trie)) (omega (arith, c.requires.bits, c.requires.width)) above.in_range
 
 pub first_difference-requires-clause-trie : goal.first_difference-requires-clause-trie
 first_difference-requires-clause-trie g t c =
@@ -68,6 +68,13 @@ pub first_difference-requires-clause-other_trie : goal.first_difference-requires
 first_difference-requires-clause-other_trie g t c =
     let a = c.args in
     nested_leaf a.width a.bits a.other.now.sources.nodes.items a.other.now.destinations.nodes.items a.other_number.0 _ c.in-Some.ensures.leaves.1 c.requires.other_trie
+
+pub returns-then-are_one_trie : goal.returns-then-are_one_trie
+returns-then-are_one_trie g t c u v p q =
+    let a = c.args in
+    let one = c.are_one_trie.ensures.one c.if-are_one_trie.true in
+    agree_in_one_pair a.width a.self.now.sources.nodes.items a.other.now.sources.nodes.items a.self.now.destinations.nodes.items a.other.now.destinations.nodes.items a.number.0 a.other_number.0 a.bits u v
+    (c.requires.one_sources one) (c.requires.one_destinations one) (c.are_one_trie.ensures.same c.if-are_one_trie.true) p q
 
 pub returns-in_err-src : goal.returns-in_err-src
 returns-in_err-src g t c u v stands stands' =
@@ -101,31 +108,19 @@ returns-in-Some-first_pair g t c u v stands stands' =
     let a = c.args in
     let left = a.self.now.sources.nodes.items in
     let right = a.other.now.sources.nodes.items in
-    let nodes = a.self.now.destinations.nodes.items in
-    let others = a.other.now.destinations.nodes.items in
-    let own = nested_trie a.width a.bits left nodes a.number.0 c.requires.trie in
-    let theirs = nested_trie a.width a.bits right others a.other_number.0 c.requires.other_trie in
     let p = c.halves.ensures u stands in
     let q = c.halves-2.ensures v stands' in
-    let sides = side_by_side nodes others a.bits u v c.halves.result.0.0 c.halves.result.1.0 c.halves-2.result.0.0 c.halves-2.result.1.0
-    (fits_any a.bits nodes a.number.0 own u stands) (fits_any a.bits others a.other_number.0 theirs v stands') (c.in_default.ensures.fork a.bits own theirs) p q in
-    pair_low a.width left right a.bits u p.low_half p.high_half v q.low_half q.high_half sides c.in-Some-first_pair.at (c.in-Some-first_pair.ensures p.low_half q.low_half p.low_stands q.low_stands)
+    pair_low a.width left right (sides (nested_trie c.requires.trie) (nested_trie c.requires.other_trie) c.in_default.ensures.fork stands stands' p q) c.in-Some-first_pair.at (c.in-Some-first_pair.ensures p.low_half q.low_half p.low_stands q.low_stands)
 
 pub returns-in_err-dst : goal.returns-in_err-dst
 returns-in_err-dst g t c u v stands stands' =
     let a = c.args in
     let left = a.self.now.sources.nodes.items in
     let right = a.other.now.sources.nodes.items in
-    let nodes = a.self.now.destinations.nodes.items in
-    let others = a.other.now.destinations.nodes.items in
-    let own = nested_trie a.width a.bits left nodes a.number.0 c.requires.trie in
-    let theirs = nested_trie a.width a.bits right others a.other_number.0 c.requires.other_trie in
     let p = c.halves.ensures u stands in
     let q = c.halves-2.ensures v stands' in
-    let sides = side_by_side nodes others a.bits u v c.halves.result.0.0 c.halves.result.1.0 c.halves-2.result.0.0 c.halves-2.result.1.0
-    (fits_any a.bits nodes a.number.0 own u stands) (fits_any a.bits others a.other_number.0 theirs v stands') (c.in_default.ensures.fork a.bits own theirs) p q in
     subst (IsFirstPair (2 ^ a.bits) (2 ^ a.width) (answers_below a.width left a.bits u) (answers_below a.width right a.bits v)) (sym c.from_residual-in_err-dst.ensures)
-    (in_both a.bits u p.low_half p.high_half v q.low_half q.high_half sides (SameSources a.width left right)
+    (in_both (sides (nested_trie c.requires.trie) (nested_trie c.requires.other_trie) c.in_default.ensures.fork stands stands' p q) (SameSources a.width left right)
     (c.in_default-first_pair.ensures p.low_half q.low_half p.low_stands q.low_stands) (c.in_err-dst.ensures p.high_half q.high_half p.high_stands q.high_stands))
 
 pub returns : goal.returns
@@ -133,14 +128,8 @@ returns g t c u v stands stands' =
     let a = c.args in
     let left = a.self.now.sources.nodes.items in
     let right = a.other.now.sources.nodes.items in
-    let nodes = a.self.now.destinations.nodes.items in
-    let others = a.other.now.destinations.nodes.items in
-    let own = nested_trie a.width a.bits left nodes a.number.0 c.requires.trie in
-    let theirs = nested_trie a.width a.bits right others a.other_number.0 c.requires.other_trie in
     let p = c.halves.ensures u stands in
     let q = c.halves-2.ensures v stands' in
-    let sides = side_by_side nodes others a.bits u v c.halves.result.0.0 c.halves.result.1.0 c.halves-2.result.0.0 c.halves-2.result.1.0
-    (fits_any a.bits nodes a.number.0 own u stands) (fits_any a.bits others a.other_number.0 theirs v stands') (c.in_default.ensures.fork a.bits own theirs) p q in
     subst (λ d. DifferFirstAt (2 ^ a.bits) (2 ^ a.width) (answers_below a.width left a.bits u) (answers_below a.width right a.bits v) (d, c.in_ok-dst.src)) (sym c.in_upper_half.ensures)
-    (pair_high a.width left right a.bits u p.low_half p.high_half v q.low_half q.high_half sides (c.in_ok-dst.dst, c.in_ok-dst.src)
+    (pair_high a.width left right (sides (nested_trie c.requires.trie) (nested_trie c.requires.other_trie) c.in_default.ensures.fork stands stands' p q) (c.in_ok-dst.dst, c.in_ok-dst.src)
     (c.in_default-first_pair.ensures p.low_half q.low_half p.low_stands q.low_stands) (c.in_ok-dst.ensures p.high_half q.high_half p.high_stands q.high_stands))

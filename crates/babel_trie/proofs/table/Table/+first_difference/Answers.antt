@@ -4,7 +4,7 @@ use Rattle.std.proofs.lemmas.Bool.{false≢true}
 use Rattle.babel_trie.specs.Differs.{DifferFirst, IsFirstDifference}
 use Rattle.babel_trie.specs.Interned.{HasTrie}
 use Rattle.babel_trie.specs.Shape.{value_at}
-use Rattle.babel_trie.proofs.DifferLaws.{agree_at_leaves, differ_at_leaves, side_by_side, in_both, differ_low, differ_high, halves_are_tries, fits_any, in_width}
+use Rattle.babel_trie.proofs.DifferLaws.{agree_at_leaves, agree_in_one, differ_at_leaves, sides, in_both, differ_low, differ_high, halves_are_tries, in_width}
 use Rattle.babel_trie.proofs.NumberLaws.{Represents-in}
 use Rattle.babel_trie.proofs.table.Table.+first_difference.Goals as goal
 
@@ -60,6 +60,11 @@ in_upper_half-requires-clause-room g t c =
     c.in_ok-at.ensures p.high_half q.high_half p.high_stands q.high_stands in
     in_width a.bits c.in_ok-at.at (c.in_default.ensures.fork a.bits c.requires.trie c.requires.other_trie) c.requires.width above.in_range
 
+pub returns-then-are_one_trie : goal.returns-then-are_one_trie
+returns-then-are_one_trie g t c u v p q =
+    let a = c.args in
+    agree_in_one a.self.now.nodes.items a.other.now.nodes.items a.number.0 a.other_number.0 a.bits u v (c.requires.one (c.are_one_trie.ensures.one c.if-are_one_trie.true)) (c.are_one_trie.ensures.same c.if-are_one_trie.true) p q
+
 pub returns-then-are_same : goal.returns-then-are_same
 returns-then-are_same g t c u v p q =
     let a = c.args in
@@ -73,36 +78,24 @@ returns-else-are_same g t c u v p q =
 
 pub returns-in-Some-first_difference : goal.returns-in-Some-first_difference
 returns-in-Some-first_difference g t c u v stands stands' =
-    let a = c.args in
-    let some = c.in_default.ensures.fork a.bits c.requires.trie c.requires.other_trie in
-    let fits = fits_any a.bits a.self.now.nodes.items a.number.0 c.requires.trie u stands in
-    let fits' = fits_any a.bits a.other.now.nodes.items a.other_number.0 c.requires.other_trie v stands' in
     let p = c.halves.ensures u stands in
     let q = c.halves-2.ensures v stands' in
-    let sides = side_by_side a.self.now.nodes.items a.other.now.nodes.items a.bits u v c.halves.result.0.0 c.halves.result.1.0 c.halves-2.result.0.0 c.halves-2.result.1.0 fits fits' some p q in
-    differ_low a.bits u p.low_half p.high_half v q.low_half q.high_half sides c.in-Some-first_difference.at (c.in-Some-first_difference.ensures p.low_half q.low_half p.low_stands q.low_stands)
+    differ_low (sides c.requires.trie c.requires.other_trie c.in_default.ensures.fork stands stands' p q) c.in-Some-first_difference.at (c.in-Some-first_difference.ensures p.low_half q.low_half p.low_stands q.low_stands)
 
 pub returns-in_err-at : goal.returns-in_err-at
 returns-in_err-at g t c u v stands stands' =
     let a = c.args in
-    let some = c.in_default.ensures.fork a.bits c.requires.trie c.requires.other_trie in
-    let fits = fits_any a.bits a.self.now.nodes.items a.number.0 c.requires.trie u stands in
-    let fits' = fits_any a.bits a.other.now.nodes.items a.other_number.0 c.requires.other_trie v stands' in
     let p = c.halves.ensures u stands in
     let q = c.halves-2.ensures v stands' in
-    let sides = side_by_side a.self.now.nodes.items a.other.now.nodes.items a.bits u v c.halves.result.0.0 c.halves.result.1.0 c.halves-2.result.0.0 c.halves-2.result.1.0 fits fits' some p q in
     subst (IsFirstDifference (2 ^ a.bits) (value_at u a.bits) (value_at v a.bits)) (sym c.from_residual.ensures)
-    (in_both a.bits u p.low_half p.high_half v q.low_half q.high_half sides (λ x y. x ≡ y)
+    (in_both (sides c.requires.trie c.requires.other_trie c.in_default.ensures.fork stands stands' p q) (λ x y. x ≡ y)
     (c.in_default-first_difference.ensures p.low_half q.low_half p.low_stands q.low_stands) (c.in_err-at.ensures p.high_half q.high_half p.high_stands q.high_stands))
 
 pub returns : goal.returns
 returns g t c u v stands stands' =
     let a = c.args in
-    let some = c.in_default.ensures.fork a.bits c.requires.trie c.requires.other_trie in
-    let fits = fits_any a.bits a.self.now.nodes.items a.number.0 c.requires.trie u stands in
-    let fits' = fits_any a.bits a.other.now.nodes.items a.other_number.0 c.requires.other_trie v stands' in
     let p = c.halves.ensures u stands in
     let q = c.halves-2.ensures v stands' in
-    let sides = side_by_side a.self.now.nodes.items a.other.now.nodes.items a.bits u v c.halves.result.0.0 c.halves.result.1.0 c.halves-2.result.0.0 c.halves-2.result.1.0 fits fits' some p q in
     subst (DifferFirst (2 ^ a.bits) (value_at u a.bits) (value_at v a.bits)) (sym c.in_upper_half.ensures)
-    (differ_high a.bits u p.low_half p.high_half v q.low_half q.high_half sides c.in_ok-at.at (c.in_default-first_difference.ensures p.low_half q.low_half p.low_stands q.low_stands) (c.in_ok-at.ensures p.high_half q.high_half p.high_stands q.high_stands))
+    (differ_high (sides c.requires.trie c.requires.other_trie c.in_default.ensures.fork stands stands' p q) c.in_ok-at.at
+    (c.in_default-first_difference.ensures p.low_half q.low_half p.low_stands q.low_stands) (c.in_ok-at.ensures p.high_half q.high_half p.high_stands q.high_stands))

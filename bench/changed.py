@@ -1,0 +1,74 @@
+#!/usr/bin/env python3
+"""Runs a built program and the plain Rust yardstick over captures with octets changed at random.
+
+    changed.py PROGRAM [--dumps N] [--seed N]
+
+Each dump is one of examples/captures, with one to four octets changed, and in one of eight dumps the end cut off. Both
+programs must write the same octets and texts and give the same status in each run: `show`, `pairs`, `normalise`, a
+`lookup`, and `compare` with the capture as it was. Exits 1 where they do not. The same seed makes the same dumps.
+"""
+
+import argparse
+import collections
+import pathlib
+import random
+import sys
+import tempfile
+
+from run import HERE, build, outcome
+
+CAPTURES = HERE.parent / "examples" / "captures"
+sys.path.append(str(CAPTURES))
+from agree import SENDERS  # noqa: E402
+
+
+def changed(rng, octets):
+    octets = bytearray(octets)
+    for _ in range(rng.randrange(1, 5)):
+        octets[rng.randrange(len(octets))] = rng.choice((0, 1, 8, 128, 255, rng.randrange(256)))
+    if rng.randrange(8) == 0:
+        del octets[rng.randrange(len(octets)) :]
+    return bytes(octets)
+
+
+def runs(sender, capture, dump):
+    """The words of each run over a changed dump."""
+    sent = ["--from", sender]
+    yield ["show", *sent, dump]
+    yield ["pairs", *sent, dump]
+    yield ["normalise", *sent, "--hex", dump]
+    yield ["lookup", *sent, "--to", "10.0.0.1", "--src", "192.0.2.7", dump]
+    yield ["lookup", *sent, "--to", "2001:db8::1", "--src", "2001:db8::2", dump]
+    yield ["compare", *sent, "--other-from", sender, dump, capture]
+
+
+def main():
+    parser = argparse.ArgumentParser(description=__doc__, formatter_class=argparse.RawDescriptionHelpFormatter)
+    parser.add_argument("program", type=pathlib.Path)
+    parser.add_argument("--dumps", type=int, default=400)
+    parser.add_argument("--seed", type=int, default=1)
+    options = parser.parse_args()
+    rng = random.Random(options.seed)
+    statuses, differing = collections.Counter(), 0
+    with tempfile.TemporaryDirectory() as folder:
+        folder = pathlib.Path(folder)
+        yardstick = build(HERE / "yardstick.rs", folder)
+        dump = folder / "changed.dump"
+        for turn in range(options.dumps):
+            name, sender = rng.choice(sorted(SENDERS.items()))
+            capture = CAPTURES / f"{name}.dump"
+            dump.write_bytes(changed(rng, capture.read_bytes()))
+            for words in runs(sender, capture, dump):
+                ours, theirs = (outcome([side, *words]) for side in (options.program.resolve(), yardstick))
+                statuses[words[0], ours[0]] += 1
+                if ours != theirs:
+                    differing += 1
+                    print(f"dump {turn}, {name}, {words[0]}: status {ours[0]} and {theirs[0]}, {ours[2]!r} and {theirs[2]!r}")
+    for (command, status), count in sorted(statuses.items()):
+        print(f"{command}: status {status} in {count} runs")
+    print(f"{differing} of {sum(statuses.values())} runs differ")
+    return 1 if differing else 0
+
+
+if __name__ == "__main__":
+    sys.exit(main())

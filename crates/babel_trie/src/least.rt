@@ -1,0 +1,36 @@
+ghost use Rattle.std.specs.Prelude.{◌≡◌, All, IfOk, IfSome, MatchOption};
+ghost use Rattle.babel_prefix.specs.Width.{width_of};
+ghost use Rattle.babel_prefix.specs.Entries.{AreOfFamily, HasDistinctPrefixes, answers_in};
+ghost use Rattle.babel_trie.specs.Boxes.{SameAnswers, IsLeastDifference};
+
+use crate::difference::Tables;
+use crate::lawful::LawfulOrd;
+use crate::nested::Nested;
+use crate::rows::Row;
+use babel_prefix::{Addr, Family};
+use std::alloc::{AllocError, Global};
+
+/// The least pair of a destination and a source, by destination, then source, that two lists of rows
+/// answer differently; `None` if there is none. All prefixes are of the family, and no two rows of a
+/// list have the same two. `Err` for want of memory.
+///
+/// The tries of both lists stand in one table of nodes, so that the way to a difference passes no
+/// trie that both have: it is found in as many steps as two addresses have bits.
+pub fn least_difference<V: LawfulOrd>(
+    alloc: Global,
+    family: Family,
+    left: &[Row<V>],
+    right: &[Row<V>],
+) -> Result<Option<(Addr, Addr)>, AllocError>
+    requires left_family { All (AreOfFamily family) left.now }
+    requires left_prefixes { HasDistinctPrefixes left.now }
+    requires right_family { All (AreOfFamily family) right.now }
+    requires right_prefixes { HasDistinctPrefixes right.now }
+    ensures family { IfOk result (λ found. IfSome found (λ p. (p.0.family ≡ family) × (p.1.family ≡ family))) }
+    ensures least { IfOk result (λ found. MatchOption found (SameAnswers (width_of family) (answers_in family left.now) (answers_in family right.now)) (λ p. IsLeastDifference (width_of family) (answers_in family left.now) (answers_in family right.now) p.0.bits p.1.bits)) }
+{
+    let mut nodes = Nested::new(alloc);
+    let left = nodes.add_rows(alloc, family, left)?;
+    let right = nodes.add_rows(alloc, family, right)?;
+    Ok(nodes.least_difference(left, &nodes, right, Tables::One, family))
+}
