@@ -52,7 +52,7 @@ pub held_tied : (h : Held) → held_cmp h h ≡ Equal
 held_tied (helds.Route ann) = rw (octets_tied ann.router_id, nat_tied ann.seqno, nat_tied ann.metric) (tied_itself address_total ann.next_hop)
 held_tied helds.Unreachable = refl
 
-pub held_test : HasEqualityTest Held
+held_test : HasEqualityTest Held
 held_test a b = by (held_cmp a b) refl
   where
     clash : (o : Ordering) → o ≡ Equal → o ≡ Less → ⊥

@@ -1,6 +1,6 @@
 -- The body of a packet, a pair at a time.
-use Rattle.std.proofs.Common.{◌≡◌, ℕ, ◌≤◌, List, [], ◌∷◌, ◌++◌, length, refl, sym, ap, ◌∙◌, arith, append_assoc}
-use Rattle.std.proofs.lemmas.List.{length-append, append-nil}
+use Rattle.std.proofs.Common.{◌≡◌, ℕ, List, [], ◌∷◌, ◌++◌, refl, sym, ap, ◌∙◌, append_assoc}
+use Rattle.std.proofs.lemmas.List.{append-nil}
 use Rattle.babel_tlv.specs.Pair.{Pair}
 use Rattle.babel_tlv.specs.Group.{group, groups_behind, body_of}
 
@@ -22,8 +22,3 @@ groups-append earlier (pair ∷ front) back =
 -- one more pair
 pub body-snoc : (front : List Pair) (pair : Pair) → body_of (front ++ pair ∷ []) ≡ body_of front ++ group (latest_first [] front) pair
 body-snoc front pair = groups-append [] front (pair ∷ []) ∙ ap (λ (o : List ℕ). body_of front ++ o) (append-nil (group (latest_first [] front) pair))
-
--- further pairs make no body shorter
-pub body-longer : (front back : List Pair) → length (body_of front) ≤ length (body_of (front ++ back))
-body-longer front back =
-    omega (arith, ap length (groups-append [] front back), length-append (body_of front) (groups_behind (latest_first [] front) back))

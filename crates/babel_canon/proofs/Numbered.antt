@@ -18,7 +18,7 @@ use Rattle.babel_canon.specs.Values.{HasValue, value_of, valued}
 -- ---- the best row depends on prefixes alone
 
 module _ {A B : Type 0} (h : A → B) where
-  abbrev pub revalued : Row A → Row B
+  abbrev revalued : Row A → Row B
   revalued row = record { dst = row.dst; src = row.src; value = h row.value }
 
   found-map : (test : Row B → Bool) (rows : List (Row A)) → find test (map revalued rows) ≡ option_map revalued (find (λ row. test (revalued row)) rows)
@@ -38,7 +38,7 @@ module _ {A B : Type 0} (h : A → B) where
   value-map None = refl
   value-map (Some row) = refl
 
-  pub answer-map : (w : ℕ) (rows : List (Row A)) (d s : ℕ) → answer w (map revalued rows) d s ≡ option_map h (answer w rows d s)
+  answer-map : (w : ℕ) (rows : List (Row A)) (d s : ℕ) → answer w (map revalued rows) d s ≡ option_map h (answer w rows d s)
   answer-map w rows d s =
       ap (option_map (λ (row : Row B). row.value)) (
       found-map (is_best w (map revalued rows) d s) rows
@@ -79,7 +79,7 @@ module _ (values : List Held) where
       let m_is : slice_get values m.0 ≡ Some h = cc in
       ap (λ (k : ℕ). let x : ValueNumber = record { 0 = k } in Some x) (distinct n.0 m.0 h n_is m_is)
 
-  pub says_value : (n : ValueNumber) (h : Option Held) → Says (Some n) h → (h ≡ Some (value_of values n)) × HasValue values n
+  says_value : (n : ValueNumber) (h : Option Held) → Says (Some n) h → (h ≡ Some (value_of values n)) × HasValue values n
   says_value n None e = absurd cc
   says_value n (Some h) e =
       let at : slice_get values n.0 ≡ Some h = cc in
@@ -202,22 +202,17 @@ module _ (values : List Held) where
 
   -- ---- where answers by number differ, they differ by value
 
-  pub same_by_value : (w : ℕ) (left right : List (Row ValueNumber)) → All (λ row. HasValue values row.value) left → All (λ row. HasValue values row.value) right
-      → SameAnswers w (answer w left) (answer w right) → SameAnswers w (answer w (map (valued values) left)) (answer w (map (valued values) right))
-  same_by_value w left right left_in right_in same d s d_in s_in =
-      says_one (answer w right d s) (answer w (map (valued values) left) d s) (answer w (map (valued values) right) d s)
-      (subst (λ (n : Option ValueNumber). Says n (answer w (map (valued values) left) d s)) (same d s d_in s_in) (rows_say w left left_in d s))
-      (rows_say w right right_in d s)
+  module _ (w : ℕ) (g h : Answers ValueNumber) (f k : Answers Held) (left : (d s : ℕ) → Says (g d s) (f d s)) (right : (d s : ℕ) → Says (h d s) (k d s)) where
+    same_at : (d s : ℕ) → g d s ≡ h d s → f d s ≡ k d s
+    same_at d s same = says_one (h d s) (f d s) (k d s) (subst (λ (n : Option ValueNumber). Says n (f d s)) same (left d s)) (right d s)
 
-  pub difference_by_value : AreDistinct values → (w : ℕ) (left right : List (Row ValueNumber)) (dst src : ℕ) → All (λ row. HasValue values row.value) left → All (λ row. HasValue values row.value) right
-      → IsLeastDifference w (answer w left) (answer w right) dst src → IsLeastDifference w (answer w (map (valued values) left)) (answer w (map (valued values) right)) dst src
-  difference_by_value distinct w left right dst src left_in right_in least = record {
-    dst_in_range = least.dst_in_range;
-    src_in_range = least.src_in_range;
-    differs = λ same. least.differs (said_once distinct (answer w left dst src) (answer w right dst src) (answer w (map (valued values) right) dst src)
-        (subst (λ (h : Option Held). Says (answer w left dst src) h) same (rows_say w left left_in dst src)) (rows_say w right right_in dst src));
-    same_below = λ d s d_in s_in below.
-        says_one (answer w right d s) (answer w (map (valued values) left) d s) (answer w (map (valued values) right) d s)
-        (subst (λ (n : Option ValueNumber). Says n (answer w (map (valued values) left) d s)) (least.same_below d s d_in s_in below) (rows_say w left left_in d s))
-        (rows_say w right right_in d s);
-  }
+    pub same_by_value : SameAnswers w g h → SameAnswers w f k
+    same_by_value same d s d_in s_in = same_at d s (same d s d_in s_in)
+
+    pub difference_by_value : AreDistinct values → (dst src : ℕ) → IsLeastDifference w g h dst src → IsLeastDifference w f k dst src
+    difference_by_value distinct dst src least = record {
+      dst_in_range = least.dst_in_range;
+      src_in_range = least.src_in_range;
+      differs = λ same. least.differs (said_once distinct (g dst src) (h dst src) (k dst src) (subst (λ (held : Option Held). Says (g dst src) held) same (left dst src)) (right dst src));
+      same_below = λ d s d_in s_in below. same_at d s (least.same_below d s d_in s_in below);
+    }

@@ -1,5 +1,5 @@
 -- Lists of values that grow, and the rows, boxes and pairs that have numbers in them.
-use Rattle.std.proofs.Common.{◌≡◌, ℕ, zero, suc, ◌+◌, ◌<◌, cond, List, [], ◌∷◌, ◌++◌, length, map, take, get_or, Option, Some, None, Ordering, refl, sym, ap, subst, ◌∙◌, arith, inl, inr, rules}
+use Rattle.std.proofs.Common.{◌≡◌, ℕ, zero, suc, ◌+◌, ◌<◌, cond, List, [], ◌∷◌, ◌++◌, length, map, take, get_or, Some, None, Ordering, refl, sym, ap, subst, ◌∙◌, arith, inl, inr, rules}
 use Rattle.std.specs.List.{All, filter, slice_get}
 use Rattle.std.specs.BTreeMap.{BTreeMap, get, is_at}
 use Rattle.std.specs.Ordering.{is_eq}
@@ -12,7 +12,7 @@ use Rattle.std.proofs.lemmas.Option.{slice_get-get_or, get_or_from_slice_get, sl
 use Rattle.babel_prefix.specs.declared.family.Family.{Family}
 use Rattle.babel_prefix.specs.Width.{width_of}
 use Rattle.babel_prefix.specs.Best.{Row, answer}
-use Rattle.babel_prefix.specs.Entries.{Entry, AreOfFamily, are_of_family, row_of, answers_in, HasDistinctPrefixes}
+use Rattle.babel_prefix.specs.Entries.{Entry, AreOfFamily, are_of_family, row_of, rows_in, answers_in, HasDistinctPrefixes}
 use Rattle.babel_prefix.proofs.EntryLaws.{rows_in-all}
 use Rattle.babel_trie.specs.Boxes.{IsBoxList}
 use Rattle.babel_trie.proofs.NumberLaws.{slice_get-push, slice_get-kept, slice_get-push_cases}
@@ -25,9 +25,9 @@ use Rattle.babel_tlv.proofs.OrderLaws.{held_exact}
 use Rattle.babel_table.specs.Rows.{entries_of}
 use Rattle.babel_canon.specs.declared.values.ValueNumber.{ValueNumber}
 use Rattle.babel_canon.specs.Grids.{pair_at, pair_of, AreFamilyBoxes}
-use Rattle.babel_canon.specs.Values.{AreNumbered, AreNumberedBoxes, KeepsValues, HasValue, value_of, valued, valued_entry}
-use Rattle.babel_canon.proofs.Boxes.{held_tied, entry_of}
-use Rattle.babel_canon.proofs.Entries.{boxes_of_all, IsKept, kept, passed}
+use Rattle.babel_canon.specs.Values.{AreNumbered, AreNumberedBoxes, AreNumberedEntries, KeepsValues, HasValue, value_of, valued, valued_entry}
+use Rattle.babel_canon.proofs.Boxes.{held_tied}
+use Rattle.babel_canon.proofs.Entries.{kept, passed}
 use Rattle.babel_canon.proofs.Families.{pairs_at}
 use Rattle.babel_canon.proofs.Numbered.{AreDistinct, Says, rows_say, boxes_by_value, numbers_of_boxes}
 
@@ -99,18 +99,25 @@ module _ (old new : List Held) (keeps : KeepsValues old new) where
   kept_at : (n : ValueNumber) → HasValue old n → slice_get new n.0 ≡ Some (value_of old n)
   kept_at n n_in = keeps n.0 (value_of old n) (slice_get-get_or old n.0 helds.Unreachable n_in)
 
-  pub has_still : (n : ValueNumber) → HasValue old n → HasValue new n
+  has_still : (n : ValueNumber) → HasValue old n → HasValue new n
   has_still n n_in = slice_get_within new n.0 (value_of old n) (kept_at n n_in)
 
   value_still : (n : ValueNumber) → HasValue old n → value_of new n ≡ value_of old n
   value_still n n_in = get_or_from_slice_get new n.0 (value_of old n) helds.Unreachable (kept_at n n_in)
 
-  pub entries_still : (entries : List (Entry ValueNumber)) → All (λ entry. HasValue old entry.2) entries → map (valued_entry new) entries ≡ map (valued_entry old) entries
-  entries_still [] all = refl
-  entries_still (entry ∷ entries) all =
+  entries_valued : (entries : List (Entry ValueNumber)) → All (λ entry. HasValue old entry.2) entries → map (valued_entry new) entries ≡ map (valued_entry old) entries
+  entries_valued [] all = refl
+  entries_valued (entry ∷ entries) all =
       ap (λ (h : Held). let e : Entry Held = (entry.0, entry.1, h) in e ∷ map (valued_entry new) entries)
       (value_still entry.2 (All-head (λ (e : Entry ValueNumber). HasValue old e.2) entry entries all))
-      ∙ ap (λ (es : List (Entry Held)). valued_entry old entry ∷ es) (entries_still entries (All-tail (λ (e : Entry ValueNumber). HasValue old e.2) entry entries all))
+      ∙ ap (λ (es : List (Entry Held)). valued_entry old entry ∷ es) (entries_valued entries (All-tail (λ (e : Entry ValueNumber). HasValue old e.2) entry entries all))
+
+  pub entries_still : (family : Family) (rows : List Pair) (entries : List (Entry ValueNumber)) → AreNumberedEntries family rows old entries → AreNumberedEntries family rows new entries
+  entries_still family rows entries are = record {
+    of_family = are.of_family;
+    numbers = λ i d i_in. has_still (get_or entries i d).2 (are.numbers i d i_in);
+    items = entries_valued entries are.numbers ∙ are.items;
+  }
 
   rows_still : (rows : List (Row ValueNumber)) → All (λ row. HasValue old row.value) rows → map (valued new) rows ≡ map (valued old) rows
   rows_still [] all = refl
@@ -149,34 +156,25 @@ module _ (values : List Held) where
       → map pair_of (map (valued_entry values) entries) ≡ map (pair_at family) (map (valued values) (map row_of entries))
   pairs_valued family entries all = pairs_at family (map (valued_entry values) entries) (of_family_too family entries all) ∙ ap (map (pair_at family)) (rows_valued entries)
 
-  -- boxes by number of the entries of a family are boxes of its rows
-  pub numbered_boxes : AreDistinct values → (family : Family) (rows : List Pair) (entries : List (Entry ValueNumber)) (boxes : List (Row ValueNumber)) → All (AreOfFamily family) entries
-      → All (λ entry. HasValue values entry.2) entries → map (valued_entry values) entries ≡ filter (are_of_family family) (entries_of rows)
+  -- what the entries of rows in a family answer by number, the rows answer by value
+  pub entries_say : (family : Family) (rows : List Pair) (entries : List (Entry ValueNumber)) → AreNumberedEntries family rows values entries
+      → (d s : ℕ) → Says values (answers_in family entries d s) (answers_in family (entries_of rows) d s)
+  entries_say family rows entries are d s =
+      let w = width_of family in
+      let valued_rows : map (valued values) (map row_of entries) ≡ rows_in family (entries_of rows) = sym (rows_valued entries) ∙ ap (map row_of) are.items in
+      subst (λ (rs : List (Row ValueNumber)). Says values (answer w rs d s) (answers_in family (entries_of rows) d s)) (sym (rows_in-all family entries are.of_family))
+      (subst (λ (rs : List (Row Held)). Says values (answer w (map row_of entries) d s) (answer w rs d s)) valued_rows
+      (rows_say values w (map row_of entries) (rows_numbers entries are.numbers) d s))
+
+  -- boxes by number of the entries of rows in a family are boxes of the rows
+  pub numbered_boxes : AreDistinct values → (family : Family) (rows : List Pair) (entries : List (Entry ValueNumber)) (boxes : List (Row ValueNumber)) → AreNumberedEntries family rows values entries
       → IsBoxList (width_of family) (answers_in family entries) boxes → AreNumberedBoxes family rows values boxes
-  numbered_boxes once family rows entries boxes all numbers items are = record {
-    numbers = numbers_of_boxes values once w by_number by_value says boxes numbered;
-    boxes_are = boxes_of_all family rows (map (valued_entry values) entries) (map (valued values) boxes) held_of items
-        (subst (λ (rs : List (Row Held)). IsBoxList w (answer w rs) (map (valued values) boxes)) (sym (rows_in-all family (map (valued_entry values) entries) held_of ∙ rows_valued entries))
-        (boxes_by_value values once w by_number by_value says boxes numbered));
-  }
-    where
-      w : ℕ
-      w = width_of family
-
-      by_number : ℕ → ℕ → Option ValueNumber
-      by_number = answer w (map row_of entries)
-
-      by_value : ℕ → ℕ → Option Held
-      by_value = answer w (map (valued values) (map row_of entries))
-
-      says : (d s : ℕ) → Says values (by_number d s) (by_value d s)
-      says = rows_say values w (map row_of entries) (rows_numbers entries numbers)
-
-      held_of : All (AreOfFamily family) (map (valued_entry values) entries)
-      held_of = of_family_too family entries all
-
-      numbered : IsBoxList w by_number boxes
-      numbered = subst (λ (rs : List (Row ValueNumber)). IsBoxList w (answer w rs) boxes) (rows_in-all family entries all) are
+  numbered_boxes once family rows entries boxes entries_are are =
+      let says = entries_say family rows entries entries_are in
+      record {
+        numbers = numbers_of_boxes values once (width_of family) (answers_in family entries) (answers_in family (entries_of rows)) says boxes are;
+        boxes_are = boxes_by_value values once (width_of family) (answers_in family entries) (answers_in family (entries_of rows)) says boxes are;
+      }
 
   -- entries have two prefixes once if they have with their values
   pub distinct_prefixes : (entries : List (Entry ValueNumber)) → HasDistinctPrefixes (map (valued_entry values) entries) → HasDistinctPrefixes entries
@@ -195,34 +193,25 @@ module _ (values : List Held) where
 
 -- ---- the rows of one family as entries
 
--- with their values, these are the entries of a family of the first rows
-pub record IsKeptBy (family : Family) (rows : List Pair) (count : ℕ) (values : List Held) (entries : List (Entry ValueNumber)) : Type 0 where
-  pub of_family : All (AreOfFamily family) entries
-  pub numbers : All (λ entry. HasValue values entry.2) entries
-  pub items : map (valued_entry values) entries ≡ filter (are_of_family family) (entries_of (take count rows))
-
 pub kept_by : (family : Family) (rows : List Pair) (i : ℕ) (row : Pair) (values more : List Held) (number : ValueNumber) (old new : List (Entry ValueNumber)) → row ≡ get_or rows i row → i < length rows
     → IsRouteKey row.0 → row.0.dst.address.family ≡ family → new ≡ old ++ (row.0.dst, row.0.src, number) ∷ [] → KeepsValues values more → slice_get more number.0 ≡ Some row.1
-    → IsKeptBy family rows i values old → IsKeptBy family rows (i + 1) more new
+    → AreNumberedEntries family (take i rows) values old → AreNumberedEntries family (take (i + 1) rows) more new
 kept_by family rows i row values more number old new is lt one_family here new_is keeps found so_far =
     let entry : Entry ValueNumber = (row.0.dst, row.0.src, number) in
+    let there : row.0.src.address.family ≡ family = sym one_family ∙ here in
+    let still = entries_still values more keeps family (take i rows) old so_far in
     let held : value_of more number ≡ row.1 = get_or_from_slice_get more number.0 row.1 helds.Unreachable found in
-    let valued_new : map (valued_entry more) new ≡ map (valued_entry values) old ++ entry_of row ∷ [] =
-    ap (map (valued_entry more)) new_is ∙ map-append (valued_entry more) old (entry ∷ [])
-    ∙ ap (λ (es : List (Entry Held)). es ++ valued_entry more entry ∷ []) (entries_still values more keeps old so_far.numbers)
-    ∙ ap (λ (h : Held). let e : Entry Held = (row.0.dst, row.0.src, h) in map (valued_entry values) old ++ e ∷ []) held in
-    let whole : IsKept family rows (i + 1) (map (valued_entry more) new) =
-    kept family rows i row (map (valued_entry values) old) (map (valued_entry more) new) is lt one_family here valued_new (of_family_too values family old so_far.of_family) so_far.items in
     record {
-      of_family = subst (λ (es : List (Entry ValueNumber)). All (AreOfFamily family) es) (sym new_is) (All-push (AreOfFamily family) old entry so_far.of_family (here, sym one_family ∙ here));
+      of_family = subst (λ (es : List (Entry ValueNumber)). All (AreOfFamily family) es) (sym new_is) (All-push (AreOfFamily family) old entry still.of_family (here, there));
       numbers = subst (λ (es : List (Entry ValueNumber)). All (λ e. HasValue more e.2) es) (sym new_is)
-          (All-push (λ (e : Entry ValueNumber). HasValue more e.2) old entry (λ k d k_in. has_still values more keeps (get_or old k d).2 (so_far.numbers k d k_in)) (slice_get_within more number.0 row.1 found));
-      items = whole.items;
+          (All-push (λ (e : Entry ValueNumber). HasValue more e.2) old entry still.numbers (slice_get_within more number.0 row.1 found));
+      items = ap (map (valued_entry more)) new_is ∙ map-append (valued_entry more) old (entry ∷ [])
+          ∙ ap (λ (es : List (Entry Held)). es ++ valued_entry more entry ∷ []) still.items
+          ∙ ap (λ (h : Held). let e : Entry Held = (row.0.dst, row.0.src, h) in filter (are_of_family family) (entries_of (take i rows)) ++ e ∷ []) held
+          ∙ sym (kept family rows i row is lt here there);
     }
 
 pub passed_by : (family : Family) (rows : List Pair) (i : ℕ) (row : Pair) (values : List Held) (entries : List (Entry ValueNumber)) → row ≡ get_or rows i row → i < length rows
-    → row.0.dst.address.family ≢ family → IsKeptBy family rows i values entries → IsKeptBy family rows (i + 1) values entries
+    → row.0.dst.address.family ≢ family → AreNumberedEntries family (take i rows) values entries → AreNumberedEntries family (take (i + 1) rows) values entries
 passed_by family rows i row values entries is lt apart so_far =
-    let valued = map (valued_entry values) entries in
-    let whole : IsKept family rows (i + 1) valued = passed family rows i row valued valued is lt apart refl (of_family_too values family entries so_far.of_family) so_far.items in
-    record { of_family = so_far.of_family; numbers = so_far.numbers; items = whole.items }
+    record { of_family = so_far.of_family; numbers = so_far.numbers; items = so_far.items ∙ sym (passed family rows i row is lt apart) }

@@ -1,98 +1,64 @@
--- Verdicts of both families.
-use Rattle.std.proofs.Common.{◌≡◌, ◌<◌, ◌^◌, List, Option, refl, sym, ap, subst, ◌∙◌, arith, inl, inr}
+-- Differences of both families.
+use Rattle.std.proofs.Common.{◌≡◌, ◌<◌, ◌^◌, List, Option, Some, None, refl, sym, subst, ◌∙◌, arith, inl, inr}
 use Rattle.std.specs.Prelude.{◌≢◌}
 use Rattle.babel_prefix.specs.declared.family.Family.{Family}
 use Rattle.babel_prefix.specs.declared.family.Family.TheVariants.{V4, V6}
 use Rattle.babel_prefix.specs.Width.{width_of, family_rank}
 use Rattle.babel_prefix.specs.Address.{Address, IsAddress}
-use Rattle.babel_prefix.specs.Best.{Row, answer}
 use Rattle.babel_prefix.specs.Entries.{answers_in, answer_for}
-use Rattle.babel_trie.specs.Boxes.{SameAnswers}
-use Rattle.babel_trie.proofs.BoxAnswers.{answer-boxes}
-use Rattle.babel_tlv.specs.declared.held.Held.{Held}
+use Rattle.babel_trie.specs.Boxes.{IsLeastDifference as IsLeastPair}
 use Rattle.babel_tlv.specs.Pair.{Pair}
 use Rattle.babel_table.specs.Rows.{entries_of}
-use Rattle.babel_canon.specs.declared.verdict.Verdict.{Verdict}
-use Rattle.babel_canon.specs.declared.verdict.Verdict.TheVariants as verdicts
-use Rattle.babel_canon.specs.Grids.{AreFamilyBoxes}
-use Rattle.babel_canon.specs.Verdict.{IsLower, IsLeastDifference, IsVerdict, IsFamilyVerdict}
-use Rattle.babel_canon.proofs.Boxes.{held_test}
+use Rattle.babel_canon.specs.Verdict.{IsLower, IsFirstDifference, IsFirstInFamily, IsLeastInFamily, SameInFamily}
 
--- the answers of boxes are those of the rows
-of_boxes : (family : Family) (rows : List Pair) (boxes : List (Row Held)) → AreFamilyBoxes family rows boxes → SameAnswers (width_of family) (answer (width_of family) boxes) (answers_in family (entries_of rows))
-of_boxes family rows boxes are = answer-boxes held_test (width_of family) (answers_in family (entries_of rows)) boxes are
+module _ (rows others : List Pair) where
+  same_for : (d s : Address) → SameInFamily d.family rows others → IsAddress d → IsAddress s → d.family ≡ s.family → answer_for (entries_of rows) d s ≡ answer_for (entries_of others) d s
+  same_for d s same d_fits s_fits one_family = same d.bits s.bits d_fits (subst (λ (f : Family). s.bits < 2 ^ width_of f) (sym one_family) s_fits)
 
--- two tables answer the same in a family
-abbrev pub SameIn : Family → List Pair → List Pair → Type 0
-SameIn family rows others = SameAnswers (width_of family) (answers_in family (entries_of rows)) (answers_in family (entries_of others))
+  -- the least difference in a family, where the families before it answer the same
+  differ_in : (family : Family) (dst src : Address) → ((before : Family) → family_rank before < family_rank family → SameInFamily before rows others)
+      → IsLeastInFamily family rows others dst src → IsFirstDifference rows others (Some (dst, src))
+  differ_in family dst src before least_in =
+      record {
+        dst_fits = least.dst_in_range;
+        src_fits = subst (λ (f : Family). src.bits < 2 ^ width_of f) (least_in.dst_of ∙ sym least_in.src_of) least.src_in_range;
+        one_family = least_in.dst_of ∙ sym least_in.src_of;
+        left_is = refl;
+        right_is = refl;
+        differs = least.differs;
+        same_below = below;
+      }
+    where
+      least : IsLeastPair (width_of dst.family) (answers_in dst.family (entries_of rows)) (answers_in dst.family (entries_of others)) dst.bits src.bits
+      least = subst (λ (f : Family). IsLeastPair (width_of f) (answers_in f (entries_of rows)) (answers_in f (entries_of others)) dst.bits src.bits) (sym least_in.dst_of) least_in.least
 
-pub same_in_rows : (family : Family) (rows others : List Pair) (left right : List (Row Held)) → AreFamilyBoxes family rows left → AreFamilyBoxes family others right
-    → IsFamilyVerdict family left right verdicts.Same → SameIn family rows others
-same_in_rows family rows others left right left_are right_are same d s d_in s_in =
-    sym (of_boxes family rows left left_are d s d_in s_in) ∙ same d s d_in s_in ∙ of_boxes family others right right_are d s d_in s_in
+      below : (d s : Address) → IsAddress d → IsAddress s → d.family ≡ s.family → IsLower d s dst src → answer_for (entries_of rows) d s ≡ answer_for (entries_of others) d s
+      below d s d_fits s_fits one_family (inl lower) =
+          same_for d s (before d.family (subst (λ (f : Family). family_rank d.family < family_rank f) least_in.dst_of lower)) d_fits s_fits one_family
+      below d s d_fits s_fits one_family (inr (same_family, lower)) =
+          let d_in : d.bits < 2 ^ width_of dst.family = subst (λ (f : Family). d.bits < 2 ^ width_of f) same_family d_fits in
+          let s_in : s.bits < 2 ^ width_of dst.family = subst (λ (f : Family). s.bits < 2 ^ width_of f) (sym one_family ∙ same_family) s_fits in
+          subst (λ (f : Family). answers_in f (entries_of rows) d.bits s.bits ≡ answers_in f (entries_of others) d.bits s.bits) (sym same_family)
+          (least.same_below d.bits s.bits d_in s_in lower)
 
--- the least difference in a family, where the families before it answer the same
-differ_in : (family : Family) (rows others : List Pair) (boxes others_boxes : List (Row Held)) (dst src : Address) (left right : Option Held) → AreFamilyBoxes family rows boxes
-    → AreFamilyBoxes family others others_boxes → ((before : Family) → family_rank before < family_rank family → SameIn before rows others)
-    → IsFamilyVerdict family boxes others_boxes (verdicts.Differ dst src left right) → IsLeastDifference rows others dst src left right
-differ_in family rows others boxes others_boxes dst src left right boxes_are others_are before (dst_of, src_of, left_is, right_is, least) =
-    record {
-      dst_fits = dst_in;
-      src_fits = src_in;
-      one_family = dst_of ∙ sym src_of;
-      left_is = left_is ∙ of_boxes family rows boxes boxes_are dst.bits src.bits least.dst_in_range least.src_in_range ∙ ap (λ (f : Family). answers_in f (entries_of rows) dst.bits src.bits) (sym dst_of);
-      right_is = right_is ∙ of_boxes family others others_boxes others_are dst.bits src.bits least.dst_in_range least.src_in_range ∙ ap (λ (f : Family). answers_in f (entries_of others) dst.bits src.bits) (sym dst_of);
-      differs = λ same. least.differs (sym left_is ∙ same ∙ right_is);
-      same_below = below;
-    }
-  where
-    dst_in : IsAddress dst
-    dst_in = subst (λ (f : Family). dst.bits < 2 ^ width_of f) (sym dst_of) least.dst_in_range
+  -- IPv4 answers the same: the difference in IPv6 is that of both
+  pub difference_v6 : (found : Option (Address × Address)) → SameInFamily V4 rows others → IsFirstInFamily V6 rows others found → IsFirstDifference rows others found
+  difference_v6 None v4 v6 = λ d s. same_for d s (here d.family)
+    where
+      here : (family : Family) → SameInFamily family rows others
+      here V4 = v4
+      here V6 = v6
+  difference_v6 (Some (dst, src)) v4 least = differ_in V6 dst src before least
+    where
+      before : (family : Family) → family_rank family < family_rank V6 → SameInFamily family rows others
+      before V4 lt = v4
+      before V6 lt = absurd (omega (arith, lt))
 
-    src_in : IsAddress src
-    src_in = subst (λ (f : Family). src.bits < 2 ^ width_of f) (sym src_of) least.src_in_range
-
-    below : (d s : Address) → IsAddress d → IsAddress s → d.family ≡ s.family → IsLower d s dst src → answer_for (entries_of rows) d s ≡ answer_for (entries_of others) d s
-    below d s d_fits s_fits one_family (inl lower) =
-        before d.family (subst (λ (f : Family). family_rank d.family < family_rank f) dst_of lower) d.bits s.bits d_fits (subst (λ (f : Family). s.bits < 2 ^ width_of f) (sym one_family) s_fits)
-    below d s d_fits s_fits one_family (inr (same_family, lower)) =
-        let d_of : d.family ≡ family = same_family ∙ dst_of in
-        let d_in : d.bits < 2 ^ width_of family = subst (λ (f : Family). d.bits < 2 ^ width_of f) d_of d_fits in
-        let s_in : s.bits < 2 ^ width_of family = subst (λ (f : Family). s.bits < 2 ^ width_of f) (sym one_family ∙ d_of) s_fits in
-        ap (λ (f : Family). answers_in f (entries_of rows) d.bits s.bits) d_of
-        ∙ sym (of_boxes family rows boxes boxes_are d.bits s.bits d_in s_in)
-        ∙ least.same_below d.bits s.bits d_in s_in lower
-        ∙ of_boxes family others others_boxes others_are d.bits s.bits d_in s_in
-        ∙ ap (λ (f : Family). answers_in f (entries_of others) d.bits s.bits) (sym d_of)
-
--- IPv4 answers the same: the verdict on IPv6 is that on both
-pub verdict_v6 : (rows others : List Pair) (boxes others_boxes : List (Row Held)) (verdict : Verdict) → SameIn V4 rows others → AreFamilyBoxes V6 rows boxes → AreFamilyBoxes V6 others others_boxes
-    → IsFamilyVerdict V6 boxes others_boxes verdict → IsVerdict rows others verdict
-verdict_v6 rows others boxes others_boxes verdicts.Same v4 boxes_are others_are same = by_family
-  where
-    v6 : SameIn V6 rows others
-    v6 = same_in_rows V6 rows others boxes others_boxes boxes_are others_are same
-
-    here : (family : Family) → SameIn family rows others
-    here V4 = v4
-    here V6 = v6
-
-    by_family : (d s : Address) → IsAddress d → IsAddress s → d.family ≡ s.family → answer_for (entries_of rows) d s ≡ answer_for (entries_of others) d s
-    by_family d s d_fits s_fits one_family = here d.family d.bits s.bits d_fits (subst (λ (f : Family). s.bits < 2 ^ width_of f) (sym one_family) s_fits)
-verdict_v6 rows others boxes others_boxes (verdicts.Differ dst src left right) v4 boxes_are others_are differs =
-    differ_in V6 rows others boxes others_boxes dst src left right boxes_are others_are before differs
-  where
-    before : (family : Family) → family_rank family < family_rank V6 → SameIn family rows others
-    before V4 lt = v4
-    before V6 lt = absurd (omega (arith, lt))
-
--- a difference in IPv4 is that of both
-pub verdict_v4 : (rows others : List Pair) (boxes others_boxes : List (Row Held)) (verdict : Verdict) → verdict ≢ verdicts.Same → AreFamilyBoxes V4 rows boxes → AreFamilyBoxes V4 others others_boxes
-    → IsFamilyVerdict V4 boxes others_boxes verdict → IsVerdict rows others verdict
-verdict_v4 rows others boxes others_boxes verdicts.Same some boxes_are others_are same = absurd (some refl)
-verdict_v4 rows others boxes others_boxes (verdicts.Differ dst src left right) some boxes_are others_are differs =
-    differ_in V4 rows others boxes others_boxes dst src left right boxes_are others_are before differs
-  where
-    before : (family : Family) → family_rank family < family_rank V4 → SameIn family rows others
-    before V4 lt = absurd (omega (arith, lt))
-    before V6 lt = absurd (omega (arith, lt))
+  -- a difference in IPv4 is that of both
+  pub difference_v4 : (found : Option (Address × Address)) → found ≢ None → IsFirstInFamily V4 rows others found → IsFirstDifference rows others found
+  difference_v4 None some same = absurd (some refl)
+  difference_v4 (Some (dst, src)) some least = differ_in V4 dst src before least
+    where
+      before : (family : Family) → family_rank family < family_rank V4 → SameInFamily family rows others
+      before V4 lt = absurd (omega (arith, lt))
+      before V6 lt = absurd (omega (arith, lt))

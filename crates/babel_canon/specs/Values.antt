@@ -1,12 +1,13 @@
 -- Values by number, and rows that have numbers in place of values: this project's own.
-use Rattle.std.specs.Prelude.{◌≡◌, ◌↔◌, ◌<◌, ℕ, List, All, Some, get_or, length, map, slice_get}
+use Rattle.std.specs.Prelude.{◌≡◌, ◌↔◌, ◌<◌, ℕ, List, All, Some, filter, get_or, length, map, slice_get}
 use Rattle.std.specs.BTreeMap.{BTreeMap, get}
 use Rattle.babel_prefix.specs.declared.family.Family.{Family}
 use Rattle.babel_prefix.specs.Best.{Row}
-use Rattle.babel_prefix.specs.Entries.{Entry}
+use Rattle.babel_prefix.specs.Entries.{Entry, AreOfFamily, are_of_family}
 use Rattle.babel_tlv.specs.declared.held.Held.{Held}
 use Rattle.babel_tlv.specs.declared.held.Held.TheVariants as helds
 use Rattle.babel_tlv.specs.Pair.{Pair, held_cmp}
+use Rattle.babel_table.specs.Rows.{entries_of}
 use Rattle.babel_canon.specs.declared.values.ValueNumber.{ValueNumber}
 use Rattle.babel_canon.specs.Grids.{AreFamilyBoxes}
 
@@ -29,6 +30,12 @@ value_of values number = get_or values number.0 helds.Unreachable
 -- an entry with the value of its number
 abbrev pub valued_entry : List Held → Entry ValueNumber → Entry Held
 valued_entry values entry = (entry.0, entry.1, value_of values entry.2)
+
+-- with the values of their numbers these are the entries of rows in a family
+pub record AreNumberedEntries (family : Family) (rows : List Pair) (values : List Held) (entries : List (Entry ValueNumber)) : Type 0 where
+  pub of_family : All (AreOfFamily family) entries
+  pub numbers : All (λ entry. HasValue values entry.2) entries
+  pub items : map (valued_entry values) entries ≡ filter (are_of_family family) (entries_of rows)
 
 -- a row with the value of its number
 abbrev pub valued : List Held → Row ValueNumber → Row Held

@@ -1,9 +1,9 @@
-ghost use Rattle.std.specs.Prelude.{◌≡◌, ◌+◌, ◌-◌, ◌^◌, ◌++◌, IfOk, OnOk, filter, All, length, map, min};
+ghost use Rattle.std.specs.Prelude.{◌≡◌, ◌+◌, ◌-◌, ◌^◌, ◌++◌, IfOk, OnOk, All, length, map, min};
 ghost use Rattle.babel_prefix.specs.declared.family.Family.TheVariants.{V4, V6};
-ghost use Rattle.babel_prefix.specs.Entries.{AreOfFamily, are_of_family};
-ghost use Rattle.babel_table.specs.Rows.{AreRows, entries_of};
+ghost use Rattle.babel_prefix.specs.Entries.{AreOfFamily, HasDistinctPrefixes};
+ghost use Rattle.babel_table.specs.Rows.{AreRows};
 ghost use Rattle.babel_canon.specs.Grids.{pair_at, pair_of, both_families};
-ghost use Rattle.babel_canon.specs.Values.{AreNumbered, AreNumberedBoxes, HasValue, KeepsValues, valued, valued_entry};
+ghost use Rattle.babel_canon.specs.Values.{AreNumbered, AreNumberedBoxes, AreNumberedEntries, HasValue, KeepsValues, valued, valued_entry};
 
 use crate::values::{ValueNumber, Values};
 use babel_prefix::{Family, Prefix};
@@ -18,24 +18,24 @@ type Row = (Prefix, Prefix, ValueNumber);
 /// What a table answers for the addresses of each family.
 #[derive(Drop)]
 pub(crate) struct Grids {
-    pub(crate) v4: Grid<ValueNumber>,
-    pub(crate) v6: Grid<ValueNumber>,
+    v4: Grid<ValueNumber>,
+    v6: Grid<ValueNumber>,
 }
 
-/// The rows of one family, as a grid takes them.
-fn family_entries(
+/// The rows of one family of a table, with the numbers of their values, as a grid takes them.
+pub(crate) fn family_entries(
     alloc: Global,
     family: Family,
-    rows: &[(Key, Held)],
+    table: &Table,
     values: &mut Values,
 ) -> Result<Vec<Row>, AllocError>
     requires { AreNumbered values.old.list.items values.old.numbers }
     ensures numbered { OnOk result (AreNumbered values.new.list.items values.new.numbers) }
     ensures keeps { OnOk result (KeepsValues values.old.list.items values.new.list.items) }
-    ensures family { IfOk result (λ entries. All (AreOfFamily family) entries.items) }
-    ensures numbers { IfOk result (λ entries. All (λ entry. HasValue values.new.list.items entry.2) entries.items) }
-    ensures items { IfOk result (λ entries. map (valued_entry values.new.list.items) entries.items ≡ filter (are_of_family family) (entries_of rows.now)) }
+    ensures prefixes { IfOk result (λ entries. HasDistinctPrefixes entries.items) }
+    ensures entries { IfOk result (λ entries. AreNumberedEntries family table.now.rows values.new.list.items entries.items) }
 {
+    let rows = table.rows();
     let mut entries = Vec::new(alloc);
     for (key, held) in rows {
         if key.dst().family() == family {
@@ -47,7 +47,7 @@ fn family_entries(
 }
 
 /// What a table answers for the addresses of one family.
-pub(crate) fn family_grid(
+fn family_grid(
     alloc: Global,
     family: Family,
     table: &Table,
@@ -59,7 +59,7 @@ pub(crate) fn family_grid(
     ensures family { IfOk result (λ grid. grid.family ≡ family) }
     ensures boxes { IfOk result (λ grid. AreNumberedBoxes family table.now.rows values.new.list.items grid.boxes) }
 {
-    let entries = family_entries(alloc, family, table.rows(), values)?;
+    let entries = family_entries(alloc, family, table, values)?;
     let grid = Grid::of(alloc, family, &entries)?;
     Ok(grid)
 }

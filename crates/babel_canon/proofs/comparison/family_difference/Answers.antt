@@ -1,0 +1,48 @@
+use Rattle.std.proofs.Common.{◌≡◌, List, Option, Some, None, Result, Ok, Err, IfOk, sym, subst}
+use Rattle.std.specs.Option.{IfSome, MatchOption}
+use Rattle.babel_prefix.specs.declared.family.Family.{Family}
+use Rattle.babel_prefix.specs.Width.{width_of}
+use Rattle.babel_prefix.specs.Address.{Address}
+use Rattle.babel_prefix.specs.Entries.{Entry, answers_in}
+use Rattle.babel_trie.specs.Boxes.{SameAnswers, IsLeastDifference}
+use Rattle.babel_tlv.specs.declared.held.Held.{Held}
+use Rattle.babel_tlv.specs.Pair.{Pair}
+use Rattle.babel_table.specs.Rows.{entries_of}
+use Rattle.babel_canon.specs.declared.values.ValueNumber.{ValueNumber}
+use Rattle.babel_canon.specs.Values.{AreNumberedEntries}
+use Rattle.babel_canon.specs.Verdict.{IsFirstInFamily}
+use Rattle.babel_canon.proofs.Numbered.{AreDistinct, same_by_value, difference_by_value}
+use Rattle.babel_canon.proofs.ValueLists.{distinct, entries_still, entries_say}
+use Rattle.babel_canon.proofs.comparison.family_difference.Goals as goal
+
+-- where the entries of two tables differ by number, the tables do
+module _ (family : Family) (rows others : List Pair) (values : List Held) (once : AreDistinct values) (mine theirs : List (Entry ValueNumber))
+    (mine_are : AreNumberedEntries family rows values mine) (theirs_are : AreNumberedEntries family others values theirs) where
+  by_value : {E : Type 0} (result : Result (Option (Address × Address)) E)
+      → IfOk result (λ found. IfSome found (λ p. (p.0.family ≡ family) × (p.1.family ≡ family)))
+      → IfOk result (λ found. MatchOption found (SameAnswers (width_of family) (answers_in family mine) (answers_in family theirs)) (λ p. IsLeastDifference (width_of family) (answers_in family mine) (answers_in family theirs) p.0.bits p.1.bits))
+      → IfOk result (IsFirstInFamily family rows others)
+  by_value (Ok None) of_family same =
+      same_by_value values (width_of family) (answers_in family mine) (answers_in family theirs) (answers_in family (entries_of rows)) (answers_in family (entries_of others))
+      (entries_say values family rows mine mine_are) (entries_say values family others theirs theirs_are) same
+  by_value (Ok (Some (dst, src))) of_family least = record {
+    dst_of = of_family.0;
+    src_of = of_family.1;
+    least = difference_by_value values (width_of family) (answers_in family mine) (answers_in family theirs) (answers_in family (entries_of rows)) (answers_in family (entries_of others))
+        (entries_say values family rows mine mine_are) (entries_say values family others theirs theirs_are) once dst.bits src.bits least;
+  }
+  by_value (Err e) of_family least = tt
+
+pub returns : goal.returns
+returns c =
+    let family = c.args.family in
+    let rows = c.args.left.now.rows in
+    let others = c.args.right.now.rows in
+    let old = c.family_entries.new.values.list.items in
+    let values = c.family_entries-2.new.values.list.items in
+    let mine : AreNumberedEntries family rows values c.in_ok-entries.entries.items =
+    entries_still old values c.in_ok-others.ensures.keeps family rows c.in_ok-entries.entries.items c.in_ok-entries.ensures.entries in
+    by_value family rows others values (distinct values c.family_entries-2.new.values.numbers c.in_ok-others.ensures.numbered) c.deref.result.now c.deref-2.result.now
+    (subst (λ (es : List (Entry ValueNumber)). AreNumberedEntries family rows values es) (sym c.deref.ensures.value) mine)
+    (subst (λ (es : List (Entry ValueNumber)). AreNumberedEntries family others values es) (sym c.deref-2.ensures.value) c.in_ok-others.ensures.entries)
+    c.least_difference.result c.least_difference.ensures.family c.least_difference.ensures.least
