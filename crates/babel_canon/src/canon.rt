@@ -56,17 +56,12 @@ fn canonical_pairs(alloc: Global, limits: Limits, table: &Table) -> Result<Vec<(
     ensures err { IfErr result (CanonicalFault limits table.now.rows) }
 {
     let mut values = Values::new(alloc);
-    let grids = match Grids::of(alloc, table, &mut values) {
-        Ok(grids) => grids,
-        Err(_) => return Err(Fault::Memory),
-    };
+    let grids = Grids::of(alloc, table, &mut values)?;
     if grids.count() > limits.entries() as u64 {
         return Err(Fault::TooManyPairs);
     }
-    match grids.into_pairs(alloc, &values) {
-        Ok(pairs) => Ok(pairs),
-        Err(_) => Err(Fault::Memory),
-    }
+    let pairs = grids.into_pairs(alloc, &values)?;
+    Ok(pairs)
 }
 
 /// The canonical form of a table, in packets with bodies of at most this many octets. `TooManyPairs` if its canonical pairs
@@ -77,8 +72,6 @@ pub fn canonical(alloc: Global, limits: Limits, body: Body, table: &Table) -> Re
     ensures err { IfErr result (CanonicalFault limits table.now.rows) }
 {
     let pairs = canonical_pairs(alloc, limits, table)?;
-    match write_text(alloc, body, &pairs) {
-        Ok(bytes) => Ok(Canon { pairs, bytes }),
-        Err(_) => Err(Fault::Memory),
-    }
+    let bytes = write_text(alloc, body, &pairs)?;
+    Ok(Canon { pairs, bytes })
 }

@@ -47,14 +47,13 @@ pub fn compare(alloc: Global, left: &Table, right: &Table) -> Result<Verdict, Fa
     ensures ok { IfOk result (IsVerdict left.now.rows right.now.rows) }
     ensures err { IfErr result (λ fault. fault ≡ Fault.Memory) }
 {
-    match first_difference(alloc, left, right) {
-        Ok(None) => Ok(Verdict::Same),
-        Ok(Some((dst, src))) => Ok(Verdict::Differ {
-            dst,
-            src,
-            left: left.lookup(&dst, &src).copied(),
-            right: right.lookup(&dst, &src).copied(),
-        }),
-        Err(_) => Err(Fault::Memory),
-    }
+    let Some((dst, src)) = first_difference(alloc, left, right)? else {
+        return Ok(Verdict::Same);
+    };
+    Ok(Verdict::Differ {
+        dst,
+        src,
+        left: left.lookup(&dst, &src).copied(),
+        right: right.lookup(&dst, &src).copied(),
+    })
 }

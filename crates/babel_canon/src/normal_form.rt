@@ -30,10 +30,7 @@ pub fn normalise(
     ensures reads_again { IfOk result (λ text. (any : Address) → ReadsAgain limits mode body (record { sender = sender; dump = dump.now }) text.items any) }
 {
     let _valid = (limits.entries(), body.octets());
-    let table = match read_dump(alloc, limits, mode, sender, dump) {
-        Ok(table) => table,
-        Err(fault) => return Err(fault),
-    };
+    let table = read_dump(alloc, limits, mode, sender, dump)?;
     let canon = canonical(alloc, limits, body, &table)?;
     Ok(canon.into_bytes())
 }

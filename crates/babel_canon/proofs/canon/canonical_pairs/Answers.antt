@@ -10,17 +10,17 @@ use Rattle.babel_canon.proofs.canon.canonical_pairs.Goals as goal
 pub returns-then-count-entries-clause-err : goal.returns-then-count-entries-clause-err
 returns-then-count-entries-clause-err c =
     let values = c.of.new.values.list.items in
-    let v4 = map (valued values) c.in-Ok.grids.v4.boxes in
-    let v6 = map (valued values) c.in-Ok.grids.v6.boxes in
-    let are = both_are_boxes c.args.table.now.rows v4 v6 c.of.ensures.rows c.in-Ok.ensures.v4_boxes.boxes_are c.in-Ok.ensures.v6_boxes.boxes_are in
+    let v4 = map (valued values) c.in_ok-grids.grids.v4.boxes in
+    let v6 = map (valued values) c.in_ok-grids.grids.v6.boxes in
+    let are = both_are_boxes c.args.table.now.rows v4 v6 c.of.ensures.rows c.in_ok-grids.ensures.v4_boxes.boxes_are c.in_ok-grids.ensures.v6_boxes.boxes_are in
     let many : c.args.limits.entries < length (both_families v4 v6) =
-    omega (arith, both-length v4 v6, length-map c.in-Ok.grids.v4.boxes (valued values), length-map c.in-Ok.grids.v6.boxes (valued values), c.count.ensures, c.entries.ensures.value, c.if-count-entries.true) in
+    omega (arith, both-length v4 v6, length-map c.in_ok-grids.grids.v4.boxes (valued values), length-map c.in_ok-grids.grids.v6.boxes (valued values), c.count.ensures, c.entries.ensures.value, c.if-count-entries.true) in
     inl (refl, (both_families v4 v6, are, many))
 
-pub returns-in-Ok-into_pairs-clause-ok : goal.returns-in-Ok-into_pairs-clause-ok
-returns-in-Ok-into_pairs-clause-ok c =
+pub returns-clause-ok : goal.returns-clause-ok
+returns-clause-ok c =
     let values = c.of.new.values.list.items in
-    let v4 = map (valued values) c.in-Ok.grids.v4.boxes in
-    let v6 = map (valued values) c.in-Ok.grids.v6.boxes in
-    let are = both_are_boxes c.args.table.now.rows v4 v6 c.of.ensures.rows c.in-Ok.ensures.v4_boxes.boxes_are c.in-Ok.ensures.v6_boxes.boxes_are in
-    subst (λ (l : List Pair). AreBoxes c.args.table.now.rows l) (sym c.in-Ok-into_pairs.ensures) are
+    let v4 = map (valued values) c.in_ok-grids.grids.v4.boxes in
+    let v6 = map (valued values) c.in_ok-grids.grids.v6.boxes in
+    let are = both_are_boxes c.args.table.now.rows v4 v6 c.of.ensures.rows c.in_ok-grids.ensures.v4_boxes.boxes_are c.in_ok-grids.ensures.v6_boxes.boxes_are in
+    subst (λ (l : List Pair). AreBoxes c.args.table.now.rows l) (sym c.in_ok-pairs.ensures) are
