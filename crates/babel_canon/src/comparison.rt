@@ -10,8 +10,7 @@ use babel_tlv::Fault;
 use babel_trie::least_difference;
 use std::alloc::{AllocError, Global};
 
-/// The least pair of a destination and a source of one family that two tables answer differently, by destination, then
-/// source; `None` if there is none.
+/// The least pair of a destination and a source of one family that two tables answer differently; `None` if there is none.
 fn family_difference(
     alloc: Global,
     family: Family,
@@ -27,7 +26,7 @@ fn family_difference(
     least_difference(alloc, family, &entries, &others)
 }
 
-/// The least pair in both families, IPv4 first.
+/// The same in both families: a pair of IPv6 only where IPv4 has none.
 fn first_difference(
     alloc: Global,
     left: &Table,
