@@ -1,7 +1,10 @@
 //! Dumps that are refused, and the texts and statuses of faults.
+ghost use Rattle.std.specs.Prelude.{◌^◌, ◌<◌};
+
 use super::devices::{EndlessIn, ScriptedIn, ScriptedOut};
 use super::dumps::{ONE_ROUTE, V4};
-use super::{Asked, all_asked, answer, octets, run};
+use super::{Asked, all_asked, answer, expect_fault, octets, run};
+use crate::byte_in::ByteIn;
 use crate::run_fault::{RunFault, status_of};
 use babel_table::Limits;
 use babel_tlv::{Fault, Mode};
@@ -13,6 +16,9 @@ use std::test::Fail;
 const ZEROS: &str =
     "00000000000000000000000000000000000000000000000000000000000000000000000000000000";
 
+/// A packet with no TLVs.
+const PACKET: &[u8] = b"*\x02\0\0";
+
 /// Whatever is asked of these dumps, also of a comparison's other, they are refused with these faults.
 fn expect_refusals(
     rt: &impl Abort,
@@ -22,17 +28,13 @@ fn expect_refusals(
     rows: &[(&str, Fault)],
 ) -> Result<(), Fail> {
     for (dump, fault) in rows {
-        for asked in all_asked("10.1.2.3") {
-            let (outcome, text) = answer(alloc, limits, mode, V4, dump, asked, 1)?;
-            assert_eq!(rt; outcome, Err(RunFault::Dump(*fault)), "{asked:?} of {dump}");
-            assert_eq!(rt; status_of(&outcome), 3);
-            assert!(rt; text.is_empty());
+        for asked in &all_asked("10.1.2.3") {
+            let ran = answer(alloc, limits, mode, V4, dump, *asked, 1)?;
+            expect_fault(rt, &ran, RunFault::Dump(*fault), 3, &[]);
         }
         let asked = Asked::Comparison(V4, dump);
-        let (outcome, text) = answer(alloc, limits, mode, V4, ONE_ROUTE, asked, 2)?;
-        assert_eq!(rt; outcome, Err(RunFault::OtherDump(*fault)), "{asked:?}");
-        assert_eq!(rt; status_of(&outcome), 3);
-        assert!(rt; text.is_empty());
+        let ran = answer(alloc, limits, mode, V4, ONE_ROUTE, asked, 2)?;
+        expect_fault(rt, &ran, RunFault::OtherDump(*fault), 3, &[]);
     }
     Ok(())
 }
@@ -106,60 +108,69 @@ fn dumps_at_their_limits(rt: HostRuntime) -> Result<(), Fail> {
             one_row,
         ),
     ];
-    for (dump, lines) in rows {
+    for (dump, lines) in &rows {
         let asked = Asked::Rows;
-        let (outcome, text) = answer(rt.alloc(), limits, Mode::Plain, V4, dump, asked, 1)?;
-        assert_eq!(rt; outcome, Ok(0));
-        assert_eq!(rt; text.as_slice(), lines.as_bytes());
+        let ran = answer(rt.alloc(), limits, Mode::Plain, V4, dump, asked, 1)?;
+        assert_eq!(rt; ran.outcome, Ok(0));
+        assert_eq!(rt; ran.taken.as_slice(), lines.as_bytes());
     }
+    Ok(())
+}
+
+/// What is asked of two readers, one of which has no end, is refused with this fault under narrow limits.
+fn expect_too_long<R: ByteIn, S: ByteIn>(
+    rt: &impl Abort,
+    alloc: Global,
+    asked: Asked<'_>,
+    reader: &mut R,
+    other: &mut S,
+    fault: RunFault,
+) -> Result<(), Fail>
+    requires reader_failures { R.failures reader.old < 2 ^ 63 }
+    requires reader_reads { R.reads reader.old < 2 ^ 63 }
+    requires reader_ends { R.ends reader.old < 2 ^ 63 }
+    requires other_failures { S.failures other.old < 2 ^ 63 }
+    requires other_reads { S.reads other.old < 2 ^ 63 }
+    requires other_ends { S.ends other.old < 2 ^ 63 }
+{
+    let limits = Limits::new(83, 1).ok_or("limits")?;
+    let mut writer = ScriptedOut::new(alloc, 1, 0);
+    let outcome = run(
+        alloc,
+        limits,
+        Mode::Plain,
+        V4,
+        asked,
+        reader,
+        other,
+        &mut writer,
+    )?;
+    assert_eq!(rt; outcome, Err(fault), "{asked:?}");
+    assert!(rt; writer.taken().is_empty());
     Ok(())
 }
 
 #[test]
 fn a_dump_without_end(rt: HostRuntime) -> Result<(), Fail> {
-    let limits = Limits::new(83, 1).ok_or("limits")?;
-    for asked in all_asked("10.1.2.3") {
-        let mut reader = EndlessIn::new(b"*\x02\0\0");
+    for asked in &all_asked("10.1.2.3") {
+        let mut reader = EndlessIn::new(PACKET);
         let mut other = ScriptedIn::new(&[], 1, 0);
-        let mut writer = ScriptedOut::new(rt.alloc(), 1, 0);
-        let outcome = run(
-            rt.alloc(),
-            limits,
-            Mode::Plain,
-            V4,
-            asked,
-            &mut reader,
-            &mut other,
-            &mut writer,
-        )?;
-        assert_eq!(rt; outcome, Err(RunFault::Dump(Fault::TooLong)), "{asked:?}");
-        assert!(rt; reader.reads() <= 85);
-        assert_eq!(rt; other.reads(), 0);
-        assert!(rt; writer.taken().is_empty());
+        let fault = RunFault::Dump(Fault::TooLong);
+        expect_too_long(&rt, rt.alloc(), *asked, &mut reader, &mut other, fault)?;
+        assert!(rt; reader.reads() <= 85 && other.reads() == 0, "{asked:?}");
     }
     Ok(())
 }
 
 #[test]
 fn another_dump_without_end(rt: HostRuntime) -> Result<(), Fail> {
-    let limits = Limits::new(83, 1).ok_or("limits")?;
     let dump = octets(rt.alloc(), ONE_ROUTE)?;
     let mut reader = ScriptedIn::new(&dump, 1, 0);
-    let mut other = EndlessIn::new(b"*\x02\0\0");
-    let mut writer = ScriptedOut::new(rt.alloc(), 1, 0);
-    let outcome = run(
-        rt.alloc(),
-        limits,
-        Mode::Plain,
-        V4,
-        Asked::Comparison(V4, ""),
-        &mut reader,
-        &mut other,
-        &mut writer,
-    )?;
-    assert_eq!(rt; outcome, Err(RunFault::OtherDump(Fault::TooLong)));
+    let mut other = EndlessIn::new(PACKET);
+    let asked = Asked::Comparison(V4, "");
+    let fault = RunFault::OtherDump(Fault::TooLong);
+    expect_too_long(&rt, rt.alloc(), asked, &mut reader, &mut other, fault)?;
     assert!(rt; other.reads() <= 85);
-    assert!(rt; writer.taken().is_empty());
     Ok(())
 }
 
@@ -215,10 +226,10 @@ const TEXTS: [(RunFault, u8, &str); 14] = [
 
 #[test]
 fn texts_and_statuses_of_faults(rt: HostRuntime) -> Result<(), Fail> {
-    for (fault, status, text) in TEXTS {
+    for (fault, status, text) in &TEXTS {
         let shown = format!(in rt.alloc(); "{fault}")?;
-        assert_eq!(rt; shown.as_str(), text);
-        assert_eq!(rt; status_of(&Err(fault)), status);
+        assert_eq!(rt; shown.as_str(), *text);
+        assert_eq!(rt; status_of(&Err(*fault)), *status);
     }
     assert_eq!(rt; status_of(&Ok(0)), 0);
     assert_eq!(rt; status_of(&Ok(1)), 1);

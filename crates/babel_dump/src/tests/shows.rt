@@ -3,15 +3,13 @@ use super::dumps::{
     ALL_RETRACTED, FAULTY_SUB_TLVS, MORE_OMITTED, ONE_IGNORED, ONE_ROUTE, ONE_ROUTE_AGAIN,
     ONLY_RETRACTED, OTHER_ENCODING, ROUTER_ID_BY_FLAG, SOURCE_LEFT, V4, V6,
 };
-use super::{Asked, Row, expect_rows};
+use super::{Asked, Row, expect_texts};
 use babel_tlv::Mode;
 use std::test::Fail;
 
 const PLAIN: Mode = Mode::Plain;
 
 const HOLD: Mode = Mode::Hold;
-
-const ROWS: Asked<'static> = Asked::Rows;
 
 /// Updates that are ignored for seven reasons.
 const SEVEN_REASONS: &str =
@@ -34,14 +32,14 @@ fn lines_of_rows(rt: HostRuntime) -> Result<(), Fail> {
     let source =
         "10.0.0.0/8 from 20.0.0.0/8 via 192.0.2.1 id 0200000000000001 seqno 1 metric 512\ntlvs 4\n";
     let rows: [Row<'_>; 6] = [
-        (PLAIN, V4, "", ROWS, 0, "tlvs 0\n"),
-        (PLAIN, V4, ONE_ROUTE_AGAIN, ROWS, 0, one),
-        (PLAIN, "198.51.100.7", ONE_ROUTE_AGAIN, ROWS, 0, one),
-        (PLAIN, V6, ONE_ROUTE_AGAIN, ROWS, 0, one),
-        (PLAIN, V4, MORE_OMITTED, ROWS, 0, two),
-        (PLAIN, V4, SOURCE_LEFT, ROWS, 0, source),
+        (PLAIN, V4, "", "tlvs 0\n"),
+        (PLAIN, V4, ONE_ROUTE_AGAIN, one),
+        (PLAIN, "198.51.100.7", ONE_ROUTE_AGAIN, one),
+        (PLAIN, V6, ONE_ROUTE_AGAIN, one),
+        (PLAIN, V4, MORE_OMITTED, two),
+        (PLAIN, V4, SOURCE_LEFT, source),
     ];
-    expect_rows(&rt, rt.alloc(), &rows)
+    expect_texts(&rt, rt.alloc(), Asked::Rows, &rows)
 }
 
 #[test]
@@ -58,17 +56,17 @@ fn lines_of_reasons(rt: HostRuntime) -> Result<(), Fail> {
         "tlvs 5\nignored bad-sub 1 first 74\nignored two-sources 1 first 16\nignored bad-source 2 first 37\n";
     let no_next_hop = "tlvs 2\nignored no-next-hop 1 first 16\n";
     let rows: [Row<'_>; 9] = [
-        (PLAIN, V4, SEVEN_REASONS, ROWS, 0, SEVEN_LINES),
-        (PLAIN, V4, RESERVED_ROUTER_ID, ROWS, 0, reserved),
-        (PLAIN, V4, OTHER_ENCODING, ROWS, 0, encoding),
-        (PLAIN, V4, LINK_LOCAL, ROWS, 0, encoding),
-        (PLAIN, V4, ONE_IGNORED, ROWS, 0, mandatory),
-        (PLAIN, V6, ROUTER_ID_BY_FLAG, ROWS, 0, no_router_id),
-        (PLAIN, V4, ALL_RETRACTED, ROWS, 0, wildcard),
-        (PLAIN, V4, FAULTY_SUB_TLVS, ROWS, 0, sources),
-        (PLAIN, V6, ONE_ROUTE, ROWS, 0, no_next_hop),
+        (PLAIN, V4, SEVEN_REASONS, SEVEN_LINES),
+        (PLAIN, V4, RESERVED_ROUTER_ID, reserved),
+        (PLAIN, V4, OTHER_ENCODING, encoding),
+        (PLAIN, V4, LINK_LOCAL, encoding),
+        (PLAIN, V4, ONE_IGNORED, mandatory),
+        (PLAIN, V6, ROUTER_ID_BY_FLAG, no_router_id),
+        (PLAIN, V4, ALL_RETRACTED, wildcard),
+        (PLAIN, V4, FAULTY_SUB_TLVS, sources),
+        (PLAIN, V6, ONE_ROUTE, no_next_hop),
     ];
-    expect_rows(&rt, rt.alloc(), &rows)
+    expect_texts(&rt, rt.alloc(), Asked::Rows, &rows)
 }
 
 #[test]
@@ -79,10 +77,10 @@ fn lines_where_retracted_routes_are_held(rt: HostRuntime) -> Result<(), Fail> {
         "10.0.0.0/8 from 0.0.0.0/0 unreachable\n20.0.0.0/8 from 0.0.0.0/0 via 192.0.2.1 id 0200000000000001 seqno 1 metric 256\ntlvs 6\nignored wildcard-prefix 1 first 67\n";
     let one = "10.0.0.0/8 from 0.0.0.0/0 unreachable\ntlvs 1\n";
     let rows: [Row<'_>; 4] = [
-        (HOLD, V4, SOURCE_LEFT, ROWS, 0, source_left),
-        (HOLD, V4, ALL_RETRACTED, ROWS, 0, all),
-        (HOLD, V4, ONLY_RETRACTED, ROWS, 0, one),
-        (PLAIN, V4, ONLY_RETRACTED, ROWS, 0, "tlvs 1\n"),
+        (HOLD, V4, SOURCE_LEFT, source_left),
+        (HOLD, V4, ALL_RETRACTED, all),
+        (HOLD, V4, ONLY_RETRACTED, one),
+        (PLAIN, V4, ONLY_RETRACTED, "tlvs 1\n"),
     ];
-    expect_rows(&rt, rt.alloc(), &rows)
+    expect_texts(&rt, rt.alloc(), Asked::Rows, &rows)
 }

@@ -3,18 +3,120 @@ use super::address;
 use crate::job::{Job, Refusal};
 use crate::which::Which;
 use crate::words::read_words;
+use babel_prefix::Addr;
 use std::alloc::Global;
 use std::process::Abort;
 use std::test::Fail;
 
-/// The job of these words.
-fn job(rt: &impl Abort, alloc: Global, words: &[&str]) -> Result<Job, Fail> {
-    match read_words(alloc, words) {
-        Ok(job) => Ok(job),
-        Err(_refusal) => {
-            assert!(rt; false, "no job of {words:?}");
-            Err(Fail::from("no job"))
+/// What a job is to be, with its addresses as texts.
+#[derive(Clone, Copy)]
+struct Wanted<'a> {
+    which: Which,
+    from: &'a str,
+    other_from: Option<&'a str>,
+    to: Option<&'a str>,
+    src: Option<&'a str>,
+    hold: bool,
+    hex: bool,
+    body: Option<u16>,
+    count: bool,
+    file: Option<&'a str>,
+    other: Option<&'a str>,
+}
+
+/// Words, and the job that they ask for.
+type Row<'a> = (&'a [&'a str], Wanted<'a>);
+
+/// What is to be shown of the dump on standard input that `::` sent.
+const SHOW: Wanted<'static> = Wanted {
+    which: Which::Show,
+    from: "::",
+    other_from: None,
+    to: None,
+    src: None,
+    hold: false,
+    hex: false,
+    body: None,
+    count: false,
+    file: None,
+    other: None,
+};
+
+const LOOKUP: Wanted<'static> = Wanted {
+    which: Which::Lookup,
+    to: Some("::"),
+    src: Some("::"),
+    ..SHOW
+};
+
+const NORMALISE: Wanted<'static> = Wanted {
+    which: Which::Normalise,
+    ..SHOW
+};
+
+const PAIRS: Wanted<'static> = Wanted {
+    which: Which::Pairs,
+    ..SHOW
+};
+
+const COMPARE: Wanted<'static> = Wanted {
+    which: Which::Compare,
+    other_from: Some("::"),
+    file: Some("a"),
+    other: Some("b"),
+    ..SHOW
+};
+
+/// The words of each row ask for its job.
+fn expect_jobs(rt: &impl Abort, alloc: Global, rows: &[Row<'_>]) -> Result<(), Fail> {
+    for (words, wanted) in rows {
+        match read_words(alloc, words) {
+            Ok(job) => expect_job(rt, words, &job, wanted)?,
+            Err(_refusal) => assert!(rt; false, "no job of {words:?}"),
         }
+    }
+    Ok(())
+}
+
+/// The job that these words ask for is the one that is wanted.
+fn expect_job(rt: &impl Abort, words: &[&str], job: &Job, wanted: &Wanted<'_>) -> Result<(), Fail> {
+    assert_eq!(rt; job.which, wanted.which, "of {words:?}");
+    assert_eq!(rt; job.body, wanted.body, "of {words:?}");
+    let flags = (job.hold, job.hex, job.count);
+    assert_eq!(rt;
+        flags,
+        (wanted.hold, wanted.hex, wanted.count),
+        "of {words:?}"
+    );
+    expect_address(rt, words, Some(job.from), Some(wanted.from))?;
+    expect_address(rt, words, job.other_from, wanted.other_from)?;
+    expect_address(rt, words, job.to, wanted.to)?;
+    expect_address(rt, words, job.src, wanted.src)?;
+    expect_name(rt, words, &job.file, wanted.file);
+    expect_name(rt, words, &job.other, wanted.other);
+    Ok(())
+}
+
+/// The address of a job is the one that is wanted.
+fn expect_address(
+    rt: &impl Abort,
+    words: &[&str],
+    given: Option<Addr>,
+    wanted: Option<&str>,
+) -> Result<(), Fail> {
+    let wanted = match wanted {
+        Some(text) => Some(address(text)?),
+        None => None,
+    };
+    assert_eq!(rt; given, wanted, "of {words:?}");
+    Ok(())
+}
+
+/// The file's name of a job is the one that is wanted.
+fn expect_name(rt: &impl Abort, words: &[&str], given: &Option<String>, wanted: Option<&str>) {
+    match (given, wanted) {
+        (Some(given), Some(wanted)) => assert_eq!(rt; given.as_str(), wanted, "of {words:?}"),
+        (given, wanted) => assert!(rt; given.is_none() && wanted.is_none(), "of {words:?}"),
     }
 }
 
@@ -30,9 +132,27 @@ fn usage(rt: &impl Abort, alloc: Global, words: &[&str]) -> Result<String, Fail>
     }
 }
 
+/// The words of each row are refused with its text.
+fn expect_usages(rt: &impl Abort, alloc: Global, rows: &[(&[&str], &str)]) -> Result<(), Fail> {
+    for (words, text) in rows {
+        let refusal = usage(rt, alloc, words)?;
+        assert_eq!(rt; refusal.as_str(), *text, "of {words:?}");
+    }
+    Ok(())
+}
+
+/// All these words are refused with a text that has this part.
+fn expect_part(rt: &impl Abort, alloc: Global, rows: &[&[&str]], part: &str) -> Result<(), Fail> {
+    for words in rows {
+        let text = usage(rt, alloc, words)?;
+        assert!(rt; text.contains(part), "of {words:?}: {text}");
+    }
+    Ok(())
+}
+
 #[test]
 fn words_of_a_lookup(rt: HostRuntime) -> Result<(), Fail> {
-    let words = [
+    let words: &[&str] = &[
         "lookup",
         "--from",
         "fe80::1",
@@ -42,20 +162,20 @@ fn words_of_a_lookup(rt: HostRuntime) -> Result<(), Fail> {
         "--hold",
         "x",
     ];
-    let job = job(&rt, rt.alloc(), &words)?;
-    assert_eq!(rt; job.which, Which::Lookup);
-    assert_eq!(rt; job.from, address("fe80::1")?);
-    assert_eq!(rt; job.to, Some(address("10.1.2.3")?));
-    assert_eq!(rt; job.src, Some(address("0.0.0.0")?));
-    assert!(rt; job.hold);
-    let file = job.file.ok_or("no file")?;
-    assert_eq!(rt; file.as_str(), "x");
-    Ok(())
+    let wanted = Wanted {
+        from: "fe80::1",
+        to: Some("10.1.2.3"),
+        src: Some("0.0.0.0"),
+        hold: true,
+        file: Some("x"),
+        ..LOOKUP
+    };
+    expect_jobs(&rt, rt.alloc(), &[(words, wanted)])
 }
 
 #[test]
 fn words_of_a_comparison(rt: HostRuntime) -> Result<(), Fail> {
-    let words = [
+    let words: &[&str] = &[
         "compare",
         "--other-from",
         "::1",
@@ -63,50 +183,47 @@ fn words_of_a_comparison(rt: HostRuntime) -> Result<(), Fail> {
         "a",
         "b",
     ];
-    let job = job(&rt, rt.alloc(), &words)?;
-    assert_eq!(rt; job.which, Which::Compare);
-    assert_eq!(rt; job.from, address("192.0.2.1")?);
-    assert_eq!(rt; job.other_from, Some(address("::1")?));
-    assert!(rt; !job.hold);
-    let (file, other) = (job.file.ok_or("no file")?, job.other.ok_or("no other")?);
-    assert_eq!(rt; (file.as_str(), other.as_str()), ("a", "b"));
-    Ok(())
+    let wanted = Wanted {
+        from: "192.0.2.1",
+        other_from: Some("::1"),
+        ..COMPARE
+    };
+    expect_jobs(&rt, rt.alloc(), &[(words, wanted)])
 }
 
 #[test]
 fn words_that_only_name_a_sender(rt: HostRuntime) -> Result<(), Fail> {
-    let rows = [
-        ("show", Which::Show),
-        ("normalise", Which::Normalise),
-        ("pairs", Which::Pairs),
+    let from = "192.0.2.1";
+    let rows: [Row<'_>; 3] = [
+        (&["show", "--from", "192.0.2.1"], Wanted { from, ..SHOW }),
+        (
+            &["normalise", "--from", "192.0.2.1"],
+            Wanted { from, ..NORMALISE },
+        ),
+        (&["pairs", "--from", "192.0.2.1"], Wanted { from, ..PAIRS }),
     ];
-    for (command, which) in rows {
-        let job = job(&rt, rt.alloc(), &[command, "--from", "192.0.2.1"])?;
-        assert_eq!(rt; job.which, which);
-        assert_eq!(rt; job.from, address("192.0.2.1")?);
-        assert!(rt; job.other_from.is_none() && job.to.is_none() && job.src.is_none());
-        assert!(rt; !job.hold && !job.hex && !job.count && job.body.is_none());
-        assert!(rt; job.file.is_none() && job.other.is_none());
-    }
-    Ok(())
+    expect_jobs(&rt, rt.alloc(), &rows)
 }
 
-/// The words of an option, and whether they ask for `--hold`, `--hex` and `--count`.
 #[test]
 fn options_without_a_value(rt: HostRuntime) -> Result<(), Fail> {
-    let rows: [(&[&str], (bool, bool, bool)); 7] = [
-        (&["show", "--from", "::", "--hold"], (true, false, false)),
+    let hold = true;
+    let rows: [Row<'_>; 7] = [
+        (&["show", "--from", "::", "--hold"], Wanted { hold, ..SHOW }),
         (
             &[
                 "lookup", "--from", "::", "--to", "::", "--src", "::", "--hold",
             ],
-            (true, false, false),
+            Wanted { hold, ..LOOKUP },
         ),
         (
             &["normalise", "--from", "::", "--hold"],
-            (true, false, false),
+            Wanted { hold, ..NORMALISE },
         ),
-        (&["pairs", "--from", "::", "--hold"], (true, false, false)),
+        (
+            &["pairs", "--from", "::", "--hold"],
+            Wanted { hold, ..PAIRS },
+        ),
         (
             &[
                 "compare",
@@ -118,81 +235,107 @@ fn options_without_a_value(rt: HostRuntime) -> Result<(), Fail> {
                 "a",
                 "b",
             ],
-            (true, false, false),
+            Wanted { hold, ..COMPARE },
         ),
         (
             &["normalise", "--from", "::", "--hex"],
-            (false, true, false),
+            Wanted {
+                hex: true,
+                ..NORMALISE
+            },
         ),
-        (&["pairs", "--from", "::", "--count"], (false, false, true)),
+        (
+            &["pairs", "--from", "::", "--count"],
+            Wanted {
+                count: true,
+                ..PAIRS
+            },
+        ),
     ];
-    for (words, flags) in rows {
-        let job = job(&rt, rt.alloc(), words)?;
-        assert_eq!(rt; (job.hold, job.hex, job.count), flags, "of {words:?}");
-    }
-    Ok(())
+    expect_jobs(&rt, rt.alloc(), &rows)
 }
 
 #[test]
 fn sizes_of_bodies(rt: HostRuntime) -> Result<(), Fail> {
-    for (size, octets) in [("128", 128), ("1024", 1024), ("65535", 65535)] {
-        let job = job(
-            &rt,
-            rt.alloc(),
-            &["normalise", "--from", "::", "--body", size],
-        )?;
-        assert_eq!(rt; job.body, Some(octets));
+    for (size, octets) in &[("128", 128), ("1024", 1024), ("65535", 65535)] {
+        let wanted = Wanted {
+            body: Some(*octets),
+            ..NORMALISE
+        };
+        let words: &[&str] = &["normalise", "--from", "::", "--body", *size];
+        expect_jobs(&rt, rt.alloc(), &[(words, wanted)])?;
     }
-    for size in ["127", "65536", "0", "a"] {
-        let text = usage(
-            &rt,
-            rt.alloc(),
-            &["normalise", "--from", "::", "--body", size],
-        )?;
-        assert!(rt; text.contains("'--body <OCTETS>'"), "of {size}: {text}");
+    for size in &["127", "65536", "0", "a"] {
+        let words: &[&str] = &["normalise", "--from", "::", "--body", *size];
+        expect_part(&rt, rt.alloc(), &[words], "'--body <OCTETS>'")?;
     }
     Ok(())
 }
 
 #[test]
 fn addresses_of_two_families(rt: HostRuntime) -> Result<(), Fail> {
-    for (to, src) in [("10.0.0.1", "::1"), ("::1", "10.0.0.1")] {
-        let words = [
-            "lookup",
-            "--from",
-            "192.0.2.1",
-            "--to",
-            to,
-            "--src",
-            src,
-            "x",
-        ];
-        let text = usage(&rt, rt.alloc(), &words)?;
-        assert_eq!(rt; text.as_str(), "--to and --src are of different families\n");
-    }
-    Ok(())
+    let text = "--to and --src are of different families\n";
+    let rows: [(&[&str], &str); 2] = [
+        (
+            &[
+                "lookup",
+                "--from",
+                "192.0.2.1",
+                "--to",
+                "10.0.0.1",
+                "--src",
+                "::1",
+                "x",
+            ],
+            text,
+        ),
+        (
+            &[
+                "lookup",
+                "--from",
+                "192.0.2.1",
+                "--to",
+                "::1",
+                "--src",
+                "10.0.0.1",
+                "x",
+            ],
+            text,
+        ),
+    ];
+    expect_usages(&rt, rt.alloc(), &rows)
 }
 
 /// Of several words that are no addresses the first is named, in the order `--from`, `--other-from`, `--to`, `--src`.
 #[test]
 fn words_that_are_no_addresses(rt: HostRuntime) -> Result<(), Fail> {
-    let lookups = [
-        ("q", "w", "v", "not an address: q\n"),
-        ("::", "w", "v", "not an address: w\n"),
-        ("::", "::", "01.2.3.4", "not an address: 01.2.3.4\n"),
-        ("", "::", "::", "not an address: \n"),
+    let rows: [(&[&str], &str); 6] = [
+        (
+            &["lookup", "--src", "v", "--to", "w", "--from", "q"],
+            "not an address: q\n",
+        ),
+        (
+            &["lookup", "--src", "v", "--to", "w", "--from", "::"],
+            "not an address: w\n",
+        ),
+        (
+            &["lookup", "--src", "01.2.3.4", "--to", "::", "--from", "::"],
+            "not an address: 01.2.3.4\n",
+        ),
+        (
+            &["lookup", "--src", "::", "--to", "::", "--from", ""],
+            "not an address: \n",
+        ),
+        (
+            &["compare", "--other-from", "w", "--from", "q", "a", "b"],
+            "not an address: q\n",
+        ),
+        (
+            &["compare", "--other-from", "w", "--from", "::", "a", "b"],
+            "not an address: w\n",
+        ),
     ];
-    for (from, to, src, text) in lookups {
-        let words = ["lookup", "--src", src, "--to", to, "--from", from];
-        let refusal = usage(&rt, rt.alloc(), &words)?;
-        assert_eq!(rt; refusal.as_str(), text);
-    }
-    for (from, text) in [("q", "not an address: q\n"), ("::", "not an address: w\n")] {
-        let words = ["compare", "--other-from", "w", "--from", from, "a", "b"];
-        let refusal = usage(&rt, rt.alloc(), &words)?;
-        assert_eq!(rt; refusal.as_str(), text);
-    }
-    Ok(())
+    expect_usages(&rt, rt.alloc(), &rows)
 }
 
 #[test]
@@ -213,11 +356,7 @@ fn words_that_are_refused(rt: HostRuntime) -> Result<(), Fail> {
         &["pairs", "--from", "::", "--body", "128"],
         &["normalise", "--from", "::", "--count"],
     ];
-    for words in rows {
-        let text = usage(&rt, rt.alloc(), words)?;
-        assert!(rt; text.contains("Usage: babel-dump"), "of {words:?}: {text}");
-    }
-    Ok(())
+    expect_part(&rt, rt.alloc(), &rows, "Usage: babel-dump")
 }
 
 /// The words of the options that each command over one dump has.
@@ -269,30 +408,51 @@ const ENDS: [&str; 3] = [
     "\n  5  out of memory",
 ];
 
+/// These words ask for a help text that has these parts, and those of each help text.
+fn expect_help(rt: &impl Abort, alloc: Global, words: &[&str], parts: &[&[&str]]) {
+    match read_words(alloc, words) {
+        Err(Refusal::Help(help)) => {
+            for some in parts {
+                expect_parts(rt, help.as_str(), some);
+            }
+            expect_parts(rt, help.as_str(), &ENDS);
+        }
+        Err(_refusal) => assert!(rt; false, "no help of {words:?}"),
+        Ok(_job) => assert!(rt; false, "no refusal of {words:?}"),
+    }
+}
+
+fn expect_parts(rt: &impl Abort, help: &str, parts: &[&str]) {
+    for part in parts {
+        assert!(rt; help.contains(*part), "no {part} in {help}");
+    }
+}
+
 /// Each help text names its options, each with a sentence, and has an example and the exit statuses.
 #[test]
-fn words_that_ask_for_help(rt: HostRuntime) -> Result<(), Fail> {
-    let example = ["babel-dump lookup --from"];
-    let show = ["babel-dump show --from"];
-    let rows: [(&[&str], &[&str], &[&str]); 7] = [
-        (&["--help"], &COMMANDS, &example),
-        (&["help"], &COMMANDS, &example),
-        (&["show", "-h"], &OF_ONE_DUMP, &show),
-        (&["lookup", "--help"], &OF_ONE_DUMP, &OF_LOOKUP),
-        (&["normalise", "--help"], &OF_ONE_DUMP, &OF_NORMALISE),
-        (&["help", "pairs"], &OF_ONE_DUMP, &OF_PAIRS),
-        (&["compare", "--help"], &OF_COMPARE, &[]),
-    ];
-    for (words, parts, own) in rows {
-        match read_words(rt.alloc(), words) {
-            Err(Refusal::Help(help)) => {
-                for part in parts.iter().chain(own.iter()).chain(ENDS.iter()) {
-                    assert!(rt; help.contains(*part), "no {part} in {help}");
-                }
-            }
-            Err(_refusal) => assert!(rt; false, "no help of {words:?}"),
-            Ok(_job) => assert!(rt; false, "no refusal of {words:?}"),
-        }
-    }
-    Ok(())
+fn words_that_ask_for_help(rt: HostRuntime) {
+    let of_all: [&[&str]; 2] = [&COMMANDS, &["babel-dump lookup --from"]];
+    let of_show: [&[&str]; 2] = [&OF_ONE_DUMP, &["babel-dump show --from"]];
+    expect_help(&rt, rt.alloc(), &["--help"], &of_all);
+    expect_help(&rt, rt.alloc(), &["help"], &of_all);
+    expect_help(&rt, rt.alloc(), &["show", "-h"], &of_show);
+    expect_help(
+        &rt,
+        rt.alloc(),
+        &["lookup", "--help"],
+        &[&OF_ONE_DUMP, &OF_LOOKUP],
+    );
+    expect_help(
+        &rt,
+        rt.alloc(),
+        &["normalise", "--help"],
+        &[&OF_ONE_DUMP, &OF_NORMALISE],
+    );
+    expect_help(
+        &rt,
+        rt.alloc(),
+        &["help", "pairs"],
+        &[&OF_ONE_DUMP, &OF_PAIRS],
+    );
+    expect_help(&rt, rt.alloc(), &["compare", "--help"], &[&OF_COMPARE]);
 }
