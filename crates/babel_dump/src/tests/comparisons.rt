@@ -23,7 +23,7 @@ const NO_NEXT_HOP: &str =
     "differ 10.0.0.0 from 0.0.0.0\nleft via 192.0.2.1 id 0200000000000001 seqno 1 metric 256\nright none\n";
 
 /// The mode, a sender and its dump, the other sender and its dump, the status and the text.
-const VERDICTS: [(Mode, &str, &str, &str, &str, u8, &str); 8] = [
+static VERDICTS: [(Mode, &str, &str, &str, &str, u8, &str); 8] = [
     (PLAIN, V6, TWO_FAMILIES, V6, TWO_FAMILIES, 0, SAME),
     (PLAIN, V6, TWO_FAMILIES, V6, ONE_FAMILY, 1, ROUTE_LEFT),
     (PLAIN, V6, ONE_FAMILY, V6, TWO_FAMILIES, 1, ROUTE_RIGHT),

@@ -11,7 +11,7 @@ use std::process::Abort;
 use std::test::Fail;
 
 /// A sender, its dump, the other dump of a comparison, and a destination and source to look up.
-const GIVEN: [(&str, &str, &str, &str); 4] = [
+static GIVEN: [(&str, &str, &str, &str); 4] = [
     (V4, ONE_ROUTE, NESTED_SOURCES, "10.1.2.3"),
     (V4, NESTED_SOURCES, ONE_ROUTE, "10.1.2.3"),
     (V4, TWO_SOURCES, TWO_SOURCES, "172.16.0.1"),

@@ -19,10 +19,6 @@ const PLAIN: Mode = Mode::Plain;
 
 const HOLD: Mode = Mode::Hold;
 
-/// Nine pairs, which differ in their sources.
-const NESTED_SOURCES_FORM: &str =
-    "2a0200a4 060a0000 0200000000000001 07060100 c0000201 080e01800000064000010200 80020500 080e01800000064000010200 80020708 080e01800000064000010100 8002080a 080e01800000064000010200 8002080b 080e01800000064000010200 8002060c 080e01800000064000010200 80020410 080e01800000064000010200 80020320 080e01800000064000010200 80020240 080e01800000064000010200 80020180";
-
 const ONE_IGNORED_FORM: &str =
     "2a020023 060a0000 0200000000000001 07060100 c0000201 080d01801800064000010200 0a0102";
 
@@ -36,9 +32,8 @@ const THREE_ROUTES_FORM: &str =
     "2a02003b 060a0000 0200000000000001 07060100 c0000201 080b018008000640000101000a 080b0180080006400001020014 080b018008000640000103001e";
 
 /// The mode, the sender, the dump, and its canonical octets.
-const FORMS: [Row<'static>; 6] = [
+static FORMS: [Row<'static>; 5] = [
     (PLAIN, V4, "", ""),
-    (PLAIN, V4, NESTED_SOURCES, NESTED_SOURCES_FORM),
     (PLAIN, V4, ONE_IGNORED, ONE_IGNORED_FORM),
     (PLAIN, V6, ROUTER_ID_BY_FLAG, BY_FLAG_FORM),
     (HOLD, V4, ALL_RETRACTED, ONE_HELD_FORM),
@@ -66,18 +61,45 @@ fn expect_form(
     let digits = hex::encode(alloc, &whole)?;
     let line = format!(in alloc; "{digits}\n")?;
     let line = line.as_bytes();
-    expect_text(rt, alloc, mode, sender, dump, Asked::Octets, 0, &whole)?;
-    expect_text(rt, alloc, mode, sender, dump, Asked::Digits, 0, line)?;
+    expect_text(
+        rt,
+        alloc,
+        mode,
+        sender,
+        dump,
+        Asked::Normalise { hex: false },
+        0,
+        &whole,
+    )?;
+    expect_text(
+        rt,
+        alloc,
+        mode,
+        sender,
+        dump,
+        Asked::Normalise { hex: true },
+        0,
+        line,
+    )?;
     for any in &[V4, "198.51.100.7", V6] {
         let same = Asked::Comparison(any, form);
-        expect_text(rt, alloc, mode, any, form, Asked::Digits, 0, line)?;
+        expect_text(
+            rt,
+            alloc,
+            mode,
+            any,
+            form,
+            Asked::Normalise { hex: true },
+            0,
+            line,
+        )?;
         expect_text(rt, alloc, mode, sender, dump, same, 0, b"same\n")?;
     }
     Ok(())
 }
 
 /// How many octets a write takes, which call of the writer fails, if any, and what is written then of the digits of a dump.
-const WRITTEN: [(usize, u64, &str); 3] = [
+static WRITTEN: [(usize, u64, &str); 3] = [
     (10, 2, "2a02002106"),
     (0, 0, ""),
     (
@@ -102,7 +124,7 @@ fn canonical_octets_that_a_writer_takes_in_part(rt: HostRuntime) -> Result<(), F
             Limits::usual(),
             PLAIN,
             V4,
-            Asked::Digits,
+            Asked::Normalise { hex: true },
             (&dump, &[]),
             script,
         )?;
@@ -116,7 +138,12 @@ fn more_pairs_than_the_limit(rt: HostRuntime) -> Result<(), Fail> {
     let fault = RunFault::Dump(Fault::TooManyPairs);
     for bytes in [249, 332] {
         let limits = Limits::new(bytes, 3).ok_or("limits")?;
-        for asked in &[Asked::Octets, Asked::Digits, Asked::Pairs, Asked::Counts] {
+        for asked in &[
+            Asked::Normalise { hex: false },
+            Asked::Normalise { hex: true },
+            Asked::Pairs { count: false },
+            Asked::Pairs { count: true },
+        ] {
             let ran = answer(rt.alloc(), limits, PLAIN, V4, MORE_PAIRS, *asked, 1)?;
             expect_fault(&rt, &ran, fault, 3, &[]);
         }
@@ -147,7 +174,7 @@ fn lines_of_pairs(rt: HostRuntime) -> Result<(), Fail> {
         (PLAIN, V4, SOURCE_LEFT, source),
         (PLAIN, V4, RETRACTED, one),
     ];
-    expect_texts(&rt, rt.alloc(), Asked::Pairs, &rows)
+    expect_texts(&rt, rt.alloc(), Asked::Pairs { count: false }, &rows)
 }
 
 #[test]
@@ -165,7 +192,7 @@ fn lines_of_pairs_where_retracted_routes_are_held(rt: HostRuntime) -> Result<(),
         (HOLD, V4, ONE_RETRACTED, between),
         (HOLD, V4, ALL_RETRACTED, all),
     ];
-    expect_texts(&rt, rt.alloc(), Asked::Pairs, &rows)
+    expect_texts(&rt, rt.alloc(), Asked::Pairs { count: false }, &rows)
 }
 
 #[test]
@@ -176,7 +203,7 @@ fn lines_of_the_longest_path(rt: HostRuntime) -> Result<(), Fail> {
         PLAIN,
         V6,
         DEEPEST,
-        Asked::Pairs,
+        Asked::Pairs { count: false },
         100,
     )?;
     assert_eq!(rt; ran.outcome, Ok(0));
@@ -210,5 +237,5 @@ fn numbers_of_rows_and_pairs(rt: HostRuntime) -> Result<(), Fail> {
         (PLAIN, V4, MORE_OMITTED, "rows 2\npairs 17\n"),
         (HOLD, V4, RETRACTED, "rows 2\npairs 9\n"),
     ];
-    expect_texts(&rt, rt.alloc(), Asked::Counts, &rows)
+    expect_texts(&rt, rt.alloc(), Asked::Pairs { count: true }, &rows)
 }

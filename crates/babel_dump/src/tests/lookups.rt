@@ -42,7 +42,7 @@ const ZERO: &str = "0.0.0.0";
 /// The mode, the sender, the dump, the destination and the source that are looked up in it, and the answer.
 type Lookup<'a> = (Mode, &'a str, &'a str, &'a str, &'a str, Told<'a>);
 
-const IN_IPV4_DUMPS: [Lookup<'static>; 13] = [
+static IN_IPV4_DUMPS: [Lookup<'static>; 13] = [
     (PLAIN, V4, ONE_ROUTE, "10.1.2.3", ZERO, A),
     (PLAIN, V4, ONE_ROUTE, "11.0.0.0", ZERO, NONE),
     (PLAIN, V4, "", "10.1.2.3", ZERO, NONE),
@@ -58,7 +58,7 @@ const IN_IPV4_DUMPS: [Lookup<'static>; 13] = [
     (PLAIN, V4, OTHER_ENCODING, "10.1.2.9", ZERO, NONE),
 ];
 
-const IN_IPV6_DUMPS: [Lookup<'static>; 5] = [
+static IN_IPV6_DUMPS: [Lookup<'static>; 5] = [
     (PLAIN, V6, ONE_V6_ROUTE, "2001:db8::1", "::", V6_A),
     (PLAIN, V6, ONE_V6_ROUTE, "2001:db8::2", "::", NONE),
     (PLAIN, V4, ONE_V6_ROUTE, "2001:db8::1", "::", NONE),
@@ -73,7 +73,7 @@ const IN_IPV6_DUMPS: [Lookup<'static>; 5] = [
     (PLAIN, V6, ROUTER_ID_BY_FLAG, "::1", "::", NONE),
 ];
 
-const WHERE_ROUTES_ARE_RETRACTED: [Lookup<'static>; 12] = [
+static WHERE_ROUTES_ARE_RETRACTED: [Lookup<'static>; 12] = [
     (HOLD, V4, RETRACTED, "10.1.2.3", ZERO, UNREACHABLE),
     (HOLD, V4, RETRACTED, "10.2.0.1", ZERO, A),
     (HOLD, V4, RETRACTED, "11.0.0.0", ZERO, NONE),

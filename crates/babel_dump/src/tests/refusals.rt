@@ -175,7 +175,7 @@ fn another_dump_without_end(rt: HostRuntime) -> Result<(), Fail> {
 }
 
 /// Each fault, its status and its text.
-const TEXTS: [(RunFault, u8, &str); 14] = [
+static TEXTS: [(RunFault, u8, &str); 14] = [
     (
         RunFault::Dump(Fault::Truncated { at: 29 }),
         3,

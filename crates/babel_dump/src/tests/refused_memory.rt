@@ -153,7 +153,7 @@ fn refused_memory_of_normalise(rt: HostRuntime) -> Result<(), Fail> {
         "192.0.2.1",
         NESTED_SOURCES,
         "",
-        Asked::Digits,
+        Asked::Normalise { hex: true },
         0,
         DIGITS,
     )
@@ -166,7 +166,7 @@ fn refused_memory_of_pairs(rt: HostRuntime) -> Result<(), Fail> {
         "fe80::1",
         TWO_FAMILIES,
         "",
-        Asked::Pairs,
+        Asked::Pairs { count: false },
         0,
         PAIRS,
     )
@@ -179,7 +179,7 @@ fn refused_memory_of_count(rt: HostRuntime) -> Result<(), Fail> {
         "192.0.2.1",
         NESTED_SOURCES,
         "",
-        Asked::Counts,
+        Asked::Pairs { count: true },
         0,
         COUNTS,
     )

@@ -114,9 +114,9 @@ fn expect_address(
 
 /// The file's name of a job is the one that is wanted.
 fn expect_name(rt: &impl Abort, words: &[&str], given: &Option<String>, wanted: Option<&str>) {
-    match (given, wanted) {
-        (Some(given), Some(wanted)) => assert_eq!(rt; given.as_str(), wanted, "of {words:?}"),
-        (given, wanted) => assert!(rt; given.is_none() && wanted.is_none(), "of {words:?}"),
+    match given {
+        Some(given) => assert_eq!(rt; Some(given.as_str()), wanted, "of {words:?}"),
+        None => assert!(rt; wanted.is_none(), "of {words:?}"),
     }
 }
 
