@@ -58,8 +58,8 @@ fn expect_form(
     form: &str,
 ) -> Result<(), Fail> {
     let whole = octets(alloc, form)?;
-    let digits = hex::encode(alloc, &whole)?;
-    let line = format!(in alloc; "{digits}\n")?;
+    let mut line = hex::encode(alloc, &whole)?;
+    line.push('\n')?;
     let line = line.as_bytes();
     expect_text(
         rt,
@@ -151,49 +151,92 @@ fn more_pairs_than_the_limit(rt: HostRuntime) -> Result<(), Fail> {
     Ok(())
 }
 
+const ONE: &str =
+    "10.0.0.0/8 from 0.0.0.0/0 via 192.0.2.1 id 0200000000000001 seqno 1 metric 256\n";
+
+const DEFAULT: &str =
+    "0.0.0.0/0 from 0.0.0.0/0 via 192.0.2.1 id 0200000000000001 seqno 1 metric 512\n";
+
+const NESTED: &str =
+    "0.0.0.0/0 from 0.0.0.0/5 via 192.0.2.1 id 0200000000000001 seqno 1 metric 512\n0.0.0.0/0 from 8.0.0.0/7 via 192.0.2.1 id 0200000000000001 seqno 1 metric 512\n0.0.0.0/0 from 10.0.0.0/8 via 192.0.2.1 id 0200000000000001 seqno 1 metric 256\n0.0.0.0/0 from 11.0.0.0/8 via 192.0.2.1 id 0200000000000001 seqno 1 metric 512\n0.0.0.0/0 from 12.0.0.0/6 via 192.0.2.1 id 0200000000000001 seqno 1 metric 512\n0.0.0.0/0 from 16.0.0.0/4 via 192.0.2.1 id 0200000000000001 seqno 1 metric 512\n0.0.0.0/0 from 32.0.0.0/3 via 192.0.2.1 id 0200000000000001 seqno 1 metric 512\n0.0.0.0/0 from 64.0.0.0/2 via 192.0.2.1 id 0200000000000001 seqno 1 metric 512\n0.0.0.0/0 from 128.0.0.0/1 via 192.0.2.1 id 0200000000000001 seqno 1 metric 512\n";
+
+const IGNORED: &str =
+    "10.1.2.0/24 from 0.0.0.0/0 via 192.0.2.1 id 0200000000000001 seqno 1 metric 512\n";
+
+const MORE: &str =
+    "0.0.0.0/3 from 0.0.0.0/0 via 192.0.2.1 id 0200000000000001 seqno 1 metric 512\n32.0.0.0/3 from 0.0.0.0/0 via 192.0.2.1 id 0200000000000001 seqno 1 metric 256\n64.0.0.0/2 from 0.0.0.0/0 via 192.0.2.1 id 0200000000000001 seqno 1 metric 256\n128.0.0.0/1 from 0.0.0.0/0 via 192.0.2.1 id 0200000000000001 seqno 1 metric 768\n";
+
+const SOURCE: &str =
+    "10.0.0.0/8 from 20.0.0.0/8 via 192.0.2.1 id 0200000000000001 seqno 1 metric 512\n";
+
+static OF_PAIRS: [Row<'static>; 9] = [
+    (PLAIN, V4, "", ""),
+    (PLAIN, V4, MERGED, ONE),
+    (PLAIN, V4, HIDDEN_DEFAULT, DEFAULT),
+    (PLAIN, V4, NESTED_SOURCES, NESTED),
+    (PLAIN, V4, ONE_IGNORED, IGNORED),
+    (PLAIN, V4, FAULTY_SUB_TLVS, ""),
+    (PLAIN, V4, MORE_PAIRS, MORE),
+    (PLAIN, V4, SOURCE_LEFT, SOURCE),
+    (PLAIN, V4, RETRACTED, ONE),
+];
+
 #[test]
 fn lines_of_pairs(rt: HostRuntime) -> Result<(), Fail> {
-    let one = "10.0.0.0/8 from 0.0.0.0/0 via 192.0.2.1 id 0200000000000001 seqno 1 metric 256\n";
-    let default = "0.0.0.0/0 from 0.0.0.0/0 via 192.0.2.1 id 0200000000000001 seqno 1 metric 512\n";
-    let nested =
-        "0.0.0.0/0 from 0.0.0.0/5 via 192.0.2.1 id 0200000000000001 seqno 1 metric 512\n0.0.0.0/0 from 8.0.0.0/7 via 192.0.2.1 id 0200000000000001 seqno 1 metric 512\n0.0.0.0/0 from 10.0.0.0/8 via 192.0.2.1 id 0200000000000001 seqno 1 metric 256\n0.0.0.0/0 from 11.0.0.0/8 via 192.0.2.1 id 0200000000000001 seqno 1 metric 512\n0.0.0.0/0 from 12.0.0.0/6 via 192.0.2.1 id 0200000000000001 seqno 1 metric 512\n0.0.0.0/0 from 16.0.0.0/4 via 192.0.2.1 id 0200000000000001 seqno 1 metric 512\n0.0.0.0/0 from 32.0.0.0/3 via 192.0.2.1 id 0200000000000001 seqno 1 metric 512\n0.0.0.0/0 from 64.0.0.0/2 via 192.0.2.1 id 0200000000000001 seqno 1 metric 512\n0.0.0.0/0 from 128.0.0.0/1 via 192.0.2.1 id 0200000000000001 seqno 1 metric 512\n";
-    let ignored =
-        "10.1.2.0/24 from 0.0.0.0/0 via 192.0.2.1 id 0200000000000001 seqno 1 metric 512\n";
-    let more =
-        "0.0.0.0/3 from 0.0.0.0/0 via 192.0.2.1 id 0200000000000001 seqno 1 metric 512\n32.0.0.0/3 from 0.0.0.0/0 via 192.0.2.1 id 0200000000000001 seqno 1 metric 256\n64.0.0.0/2 from 0.0.0.0/0 via 192.0.2.1 id 0200000000000001 seqno 1 metric 256\n128.0.0.0/1 from 0.0.0.0/0 via 192.0.2.1 id 0200000000000001 seqno 1 metric 768\n";
-    let source =
-        "10.0.0.0/8 from 20.0.0.0/8 via 192.0.2.1 id 0200000000000001 seqno 1 metric 512\n";
-    let rows: [Row<'_>; 9] = [
-        (PLAIN, V4, "", ""),
-        (PLAIN, V4, MERGED, one),
-        (PLAIN, V4, HIDDEN_DEFAULT, default),
-        (PLAIN, V4, NESTED_SOURCES, nested),
-        (PLAIN, V4, ONE_IGNORED, ignored),
-        (PLAIN, V4, FAULTY_SUB_TLVS, ""),
-        (PLAIN, V4, MORE_PAIRS, more),
-        (PLAIN, V4, SOURCE_LEFT, source),
-        (PLAIN, V4, RETRACTED, one),
-    ];
-    expect_texts(&rt, rt.alloc(), Asked::Pairs { count: false }, &rows)
+    expect_texts(&rt, rt.alloc(), Asked::Pairs { count: false }, &OF_PAIRS)
 }
+
+const NINE_PARTS: &str =
+    "10.0.0.0/16 from 0.0.0.0/0 via 192.0.2.1 id 0200000000000001 seqno 1 metric 256\n10.1.0.0/16 from 0.0.0.0/0 unreachable\n10.2.0.0/15 from 0.0.0.0/0 via 192.0.2.1 id 0200000000000001 seqno 1 metric 256\n10.4.0.0/14 from 0.0.0.0/0 via 192.0.2.1 id 0200000000000001 seqno 1 metric 256\n10.8.0.0/13 from 0.0.0.0/0 via 192.0.2.1 id 0200000000000001 seqno 1 metric 256\n10.16.0.0/12 from 0.0.0.0/0 via 192.0.2.1 id 0200000000000001 seqno 1 metric 256\n10.32.0.0/11 from 0.0.0.0/0 via 192.0.2.1 id 0200000000000001 seqno 1 metric 256\n10.64.0.0/10 from 0.0.0.0/0 via 192.0.2.1 id 0200000000000001 seqno 1 metric 256\n10.128.0.0/9 from 0.0.0.0/0 via 192.0.2.1 id 0200000000000001 seqno 1 metric 256\n";
+
+const ONE_HELD: &str = "10.0.0.0/8 from 0.0.0.0/0 unreachable\n";
+
+const HELD_BETWEEN: &str =
+    "10.0.0.0/8 from 0.0.0.0/0 via 192.0.2.1 id 0200000000000001 seqno 1 metric 256\n20.0.0.0/8 from 0.0.0.0/0 unreachable\n30.0.0.0/8 from 0.0.0.0/0 via 192.0.2.1 id 0200000000000001 seqno 1 metric 256\n";
+
+const HELD_AND_TWENTY: &str =
+    "10.0.0.0/8 from 0.0.0.0/0 unreachable\n20.0.0.0/8 from 0.0.0.0/0 via 192.0.2.1 id 0200000000000001 seqno 1 metric 256\n";
+
+static OF_HELD_PAIRS: [Row<'static>; 4] = [
+    (HOLD, V4, RETRACTED, NINE_PARTS),
+    (HOLD, V4, ONLY_RETRACTED, ONE_HELD),
+    (HOLD, V4, ONE_RETRACTED, HELD_BETWEEN),
+    (HOLD, V4, ALL_RETRACTED, HELD_AND_TWENTY),
+];
 
 #[test]
 fn lines_of_pairs_where_retracted_routes_are_held(rt: HostRuntime) -> Result<(), Fail> {
-    let held =
-        "10.0.0.0/16 from 0.0.0.0/0 via 192.0.2.1 id 0200000000000001 seqno 1 metric 256\n10.1.0.0/16 from 0.0.0.0/0 unreachable\n10.2.0.0/15 from 0.0.0.0/0 via 192.0.2.1 id 0200000000000001 seqno 1 metric 256\n10.4.0.0/14 from 0.0.0.0/0 via 192.0.2.1 id 0200000000000001 seqno 1 metric 256\n10.8.0.0/13 from 0.0.0.0/0 via 192.0.2.1 id 0200000000000001 seqno 1 metric 256\n10.16.0.0/12 from 0.0.0.0/0 via 192.0.2.1 id 0200000000000001 seqno 1 metric 256\n10.32.0.0/11 from 0.0.0.0/0 via 192.0.2.1 id 0200000000000001 seqno 1 metric 256\n10.64.0.0/10 from 0.0.0.0/0 via 192.0.2.1 id 0200000000000001 seqno 1 metric 256\n10.128.0.0/9 from 0.0.0.0/0 via 192.0.2.1 id 0200000000000001 seqno 1 metric 256\n";
-    let one = "10.0.0.0/8 from 0.0.0.0/0 unreachable\n";
-    let between =
-        "10.0.0.0/8 from 0.0.0.0/0 via 192.0.2.1 id 0200000000000001 seqno 1 metric 256\n20.0.0.0/8 from 0.0.0.0/0 unreachable\n30.0.0.0/8 from 0.0.0.0/0 via 192.0.2.1 id 0200000000000001 seqno 1 metric 256\n";
-    let all =
-        "10.0.0.0/8 from 0.0.0.0/0 unreachable\n20.0.0.0/8 from 0.0.0.0/0 via 192.0.2.1 id 0200000000000001 seqno 1 metric 256\n";
-    let rows: [Row<'_>; 4] = [
-        (HOLD, V4, RETRACTED, held),
-        (HOLD, V4, ONLY_RETRACTED, one),
-        (HOLD, V4, ONE_RETRACTED, between),
-        (HOLD, V4, ALL_RETRACTED, all),
-    ];
-    expect_texts(&rt, rt.alloc(), Asked::Pairs { count: false }, &rows)
+    expect_texts(
+        &rt,
+        rt.alloc(),
+        Asked::Pairs { count: false },
+        &OF_HELD_PAIRS,
+    )
 }
+
+/// Some of the lines of the longest path, and their places, counted from 0.
+static LINES: [(usize, &str); 5] = [
+    (
+        0,
+        "0:0:0:0:0:0:0:0/3 from 0:0:0:0:0:0:0:0/0 via fe80:0:0:0:0:0:0:1 id 0200000000000001 seqno 1 metric 256",
+    ),
+    (
+        9,
+        "2001:db8:0:0:0:0:0:0/128 from 0:0:0:0:0:0:0:0/0 via fe80:0:0:0:0:0:0:1 id 0200000000000001 seqno 1 metric 256",
+    ),
+    (
+        10,
+        "2001:db8:0:0:0:0:0:1/128 from 0:0:0:0:0:0:0:0/0 via fe80:0:0:0:0:0:0:1 id 0200000000000001 seqno 1 metric 512",
+    ),
+    (
+        11,
+        "2001:db8:0:0:0:0:0:2/127 from 0:0:0:0:0:0:0:0/0 via fe80:0:0:0:0:0:0:1 id 0200000000000001 seqno 1 metric 256",
+    ),
+    (
+        128,
+        "8000:0:0:0:0:0:0:0/1 from 0:0:0:0:0:0:0:0/0 via fe80:0:0:0:0:0:0:1 id 0200000000000001 seqno 1 metric 256",
+    ),
+];
 
 #[test]
 fn lines_of_the_longest_path(rt: HostRuntime) -> Result<(), Fail> {
@@ -208,34 +251,26 @@ fn lines_of_the_longest_path(rt: HostRuntime) -> Result<(), Fail> {
     )?;
     assert_eq!(rt; ran.outcome, Ok(0));
     let text = str::from_utf8(&ran.taken)?;
-    let via = "from 0:0:0:0:0:0:0:0/0 via fe80:0:0:0:0:0:0:1 id 0200000000000001 seqno 1 metric";
-    let rows = [
-        (0, "0:0:0:0:0:0:0:0/3", 256),
-        (9, "2001:db8:0:0:0:0:0:0/128", 256),
-        (10, "2001:db8:0:0:0:0:0:1/128", 512),
-        (11, "2001:db8:0:0:0:0:0:2/127", 256),
-        (128, "8000:0:0:0:0:0:0:0/1", 256),
-    ];
-    for (place, dst, metric) in rows {
-        let line = format!(in rt.alloc(); "{dst} {via} {metric}")?;
-        assert_eq!(rt; text.lines().nth(place), Some(line.as_str()));
+    for (place, line) in &LINES {
+        assert_eq!(rt; text.lines().nth(*place), Some(*line));
     }
     assert_eq!(rt; text.lines().count(), 129);
     Ok(())
 }
 
+static NUMBERS: [Row<'static>; 9] = [
+    (PLAIN, V4, "", "rows 0\npairs 0\n"),
+    (PLAIN, V4, MERGED, "rows 2\npairs 1\n"),
+    (PLAIN, V4, NESTED_SOURCES, "rows 2\npairs 9\n"),
+    (PLAIN, V6, DEEPEST, "rows 2\npairs 129\n"),
+    (PLAIN, V4, FAULTY_SUB_TLVS, "rows 0\npairs 0\n"),
+    (PLAIN, V4, MORE_PAIRS, "rows 3\npairs 4\n"),
+    (PLAIN, V4, HALVES, "rows 3\npairs 34\n"),
+    (PLAIN, V4, MORE_OMITTED, "rows 2\npairs 17\n"),
+    (HOLD, V4, RETRACTED, "rows 2\npairs 9\n"),
+];
+
 #[test]
 fn numbers_of_rows_and_pairs(rt: HostRuntime) -> Result<(), Fail> {
-    let rows: [Row<'_>; 9] = [
-        (PLAIN, V4, "", "rows 0\npairs 0\n"),
-        (PLAIN, V4, MERGED, "rows 2\npairs 1\n"),
-        (PLAIN, V4, NESTED_SOURCES, "rows 2\npairs 9\n"),
-        (PLAIN, V6, DEEPEST, "rows 2\npairs 129\n"),
-        (PLAIN, V4, FAULTY_SUB_TLVS, "rows 0\npairs 0\n"),
-        (PLAIN, V4, MORE_PAIRS, "rows 3\npairs 4\n"),
-        (PLAIN, V4, HALVES, "rows 3\npairs 34\n"),
-        (PLAIN, V4, MORE_OMITTED, "rows 2\npairs 17\n"),
-        (HOLD, V4, RETRACTED, "rows 2\npairs 9\n"),
-    ];
-    expect_texts(&rt, rt.alloc(), Asked::Pairs { count: true }, &rows)
+    expect_texts(&rt, rt.alloc(), Asked::Pairs { count: true }, &NUMBERS)
 }

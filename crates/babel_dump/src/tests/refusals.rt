@@ -12,10 +12,6 @@ use std::alloc::Global;
 use std::process::Abort;
 use std::test::Fail;
 
-/// 40 octets of zeros.
-const ZEROS: &str =
-    "00000000000000000000000000000000000000000000000000000000000000000000000000000000";
-
 /// A packet with no TLVs.
 const PACKET: &[u8] = b"*\x02\0\0";
 
@@ -39,76 +35,88 @@ fn expect_refusals(
     Ok(())
 }
 
+static REFUSED: [(&str, Fault); 9] = [
+    (
+        "2a020019 060a0000 0200000000000001 080b010008000640000101000a 2b020000",
+        Fault::BadMagic { at: 29 },
+    ),
+    ("2a030000", Fault::BadVersion { at: 0 }),
+    ("2a020003 040200", Fault::TlvPastEnd { at: 4 }),
+    ("2a020001 04", Fault::TlvPastEnd { at: 4 }),
+    (
+        "2a020019 060a0000 0200000000000001 080b010008000640000101000a 2a0200",
+        Fault::Truncated { at: 29 },
+    ),
+    (
+        "2a020019 060a0000 0200000000000001 080b01000800064000010100",
+        Fault::Truncated { at: 0 },
+    ),
+    (
+        "2a02000d 080b044008000640000101000a",
+        Fault::EncodingSetsRouterId { at: 4 },
+    ),
+    (
+        "2a02000d 080b034008000640000101000a",
+        Fault::EncodingSetsRouterId { at: 4 },
+    ),
+    ("2b030000", Fault::BadMagic { at: 0 }),
+];
+
 #[test]
 fn dumps_that_are_refused(rt: HostRuntime) -> Result<(), Fail> {
-    let rows = [
-        (
-            "2a020019 060a0000 0200000000000001 080b010008000640000101000a 2b020000",
-            Fault::BadMagic { at: 29 },
-        ),
-        ("2a030000", Fault::BadVersion { at: 0 }),
-        ("2a020003 040200", Fault::TlvPastEnd { at: 4 }),
-        ("2a020001 04", Fault::TlvPastEnd { at: 4 }),
-        (
-            "2a020019 060a0000 0200000000000001 080b010008000640000101000a 2a0200",
-            Fault::Truncated { at: 29 },
-        ),
-        (
-            "2a020019 060a0000 0200000000000001 080b01000800064000010100",
-            Fault::Truncated { at: 0 },
-        ),
-        (
-            "2a02000d 080b044008000640000101000a",
-            Fault::EncodingSetsRouterId { at: 4 },
-        ),
-        (
-            "2a02000d 080b034008000640000101000a",
-            Fault::EncodingSetsRouterId { at: 4 },
-        ),
-        ("2b030000", Fault::BadMagic { at: 0 }),
-    ];
-    expect_refusals(&rt, rt.alloc(), Limits::usual(), Mode::Plain, &rows)
+    expect_refusals(&rt, rt.alloc(), Limits::usual(), Mode::Plain, &REFUSED)
 }
+
+/// Dumps past 83 octets or one route.
+static PAST_LIMITS: [(&str, Fault); 4] = [
+    (
+        "2a020050 0000000000000000000000000000000000000000000000000000000000000000000000000000000000000000000000000000000000000000000000000000000000000000000000000000000000000000",
+        Fault::TooLong,
+    ),
+    (
+        "2b020050 0000000000000000000000000000000000000000000000000000000000000000000000000000000000000000000000000000000000000000000000000000000000000000000000000000000000000000",
+        Fault::BadMagic { at: 0 },
+    ),
+    (
+        "2a020027 060a0000 0200000000000001 080b010008000640000101000a 080b0100080006400001020014 04",
+        Fault::TlvPastEnd { at: 42 },
+    ),
+    (
+        "2a020026 060a0000 0200000000000001 080b010008000640000101000a 080b0100080006400001020014 2b020000",
+        Fault::TooManyRoutes { at: 29 },
+    ),
+];
+
+/// A dump past one route, where a retraction is held.
+static HELD_PAST_LIMITS: [(&str, Fault); 1] = [(HELD_BEHIND_ONE, Fault::TooManyRoutes { at: 29 })];
+
+/// A route, and the retraction of another.
+const HELD_BEHIND_ONE: &str =
+    "2a020026 060a0000 0200000000000001 080b010008000640000101000a 080b0100080006400000ffff14";
 
 #[test]
 fn dumps_past_their_limits(rt: HostRuntime) -> Result<(), Fail> {
     let limits = Limits::new(83, 1).ok_or("limits")?;
-    let long = format!(in rt.alloc(); "2a020050{ZEROS}{ZEROS}")?;
-    let not_a_packet = format!(in rt.alloc(); "2b020050{ZEROS}{ZEROS}")?;
-    let rows = [
-        (long.as_str(), Fault::TooLong),
-        (not_a_packet.as_str(), Fault::BadMagic { at: 0 }),
-        (
-            "2a020027 060a0000 0200000000000001 080b010008000640000101000a 080b0100080006400001020014 04",
-            Fault::TlvPastEnd { at: 42 },
-        ),
-        (
-            "2a020026 060a0000 0200000000000001 080b010008000640000101000a 080b0100080006400001020014 2b020000",
-            Fault::TooManyRoutes { at: 29 },
-        ),
-    ];
-    expect_refusals(&rt, rt.alloc(), limits, Mode::Plain, &rows)?;
-    let held = [(
-        "2a020026 060a0000 0200000000000001 080b010008000640000101000a 080b0100080006400000ffff14",
-        Fault::TooManyRoutes { at: 29 },
-    )];
-    expect_refusals(&rt, rt.alloc(), limits, Mode::Hold, &held)
+    expect_refusals(&rt, rt.alloc(), limits, Mode::Plain, &PAST_LIMITS)?;
+    expect_refusals(&rt, rt.alloc(), limits, Mode::Hold, &HELD_PAST_LIMITS)
 }
+
+/// Dumps of 83 octets and of one route, and their lines.
+static AT_LIMITS: [(&str, &str); 2] = [
+    (
+        "2a02004f 00000000000000000000000000000000000000000000000000000000000000000000000000000000000000000000000000000000000000000000000000000000000000000000000000000000000000",
+        "tlvs 79\n",
+    ),
+    (
+        HELD_BEHIND_ONE,
+        "10.0.0.0/8 from 0.0.0.0/0 via 192.0.2.1 id 0200000000000001 seqno 1 metric 256\ntlvs 3\n",
+    ),
+];
 
 #[test]
 fn dumps_at_their_limits(rt: HostRuntime) -> Result<(), Fail> {
     let limits = Limits::new(83, 1).ok_or("limits")?;
-    let zeros = format!(in rt.alloc(); "2a02004f{ZEROS}{}", &ZEROS[2..])?;
-    let one_row =
-        "10.0.0.0/8 from 0.0.0.0/0 via 192.0.2.1 id 0200000000000001 seqno 1 metric 256\ntlvs 3\n";
-    let rows = [
-        (zeros.as_str(), "tlvs 79\n"),
-        (
-            "2a020026 060a0000 0200000000000001 080b010008000640000101000a 080b0100080006400000ffff14",
-            one_row,
-        ),
-    ];
-    for (dump, lines) in &rows {
+    for (dump, lines) in &AT_LIMITS {
         let asked = Asked::Rows;
         let ran = answer(rt.alloc(), limits, Mode::Plain, V4, dump, asked, 1)?;
         assert_eq!(rt; ran.outcome, Ok(0));
