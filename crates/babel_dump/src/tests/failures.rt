@@ -42,17 +42,15 @@ fn failing_run(
 }
 
 /// The run read the dump, and the other, as often.
-fn expect_reads(rt: &impl Abort, ran: &Ran, reads: (u64, u64)) {
-    assert_eq!(rt; (ran.reads, ran.other_reads), reads);
+fn expect_reads(rt: &impl Abort, asked: Asked<'_>, ran: &Ran, reads: (u64, u64)) {
+    assert_eq!(rt; (ran.reads, ran.other_reads), reads, "{asked:?}");
 }
 
 #[test]
 fn each_read(rt: HostRuntime) -> Result<(), Fail> {
     for (sender, dump, other, dst) in &GIVEN {
-        let dump = octets(rt.alloc(), dump)?;
-        let other = octets(rt.alloc(), other)?;
         for asked in &all_asked(dst) {
-            expect_read_faults(&rt, rt.alloc(), sender, *asked, (&dump, &other))?;
+            expect_read_faults(&rt, rt.alloc(), sender, dump, other, *asked)?;
         }
     }
     Ok(())
@@ -63,18 +61,21 @@ fn expect_read_faults(
     rt: &impl Abort,
     alloc: Global,
     sender: &str,
+    text: &str,
+    other: &str,
     asked: Asked<'_>,
-    dumps: (&[u8], &[u8]),
 ) -> Result<(), Fail> {
-    for failing in 1..dumps.0.len() as u64 + 2 {
+    let dump = octets(alloc, text)?;
+    let other = octets(alloc, other)?;
+    for failing in 1..dump.len() as u64 + 2 {
         let script = Script {
             failing_read: failing,
             failing_other_read: 1,
             ..SCRIPT
         };
-        let ran = failing_run(alloc, sender, asked, dumps, script)?;
-        expect_fault(rt, &ran, RunFault::Read, 4, &[]);
-        expect_reads(rt, &ran, (failing, 0));
+        let ran = failing_run(alloc, sender, asked, (&dump, &other), script)?;
+        expect_fault(rt, text, asked, &ran, RunFault::Read, 4, &[]);
+        expect_reads(rt, asked, &ran, (failing, 0));
     }
     Ok(())
 }
@@ -82,10 +83,7 @@ fn expect_read_faults(
 #[test]
 fn each_read_of_the_other_dump(rt: HostRuntime) -> Result<(), Fail> {
     for (sender, dump, other, _dst) in &GIVEN {
-        let asked = Asked::Comparison(sender, other);
-        let dump = octets(rt.alloc(), dump)?;
-        let other = octets(rt.alloc(), other)?;
-        expect_other_read_faults(&rt, rt.alloc(), sender, asked, (&dump, &other))?;
+        expect_other_read_faults(&rt, rt.alloc(), sender, dump, other)?;
     }
     Ok(())
 }
@@ -95,17 +93,20 @@ fn expect_other_read_faults(
     rt: &impl Abort,
     alloc: Global,
     sender: &str,
-    asked: Asked<'_>,
-    dumps: (&[u8], &[u8]),
+    text: &str,
+    other: &str,
 ) -> Result<(), Fail> {
-    for failing in 1..dumps.1.len() as u64 + 2 {
+    let asked = Asked::Comparison(sender, other);
+    let dump = octets(alloc, text)?;
+    let other = octets(alloc, other)?;
+    for failing in 1..other.len() as u64 + 2 {
         let script = Script {
             failing_other_read: failing,
             ..SCRIPT
         };
-        let ran = failing_run(alloc, sender, asked, dumps, script)?;
-        expect_fault(rt, &ran, RunFault::OtherRead, 4, &[]);
-        expect_reads(rt, &ran, (dumps.0.len() as u64 + 1, failing));
+        let ran = failing_run(alloc, sender, asked, (&dump, &other), script)?;
+        expect_fault(rt, text, asked, &ran, RunFault::OtherRead, 4, &[]);
+        expect_reads(rt, asked, &ran, (dump.len() as u64 + 1, failing));
     }
     Ok(())
 }
@@ -113,10 +114,8 @@ fn expect_other_read_faults(
 #[test]
 fn each_write_and_the_flush(rt: HostRuntime) -> Result<(), Fail> {
     for (sender, dump, other, dst) in &GIVEN {
-        let dump = octets(rt.alloc(), dump)?;
-        let other = octets(rt.alloc(), other)?;
         for asked in &all_asked(dst) {
-            expect_write_faults(&rt, rt.alloc(), sender, *asked, (&dump, &other))?;
+            expect_write_faults(&rt, rt.alloc(), sender, dump, other, *asked)?;
         }
     }
     Ok(())
@@ -127,20 +126,23 @@ fn expect_write_faults(
     rt: &impl Abort,
     alloc: Global,
     sender: &str,
+    text: &str,
+    other: &str,
     asked: Asked<'_>,
-    dumps: (&[u8], &[u8]),
 ) -> Result<(), Fail> {
-    let whole = failing_run(alloc, sender, asked, dumps, SCRIPT)?;
-    assert!(rt; whole.outcome.is_ok(), "{asked:?}");
+    let dump = octets(alloc, text)?;
+    let other = octets(alloc, other)?;
+    let whole = failing_run(alloc, sender, asked, (&dump, &other), SCRIPT)?;
+    assert!(rt; whole.outcome.is_ok(), "{asked:?} of {text}");
     let whole = whole.taken.as_slice();
     for call in 0..whole.len().div_ceil(TAKEN).saturating_add(1) {
         let script = Script {
             failing_call: call as u64 + 1,
             ..SCRIPT
         };
-        let ran = failing_run(alloc, sender, asked, dumps, script)?;
+        let ran = failing_run(alloc, sender, asked, (&dump, &other), script)?;
         let part = whole.len().min(call.saturating_mul(TAKEN));
-        expect_fault(rt, &ran, RunFault::Write, 4, &whole[..part]);
+        expect_fault(rt, text, asked, &ran, RunFault::Write, 4, &whole[..part]);
     }
     Ok(())
 }
@@ -155,7 +157,7 @@ fn a_write_that_takes_nothing(rt: HostRuntime) -> Result<(), Fail> {
     };
     for asked in &all_asked("10.1.2.3") {
         let ran = failing_run(rt.alloc(), V4, *asked, (&dump, &[]), script)?;
-        expect_fault(&rt, &ran, RunFault::Write, 4, &[]);
+        expect_fault(&rt, ONE_ROUTE, *asked, &ran, RunFault::Write, 4, &[]);
     }
     Ok(())
 }
@@ -176,7 +178,7 @@ fn a_fault_of_octets_before_a_read_that_would_fail(rt: HostRuntime) -> Result<()
 fn expect_second_read(
     rt: &impl Abort,
     alloc: Global,
-    dump: &str,
+    text: &str,
     piece: usize,
     fault: RunFault,
     status: u8,
@@ -184,7 +186,7 @@ fn expect_second_read(
 ) -> Result<(), Fail>
     requires { 0 < piece }
 {
-    let dump = octets(alloc, dump)?;
+    let dump = octets(alloc, text)?;
     let script = Script {
         read: piece,
         failing_read: 2,
@@ -193,8 +195,8 @@ fn expect_second_read(
     };
     for asked in &all_asked("10.1.2.3") {
         let ran = failing_run(alloc, V4, *asked, (&dump, &dump), script)?;
-        expect_fault(rt, &ran, fault, status, &[]);
-        expect_reads(rt, &ran, (reads, 0));
+        expect_fault(rt, text, *asked, &ran, fault, status, &[]);
+        expect_reads(rt, *asked, &ran, (reads, 0));
     }
     Ok(())
 }

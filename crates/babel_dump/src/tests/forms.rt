@@ -112,6 +112,7 @@ static WRITTEN: [(usize, u64, &str); 3] = [
 #[test]
 fn canonical_octets_that_a_writer_takes_in_part(rt: HostRuntime) -> Result<(), Fail> {
     let dump = octets(rt.alloc(), ONE_ROUTE)?;
+    let asked = Asked::Normalise { hex: true };
     for (written, failing_call, text) in &WRITTEN {
         let script = Script {
             read: 7,
@@ -124,11 +125,19 @@ fn canonical_octets_that_a_writer_takes_in_part(rt: HostRuntime) -> Result<(), F
             Limits::usual(),
             PLAIN,
             V4,
-            Asked::Normalise { hex: true },
+            asked,
             (&dump, &[]),
             script,
         )?;
-        expect_fault(&rt, &ran, RunFault::Write, 4, text.as_bytes());
+        expect_fault(
+            &rt,
+            ONE_ROUTE,
+            asked,
+            &ran,
+            RunFault::Write,
+            4,
+            text.as_bytes(),
+        );
     }
     Ok(())
 }
@@ -145,7 +154,7 @@ fn more_pairs_than_the_limit(rt: HostRuntime) -> Result<(), Fail> {
             Asked::Pairs { count: true },
         ] {
             let ran = answer(rt.alloc(), limits, PLAIN, V4, MORE_PAIRS, *asked, 1)?;
-            expect_fault(&rt, &ran, fault, 3, &[]);
+            expect_fault(&rt, MORE_PAIRS, *asked, &ran, fault, 3, &[]);
         }
     }
     Ok(())
@@ -252,7 +261,8 @@ fn lines_of_the_longest_path(rt: HostRuntime) -> Result<(), Fail> {
     assert_eq!(rt; ran.outcome, Ok(0));
     let text = str::from_utf8(&ran.taken)?;
     for (place, line) in &LINES {
-        assert_eq!(rt; text.lines().nth(*place), Some(*line));
+        let found = text.lines().nth(*place).ok_or("too few lines")?;
+        assert_eq!(rt; found, *line, "at {place}");
     }
     assert_eq!(rt; text.lines().count(), 129);
     Ok(())

@@ -3,7 +3,7 @@ ghost use Rattle.std.specs.Prelude.{◌^◌, ◌<◌};
 
 use super::devices::{EndlessIn, ScriptedIn, ScriptedOut};
 use super::dumps::{ONE_ROUTE, V4};
-use super::{Asked, all_asked, answer, expect_fault, octets, run};
+use super::{Asked, all_asked, answer, expect_fault, expect_outcome, octets, run};
 use crate::byte_in::ByteIn;
 use crate::run_fault::{RunFault, status_of};
 use babel_table::Limits;
@@ -26,11 +26,19 @@ fn expect_refusals(
     for (dump, fault) in rows {
         for asked in &all_asked("10.1.2.3") {
             let ran = answer(alloc, limits, mode, V4, dump, *asked, 1)?;
-            expect_fault(rt, &ran, RunFault::Dump(*fault), 3, &[]);
+            expect_fault(rt, dump, *asked, &ran, RunFault::Dump(*fault), 3, &[]);
         }
         let asked = Asked::Comparison(V4, dump);
         let ran = answer(alloc, limits, mode, V4, ONE_ROUTE, asked, 2)?;
-        expect_fault(rt, &ran, RunFault::OtherDump(*fault), 3, &[]);
+        expect_fault(
+            rt,
+            ONE_ROUTE,
+            asked,
+            &ran,
+            RunFault::OtherDump(*fault),
+            3,
+            &[],
+        );
     }
     Ok(())
 }
@@ -119,8 +127,7 @@ fn dumps_at_their_limits(rt: HostRuntime) -> Result<(), Fail> {
     for (dump, lines) in &AT_LIMITS {
         let asked = Asked::Rows;
         let ran = answer(rt.alloc(), limits, Mode::Plain, V4, dump, asked, 1)?;
-        assert_eq!(rt; ran.outcome, Ok(0));
-        assert_eq!(rt; ran.taken.as_slice(), lines.as_bytes());
+        expect_outcome(&rt, dump, asked, &ran, Ok(0), lines.as_bytes());
     }
     Ok(())
 }

@@ -65,6 +65,7 @@ const COMPARE: Wanted<'static> = Wanted {
 };
 
 /// Words, and the job that they ask for.
+#[rattlefmt::skip]
 static JOBS: [(&str, Wanted<'static>); 15] = [
     (
         "lookup --from fe80::1 --to 10.1.2.3 --src=0.0.0.0 --hold x",
@@ -85,91 +86,19 @@ static JOBS: [(&str, Wanted<'static>); 15] = [
             ..COMPARE
         },
     ),
-    (
-        "show --from 192.0.2.1",
-        Wanted {
-            from: "192.0.2.1",
-            ..SHOW
-        },
-    ),
-    (
-        "normalise --from 192.0.2.1",
-        Wanted {
-            from: "192.0.2.1",
-            ..NORMALISE
-        },
-    ),
-    (
-        "pairs --from 192.0.2.1",
-        Wanted {
-            from: "192.0.2.1",
-            ..PAIRS
-        },
-    ),
+    ("show --from 192.0.2.1", Wanted { from: "192.0.2.1", ..SHOW }),
+    ("normalise --from 192.0.2.1", Wanted { from: "192.0.2.1", ..NORMALISE }),
+    ("pairs --from 192.0.2.1", Wanted { from: "192.0.2.1", ..PAIRS }),
     ("show --from :: --hold", Wanted { hold: true, ..SHOW }),
-    (
-        "lookup --from :: --to :: --src :: --hold",
-        Wanted {
-            hold: true,
-            ..LOOKUP
-        },
-    ),
-    (
-        "normalise --from :: --hold",
-        Wanted {
-            hold: true,
-            ..NORMALISE
-        },
-    ),
-    (
-        "pairs --from :: --hold",
-        Wanted {
-            hold: true,
-            ..PAIRS
-        },
-    ),
-    (
-        "compare --from :: --other-from :: --hold a b",
-        Wanted {
-            hold: true,
-            ..COMPARE
-        },
-    ),
-    (
-        "normalise --from :: --hex",
-        Wanted {
-            hex: true,
-            ..NORMALISE
-        },
-    ),
-    (
-        "pairs --from :: --count",
-        Wanted {
-            count: true,
-            ..PAIRS
-        },
-    ),
-    (
-        "normalise --from :: --body 128",
-        Wanted {
-            body: Some(128),
-            ..NORMALISE
-        },
-    ),
-    (
-        "normalise --from :: --body 1024",
-        Wanted {
-            body: Some(1024),
-            ..NORMALISE
-        },
-    ),
-    (
-        "normalise --from :: --body 65535",
-        Wanted {
-            body: Some(65535),
-            ..NORMALISE
-        },
-    ),
+    ("lookup --from :: --to :: --src :: --hold", Wanted { hold: true, ..LOOKUP }),
+    ("normalise --from :: --hold", Wanted { hold: true, ..NORMALISE }),
+    ("pairs --from :: --hold", Wanted { hold: true, ..PAIRS }),
+    ("compare --from :: --other-from :: --hold a b", Wanted { hold: true, ..COMPARE }),
+    ("normalise --from :: --hex", Wanted { hex: true, ..NORMALISE }),
+    ("pairs --from :: --count", Wanted { count: true, ..PAIRS }),
+    ("normalise --from :: --body 128", Wanted { body: Some(128), ..NORMALISE }),
+    ("normalise --from :: --body 1024", Wanted { body: Some(1024), ..NORMALISE }),
+    ("normalise --from :: --body 65535", Wanted { body: Some(65535), ..NORMALISE }),
 ];
 
 /// The words of a line as it is typed. An empty word is written `''`.
@@ -224,7 +153,7 @@ fn expect_address(
 
 /// The file's name of a job is the one that is wanted.
 fn expect_name(rt: &impl Abort, line: &str, given: Option<&str>, wanted: Option<&str>) {
-    assert_eq!(rt; given, wanted, "of {line}");
+    assert!(rt; given == wanted, "{given:?} of {line}");
 }
 
 /// The text that the words of a line are refused with.
