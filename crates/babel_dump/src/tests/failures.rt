@@ -42,8 +42,9 @@ fn failing_run(
 }
 
 /// The run read the dump, and the other, as often.
-fn expect_reads(rt: &impl Abort, asked: Asked<'_>, ran: &Ran, reads: (u64, u64)) {
-    assert_eq!(rt; (ran.reads, ran.other_reads), reads, "{asked:?}");
+fn expect_reads(rt: &impl Abort, asked: Asked<'_>, ran: &Ran, reads: u64, other_reads: u64) {
+    assert_eq!(rt; ran.reads, reads, "{asked:?}");
+    assert_eq!(rt; ran.other_reads, other_reads, "{asked:?}");
 }
 
 #[test]
@@ -75,7 +76,7 @@ fn expect_read_faults(
         };
         let ran = failing_run(alloc, sender, asked, (&dump, &other), script)?;
         expect_fault(rt, text, asked, &ran, RunFault::Read, 4, &[]);
-        expect_reads(rt, asked, &ran, (failing, 0));
+        expect_reads(rt, asked, &ran, failing, 0);
     }
     Ok(())
 }
@@ -106,7 +107,7 @@ fn expect_other_read_faults(
         };
         let ran = failing_run(alloc, sender, asked, (&dump, &other), script)?;
         expect_fault(rt, text, asked, &ran, RunFault::OtherRead, 4, &[]);
-        expect_reads(rt, asked, &ran, (dump.len() as u64 + 1, failing));
+        expect_reads(rt, asked, &ran, dump.len() as u64 + 1, failing);
     }
     Ok(())
 }
@@ -196,7 +197,7 @@ fn expect_second_read(
     for asked in &all_asked("10.1.2.3") {
         let ran = failing_run(alloc, V4, *asked, (&dump, &dump), script)?;
         expect_fault(rt, text, *asked, &ran, fault, status, &[]);
-        expect_reads(rt, *asked, &ran, (reads, 0));
+        expect_reads(rt, *asked, &ran, reads, 0);
     }
     Ok(())
 }

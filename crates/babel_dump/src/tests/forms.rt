@@ -19,6 +19,14 @@ const PLAIN: Mode = Mode::Plain;
 
 const HOLD: Mode = Mode::Hold;
 
+const OCTETS: Asked<'static> = Asked::Normalise { hex: false };
+
+const DIGITS: Asked<'static> = Asked::Normalise { hex: true };
+
+const PAIRS: Asked<'static> = Asked::Pairs { count: false };
+
+const COUNTS: Asked<'static> = Asked::Pairs { count: true };
+
 const ONE_IGNORED_FORM: &str =
     "2a020023 060a0000 0200000000000001 07060100 c0000201 080d01801800064000010200 0a0102";
 
@@ -61,38 +69,11 @@ fn expect_form(
     let mut line = hex::encode(alloc, &whole)?;
     line.push('\n')?;
     let line = line.as_bytes();
-    expect_text(
-        rt,
-        alloc,
-        mode,
-        sender,
-        dump,
-        Asked::Normalise { hex: false },
-        0,
-        &whole,
-    )?;
-    expect_text(
-        rt,
-        alloc,
-        mode,
-        sender,
-        dump,
-        Asked::Normalise { hex: true },
-        0,
-        line,
-    )?;
+    expect_text(rt, alloc, mode, sender, dump, OCTETS, 0, &whole)?;
+    expect_text(rt, alloc, mode, sender, dump, DIGITS, 0, line)?;
     for any in &[V4, "198.51.100.7", V6] {
         let same = Asked::Comparison(any, form);
-        expect_text(
-            rt,
-            alloc,
-            mode,
-            any,
-            form,
-            Asked::Normalise { hex: true },
-            0,
-            line,
-        )?;
+        expect_text(rt, alloc, mode, any, form, DIGITS, 0, line)?;
         expect_text(rt, alloc, mode, sender, dump, same, 0, b"same\n")?;
     }
     Ok(())
@@ -112,7 +93,6 @@ static WRITTEN: [(usize, u64, &str); 3] = [
 #[test]
 fn canonical_octets_that_a_writer_takes_in_part(rt: HostRuntime) -> Result<(), Fail> {
     let dump = octets(rt.alloc(), ONE_ROUTE)?;
-    let asked = Asked::Normalise { hex: true };
     for (written, failing_call, text) in &WRITTEN {
         let script = Script {
             read: 7,
@@ -125,14 +105,14 @@ fn canonical_octets_that_a_writer_takes_in_part(rt: HostRuntime) -> Result<(), F
             Limits::usual(),
             PLAIN,
             V4,
-            asked,
+            DIGITS,
             (&dump, &[]),
             script,
         )?;
         expect_fault(
             &rt,
             ONE_ROUTE,
-            asked,
+            DIGITS,
             &ran,
             RunFault::Write,
             4,
@@ -147,12 +127,7 @@ fn more_pairs_than_the_limit(rt: HostRuntime) -> Result<(), Fail> {
     let fault = RunFault::Dump(Fault::TooManyPairs);
     for bytes in [249, 332] {
         let limits = Limits::new(bytes, 3).ok_or("limits")?;
-        for asked in &[
-            Asked::Normalise { hex: false },
-            Asked::Normalise { hex: true },
-            Asked::Pairs { count: false },
-            Asked::Pairs { count: true },
-        ] {
+        for asked in &[OCTETS, DIGITS, PAIRS, COUNTS] {
             let ran = answer(rt.alloc(), limits, PLAIN, V4, MORE_PAIRS, *asked, 1)?;
             expect_fault(&rt, MORE_PAIRS, *asked, &ran, fault, 3, &[]);
         }
@@ -192,7 +167,7 @@ static OF_PAIRS: [Row<'static>; 9] = [
 
 #[test]
 fn lines_of_pairs(rt: HostRuntime) -> Result<(), Fail> {
-    expect_texts(&rt, rt.alloc(), Asked::Pairs { count: false }, &OF_PAIRS)
+    expect_texts(&rt, rt.alloc(), PAIRS, &OF_PAIRS)
 }
 
 const NINE_PARTS: &str =
@@ -215,12 +190,7 @@ static OF_HELD_PAIRS: [Row<'static>; 4] = [
 
 #[test]
 fn lines_of_pairs_where_retracted_routes_are_held(rt: HostRuntime) -> Result<(), Fail> {
-    expect_texts(
-        &rt,
-        rt.alloc(),
-        Asked::Pairs { count: false },
-        &OF_HELD_PAIRS,
-    )
+    expect_texts(&rt, rt.alloc(), PAIRS, &OF_HELD_PAIRS)
 }
 
 /// Some of the lines of the longest path, and their places, counted from 0.
@@ -249,22 +219,20 @@ static LINES: [(usize, &str); 5] = [
 
 #[test]
 fn lines_of_the_longest_path(rt: HostRuntime) -> Result<(), Fail> {
-    let ran = answer(
-        rt.alloc(),
-        Limits::usual(),
-        PLAIN,
-        V6,
-        DEEPEST,
-        Asked::Pairs { count: false },
-        100,
-    )?;
+    let ran = answer(rt.alloc(), Limits::usual(), PLAIN, V6, DEEPEST, PAIRS, 100)?;
     assert_eq!(rt; ran.outcome, Ok(0));
     let text = str::from_utf8(&ran.taken)?;
     for (place, line) in &LINES {
-        let found = text.lines().nth(*place).ok_or("too few lines")?;
-        assert_eq!(rt; found, *line, "at {place}");
+        expect_line(&rt, text, *place, line)?;
     }
     assert_eq!(rt; text.lines().count(), 129);
+    Ok(())
+}
+
+/// The text has this line, before which so many stand.
+fn expect_line(rt: &impl Abort, text: &str, place: usize, line: &str) -> Result<(), Fail> {
+    let found = text.lines().nth(place).ok_or("too few lines")?;
+    assert_eq!(rt; found, line);
     Ok(())
 }
 
@@ -282,5 +250,5 @@ static NUMBERS: [Row<'static>; 9] = [
 
 #[test]
 fn numbers_of_rows_and_pairs(rt: HostRuntime) -> Result<(), Fail> {
-    expect_texts(&rt, rt.alloc(), Asked::Pairs { count: true }, &NUMBERS)
+    expect_texts(&rt, rt.alloc(), COUNTS, &NUMBERS)
 }
