@@ -43,6 +43,7 @@ fn expect_refusals(
     Ok(())
 }
 
+/// Dumps that are refused, and their faults.
 static REFUSED: [(&str, Fault); 9] = [
     (
         "2a020019 060a0000 0200000000000001 080b010008000640000101000a 2b020000",
@@ -75,7 +76,11 @@ fn dumps_that_are_refused(rt: HostRuntime) -> Result<(), Fail> {
     expect_refusals(&rt, rt.alloc(), Limits::usual(), Mode::Plain, &REFUSED)
 }
 
-/// Dumps past 83 octets or one route.
+/// A route, and the retraction of another.
+const HELD_BEHIND_ONE: &str =
+    "2a020026 060a0000 0200000000000001 080b010008000640000101000a 080b0100080006400000ffff14";
+
+/// Dumps past 83 octets or one route, or with another fault there, and their faults.
 static PAST_LIMITS: [(&str, Fault); 4] = [
     (
         "2a020050 0000000000000000000000000000000000000000000000000000000000000000000000000000000000000000000000000000000000000000000000000000000000000000000000000000000000000000",
@@ -97,10 +102,6 @@ static PAST_LIMITS: [(&str, Fault); 4] = [
 
 /// A dump past one route, where a retraction is held.
 static HELD_PAST_LIMITS: [(&str, Fault); 1] = [(HELD_BEHIND_ONE, Fault::TooManyRoutes { at: 29 })];
-
-/// A route, and the retraction of another.
-const HELD_BEHIND_ONE: &str =
-    "2a020026 060a0000 0200000000000001 080b010008000640000101000a 080b0100080006400000ffff14";
 
 #[test]
 fn dumps_past_their_limits(rt: HostRuntime) -> Result<(), Fail> {
