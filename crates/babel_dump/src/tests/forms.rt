@@ -153,6 +153,7 @@ const MORE: &str =
 const SOURCE: &str =
     "10.0.0.0/8 from 20.0.0.0/8 via 192.0.2.1 id 0200000000000001 seqno 1 metric 512\n";
 
+/// The lines of the canonical pairs of dumps.
 static OF_PAIRS: [Row<'static>; 9] = [
     (PLAIN, V4, "", ""),
     (PLAIN, V4, MERGED, ONE),
@@ -181,6 +182,7 @@ const HELD_BETWEEN: &str =
 const HELD_AND_TWENTY: &str =
     "10.0.0.0/8 from 0.0.0.0/0 unreachable\n20.0.0.0/8 from 0.0.0.0/0 via 192.0.2.1 id 0200000000000001 seqno 1 metric 256\n";
 
+/// The same where retracted routes are held.
 static OF_HELD_PAIRS: [Row<'static>; 4] = [
     (HOLD, V4, RETRACTED, NINE_PARTS),
     (HOLD, V4, ONLY_RETRACTED, ONE_HELD),
@@ -236,6 +238,7 @@ fn expect_line(rt: &impl Abort, text: &str, place: usize, line: &str) -> Result<
     Ok(())
 }
 
+/// How many rows and canonical pairs dumps have.
 static NUMBERS: [Row<'static>; 9] = [
     (PLAIN, V4, "", "rows 0\npairs 0\n"),
     (PLAIN, V4, MERGED, "rows 2\npairs 1\n"),

@@ -42,6 +42,7 @@ const ZERO: &str = "0.0.0.0";
 /// The mode, the sender, the dump, the destination and the source that are looked up in it, and the answer.
 type Lookup<'a> = (Mode, &'a str, &'a str, &'a str, &'a str, Told<'a>);
 
+/// Lookups in dumps of IPv4 routes.
 static IN_IPV4_DUMPS: [Lookup<'static>; 13] = [
     (PLAIN, V4, ONE_ROUTE, "10.1.2.3", ZERO, A),
     (PLAIN, V4, ONE_ROUTE, "11.0.0.0", ZERO, NONE),
@@ -58,6 +59,7 @@ static IN_IPV4_DUMPS: [Lookup<'static>; 13] = [
     (PLAIN, V4, OTHER_ENCODING, "10.1.2.9", ZERO, NONE),
 ];
 
+/// Lookups in dumps of IPv6 routes.
 static IN_IPV6_DUMPS: [Lookup<'static>; 5] = [
     (PLAIN, V6, ONE_V6_ROUTE, "2001:db8::1", "::", V6_A),
     (PLAIN, V6, ONE_V6_ROUTE, "2001:db8::2", "::", NONE),
@@ -73,6 +75,7 @@ static IN_IPV6_DUMPS: [Lookup<'static>; 5] = [
     (PLAIN, V6, ROUTER_ID_BY_FLAG, "::1", "::", NONE),
 ];
 
+/// Lookups in dumps with retractions, in both modes.
 static WHERE_ROUTES_ARE_RETRACTED: [Lookup<'static>; 12] = [
     (HOLD, V4, RETRACTED, "10.1.2.3", ZERO, UNREACHABLE),
     (HOLD, V4, RETRACTED, "10.2.0.1", ZERO, A),

@@ -32,6 +32,7 @@ const TWO_ROWS: &str =
 const ROW_OF_SOURCE: &str =
     "10.0.0.0/8 from 20.0.0.0/8 via 192.0.2.1 id 0200000000000001 seqno 1 metric 512\ntlvs 4\n";
 
+/// The lines of dumps whose TLVs are all read.
 static OF_ROWS: [Row<'static>; 6] = [
     (PLAIN, V4, "", "tlvs 0\n"),
     (PLAIN, V4, ONE_ROUTE_AGAIN, ONE_ROW),
@@ -64,6 +65,7 @@ const SOURCES: &str =
 
 const NO_NEXT_HOP: &str = "tlvs 2\nignored no-next-hop 1 first 16\n";
 
+/// The lines of dumps with TLVs that are ignored.
 static OF_REASONS: [Row<'static>; 9] = [
     (PLAIN, V4, SEVEN_REASONS, SEVEN_LINES),
     (PLAIN, V4, RESERVED_ROUTER_ID, RESERVED),
@@ -89,6 +91,7 @@ const HELD_AND_WILDCARD: &str =
 
 const ONE_HELD: &str = "10.0.0.0/8 from 0.0.0.0/0 unreachable\ntlvs 1\n";
 
+/// The lines of dumps with retractions, most where these are held.
 static OF_HELD_ROWS: [Row<'static>; 4] = [
     (HOLD, V4, SOURCE_LEFT, HELD_AND_SOURCE),
     (HOLD, V4, ALL_RETRACTED, HELD_AND_WILDCARD),
