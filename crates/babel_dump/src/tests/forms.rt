@@ -79,7 +79,7 @@ fn expect_form(
     Ok(())
 }
 
-/// How many octets a write takes, which call of the writer fails, if any, and what is written then of the digits of a dump.
+/// How many octets a write takes, which call of the writer fails, if any, and what is written of the digits of a dump.
 static WRITTEN: [(usize, u64, &str); 3] = [
     (10, 2, "2a02002106"),
     (0, 0, ""),

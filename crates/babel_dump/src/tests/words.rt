@@ -168,8 +168,8 @@ fn usage(rt: &impl Abort, alloc: Global, line: &str) -> Result<String, Fail> {
     }
 }
 
-/// Words that are no addresses, and addresses of two families, with the text that they are refused with. Of several that
-/// are no addresses the first is named, in the order `--from`, `--other-from`, `--to`, `--src`.
+/// Words that are no addresses, and addresses of two families, with the text that they are refused with. Of several
+/// that are no addresses the first is named, in the order `--from`, `--other-from`, `--to`, `--src`.
 static NO_ADDRESSES: [(&str, &str); 8] = [
     ("lookup --src v --to w --from q", "not an address: q\n"),
     ("lookup --src v --to w --from ::", "not an address: w\n"),
@@ -286,8 +286,8 @@ const ENDS: [&str; 3] = [
     "\n  5  out of memory",
 ];
 
-/// The words that ask for a help text, and its parts beside `ENDS`. Each names its options, each with a sentence, and has
-/// an example and the exit statuses.
+/// The words that ask for a help text, and its parts beside `ENDS`. Each names its options, each with a sentence, and
+/// has an example and the exit statuses.
 static HELPS: [(&str, &[&str], &[&str]); 7] = [
     ("--help", &COMMANDS, &["babel-dump lookup --from"]),
     ("help", &COMMANDS, &["babel-dump lookup --from"]),
