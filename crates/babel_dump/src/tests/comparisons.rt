@@ -1,37 +1,53 @@
 //! How the answers of two dumps compare.
 use super::dumps::{ONE_FAMILY, ONE_ROUTE, ONE_ROUTE_AGAIN, RETRACTED, TWO_FAMILIES, V4, V6};
-use super::{Asked, Row, expect_rows};
+use super::{Asked, expect_text};
 use babel_tlv::Mode;
 use std::test::Fail;
 
+const PLAIN: Mode = Mode::Plain;
+
+const HOLD: Mode = Mode::Hold;
+
 const SAME: &str = "same\n";
+
+const ROUTE_LEFT: &str =
+    "differ 255.255.255.255 from 0.0.0.1\nleft via 192.0.2.1 id 0200000000000001 seqno 1 metric 256\nright none\n";
+
+const ROUTE_RIGHT: &str =
+    "differ 255.255.255.255 from 0.0.0.1\nleft none\nright via 192.0.2.1 id 0200000000000001 seqno 1 metric 256\n";
+
+const UNREACHABLE_LEFT: &str =
+    "differ 10.1.0.0 from 0.0.0.0\nleft unreachable\nright via 192.0.2.1 id 0200000000000001 seqno 1 metric 256\n";
+
+const NO_NEXT_HOP: &str =
+    "differ 10.0.0.0 from 0.0.0.0\nleft via 192.0.2.1 id 0200000000000001 seqno 1 metric 256\nright none\n";
+
+/// The mode, a sender and its dump, the other sender and its dump, the status and the text.
+static VERDICTS: [(Mode, &str, &str, &str, &str, u8, &str); 8] = [
+    (PLAIN, V6, TWO_FAMILIES, V6, TWO_FAMILIES, 0, SAME),
+    (PLAIN, V6, TWO_FAMILIES, V6, ONE_FAMILY, 1, ROUTE_LEFT),
+    (PLAIN, V6, ONE_FAMILY, V6, TWO_FAMILIES, 1, ROUTE_RIGHT),
+    (HOLD, V4, RETRACTED, V4, ONE_ROUTE, 1, UNREACHABLE_LEFT),
+    (PLAIN, V4, RETRACTED, V4, ONE_ROUTE, 0, SAME),
+    (PLAIN, V4, ONE_ROUTE, V6, ONE_ROUTE_AGAIN, 0, SAME),
+    (PLAIN, V4, ONE_ROUTE, V6, ONE_ROUTE, 1, NO_NEXT_HOP),
+    (PLAIN, V4, "", V6, "", 0, SAME),
+];
 
 #[test]
 fn verdicts(rt: HostRuntime) -> Result<(), Fail> {
-    let plain = Mode::Plain;
-    let hold = Mode::Hold;
-    let route_left =
-        "differ 255.255.255.255 from 0.0.0.1\nleft via 192.0.2.1 id 0200000000000001 seqno 1 metric 256\nright none\n";
-    let route_right =
-        "differ 255.255.255.255 from 0.0.0.1\nleft none\nright via 192.0.2.1 id 0200000000000001 seqno 1 metric 256\n";
-    let unreachable_left =
-        "differ 10.1.0.0 from 0.0.0.0\nleft unreachable\nright via 192.0.2.1 id 0200000000000001 seqno 1 metric 256\n";
-    let with_one_family = Asked::Comparison(V6, ONE_FAMILY);
-    let with_two_families = Asked::Comparison(V6, TWO_FAMILIES);
-    let with_one_route = Asked::Comparison(V4, ONE_ROUTE);
-    let with_any_sender = Asked::Comparison(V6, ONE_ROUTE_AGAIN);
-    let without_next_hop = Asked::Comparison(V6, ONE_ROUTE);
-    let no_next_hop =
-        "differ 10.0.0.0 from 0.0.0.0\nleft via 192.0.2.1 id 0200000000000001 seqno 1 metric 256\nright none\n";
-    let rows: [Row<'_>; 8] = [
-        (plain, V6, TWO_FAMILIES, with_two_families, 0, SAME),
-        (plain, V6, TWO_FAMILIES, with_one_family, 1, route_left),
-        (plain, V6, ONE_FAMILY, with_two_families, 1, route_right),
-        (hold, V4, RETRACTED, with_one_route, 1, unreachable_left),
-        (plain, V4, RETRACTED, with_one_route, 0, SAME),
-        (plain, V4, ONE_ROUTE, with_any_sender, 0, SAME),
-        (plain, V4, ONE_ROUTE, without_next_hop, 1, no_next_hop),
-        (plain, V4, "", Asked::Comparison(V6, ""), 0, SAME),
-    ];
-    expect_rows(&rt, rt.alloc(), &rows)
+    for (mode, sender, dump, other_sender, other, status, text) in &VERDICTS {
+        let asked = Asked::Comparison(other_sender, other);
+        expect_text(
+            &rt,
+            rt.alloc(),
+            *mode,
+            sender,
+            dump,
+            asked,
+            *status,
+            text.as_bytes(),
+        )?;
+    }
+    Ok(())
 }

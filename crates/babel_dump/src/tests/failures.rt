@@ -1,15 +1,17 @@
 //! Each read and each write that fails, in turn.
-use super::devices::{ScriptedIn, ScriptedOut};
+ghost use Rattle.std.specs.Prelude.{◌<◌};
+
 use super::dumps::{NESTED_SOURCES, ONE_FAMILY, ONE_ROUTE, TWO_FAMILIES, TWO_SOURCES, V4, V6};
-use super::{Asked, all_asked, octets, run};
-use crate::run_fault::{RunFault, status_of};
+use super::{Asked, ONE_BY_ONE, Ran, Script, all_asked, expect_fault, octets, scripted_run};
+use crate::run_fault::RunFault;
 use babel_table::Limits;
 use babel_tlv::{Fault, Mode};
 use std::alloc::Global;
+use std::process::Abort;
 use std::test::Fail;
 
 /// A sender, its dump, the other dump of a comparison, and a destination and source to look up.
-const GIVEN: [(&str, &str, &str, &str); 4] = [
+static GIVEN: [(&str, &str, &str, &str); 4] = [
     (V4, ONE_ROUTE, NESTED_SOURCES, "10.1.2.3"),
     (V4, NESTED_SOURCES, ONE_ROUTE, "10.1.2.3"),
     (V4, TWO_SOURCES, TWO_SOURCES, "172.16.0.1"),
@@ -19,123 +21,129 @@ const GIVEN: [(&str, &str, &str, &str); 4] = [
 /// How many octets one write takes.
 const TAKEN: usize = 7;
 
-/// A run where one read of its reader, one of the other, or one call of its writer fails, if any. The octets come one by
-/// one.
+/// The octets come one by one.
+const SCRIPT: Script = Script {
+    written: TAKEN,
+    ..ONE_BY_ONE
+};
+
+/// A run whose script may fail, in mode plain and under the usual limits.
 fn failing_run(
     alloc: Global,
     sender: &str,
     asked: Asked<'_>,
     dumps: (&[u8], &[u8]),
-    failing: (u64, u64, u64),
-) -> Result<(Result<u8, RunFault>, u64, u64, Vec<u8>), Fail> {
-    let mut reader = ScriptedIn::new(dumps.0, 1, failing.0);
-    let mut other = ScriptedIn::new(dumps.1, 1, failing.1);
-    let mut writer = ScriptedOut::new(alloc, TAKEN, failing.2);
-    let outcome = run(
-        alloc,
-        Limits::usual(),
-        Mode::Plain,
-        sender,
-        asked,
-        &mut reader,
-        &mut other,
-        &mut writer,
-    )?;
-    Ok((outcome, reader.reads(), other.reads(), writer.into_taken()))
+    script: Script,
+) -> Result<Ran, Fail>
+    requires { 0 < script.read }
+{
+    let limits = Limits::usual();
+    scripted_run(alloc, limits, Mode::Plain, sender, asked, dumps, script)
+}
+
+/// The run read the dump, and the other, as often.
+fn expect_reads(rt: &impl Abort, asked: Asked<'_>, ran: &Ran, reads: u64, other_reads: u64) {
+    assert_eq!(rt; ran.reads, reads, "{asked:?}");
+    assert_eq!(rt; ran.other_reads, other_reads, "{asked:?}");
 }
 
 #[test]
 fn each_read(rt: HostRuntime) -> Result<(), Fail> {
-    let alloc = rt.alloc();
-    for (sender, text, other, dst) in GIVEN {
-        let dump = octets(alloc, text)?;
-        let other_dump = octets(alloc, other)?;
-        let dumps = (dump.as_slice(), other_dump.as_slice());
-        for asked in all_asked(dst) {
-            for failing in 1..dump.len() as u64 + 2 {
-                let (outcome, reads, other_reads, taken) = failing_run(
-                    alloc,
-                    sender,
-                    asked,
-                    dumps,
-                    (failing, 1, 0),
-                )?;
-                assert_eq!(rt;
-                    outcome,
-                    Err(RunFault::Read),
-                    "{asked:?} at {failing} of {text}"
-                );
-                assert_eq!(rt; (reads, other_reads), (failing, 0));
-                assert!(rt; taken.is_empty());
-            }
+    for (sender, dump, other, dst) in &GIVEN {
+        for asked in &all_asked(dst) {
+            expect_read_faults(&rt, rt.alloc(), sender, dump, other, *asked)?;
         }
+    }
+    Ok(())
+}
+
+/// Each read of the dump, also the one that meets its end, is answered where it fails, before the other dump is read.
+fn expect_read_faults(
+    rt: &impl Abort,
+    alloc: Global,
+    sender: &str,
+    text: &str,
+    other: &str,
+    asked: Asked<'_>,
+) -> Result<(), Fail> {
+    let dump = octets(alloc, text)?;
+    let other = octets(alloc, other)?;
+    for failing in 1..dump.len() as u64 + 2 {
+        let script = Script {
+            failing_read: failing,
+            failing_other_read: 1,
+            ..SCRIPT
+        };
+        let ran = failing_run(alloc, sender, asked, (&dump, &other), script)?;
+        expect_fault(rt, text, asked, &ran, RunFault::Read, 4, &[]);
+        expect_reads(rt, asked, &ran, failing, 0);
     }
     Ok(())
 }
 
 #[test]
 fn each_read_of_the_other_dump(rt: HostRuntime) -> Result<(), Fail> {
-    let alloc = rt.alloc();
-    for (sender, text, other, _dst) in GIVEN {
-        let dump = octets(alloc, text)?;
-        let other_dump = octets(alloc, other)?;
-        let dumps = (dump.as_slice(), other_dump.as_slice());
-        let asked = Asked::Comparison(sender, other);
-        for failing in 1..other_dump.len() as u64 + 2 {
-            let (outcome, reads, other_reads, taken) = failing_run(
-                alloc,
-                sender,
-                asked,
-                dumps,
-                (0, failing, 0),
-            )?;
-            assert_eq!(rt;
-                outcome,
-                Err(RunFault::OtherRead),
-                "at {failing} of {other}"
-            );
-            assert_eq!(rt; (reads, other_reads), (dump.len() as u64 + 1, failing));
-            assert!(rt; taken.is_empty());
-        }
+    for (sender, dump, other, _dst) in &GIVEN {
+        expect_other_read_faults(&rt, rt.alloc(), sender, dump, other)?;
+    }
+    Ok(())
+}
+
+/// Each read of the other dump, also the one that meets its end, is answered where it fails, behind all of the dump.
+fn expect_other_read_faults(
+    rt: &impl Abort,
+    alloc: Global,
+    sender: &str,
+    text: &str,
+    other: &str,
+) -> Result<(), Fail> {
+    let asked = Asked::Comparison(sender, other);
+    let dump = octets(alloc, text)?;
+    let other = octets(alloc, other)?;
+    for failing in 1..other.len() as u64 + 2 {
+        let script = Script {
+            failing_other_read: failing,
+            ..SCRIPT
+        };
+        let ran = failing_run(alloc, sender, asked, (&dump, &other), script)?;
+        expect_fault(rt, text, asked, &ran, RunFault::OtherRead, 4, &[]);
+        expect_reads(rt, asked, &ran, dump.len() as u64 + 1, failing);
     }
     Ok(())
 }
 
 #[test]
 fn each_write_and_the_flush(rt: HostRuntime) -> Result<(), Fail> {
-    let alloc = rt.alloc();
-    for (sender, text, other, dst) in GIVEN {
-        let dump = octets(alloc, text)?;
-        let other_dump = octets(alloc, other)?;
-        let dumps = (dump.as_slice(), other_dump.as_slice());
-        for asked in all_asked(dst) {
-            let (outcome, _reads, _other_reads, whole) = failing_run(
-                alloc,
-                sender,
-                asked,
-                dumps,
-                (0, 0, 0),
-            )?;
-            assert!(rt; outcome.is_ok(), "{asked:?} of {text}");
-            let flush = whole.len().div_ceil(TAKEN);
-            for call in 0..flush.saturating_add(1) {
-                let (outcome, _reads, _other_reads, taken) = failing_run(
-                    alloc,
-                    sender,
-                    asked,
-                    dumps,
-                    (0, 0, call as u64 + 1),
-                )?;
-                assert_eq!(rt;
-                    outcome,
-                    Err(RunFault::Write),
-                    "{asked:?} at {call} of {text}"
-                );
-                assert_eq!(rt; status_of(&outcome), 4);
-                assert_eq!(rt; taken.len(), whole.len().min(call.saturating_mul(TAKEN)));
-                assert!(rt; whole.starts_with(&taken));
-            }
+    for (sender, dump, other, dst) in &GIVEN {
+        for asked in &all_asked(dst) {
+            expect_write_faults(&rt, rt.alloc(), sender, dump, other, *asked)?;
         }
+    }
+    Ok(())
+}
+
+/// Each write, and the flush behind them, is answered where it fails, and what was written is a part of the whole.
+fn expect_write_faults(
+    rt: &impl Abort,
+    alloc: Global,
+    sender: &str,
+    text: &str,
+    other: &str,
+    asked: Asked<'_>,
+) -> Result<(), Fail> {
+    let dump = octets(alloc, text)?;
+    let other = octets(alloc, other)?;
+    let whole = failing_run(alloc, sender, asked, (&dump, &other), SCRIPT)?;
+    assert!(rt; whole.outcome.is_ok(), "{asked:?} of {text}");
+    let whole = whole.taken.as_slice();
+    for call in 0..whole.len().div_ceil(TAKEN).saturating_add(1) {
+        let script = Script {
+            failing_call: call as u64 + 1,
+            ..SCRIPT
+        };
+        let ran = failing_run(alloc, sender, asked, (&dump, &other), script)?;
+        let part = whole.len().min(call.saturating_mul(TAKEN));
+        expect_fault(rt, text, asked, &ran, RunFault::Write, 4, &whole[..part]);
     }
     Ok(())
 }
@@ -143,53 +151,53 @@ fn each_write_and_the_flush(rt: HostRuntime) -> Result<(), Fail> {
 #[test]
 fn a_write_that_takes_nothing(rt: HostRuntime) -> Result<(), Fail> {
     let dump = octets(rt.alloc(), ONE_ROUTE)?;
-    for asked in all_asked("10.1.2.3") {
-        let mut reader = ScriptedIn::new(&dump, 7, 0);
-        let mut other = ScriptedIn::new(&[], 7, 0);
-        let mut writer = ScriptedOut::new(rt.alloc(), 0, 0);
-        let outcome = run(
-            rt.alloc(),
-            Limits::usual(),
-            Mode::Plain,
-            V4,
-            asked,
-            &mut reader,
-            &mut other,
-            &mut writer,
-        )?;
-        assert_eq!(rt; outcome, Err(RunFault::Write), "{asked:?}");
-        assert!(rt; writer.taken().is_empty());
+    let script = Script {
+        read: 7,
+        written: 0,
+        ..ONE_BY_ONE
+    };
+    for asked in &all_asked("10.1.2.3") {
+        let ran = failing_run(rt.alloc(), V4, *asked, (&dump, &[]), script)?;
+        expect_fault(&rt, ONE_ROUTE, *asked, &ran, RunFault::Write, 4, &[]);
     }
     Ok(())
 }
 
-/// A read behind some octets fails; and a fault of the octets is answered before a read that would fail.
 #[test]
-fn reads_behind_octets(rt: HostRuntime) -> Result<(), Fail> {
+fn a_read_behind_octets(rt: HostRuntime) -> Result<(), Fail> {
+    expect_second_read(&rt, rt.alloc(), ONE_ROUTE, 20, RunFault::Read, 4, 2)
+}
+
+#[test]
+fn a_fault_of_octets_before_a_read_that_would_fail(rt: HostRuntime) -> Result<(), Fail> {
     let bad_version = RunFault::Dump(Fault::BadVersion { at: 0 });
-    for (text, piece, fault, reads) in [
-        (ONE_ROUTE, 20, RunFault::Read, 2),
-        ("2a030000", 100, bad_version, 1),
-    ] {
-        let dump = octets(rt.alloc(), text)?;
-        for asked in all_asked("10.1.2.3") {
-            let mut reader = ScriptedIn::new(&dump, piece, 2);
-            let mut other = ScriptedIn::new(&dump, piece, 1);
-            let mut writer = ScriptedOut::new(rt.alloc(), 7, 0);
-            let outcome = run(
-                rt.alloc(),
-                Limits::usual(),
-                Mode::Plain,
-                V4,
-                asked,
-                &mut reader,
-                &mut other,
-                &mut writer,
-            )?;
-            assert_eq!(rt; outcome, Err(fault), "{asked:?} of {text}");
-            assert_eq!(rt; (reader.reads(), other.reads()), (reads, 0));
-            assert!(rt; writer.taken().is_empty());
-        }
+    expect_second_read(&rt, rt.alloc(), "2a030000", 100, bad_version, 3, 1)
+}
+
+/// Of a dump in pieces of this many octets whose second read fails, all that can be asked ends in this fault behind as
+/// many reads.
+fn expect_second_read(
+    rt: &impl Abort,
+    alloc: Global,
+    text: &str,
+    piece: usize,
+    fault: RunFault,
+    status: u8,
+    reads: u64,
+) -> Result<(), Fail>
+    requires { 0 < piece }
+{
+    let dump = octets(alloc, text)?;
+    let script = Script {
+        read: piece,
+        failing_read: 2,
+        failing_other_read: 1,
+        ..SCRIPT
+    };
+    for asked in &all_asked("10.1.2.3") {
+        let ran = failing_run(alloc, V4, *asked, (&dump, &dump), script)?;
+        expect_fault(rt, text, *asked, &ran, fault, status, &[]);
+        expect_reads(rt, *asked, &ran, reads, 0);
     }
     Ok(())
 }

@@ -1,7 +1,10 @@
 //! Dumps that are refused, and the texts and statuses of faults.
+ghost use Rattle.std.specs.Prelude.{◌^◌, ◌<◌};
+
 use super::devices::{EndlessIn, ScriptedIn, ScriptedOut};
 use super::dumps::{ONE_ROUTE, V4};
-use super::{Asked, all_asked, answer, octets, run};
+use super::{Asked, all_asked, answer, expect_fault, expect_outcome, octets, run};
+use crate::byte_in::ByteIn;
 use crate::run_fault::{RunFault, status_of};
 use babel_table::Limits;
 use babel_tlv::{Fault, Mode};
@@ -9,9 +12,8 @@ use std::alloc::Global;
 use std::process::Abort;
 use std::test::Fail;
 
-/// 40 octets of zeros.
-const ZEROS: &str =
-    "00000000000000000000000000000000000000000000000000000000000000000000000000000000";
+/// A packet with no TLVs.
+const PACKET: &[u8] = b"*\x02\0\0";
 
 /// Whatever is asked of these dumps, also of a comparison's other, they are refused with these faults.
 fn expect_refusals(
@@ -22,149 +24,174 @@ fn expect_refusals(
     rows: &[(&str, Fault)],
 ) -> Result<(), Fail> {
     for (dump, fault) in rows {
-        for asked in all_asked("10.1.2.3") {
-            let (outcome, text) = answer(alloc, limits, mode, V4, dump, asked, 1)?;
-            assert_eq!(rt; outcome, Err(RunFault::Dump(*fault)), "{asked:?} of {dump}");
-            assert_eq!(rt; status_of(&outcome), 3);
-            assert!(rt; text.is_empty());
+        for asked in &all_asked("10.1.2.3") {
+            let ran = answer(alloc, limits, mode, V4, dump, *asked, 1)?;
+            expect_fault(rt, dump, *asked, &ran, RunFault::Dump(*fault), 3, &[]);
         }
         let asked = Asked::Comparison(V4, dump);
-        let (outcome, text) = answer(alloc, limits, mode, V4, ONE_ROUTE, asked, 2)?;
-        assert_eq!(rt; outcome, Err(RunFault::OtherDump(*fault)), "{asked:?}");
-        assert_eq!(rt; status_of(&outcome), 3);
-        assert!(rt; text.is_empty());
+        let ran = answer(alloc, limits, mode, V4, ONE_ROUTE, asked, 2)?;
+        expect_fault(
+            rt,
+            ONE_ROUTE,
+            asked,
+            &ran,
+            RunFault::OtherDump(*fault),
+            3,
+            &[],
+        );
     }
     Ok(())
 }
 
+/// Dumps that are refused, and their faults.
+static REFUSED: [(&str, Fault); 9] = [
+    (
+        "2a020019 060a0000 0200000000000001 080b010008000640000101000a 2b020000",
+        Fault::BadMagic { at: 29 },
+    ),
+    ("2a030000", Fault::BadVersion { at: 0 }),
+    ("2a020003 040200", Fault::TlvPastEnd { at: 4 }),
+    ("2a020001 04", Fault::TlvPastEnd { at: 4 }),
+    (
+        "2a020019 060a0000 0200000000000001 080b010008000640000101000a 2a0200",
+        Fault::Truncated { at: 29 },
+    ),
+    (
+        "2a020019 060a0000 0200000000000001 080b01000800064000010100",
+        Fault::Truncated { at: 0 },
+    ),
+    (
+        "2a02000d 080b044008000640000101000a",
+        Fault::EncodingSetsRouterId { at: 4 },
+    ),
+    (
+        "2a02000d 080b034008000640000101000a",
+        Fault::EncodingSetsRouterId { at: 4 },
+    ),
+    ("2b030000", Fault::BadMagic { at: 0 }),
+];
+
 #[test]
 fn dumps_that_are_refused(rt: HostRuntime) -> Result<(), Fail> {
-    let rows = [
-        (
-            "2a020019 060a0000 0200000000000001 080b010008000640000101000a 2b020000",
-            Fault::BadMagic { at: 29 },
-        ),
-        ("2a030000", Fault::BadVersion { at: 0 }),
-        ("2a020003 040200", Fault::TlvPastEnd { at: 4 }),
-        ("2a020001 04", Fault::TlvPastEnd { at: 4 }),
-        (
-            "2a020019 060a0000 0200000000000001 080b010008000640000101000a 2a0200",
-            Fault::Truncated { at: 29 },
-        ),
-        (
-            "2a020019 060a0000 0200000000000001 080b01000800064000010100",
-            Fault::Truncated { at: 0 },
-        ),
-        (
-            "2a02000d 080b044008000640000101000a",
-            Fault::EncodingSetsRouterId { at: 4 },
-        ),
-        (
-            "2a02000d 080b034008000640000101000a",
-            Fault::EncodingSetsRouterId { at: 4 },
-        ),
-        ("2b030000", Fault::BadMagic { at: 0 }),
-    ];
-    expect_refusals(&rt, rt.alloc(), Limits::usual(), Mode::Plain, &rows)
+    expect_refusals(&rt, rt.alloc(), Limits::usual(), Mode::Plain, &REFUSED)
 }
+
+/// A route, and the retraction of another.
+const HELD_BEHIND_ONE: &str =
+    "2a020026 060a0000 0200000000000001 080b010008000640000101000a 080b0100080006400000ffff14";
+
+/// Dumps past 83 octets or one route, or with another fault there, and their faults.
+static PAST_LIMITS: [(&str, Fault); 4] = [
+    (
+        "2a020050 0000000000000000000000000000000000000000000000000000000000000000000000000000000000000000000000000000000000000000000000000000000000000000000000000000000000000000",
+        Fault::TooLong,
+    ),
+    (
+        "2b020050 0000000000000000000000000000000000000000000000000000000000000000000000000000000000000000000000000000000000000000000000000000000000000000000000000000000000000000",
+        Fault::BadMagic { at: 0 },
+    ),
+    (
+        "2a020027 060a0000 0200000000000001 080b010008000640000101000a 080b0100080006400001020014 04",
+        Fault::TlvPastEnd { at: 42 },
+    ),
+    (
+        "2a020026 060a0000 0200000000000001 080b010008000640000101000a 080b0100080006400001020014 2b020000",
+        Fault::TooManyRoutes { at: 29 },
+    ),
+];
+
+/// A dump past one route, where a retraction is held.
+static HELD_PAST_LIMITS: [(&str, Fault); 1] = [(HELD_BEHIND_ONE, Fault::TooManyRoutes { at: 29 })];
 
 #[test]
 fn dumps_past_their_limits(rt: HostRuntime) -> Result<(), Fail> {
     let limits = Limits::new(83, 1).ok_or("limits")?;
-    let long = format!(in rt.alloc(); "2a020050{ZEROS}{ZEROS}")?;
-    let not_a_packet = format!(in rt.alloc(); "2b020050{ZEROS}{ZEROS}")?;
-    let rows = [
-        (long.as_str(), Fault::TooLong),
-        (not_a_packet.as_str(), Fault::BadMagic { at: 0 }),
-        (
-            "2a020027 060a0000 0200000000000001 080b010008000640000101000a 080b0100080006400001020014 04",
-            Fault::TlvPastEnd { at: 42 },
-        ),
-        (
-            "2a020026 060a0000 0200000000000001 080b010008000640000101000a 080b0100080006400001020014 2b020000",
-            Fault::TooManyRoutes { at: 29 },
-        ),
-    ];
-    expect_refusals(&rt, rt.alloc(), limits, Mode::Plain, &rows)?;
-    let held = [(
-        "2a020026 060a0000 0200000000000001 080b010008000640000101000a 080b0100080006400000ffff14",
-        Fault::TooManyRoutes { at: 29 },
-    )];
-    expect_refusals(&rt, rt.alloc(), limits, Mode::Hold, &held)
+    expect_refusals(&rt, rt.alloc(), limits, Mode::Plain, &PAST_LIMITS)?;
+    expect_refusals(&rt, rt.alloc(), limits, Mode::Hold, &HELD_PAST_LIMITS)
 }
+
+/// Dumps of 83 octets and of one route, and their lines.
+static AT_LIMITS: [(&str, &str); 2] = [
+    (
+        "2a02004f 00000000000000000000000000000000000000000000000000000000000000000000000000000000000000000000000000000000000000000000000000000000000000000000000000000000000000",
+        "tlvs 79\n",
+    ),
+    (
+        HELD_BEHIND_ONE,
+        "10.0.0.0/8 from 0.0.0.0/0 via 192.0.2.1 id 0200000000000001 seqno 1 metric 256\ntlvs 3\n",
+    ),
+];
 
 #[test]
 fn dumps_at_their_limits(rt: HostRuntime) -> Result<(), Fail> {
     let limits = Limits::new(83, 1).ok_or("limits")?;
-    let zeros = format!(in rt.alloc(); "2a02004f{ZEROS}{}", &ZEROS[2..])?;
-    let one_row =
-        "10.0.0.0/8 from 0.0.0.0/0 via 192.0.2.1 id 0200000000000001 seqno 1 metric 256\ntlvs 3\n";
-    let rows = [
-        (zeros.as_str(), "tlvs 79\n"),
-        (
-            "2a020026 060a0000 0200000000000001 080b010008000640000101000a 080b0100080006400000ffff14",
-            one_row,
-        ),
-    ];
-    for (dump, lines) in rows {
+    for (dump, lines) in &AT_LIMITS {
         let asked = Asked::Rows;
-        let (outcome, text) = answer(rt.alloc(), limits, Mode::Plain, V4, dump, asked, 1)?;
-        assert_eq!(rt; outcome, Ok(0));
-        assert_eq!(rt; text.as_slice(), lines.as_bytes());
+        let ran = answer(rt.alloc(), limits, Mode::Plain, V4, dump, asked, 1)?;
+        expect_outcome(&rt, dump, asked, &ran, Ok(0), lines.as_bytes());
     }
+    Ok(())
+}
+
+/// What is asked of two readers, one of which has no end, is refused with this fault under narrow limits.
+fn expect_too_long<R: ByteIn, S: ByteIn>(
+    rt: &impl Abort,
+    alloc: Global,
+    asked: Asked<'_>,
+    reader: &mut R,
+    other: &mut S,
+    fault: RunFault,
+) -> Result<(), Fail>
+    requires reader_failures { R.failures reader.old < 2 ^ 63 }
+    requires reader_reads { R.reads reader.old < 2 ^ 63 }
+    requires reader_ends { R.ends reader.old < 2 ^ 63 }
+    requires other_failures { S.failures other.old < 2 ^ 63 }
+    requires other_reads { S.reads other.old < 2 ^ 63 }
+    requires other_ends { S.ends other.old < 2 ^ 63 }
+{
+    let limits = Limits::new(83, 1).ok_or("limits")?;
+    let mut writer = ScriptedOut::new(alloc, 1, 0);
+    let outcome = run(
+        alloc,
+        limits,
+        Mode::Plain,
+        V4,
+        asked,
+        reader,
+        other,
+        &mut writer,
+    )?;
+    assert_eq!(rt; outcome, Err(fault), "{asked:?}");
+    assert!(rt; writer.taken().is_empty());
     Ok(())
 }
 
 #[test]
 fn a_dump_without_end(rt: HostRuntime) -> Result<(), Fail> {
-    let limits = Limits::new(83, 1).ok_or("limits")?;
-    for asked in all_asked("10.1.2.3") {
-        let mut reader = EndlessIn::new(b"*\x02\0\0");
+    for asked in &all_asked("10.1.2.3") {
+        let mut reader = EndlessIn::new(PACKET);
         let mut other = ScriptedIn::new(&[], 1, 0);
-        let mut writer = ScriptedOut::new(rt.alloc(), 1, 0);
-        let outcome = run(
-            rt.alloc(),
-            limits,
-            Mode::Plain,
-            V4,
-            asked,
-            &mut reader,
-            &mut other,
-            &mut writer,
-        )?;
-        assert_eq!(rt; outcome, Err(RunFault::Dump(Fault::TooLong)), "{asked:?}");
-        assert!(rt; reader.reads() <= 85);
-        assert_eq!(rt; other.reads(), 0);
-        assert!(rt; writer.taken().is_empty());
+        let fault = RunFault::Dump(Fault::TooLong);
+        expect_too_long(&rt, rt.alloc(), *asked, &mut reader, &mut other, fault)?;
+        assert!(rt; reader.reads() <= 85 && other.reads() == 0, "{asked:?}");
     }
     Ok(())
 }
 
 #[test]
 fn another_dump_without_end(rt: HostRuntime) -> Result<(), Fail> {
-    let limits = Limits::new(83, 1).ok_or("limits")?;
     let dump = octets(rt.alloc(), ONE_ROUTE)?;
     let mut reader = ScriptedIn::new(&dump, 1, 0);
-    let mut other = EndlessIn::new(b"*\x02\0\0");
-    let mut writer = ScriptedOut::new(rt.alloc(), 1, 0);
-    let outcome = run(
-        rt.alloc(),
-        limits,
-        Mode::Plain,
-        V4,
-        Asked::Comparison(V4, ""),
-        &mut reader,
-        &mut other,
-        &mut writer,
-    )?;
-    assert_eq!(rt; outcome, Err(RunFault::OtherDump(Fault::TooLong)));
+    let mut other = EndlessIn::new(PACKET);
+    let asked = Asked::Comparison(V4, "");
+    let fault = RunFault::OtherDump(Fault::TooLong);
+    expect_too_long(&rt, rt.alloc(), asked, &mut reader, &mut other, fault)?;
     assert!(rt; other.reads() <= 85);
-    assert!(rt; writer.taken().is_empty());
     Ok(())
 }
 
 /// Each fault, its status and its text.
-const TEXTS: [(RunFault, u8, &str); 14] = [
+static TEXTS: [(RunFault, u8, &str); 14] = [
     (
         RunFault::Dump(Fault::Truncated { at: 29 }),
         3,
@@ -215,10 +242,10 @@ const TEXTS: [(RunFault, u8, &str); 14] = [
 
 #[test]
 fn texts_and_statuses_of_faults(rt: HostRuntime) -> Result<(), Fail> {
-    for (fault, status, text) in TEXTS {
+    for (fault, status, text) in &TEXTS {
         let shown = format!(in rt.alloc(); "{fault}")?;
-        assert_eq!(rt; shown.as_str(), text);
-        assert_eq!(rt; status_of(&Err(fault)), status);
+        assert_eq!(rt; shown.as_str(), *text);
+        assert_eq!(rt; status_of(&Err(*fault)), *status);
     }
     assert_eq!(rt; status_of(&Ok(0)), 0);
     assert_eq!(rt; status_of(&Ok(1)), 1);

@@ -1,6 +1,7 @@
 //! Each allocation refused in turn, by `rt try --test --fail-alloc N`: tests/refused_memory.sh runs it for N = 1, 2, ..
 //! A test here passes where nothing was refused, and fails with `REFUSED` where a refusal was answered with `Memory`.
 use super::devices::ScriptedIn;
+use super::dumps::{NESTED_SOURCES, ONE_FAMILY, TWO_FAMILIES, V4, V6};
 use super::{Asked, run};
 use crate::byte_out::ByteOut;
 use crate::run_fault::RunFault;
@@ -14,17 +15,6 @@ use std::test::Fail;
 const REFUSED: &str = "memory was refused, and Memory answered";
 
 const OTHER: &str = "neither the known answer nor Memory";
-
-/// 0.0.0.0/0 with metric 512, and from 10.0.0.0/8 with metric 256.
-const NESTED_SOURCES: &str =
-    "2a020028060a00000200000000000001080a01000000064000010200080e010000000640000101008002080a";
-
-/// ::/0 with metric 256, and 255.255.255.255/32 from 0.0.0.1/32 with metric 256 by next hop 192.0.2.1.
-const TWO_FAMILIES: &str =
-    "2a020037060a0000020000000000000107060100c0000201080a02000000064000010100081501002000064000010100ffffffff80052000000001";
-
-/// ::/0 with metric 256.
-const ONE_FAMILY: &str = "2a020020060a0000020000000000000107060100c0000201080a02000000064000010100";
 
 const ROWS: &str =
     "0.0.0.0/0 from 0.0.0.0/0 via 192.0.2.1 id 0200000000000001 seqno 1 metric 512\n0.0.0.0/0 from 10.0.0.0/8 via 192.0.2.1 id 0200000000000001 seqno 1 metric 256\ntlvs 3\n";
@@ -112,48 +102,37 @@ fn outcome(
     }
 }
 
-/// The octets that the digits spell, without taking memory.
-fn decoded<'a>(digits: &str, room: &'a mut [u8; 64]) -> Result<&'a [u8], Fail> {
-    let room = room.get_mut(..digits.len() / 2).ok_or("too many digits")?;
-    hex::decode_to_slice(digits, room)?;
-    Ok(room)
+/// The octets that hexadecimal digits and spaces spell, without taking memory.
+fn decoded<'a>(text: &str, room: &'a mut [u8; 64]) -> Result<&'a [u8], Fail> {
+    let mut length = 0_usize;
+    for digits in text.split(' ') {
+        let end = length.saturating_add(digits.len() / 2);
+        let part = room.get_mut(length..end).ok_or("too many digits")?;
+        hex::decode_to_slice(digits, part)?;
+        length = end;
+    }
+    Ok(room.get(..length).ok_or("too many digits")?)
 }
 
 #[test]
 fn refused_memory_of_show(rt: HostRuntime) -> Result<(), Fail> {
-    outcome(
-        rt.alloc(),
-        "192.0.2.1",
-        NESTED_SOURCES,
-        "",
-        Asked::Rows,
-        0,
-        ROWS,
-    )
+    outcome(rt.alloc(), V4, NESTED_SOURCES, "", Asked::Rows, 0, ROWS)
 }
 
 #[test]
 fn refused_memory_of_lookup(rt: HostRuntime) -> Result<(), Fail> {
     let asked = Asked::Answer("10.1.2.3", "10.1.2.3");
-    outcome(
-        rt.alloc(),
-        "192.0.2.1",
-        NESTED_SOURCES,
-        "",
-        asked,
-        0,
-        ANSWER,
-    )
+    outcome(rt.alloc(), V4, NESTED_SOURCES, "", asked, 0, ANSWER)
 }
 
 #[test]
 fn refused_memory_of_normalise(rt: HostRuntime) -> Result<(), Fail> {
     outcome(
         rt.alloc(),
-        "192.0.2.1",
+        V4,
         NESTED_SOURCES,
         "",
-        Asked::Digits,
+        Asked::Normalise { hex: true },
         0,
         DIGITS,
     )
@@ -163,10 +142,10 @@ fn refused_memory_of_normalise(rt: HostRuntime) -> Result<(), Fail> {
 fn refused_memory_of_pairs(rt: HostRuntime) -> Result<(), Fail> {
     outcome(
         rt.alloc(),
-        "fe80::1",
+        V6,
         TWO_FAMILIES,
         "",
-        Asked::Pairs,
+        Asked::Pairs { count: false },
         0,
         PAIRS,
     )
@@ -176,10 +155,10 @@ fn refused_memory_of_pairs(rt: HostRuntime) -> Result<(), Fail> {
 fn refused_memory_of_count(rt: HostRuntime) -> Result<(), Fail> {
     outcome(
         rt.alloc(),
-        "192.0.2.1",
+        V4,
         NESTED_SOURCES,
         "",
-        Asked::Counts,
+        Asked::Pairs { count: true },
         0,
         COUNTS,
     )
@@ -187,10 +166,10 @@ fn refused_memory_of_count(rt: HostRuntime) -> Result<(), Fail> {
 
 #[test]
 fn refused_memory_of_compare(rt: HostRuntime) -> Result<(), Fail> {
-    let asked = Asked::Comparison("fe80::1", "");
+    let asked = Asked::Comparison(V6, "");
     outcome(
         rt.alloc(),
-        "fe80::1",
+        V6,
         TWO_FAMILIES,
         ONE_FAMILY,
         asked,

@@ -3,15 +3,13 @@ use super::dumps::{
     ALL_RETRACTED, FAULTY_SUB_TLVS, MORE_OMITTED, ONE_IGNORED, ONE_ROUTE, ONE_ROUTE_AGAIN,
     ONLY_RETRACTED, OTHER_ENCODING, ROUTER_ID_BY_FLAG, SOURCE_LEFT, V4, V6,
 };
-use super::{Asked, Row, expect_rows};
+use super::{Asked, Row, expect_texts};
 use babel_tlv::Mode;
 use std::test::Fail;
 
 const PLAIN: Mode = Mode::Plain;
 
 const HOLD: Mode = Mode::Hold;
-
-const ROWS: Asked<'static> = Asked::Rows;
 
 /// Updates that are ignored for seven reasons.
 const SEVEN_REASONS: &str =
@@ -25,64 +23,83 @@ const RESERVED_ROUTER_ID: &str = "2a020019 060a0000 ffffffffffffffff 080b0100080
 /// A route in address encoding 3.
 const LINK_LOCAL: &str = "2a02000d 080b030008000640000101000a";
 
+const ONE_ROW: &str =
+    "10.0.0.0/8 from 0.0.0.0/0 via 192.0.2.1 id 0200000000000001 seqno 1 metric 256\ntlvs 3\n";
+
+const TWO_ROWS: &str =
+    "10.0.0.0/8 from 0.0.0.0/0 via 192.0.2.1 id 0200000000000001 seqno 1 metric 512\n10.1.2.0/24 from 0.0.0.0/0 via 192.0.2.1 id 0200000000000001 seqno 1 metric 256\ntlvs 3\n";
+
+const ROW_OF_SOURCE: &str =
+    "10.0.0.0/8 from 20.0.0.0/8 via 192.0.2.1 id 0200000000000001 seqno 1 metric 512\ntlvs 4\n";
+
+/// The lines of dumps whose TLVs are all read.
+static OF_ROWS: [Row<'static>; 6] = [
+    (PLAIN, V4, "", "tlvs 0\n"),
+    (PLAIN, V4, ONE_ROUTE_AGAIN, ONE_ROW),
+    (PLAIN, "198.51.100.7", ONE_ROUTE_AGAIN, ONE_ROW),
+    (PLAIN, V6, ONE_ROUTE_AGAIN, ONE_ROW),
+    (PLAIN, V4, MORE_OMITTED, TWO_ROWS),
+    (PLAIN, V4, SOURCE_LEFT, ROW_OF_SOURCE),
+];
+
 #[test]
 fn lines_of_rows(rt: HostRuntime) -> Result<(), Fail> {
-    let one =
-        "10.0.0.0/8 from 0.0.0.0/0 via 192.0.2.1 id 0200000000000001 seqno 1 metric 256\ntlvs 3\n";
-    let two =
-        "10.0.0.0/8 from 0.0.0.0/0 via 192.0.2.1 id 0200000000000001 seqno 1 metric 512\n10.1.2.0/24 from 0.0.0.0/0 via 192.0.2.1 id 0200000000000001 seqno 1 metric 256\ntlvs 3\n";
-    let source =
-        "10.0.0.0/8 from 20.0.0.0/8 via 192.0.2.1 id 0200000000000001 seqno 1 metric 512\ntlvs 4\n";
-    let rows: [Row<'_>; 6] = [
-        (PLAIN, V4, "", ROWS, 0, "tlvs 0\n"),
-        (PLAIN, V4, ONE_ROUTE_AGAIN, ROWS, 0, one),
-        (PLAIN, "198.51.100.7", ONE_ROUTE_AGAIN, ROWS, 0, one),
-        (PLAIN, V6, ONE_ROUTE_AGAIN, ROWS, 0, one),
-        (PLAIN, V4, MORE_OMITTED, ROWS, 0, two),
-        (PLAIN, V4, SOURCE_LEFT, ROWS, 0, source),
-    ];
-    expect_rows(&rt, rt.alloc(), &rows)
+    expect_texts(&rt, rt.alloc(), Asked::Rows, &OF_ROWS)
 }
+
+const RESERVED: &str = "tlvs 2\nignored reserved-router-id 1 first 16\n";
+
+const ENCODING: &str = "tlvs 1\nignored unknown-encoding 1 first 4\n";
+
+const MANDATORY: &str =
+    "10.1.2.0/24 from 0.0.0.0/0 via 192.0.2.1 id 0200000000000001 seqno 1 metric 512\ntlvs 3\nignored unknown-mandatory 1 first 16\n";
+
+const NO_ROUTER_ID: &str =
+    "2001:db8:0:0:200:0:0:7/128 from 0:0:0:0:0:0:0:0/0 via fe80:0:0:0:0:0:0:1 id 0200000000000007 seqno 1 metric 256\ntlvs 2\nignored no-router-id 1 first 36\n";
+
+const WILDCARD: &str =
+    "20.0.0.0/8 from 0.0.0.0/0 via 192.0.2.1 id 0200000000000001 seqno 1 metric 256\ntlvs 6\nignored wildcard-prefix 1 first 67\n";
+
+const SOURCES: &str =
+    "tlvs 5\nignored bad-sub 1 first 74\nignored two-sources 1 first 16\nignored bad-source 2 first 37\n";
+
+const NO_NEXT_HOP: &str = "tlvs 2\nignored no-next-hop 1 first 16\n";
+
+/// The lines of dumps with TLVs that are ignored.
+static OF_REASONS: [Row<'static>; 9] = [
+    (PLAIN, V4, SEVEN_REASONS, SEVEN_LINES),
+    (PLAIN, V4, RESERVED_ROUTER_ID, RESERVED),
+    (PLAIN, V4, OTHER_ENCODING, ENCODING),
+    (PLAIN, V4, LINK_LOCAL, ENCODING),
+    (PLAIN, V4, ONE_IGNORED, MANDATORY),
+    (PLAIN, V6, ROUTER_ID_BY_FLAG, NO_ROUTER_ID),
+    (PLAIN, V4, ALL_RETRACTED, WILDCARD),
+    (PLAIN, V4, FAULTY_SUB_TLVS, SOURCES),
+    (PLAIN, V6, ONE_ROUTE, NO_NEXT_HOP),
+];
 
 #[test]
 fn lines_of_reasons(rt: HostRuntime) -> Result<(), Fail> {
-    let reserved = "tlvs 2\nignored reserved-router-id 1 first 16\n";
-    let encoding = "tlvs 1\nignored unknown-encoding 1 first 4\n";
-    let mandatory =
-        "10.1.2.0/24 from 0.0.0.0/0 via 192.0.2.1 id 0200000000000001 seqno 1 metric 512\ntlvs 3\nignored unknown-mandatory 1 first 16\n";
-    let no_router_id =
-        "2001:db8:0:0:200:0:0:7/128 from 0:0:0:0:0:0:0:0/0 via fe80:0:0:0:0:0:0:1 id 0200000000000007 seqno 1 metric 256\ntlvs 2\nignored no-router-id 1 first 36\n";
-    let wildcard =
-        "20.0.0.0/8 from 0.0.0.0/0 via 192.0.2.1 id 0200000000000001 seqno 1 metric 256\ntlvs 6\nignored wildcard-prefix 1 first 67\n";
-    let sources =
-        "tlvs 5\nignored bad-sub 1 first 74\nignored two-sources 1 first 16\nignored bad-source 2 first 37\n";
-    let no_next_hop = "tlvs 2\nignored no-next-hop 1 first 16\n";
-    let rows: [Row<'_>; 9] = [
-        (PLAIN, V4, SEVEN_REASONS, ROWS, 0, SEVEN_LINES),
-        (PLAIN, V4, RESERVED_ROUTER_ID, ROWS, 0, reserved),
-        (PLAIN, V4, OTHER_ENCODING, ROWS, 0, encoding),
-        (PLAIN, V4, LINK_LOCAL, ROWS, 0, encoding),
-        (PLAIN, V4, ONE_IGNORED, ROWS, 0, mandatory),
-        (PLAIN, V6, ROUTER_ID_BY_FLAG, ROWS, 0, no_router_id),
-        (PLAIN, V4, ALL_RETRACTED, ROWS, 0, wildcard),
-        (PLAIN, V4, FAULTY_SUB_TLVS, ROWS, 0, sources),
-        (PLAIN, V6, ONE_ROUTE, ROWS, 0, no_next_hop),
-    ];
-    expect_rows(&rt, rt.alloc(), &rows)
+    expect_texts(&rt, rt.alloc(), Asked::Rows, &OF_REASONS)
 }
+
+const HELD_AND_SOURCE: &str =
+    "10.0.0.0/8 from 0.0.0.0/0 unreachable\n10.0.0.0/8 from 20.0.0.0/8 via 192.0.2.1 id 0200000000000001 seqno 1 metric 512\ntlvs 4\n";
+
+const HELD_AND_WILDCARD: &str =
+    "10.0.0.0/8 from 0.0.0.0/0 unreachable\n20.0.0.0/8 from 0.0.0.0/0 via 192.0.2.1 id 0200000000000001 seqno 1 metric 256\ntlvs 6\nignored wildcard-prefix 1 first 67\n";
+
+const ONE_HELD: &str = "10.0.0.0/8 from 0.0.0.0/0 unreachable\ntlvs 1\n";
+
+/// The lines of dumps with retractions, most where these are held.
+static OF_HELD_ROWS: [Row<'static>; 4] = [
+    (HOLD, V4, SOURCE_LEFT, HELD_AND_SOURCE),
+    (HOLD, V4, ALL_RETRACTED, HELD_AND_WILDCARD),
+    (HOLD, V4, ONLY_RETRACTED, ONE_HELD),
+    (PLAIN, V4, ONLY_RETRACTED, "tlvs 1\n"),
+];
 
 #[test]
 fn lines_where_retracted_routes_are_held(rt: HostRuntime) -> Result<(), Fail> {
-    let source_left =
-        "10.0.0.0/8 from 0.0.0.0/0 unreachable\n10.0.0.0/8 from 20.0.0.0/8 via 192.0.2.1 id 0200000000000001 seqno 1 metric 512\ntlvs 4\n";
-    let all =
-        "10.0.0.0/8 from 0.0.0.0/0 unreachable\n20.0.0.0/8 from 0.0.0.0/0 via 192.0.2.1 id 0200000000000001 seqno 1 metric 256\ntlvs 6\nignored wildcard-prefix 1 first 67\n";
-    let one = "10.0.0.0/8 from 0.0.0.0/0 unreachable\ntlvs 1\n";
-    let rows: [Row<'_>; 4] = [
-        (HOLD, V4, SOURCE_LEFT, ROWS, 0, source_left),
-        (HOLD, V4, ALL_RETRACTED, ROWS, 0, all),
-        (HOLD, V4, ONLY_RETRACTED, ROWS, 0, one),
-        (PLAIN, V4, ONLY_RETRACTED, ROWS, 0, "tlvs 1\n"),
-    ];
-    expect_rows(&rt, rt.alloc(), &rows)
+    expect_texts(&rt, rt.alloc(), Asked::Rows, &OF_HELD_ROWS)
 }

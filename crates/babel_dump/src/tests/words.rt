@@ -3,219 +3,236 @@ use super::address;
 use crate::job::{Job, Refusal};
 use crate::which::Which;
 use crate::words::read_words;
+use babel_prefix::Addr;
 use std::alloc::Global;
 use std::process::Abort;
 use std::test::Fail;
 
-/// The job of these words.
-fn job(rt: &impl Abort, alloc: Global, words: &[&str]) -> Result<Job, Fail> {
-    match read_words(alloc, words) {
-        Ok(job) => Ok(job),
-        Err(_refusal) => {
-            assert!(rt; false, "no job of {words:?}");
-            Err(Fail::from("no job"))
-        }
-    }
+/// What a job is to be, with its addresses as texts.
+#[derive(Clone, Copy)]
+struct Wanted<'a> {
+    which: Which,
+    from: &'a str,
+    other_from: Option<&'a str>,
+    to: Option<&'a str>,
+    src: Option<&'a str>,
+    hold: bool,
+    hex: bool,
+    body: Option<u16>,
+    count: bool,
+    file: Option<&'a str>,
+    other: Option<&'a str>,
 }
 
-/// The text that these words are refused with.
-fn usage(rt: &impl Abort, alloc: Global, words: &[&str]) -> Result<String, Fail> {
-    match read_words(alloc, words) {
+/// What is to be shown of the dump on standard input that `::` sent.
+const SHOW: Wanted<'static> = Wanted {
+    which: Which::Show,
+    from: "::",
+    other_from: None,
+    to: None,
+    src: None,
+    hold: false,
+    hex: false,
+    body: None,
+    count: false,
+    file: None,
+    other: None,
+};
+
+const LOOKUP: Wanted<'static> = Wanted {
+    which: Which::Lookup,
+    to: Some("::"),
+    src: Some("::"),
+    ..SHOW
+};
+
+const NORMALISE: Wanted<'static> = Wanted {
+    which: Which::Normalise,
+    ..SHOW
+};
+
+const PAIRS: Wanted<'static> = Wanted {
+    which: Which::Pairs,
+    ..SHOW
+};
+
+const COMPARE: Wanted<'static> = Wanted {
+    which: Which::Compare,
+    other_from: Some("::"),
+    file: Some("a"),
+    other: Some("b"),
+    ..SHOW
+};
+
+/// Words, and the job that they ask for.
+#[rattlefmt::skip]
+static JOBS: [(&str, Wanted<'static>); 15] = [
+    (
+        "lookup --from fe80::1 --to 10.1.2.3 --src=0.0.0.0 --hold x",
+        Wanted {
+            from: "fe80::1",
+            to: Some("10.1.2.3"),
+            src: Some("0.0.0.0"),
+            hold: true,
+            file: Some("x"),
+            ..LOOKUP
+        },
+    ),
+    (
+        "compare --other-from ::1 --from=192.0.2.1 a b",
+        Wanted {
+            from: "192.0.2.1",
+            other_from: Some("::1"),
+            ..COMPARE
+        },
+    ),
+    ("show --from 192.0.2.1", Wanted { from: "192.0.2.1", ..SHOW }),
+    ("normalise --from 192.0.2.1", Wanted { from: "192.0.2.1", ..NORMALISE }),
+    ("pairs --from 192.0.2.1", Wanted { from: "192.0.2.1", ..PAIRS }),
+    ("show --from :: --hold", Wanted { hold: true, ..SHOW }),
+    ("lookup --from :: --to :: --src :: --hold", Wanted { hold: true, ..LOOKUP }),
+    ("normalise --from :: --hold", Wanted { hold: true, ..NORMALISE }),
+    ("pairs --from :: --hold", Wanted { hold: true, ..PAIRS }),
+    ("compare --from :: --other-from :: --hold a b", Wanted { hold: true, ..COMPARE }),
+    ("normalise --from :: --hex", Wanted { hex: true, ..NORMALISE }),
+    ("pairs --from :: --count", Wanted { count: true, ..PAIRS }),
+    ("normalise --from :: --body 128", Wanted { body: Some(128), ..NORMALISE }),
+    ("normalise --from :: --body 1024", Wanted { body: Some(1024), ..NORMALISE }),
+    ("normalise --from :: --body 65535", Wanted { body: Some(65535), ..NORMALISE }),
+];
+
+/// The words of a line as it is typed. An empty word is written `''`.
+fn words<'a>(alloc: Global, line: &'a str) -> Result<Vec<&'a str>, Fail> {
+    let mut words = Vec::new(alloc);
+    for word in line.split_whitespace() {
+        words.push(if word == "''" { "" } else { word })?;
+    }
+    Ok(words)
+}
+
+#[test]
+fn words_of_jobs(rt: HostRuntime) -> Result<(), Fail> {
+    for (line, wanted) in &JOBS {
+        match read_words(rt.alloc(), &words(rt.alloc(), line)?) {
+            Ok(job) => expect_job(&rt, line, &job, wanted)?,
+            Err(_refusal) => assert!(rt; false, "no job of {line}"),
+        }
+    }
+    Ok(())
+}
+
+/// The job that these words ask for is the one that is wanted.
+fn expect_job(rt: &impl Abort, line: &str, job: &Job, wanted: &Wanted<'_>) -> Result<(), Fail> {
+    assert_eq!(rt; job.which, wanted.which, "of {line}");
+    assert_eq!(rt; job.body, wanted.body, "of {line}");
+    let flags = (job.hold, job.hex, job.count);
+    assert_eq!(rt; flags, (wanted.hold, wanted.hex, wanted.count), "of {line}");
+    expect_address(rt, line, Some(job.from), Some(wanted.from))?;
+    expect_address(rt, line, job.other_from, wanted.other_from)?;
+    expect_address(rt, line, job.to, wanted.to)?;
+    expect_address(rt, line, job.src, wanted.src)?;
+    expect_name(rt, line, job.file.as_deref(), wanted.file);
+    expect_name(rt, line, job.other.as_deref(), wanted.other);
+    Ok(())
+}
+
+/// The address of a job is the one that is wanted.
+fn expect_address(
+    rt: &impl Abort,
+    line: &str,
+    given: Option<Addr>,
+    wanted: Option<&str>,
+) -> Result<(), Fail> {
+    let wanted = match wanted {
+        Some(text) => Some(address(text)?),
+        None => None,
+    };
+    assert_eq!(rt; given, wanted, "of {line}");
+    Ok(())
+}
+
+/// The file's name of a job is the one that is wanted.
+fn expect_name(rt: &impl Abort, line: &str, given: Option<&str>, wanted: Option<&str>) {
+    assert!(rt; given == wanted, "{given:?} of {line}");
+}
+
+/// The text that the words of a line are refused with.
+fn usage(rt: &impl Abort, alloc: Global, line: &str) -> Result<String, Fail> {
+    match read_words(alloc, &words(alloc, line)?) {
         Err(Refusal::Usage(text)) => Ok(text),
         Err(_refusal) => Err(Fail::from("no usage")),
         Ok(_job) => {
-            assert!(rt; false, "no refusal of {words:?}");
+            assert!(rt; false, "no refusal of {line}");
             Err(Fail::from("a job"))
         }
     }
 }
 
-#[test]
-fn words_of_a_lookup(rt: HostRuntime) -> Result<(), Fail> {
-    let words = [
-        "lookup",
-        "--from",
-        "fe80::1",
-        "--to",
-        "10.1.2.3",
-        "--src=0.0.0.0",
-        "--hold",
-        "x",
-    ];
-    let job = job(&rt, rt.alloc(), &words)?;
-    assert_eq!(rt; job.which, Which::Lookup);
-    assert_eq!(rt; job.from, address("fe80::1")?);
-    assert_eq!(rt; job.to, Some(address("10.1.2.3")?));
-    assert_eq!(rt; job.src, Some(address("0.0.0.0")?));
-    assert!(rt; job.hold);
-    let file = job.file.ok_or("no file")?;
-    assert_eq!(rt; file.as_str(), "x");
-    Ok(())
-}
+/// Words that are no addresses, and addresses of two families, with the text that they are refused with. Of several
+/// that are no addresses the first is named, in the order `--from`, `--other-from`, `--to`, `--src`.
+static NO_ADDRESSES: [(&str, &str); 8] = [
+    ("lookup --src v --to w --from q", "not an address: q\n"),
+    ("lookup --src v --to w --from ::", "not an address: w\n"),
+    (
+        "lookup --src 01.2.3.4 --to :: --from ::",
+        "not an address: 01.2.3.4\n",
+    ),
+    ("lookup --src :: --to :: --from ''", "not an address: \n"),
+    ("compare --other-from w --from q a b", "not an address: q\n"),
+    (
+        "compare --other-from w --from :: a b",
+        "not an address: w\n",
+    ),
+    (
+        "lookup --from 192.0.2.1 --to 10.0.0.1 --src ::1 x",
+        "--to and --src are of different families\n",
+    ),
+    (
+        "lookup --from 192.0.2.1 --to ::1 --src 10.0.0.1 x",
+        "--to and --src are of different families\n",
+    ),
+];
 
-#[test]
-fn words_of_a_comparison(rt: HostRuntime) -> Result<(), Fail> {
-    let words = [
-        "compare",
-        "--other-from",
-        "::1",
-        "--from=192.0.2.1",
-        "a",
-        "b",
-    ];
-    let job = job(&rt, rt.alloc(), &words)?;
-    assert_eq!(rt; job.which, Which::Compare);
-    assert_eq!(rt; job.from, address("192.0.2.1")?);
-    assert_eq!(rt; job.other_from, Some(address("::1")?));
-    assert!(rt; !job.hold);
-    let (file, other) = (job.file.ok_or("no file")?, job.other.ok_or("no other")?);
-    assert_eq!(rt; (file.as_str(), other.as_str()), ("a", "b"));
-    Ok(())
-}
-
-#[test]
-fn words_that_only_name_a_sender(rt: HostRuntime) -> Result<(), Fail> {
-    let rows = [
-        ("show", Which::Show),
-        ("normalise", Which::Normalise),
-        ("pairs", Which::Pairs),
-    ];
-    for (command, which) in rows {
-        let job = job(&rt, rt.alloc(), &[command, "--from", "192.0.2.1"])?;
-        assert_eq!(rt; job.which, which);
-        assert_eq!(rt; job.from, address("192.0.2.1")?);
-        assert!(rt; job.other_from.is_none() && job.to.is_none() && job.src.is_none());
-        assert!(rt; !job.hold && !job.hex && !job.count && job.body.is_none());
-        assert!(rt; job.file.is_none() && job.other.is_none());
-    }
-    Ok(())
-}
-
-/// The words of an option, and whether they ask for `--hold`, `--hex` and `--count`.
-#[test]
-fn options_without_a_value(rt: HostRuntime) -> Result<(), Fail> {
-    let rows: [(&[&str], (bool, bool, bool)); 7] = [
-        (&["show", "--from", "::", "--hold"], (true, false, false)),
-        (
-            &[
-                "lookup", "--from", "::", "--to", "::", "--src", "::", "--hold",
-            ],
-            (true, false, false),
-        ),
-        (
-            &["normalise", "--from", "::", "--hold"],
-            (true, false, false),
-        ),
-        (&["pairs", "--from", "::", "--hold"], (true, false, false)),
-        (
-            &[
-                "compare",
-                "--from",
-                "::",
-                "--other-from",
-                "::",
-                "--hold",
-                "a",
-                "b",
-            ],
-            (true, false, false),
-        ),
-        (
-            &["normalise", "--from", "::", "--hex"],
-            (false, true, false),
-        ),
-        (&["pairs", "--from", "::", "--count"], (false, false, true)),
-    ];
-    for (words, flags) in rows {
-        let job = job(&rt, rt.alloc(), words)?;
-        assert_eq!(rt; (job.hold, job.hex, job.count), flags, "of {words:?}");
-    }
-    Ok(())
-}
-
-#[test]
-fn sizes_of_bodies(rt: HostRuntime) -> Result<(), Fail> {
-    for (size, octets) in [("128", 128), ("1024", 1024), ("65535", 65535)] {
-        let job = job(
-            &rt,
-            rt.alloc(),
-            &["normalise", "--from", "::", "--body", size],
-        )?;
-        assert_eq!(rt; job.body, Some(octets));
-    }
-    for size in ["127", "65536", "0", "a"] {
-        let text = usage(
-            &rt,
-            rt.alloc(),
-            &["normalise", "--from", "::", "--body", size],
-        )?;
-        assert!(rt; text.contains("'--body <OCTETS>'"), "of {size}: {text}");
-    }
-    Ok(())
-}
-
-#[test]
-fn addresses_of_two_families(rt: HostRuntime) -> Result<(), Fail> {
-    for (to, src) in [("10.0.0.1", "::1"), ("::1", "10.0.0.1")] {
-        let words = [
-            "lookup",
-            "--from",
-            "192.0.2.1",
-            "--to",
-            to,
-            "--src",
-            src,
-            "x",
-        ];
-        let text = usage(&rt, rt.alloc(), &words)?;
-        assert_eq!(rt; text.as_str(), "--to and --src are of different families\n");
-    }
-    Ok(())
-}
-
-/// Of several words that are no addresses the first is named, in the order `--from`, `--other-from`, `--to`, `--src`.
 #[test]
 fn words_that_are_no_addresses(rt: HostRuntime) -> Result<(), Fail> {
-    let lookups = [
-        ("q", "w", "v", "not an address: q\n"),
-        ("::", "w", "v", "not an address: w\n"),
-        ("::", "::", "01.2.3.4", "not an address: 01.2.3.4\n"),
-        ("", "::", "::", "not an address: \n"),
-    ];
-    for (from, to, src, text) in lookups {
-        let words = ["lookup", "--src", src, "--to", to, "--from", from];
-        let refusal = usage(&rt, rt.alloc(), &words)?;
-        assert_eq!(rt; refusal.as_str(), text);
-    }
-    for (from, text) in [("q", "not an address: q\n"), ("::", "not an address: w\n")] {
-        let words = ["compare", "--other-from", "w", "--from", from, "a", "b"];
-        let refusal = usage(&rt, rt.alloc(), &words)?;
-        assert_eq!(rt; refusal.as_str(), text);
+    for (line, text) in &NO_ADDRESSES {
+        let refusal = usage(&rt, rt.alloc(), line)?;
+        assert_eq!(rt; refusal.as_str(), *text, "of {line}");
     }
     Ok(())
 }
+
+const USAGE: &str = "Usage: babel-dump";
+
+const BODY: &str = "'--body <OCTETS>'";
+
+/// Words that are refused, and a part of the text.
+static REFUSED: [(&str, &str); 18] = [
+    ("", USAGE),
+    ("shows", USAGE),
+    ("show x", USAGE),
+    ("lookup x", USAGE),
+    ("lookup --from :: --to :: x", USAGE),
+    ("normalise x", USAGE),
+    ("pairs x", USAGE),
+    ("compare --from :: a b", USAGE),
+    ("compare --from :: --other-from :: a", USAGE),
+    ("show --from :: x y", USAGE),
+    ("show --from :: --to ::", USAGE),
+    ("show --from :: --hex", USAGE),
+    ("pairs --from :: --body 128", USAGE),
+    ("normalise --from :: --count", USAGE),
+    ("normalise --from :: --body 127", BODY),
+    ("normalise --from :: --body 65536", BODY),
+    ("normalise --from :: --body 0", BODY),
+    ("normalise --from :: --body a", BODY),
+];
 
 #[test]
 fn words_that_are_refused(rt: HostRuntime) -> Result<(), Fail> {
-    let rows: [&[&str]; 14] = [
-        &[],
-        &["shows"],
-        &["show", "x"],
-        &["lookup", "x"],
-        &["lookup", "--from", "::", "--to", "::", "x"],
-        &["normalise", "x"],
-        &["pairs", "x"],
-        &["compare", "--from", "::", "a", "b"],
-        &["compare", "--from", "::", "--other-from", "::", "a"],
-        &["show", "--from", "::", "x", "y"],
-        &["show", "--from", "::", "--to", "::"],
-        &["show", "--from", "::", "--hex"],
-        &["pairs", "--from", "::", "--body", "128"],
-        &["normalise", "--from", "::", "--count"],
-    ];
-    for words in rows {
-        let text = usage(&rt, rt.alloc(), words)?;
-        assert!(rt; text.contains("Usage: babel-dump"), "of {words:?}: {text}");
+    for (line, part) in &REFUSED {
+        let text = usage(&rt, rt.alloc(), line)?;
+        assert!(rt; text.contains(*part), "of {line}: {text}");
     }
     Ok(())
 }
@@ -269,30 +286,37 @@ const ENDS: [&str; 3] = [
     "\n  5  out of memory",
 ];
 
-/// Each help text names its options, each with a sentence, and has an example and the exit statuses.
+/// The words that ask for a help text, and its parts beside `ENDS`. Each names its options, each with a sentence, and
+/// has an example and the exit statuses.
+static HELPS: [(&str, &[&str], &[&str]); 7] = [
+    ("--help", &COMMANDS, &["babel-dump lookup --from"]),
+    ("help", &COMMANDS, &["babel-dump lookup --from"]),
+    ("show -h", &OF_ONE_DUMP, &["babel-dump show --from"]),
+    ("lookup --help", &OF_ONE_DUMP, &OF_LOOKUP),
+    ("normalise --help", &OF_ONE_DUMP, &OF_NORMALISE),
+    ("help pairs", &OF_ONE_DUMP, &OF_PAIRS),
+    ("compare --help", &OF_COMPARE, &[]),
+];
+
 #[test]
 fn words_that_ask_for_help(rt: HostRuntime) -> Result<(), Fail> {
-    let example = ["babel-dump lookup --from"];
-    let show = ["babel-dump show --from"];
-    let rows: [(&[&str], &[&str], &[&str]); 7] = [
-        (&["--help"], &COMMANDS, &example),
-        (&["help"], &COMMANDS, &example),
-        (&["show", "-h"], &OF_ONE_DUMP, &show),
-        (&["lookup", "--help"], &OF_ONE_DUMP, &OF_LOOKUP),
-        (&["normalise", "--help"], &OF_ONE_DUMP, &OF_NORMALISE),
-        (&["help", "pairs"], &OF_ONE_DUMP, &OF_PAIRS),
-        (&["compare", "--help"], &OF_COMPARE, &[]),
-    ];
-    for (words, parts, own) in rows {
-        match read_words(rt.alloc(), words) {
+    for (line, parts, own) in &HELPS {
+        match read_words(rt.alloc(), &words(rt.alloc(), line)?) {
             Err(Refusal::Help(help)) => {
-                for part in parts.iter().chain(own.iter()).chain(ENDS.iter()) {
-                    assert!(rt; help.contains(*part), "no {part} in {help}");
-                }
+                expect_parts(&rt, help.as_str(), parts);
+                expect_parts(&rt, help.as_str(), own);
+                expect_parts(&rt, help.as_str(), &ENDS);
             }
-            Err(_refusal) => assert!(rt; false, "no help of {words:?}"),
-            Ok(_job) => assert!(rt; false, "no refusal of {words:?}"),
+            Err(_refusal) => assert!(rt; false, "no help of {line}"),
+            Ok(_job) => assert!(rt; false, "no refusal of {line}"),
         }
     }
     Ok(())
+}
+
+/// A help text has these parts.
+fn expect_parts(rt: &impl Abort, help: &str, parts: &[&str]) {
+    for part in parts {
+        assert!(rt; help.contains(*part), "no {part} in {help}");
+    }
 }
