@@ -1,8 +1,8 @@
 -- The counts of sayings and one more.
-use Rattle.std.proofs.Common.{◌≡◌, ℕ, zero, suc, ◌+◌, ◌≤◌, ◌<◌, subst, get_or, Bool, true, false, cond, List, [], ◌∷◌, ◌++◌, length, map, Option, Some, None, refl, sym, ap, ◌∙◌, arith}
-use Rattle.std.specs.Prelude.{Ok, count_by, slice_set, IfSome}
+use Rattle.std.proofs.Common.{◌≡◌, ℕ, ◌+◌, Bool, true, false, cond, List, [], ◌∷◌, ◌++◌, length, map, Option, Some, None, refl, ap, ◌∙◌, arith}
+use Rattle.std.specs.Prelude.{Ok, count_by}
 use Rattle.std.specs.List.{find}
-use Rattle.std.specs.Option.{option_map, option_or, option_flatten}
+use Rattle.std.specs.Option.{option_map, option_or}
 use Rattle.std.proofs.lemmas.List.Folds.{find-append}
 use Rattle.std.proofs.lemmas.List.Sums.{sum_by-append}
 use Rattle.std.proofs.lemmas.List.{length-append}
@@ -11,7 +11,7 @@ use Rattle.babel_tlv.specs.declared.event.Event.TheVariants as events
 use Rattle.babel_tlv.specs.declared.reason.Reason.{Reason}
 use Rattle.babel_tlv.specs.declared.reason.Reason.TheVariants as reasons
 use Rattle.babel_tlv.specs.Says.{Saying}
-use Rattle.babel_table.specs.Counts.{Counts, all_reasons, is_ignored_for, ignored_in, counts_of, count_at, one_more, ignored_with, counted_with}
+use Rattle.babel_table.specs.Counts.{Counts, all_reasons, is_ignored_for, ignored_in, counts_of, one_more, ignored_with, counted_with}
 
 abbrev Count : Type 0
 Count = Option (ℕ × ℕ)
@@ -97,40 +97,3 @@ counts-push said at event =
     ∙ by_event (ignored_in said) at event in
     ap (λ (n : ℕ). counts n (map (ignored_in (said ++ saying at event ∷ [])) all_reasons)) more
     ∙ ap (λ (t : List Count). counts (length said + 1) t) each
-
--- ---- no count is above that of all TLVs
-
-abbrev pub IsBelow : ℕ → Count → Type 0
-IsBelow tlvs counted = IfSome counted (λ c. c.0 ≤ tlvs)
-
-below-more : (tlvs : ℕ) (counted : Count) → IsBelow tlvs counted → IsBelow (tlvs + 1) counted
-below-more tlvs None le = le
-below-more tlvs (Some c) le = omega arith
-
-pub one_more-below : (tlvs at : ℕ) (counted : Count) → IsBelow tlvs counted → IsBelow (tlvs + 1) (one_more at counted)
-one_more-below tlvs at None le = omega arith
-one_more-below tlvs at (Some c) le = omega arith
-
-pub all_below-more : (tlvs : ℕ) (ignored : List Count) → ((i : ℕ) → IsBelow tlvs (count_at ignored i)) → (i : ℕ) → IsBelow (tlvs + 1) (count_at ignored i)
-all_below-more tlvs ignored all i = below-more tlvs (count_at ignored i) (all i)
-
-pub all_below-set : (tlvs : ℕ) (ignored : List Count) (place : ℕ) (new : Count) → ((i : ℕ) → IsBelow tlvs (count_at ignored i)) → IsBelow tlvs new → (i : ℕ) → IsBelow tlvs (count_at (slice_set ignored place new) i)
-all_below-set tlvs [] place new all le i = all i
-all_below-set tlvs (x ∷ xs) zero new all le zero = le
-all_below-set tlvs (x ∷ xs) zero new all le (suc i) = all (suc i)
-all_below-set tlvs (x ∷ xs) (suc place) new all le zero = all zero
-all_below-set tlvs (x ∷ xs) (suc place) new all le (suc i) = all_below-set tlvs xs place new (λ j. all (suc j)) le i
-
-pub got-count_at : (xs : List Count) (i : ℕ) (d : Count) → i < length xs → get_or xs i d ≡ count_at xs i
-got-count_at [] i d less = absurd (omega arith)
-got-count_at (x ∷ xs) zero d less = by x
-  where
-    by : (x : Count) → x ≡ option_flatten (Some x)
-    by None = refl
-    by (Some c) = refl
-got-count_at (x ∷ xs) (suc i) d less = got-count_at xs i d (omega arith)
-
-pub all_below-one : (tlvs at : ℕ) (ignored : List Count) (place : ℕ) (new : Count) → ((i : ℕ) → IsBelow tlvs (count_at ignored i)) → new ≡ one_more at (count_at ignored place)
-    → (i : ℕ) → IsBelow (tlvs + 1) (count_at (slice_set ignored place new) i)
-all_below-one tlvs at ignored place new all is =
-    all_below-set (tlvs + 1) ignored place new (all_below-more tlvs ignored all) (subst (IsBelow (tlvs + 1)) (sym is) (one_more-below tlvs at (count_at ignored place) (all place)))

@@ -15,10 +15,10 @@ use Rattle.babel_tlv.specs.Says.{sayings}
 use Rattle.babel_table.specs.Bounds.{Bounds}
 use Rattle.babel_table.specs.Counts.{Counts, counts_of}
 use Rattle.babel_table.specs.DumpFault.{DumpFault, HasNoFault, IsTableOf, IsTruncated, MayGoOn, StreamFault}
-use Rattle.babel_table.specs.Feeding.{StandsBehind, TookPackets, StopsAt, StopsWithin, Progress, IsPartial, IsLasting, NeedsMemory, HasTaken, HasFailed, HasReadTo, HasRead, routes}
+use Rattle.babel_table.specs.Feeding.{StandsBehind, TookPackets, StopsWithin, Progress, IsPartial, IsLasting, NeedsMemory, HasTaken, HasFailed, HasReadTo, HasRead, routes}
 use Rattle.babel_table.specs.Rows.{Routes}
 use Rattle.babel_table.proofs.FineLaws.{stands-none}
-use Rattle.babel_table.proofs.DumpLaws.{HasTakenTo, HasStopped, taken-then, stopped-then, header-lasts, only_truncated, truncated}
+use Rattle.babel_table.proofs.DumpLaws.{HasTakenTo, HasStopped, taken-then, stopped-then, only_truncated, truncated}
 
 -- ---- faults that last
 
@@ -35,20 +35,6 @@ lasting-truncated (faults.TooManyRoutes at) lasting truncated = truncated
 lasting-truncated faults.TooLong lasting truncated = truncated
 lasting-truncated faults.TooManyPairs lasting truncated = truncated
 lasting-truncated faults.Memory lasting truncated = truncated
-
-memory-truncated : (fault : Fault) → fault ≡ faults.Memory → IsTruncated fault → ⊥
-memory-truncated fault is truncated = subst IsTruncated is truncated
-
-module _ (mode : Mode) (entries : ℕ) (sender : Address) where
-  stops_at-settled : (now : Routes) (rest : List ℕ) (place : ℕ) (fault : Fault) → StopsAt mode entries sender now rest place fault → IsTruncated fault → ⊥
-  stops_at-settled now rest place fault (inl header) = lasting-truncated fault (header-lasts place rest fault header)
-  stops_at-settled now rest place fault (inr (body, begins, inl past)) = lasting-truncated fault (subst IsLasting (sym past.2) tt)
-  stops_at-settled now rest place fault (inr (body, begins, inr (parts, inl fails))) = lasting-truncated fault fails.0
-  stops_at-settled now rest place fault (inr (body, begins, inr (parts, inr fails))) = memory-truncated fault fails.0
-
-  pub stops-settled : (bytes at : ℕ) (pending octets : List ℕ) (old : Routes) (fault : Fault) → StopsWithin bytes mode entries sender at pending octets old fault → IsTruncated fault → ⊥
-  stops-settled bytes at pending octets old fault (inl stops) = stops_at-settled stops.now stops.rest stops.place fault stops.stops
-  stops-settled bytes at pending octets old fault (inr long) = lasting-truncated fault (subst IsLasting (sym long.0) tt)
 
 -- ---- the limit on octets
 
@@ -110,9 +96,6 @@ module _ (p : Progress) where
   no_fault fed taken none fault (inl (fits, stream)) = (only_truncated p.mode p.limits.entries p.sender p.table p.at p.pending fed (taken-to fed taken) fault stream).1 none
   no_fault fed taken none fault (inr (inl (past, stream, not))) = absurd (omega (arith, past, taken.in_limit))
   no_fault fed taken none fault (inr (inr (past, is, all))) = absurd (omega (arith, past, taken.in_limit))
-
-  pub cut_short : (fed : List ℕ) → HasTaken p fed → p.pending ≢ [] → DumpFault p.limits p.mode p.sender fed (faults.Truncated p.at)
-  cut_short fed taken some = inl (taken.in_limit, truncated p.mode p.limits.entries p.sender p.table p.at p.pending fed (taken-to fed taken) some)
 
   pub table_of : (fed : List ℕ) → HasTaken p fed → p.pending ≡ [] → IsTableOf p.limits p.mode p.sender fed p.table
   table_of fed taken none = record {

@@ -13,7 +13,7 @@ use Rattle.babel_tlv.specs.Forming.{update_encoding, sets_router_id}
 use Rattle.babel_tlv.specs.Context.{Context, context_after}
 use Rattle.babel_tlv.specs.Says.{Saying, said, update_said, sayings_behind}
 use Rattle.babel_table.specs.DumpFault.{Refuses, RefusedBy}
-use Rattle.babel_table.specs.Feeding.{StandsBehind, Takes, Fails, TookSome, MayGrowAt, IsRefused, IsLasting, event_at}
+use Rattle.babel_table.specs.Feeding.{StandsBehind, Fails, TookSome, MayGrowAt, IsRefused, IsLasting, event_at}
 use Rattle.babel_table.specs.Rows.{Routes}
 use Rattle.babel_table.proofs.FineLaws.{refused_by}
 
@@ -43,15 +43,6 @@ said-lasting : (context : Context) (tlv : TlvAt) (fault : Fault) → said contex
 said-lasting context tlv fault is = subst (λ (r : Result Event Fault). IfErr r IsLasting) is (said_lasts context tlv).lasts
 
 module _ (mode : Mode) (entries : ℕ) (sender : Address) (old : Routes) (all : List TlvAt) where
-  pub took-none : TookSome mode entries sender old all old (context_after sender []) all
-  took-none = record {
-    earlier = [];
-    done = [];
-    context_is = refl;
-    whole = refl;
-    stands = λ before stands. subst (StandsBehind mode entries old) (sym (append-nil before)) stands;
-  }
-
   here_said : (context : Context) (tlv : TlvAt) (some : List TlvAt) (event : Event) → context ≡ context_after sender some → said context tlv ≡ Ok event → said (context_after sender some) tlv ≡ Ok event
   here_said context tlv some event is e = subst (λ (c : Context). said c tlv ≡ Ok event) is e
 
@@ -72,11 +63,6 @@ module _ (mode : Mode) (entries : ℕ) (sender : Address) (old : Routes) (all : 
             ∙ sym (append_assoc some.done (event_at tlv.at event ∷ []) (sayings_behind sender (tlv ∷ some.earlier) left));
         stands = λ before stands. subst (StandsBehind mode entries next) (append_assoc before some.done (event_at tlv.at event ∷ [])) (takes (before ++ some.done) (some.stands before stands));
       }
-
-  pub took-all : (now : Routes) (context : Context) (left : List TlvAt) → TookSome mode entries sender old all now context left → left ≡ [] → Takes mode entries (sayings_behind sender [] all) old now
-  took-all now context [] some none before stands =
-      subst (λ (s : List Saying). StandsBehind mode entries now (before ++ s)) (sym (some.whole ∙ append-nil some.done)) (some.stands before stands)
-  took-all now context (tlv ∷ left) some none before stands = absurd cc
 
   -- the TLV refuses the dump
   pub took-refused : (now : Routes) (context : Context) (tlv : TlvAt) (left : List TlvAt) (fault : Fault) → TookSome mode entries sender old all now context (tlv ∷ left)

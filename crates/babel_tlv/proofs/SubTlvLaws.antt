@@ -101,13 +101,3 @@ SubTlvsSoFar-source place octets rest behind None body prefix so_far begins fine
     ∙ ap (source_in family) (tlvs_of-begins so_far.at rest 128 body behind begins)
     ∙ ap Some (sym (is family e)))
     (λ family e. ap (λ (p : AddressPrefix). p.address.family) (is family e))
-
--- at the end all that was found is what the items give
-pub SubTlvsSoFar-end : (place : Place) (octets rest : List ℕ) (source : Option AddressPrefix) → SubTlvsSoFar place octets rest source → length rest ≡ 0
-    → (family : Family) → place ≡ places.InUpdate family → source ≡ source_in family (tlvs_of 0 octets)
-SubTlvsSoFar-end place octets [] source so_far empty family e = sym (so_far.found family e ∙ or_none source)
-  where
-    or_none : (a : Option AddressPrefix) → option_or a None ≡ a
-    or_none None = refl
-    or_none (Some p) = refl
-SubTlvsSoFar-end place octets (x ∷ rest) source so_far empty family e = absurd (omega arith)

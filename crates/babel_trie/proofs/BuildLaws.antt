@@ -24,10 +24,6 @@ use Rattle.babel_trie.proofs.NumberLaws.{one_trie, Represents-grows, HasTrie-gro
 use Rattle.babel_trie.proofs.PlaceLaws.{whole_covers, InOrder-left, InOrder-right}
 use Rattle.babel_trie.proofs.PartLaws.{from_map, high_is_apart, low_is_apart, mapped_parts, overlays_low, overlays_high}
 
--- all addresses
-pub whole_place : (w : ℕ) → IsPlace w w 0
-whole_place w = record { bits_in = omega arith; index = 0; start_is = omega arith; room = omega arith }
-
 module _ {V : Type 0} where
   sorted_left : (w : ℕ) (xs ys : List (Entry V)) → IsSorted w (xs ++ ys) → IsSorted w xs
   sorted_left w xs ys s =

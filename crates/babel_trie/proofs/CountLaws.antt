@@ -36,9 +36,6 @@ module _ {V : Type 0} where
       let h = rows_at-values dst w (bits - 1) (k * 2 + 1) high in
       sym sum ∙ ap (λ n. n + length (rows_at dst (leaves w (bits - 1) (k * 2 + 1) high))) l ∙ ap (λ n. value_count low + n) h
 
-  pub counted_none : (nodes : List (Node (Option V))) → AreCounted nodes 0 []
-  counted_none nodes = record { len = refl; each = λ i t i_in. absurd (omega arith) }
-
   -- a node's count, from those of its halves
   node_counted : (nodes : List (Node (Option V))) (n : ℕ) (counts : List ℕ) (node : Node (Option V)) → AreCounted nodes n counts → HasHalvesBelow n node → slice_get nodes n ≡ Some node →
       (t : Shape (Option V)) → Represents nodes n t → node_count counts node ≡ capped (value_count t)

@@ -1,5 +1,5 @@
 -- The parts of the rows of a block, and what they make of an answer together.
-use Rattle.std.proofs.Common.{◌≡◌, inl, inr, ℕ, ◌+◌, ◌-◌, ◌^◌, ◌<◌, ◌≤◌, List, [], ◌∷◌, ◌++◌, Option, Some, None, map, refl, sym, ◌∙◌, ap, subst, arith, Bool, true, false, length, ◌==◌, nat_lt, eqb-true}
+use Rattle.std.proofs.Common.{◌≡◌, inl, inr, ℕ, ◌+◌, ◌-◌, ◌^◌, ◌<◌, ◌≤◌, List, [], ◌∷◌, ◌++◌, Option, Some, None, map, refl, sym, ◌∙◌, ap, subst, arith, Bool, false, length, ◌==◌, nat_lt}
 use Rattle.std.proofs.lemmas.List.{map-append}
 use Rattle.std.proofs.lemmas.Bool.{cases_order, false≢true}
 use Rattle.std.specs.List.{slice_get}
@@ -36,10 +36,6 @@ none_holds {P = P} holds is = subst (λ o. IfNone o P) is holds
 some_member : {X : Type 0} (xs : List X) (b : Bool) → b ≡ (length xs == 0) → b ≡ false → (x : X) × Listed xs x
 some_member [] b is not_empty = absurd (false≢true (sym not_empty ∙ is))
 some_member (x ∷ xs) b is not_empty = (x, inl refl)
-
-pub no_member : {X : Type 0} (xs : List X) (b : Bool) → b ≡ (length xs == 0) → b ≡ true → xs ≡ []
-no_member [] b is empty = refl
-no_member (x ∷ xs) b is empty = absurd (let e : length (x ∷ xs) ≡ 0 = eqb-true _ _ (sym is ∙ empty) in omega (arith, e))
 
 module _ {X : Type 0} {key : X → Block} {w bits start : ℕ} where
   -- the rows left behind those of the whole block, of which the lower half comes first
