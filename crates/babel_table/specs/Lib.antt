@@ -5,5 +5,6 @@ pub mod Rows
 pub mod Live
 pub mod DumpFault
 pub mod Feeding
+pub mod BestMatch
 pub mod Lookup
 pub mod OneOutcome

@@ -1,8 +1,8 @@
 //! The best matching row among rows in rising order, by binary search.
 ghost use Rattle.std.specs.Prelude.{◌≡◌, ◌↔◌, IsTrue, Any, MatchOption};
 ghost use Rattle.std.specs.Option.{option_copied};
-ghost use Rattle.babel_prefix.specs.Entries.{answer_for};
-ghost use Rattle.babel_table.specs.Rows.{AreRows, IsRising, entries_of};
+ghost use Rattle.babel_table.specs.BestMatch.{HasBestMatch, HasNoMatch};
+ghost use Rattle.babel_table.specs.Rows.{AreRows, IsRising};
 ghost use Rattle.babel_table.specs.Lookup.{HasLongestSource, HasNoSource, StandsFor};
 
 use babel_prefix::laws::prefix_order;
@@ -16,7 +16,7 @@ use babel_tlv::{Held, Key};
 pub(crate) fn best_match<'a>(rows: &'a [(Key, Held)], dst: &Addr, src: &Addr) -> Option<&'a Held>
     requires rows { AreRows rows.now }
     requires one_family { dst.now.family ≡ src.now.family }
-    ensures { option_copied result ≡ answer_for (entries_of rows.now) dst.now src.now }
+    ensures { MatchOption (option_copied result) (HasNoMatch rows.now dst.now src.now) (HasBestMatch rows.now dst.now src.now) }
 {
     for len in (0..=dst.family().width()).rev() {
         let prefix = Prefix::new(*dst, len)?;
