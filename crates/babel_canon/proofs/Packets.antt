@@ -1,7 +1,9 @@
 -- A packet and a text that grow.
 use Rattle.std.proofs.Common.{◌≡◌, ℕ, zero, suc, ◌+◌, ◌-◌, ◌<◌, ◌≤◌, List, [], ◌∷◌, ◌++◌, length, get_or, take, drop, sym, ap, subst, ◌∙◌, arith, append_assoc}
 use Rattle.std.specs.List.{AllByRecursion}
-use Rattle.std.proofs.lemmas.List.{length-append, append-nil, take-append-drop, drop-drop, drop_all}
+use Rattle.std.proofs.lemmas.List.{length-append, append-nil, take-append-drop, drop-drop, drop_all, take_all, take_at, drop_at}
+use Rattle.byteorder.specs.Endian.{big_bytes}
+use borrow.Rule.Slice.PartMut.{mid_of, put_mid}
 use Rattle.babel_tlv.specs.Framing.{framed}
 use Rattle.babel_tlv.specs.Pair.{Pair, IsPair}
 use Rattle.babel_tlv.specs.Group.{group, group_in, body_of, written_after, Written, IsFull, ArePacked, IsText}
@@ -109,3 +111,33 @@ pub no_more_packets : (body done : ℕ) (pairs : List Pair) (text : List ℕ)
     → length pairs ≤ done → IsText body pairs text
 no_more_packets body done pairs text goes_on all =
     subst (λ (o : List ℕ). IsText body pairs o) (append-nil text) (goes_on [] (drop_all done pairs all))
+
+-- ---- the length in a header
+
+module _ (at len : ℕ) (front body whole part : List ℕ) where
+  -- the two octets of the length, put where a header has two zeros
+  length_put : length front ≡ at → whole ≡ front ++ headed 0 body → part ≡ big_bytes 2 len ++ drop 2 (mid_of (at + 2) (length whole - (at + 2)) whole)
+      → put_mid (at + 2) (length whole - (at + 2)) whole part ≡ front ++ headed len body
+  length_put here is written =
+      let before : List ℕ = front ++ 42 ∷ 2 ∷ [] in
+      let behind : List ℕ = 0 ∷ 0 ∷ body in
+      let split : whole ≡ before ++ behind = is ∙ sym (append_assoc front (42 ∷ 2 ∷ []) behind) in
+      let long : length before ≡ at + 2 = omega (arith, here, length-append front (42 ∷ 2 ∷ [])) in
+      let size : length whole - (at + 2) ≡ length behind = omega (arith, long, ap length split, length-append before behind) in
+      let first : take (at + 2) whole ≡ before = ap (take (at + 2)) split ∙ take_at before behind (at + 2) long in
+      let last : drop (at + 2) whole ≡ behind = ap (drop (at + 2)) split ∙ drop_at before behind (at + 2) long in
+      let mid : mid_of (at + 2) (length whole - (at + 2)) whole ≡ behind = ap (take (length whole - (at + 2))) last ∙ take_all (length whole - (at + 2)) behind (omega (arith, size)) in
+      let post : drop (length whole - (at + 2)) (drop (at + 2) whole) ≡ [] = ap (drop (length whole - (at + 2))) last ∙ drop_all (length whole - (at + 2)) behind (omega (arith, size)) in
+      let octets : part ≡ big_bytes 2 len ++ body = written ∙ ap (λ (t : List ℕ). big_bytes 2 len ++ drop 2 t) mid in
+      ap (λ (t : List ℕ). t ++ (part ++ drop (length whole - (at + 2)) (drop (at + 2) whole))) first
+      ∙ ap (λ (t : List ℕ). before ++ (part ++ t)) post
+      ∙ ap (λ (t : List ℕ). before ++ t) (append-nil part ∙ octets)
+      ∙ append_assoc front (42 ∷ 2 ∷ []) (big_bytes 2 len ++ body)
+
+pub length_written : (at len total : ℕ) (front body items whole part : List ℕ) → length front ≡ at → items ≡ front ++ headed 0 body → whole ≡ items → total ≡ length items
+    → part ≡ big_bytes 2 len ++ drop 2 (mid_of (at + 2) (length whole - (at + 2)) whole)
+    → take total (put_mid (at + 2) (length whole - (at + 2)) whole part ++ drop (length (put_mid (at + 2) (length whole - (at + 2)) whole part)) items) ≡ front ++ headed len body
+length_written at len total front body items whole part here is same long written =
+    let put : put_mid (at + 2) (length whole - (at + 2)) whole part ≡ front ++ headed len body = length_put at len front body whole part here (same ∙ is) written in
+    take_at (put_mid (at + 2) (length whole - (at + 2)) whole part) _ total
+    (ap length put ∙ length-append front (headed len body) ∙ sym (long ∙ ap length is ∙ length-append front (headed 0 body))) ∙ put

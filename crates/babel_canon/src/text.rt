@@ -6,6 +6,7 @@ ghost use Rattle.babel_canon.specs.Packing.{PutsPacket, HasLength};
 
 use crate::body::Body;
 use babel_tlv::{Held, Key, MAGIC, VERSION, Writing, put_group};
+use byteorder::{ByteOrder, NetworkEndian};
 use std::alloc::{AllocError, Global};
 
 /// Writes the length of a body into the header at `at`.
@@ -13,9 +14,7 @@ fn set_body_len(text: &mut Vec<u8>, at: usize, len: u16)
     requires { at + 4 ≤ length text.now.items }
     ensures { HasLength at len text.old.items text.new.items }
 {
-    let octets = len.to_be_bytes();
-    text[at + 2] = octets[0];
-    text[at + 3] = octets[1];
+    NetworkEndian::write_u16(&mut text[at + 2..], len);
 }
 
 /// Appends a packet with as many of the pairs as it can take; `Ok` has how many they are.

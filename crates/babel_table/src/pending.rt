@@ -2,6 +2,7 @@ ghost use Rattle.std.specs.Prelude.{◌≡◌, ◌≢◌, ◌≤◌, ◌+◌, �
 ghost use Rattle.babel_tlv.specs.Framing.{HasHeader, body_len};
 ghost use Rattle.babel_table.specs.Feeding.{IsPartial};
 
+use byteorder::{ByteOrder, NetworkEndian};
 use std::alloc::{AllocError, Global};
 use std::marker::Model;
 
@@ -84,7 +85,7 @@ impl Pending {
         if self.octets.len() < HEADER {
             return rest;
         }
-        let body = u16::from_be_bytes([self.octets[2], self.octets[3]]) as usize;
+        let body = NetworkEndian::read_u16(&self.octets[2..]) as usize;
         self.add_up_to(HEADER + body, rest)
     }
 }

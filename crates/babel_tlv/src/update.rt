@@ -13,6 +13,7 @@ use crate::reason::Reason;
 use crate::sub_tlv::{octets_needed, read_sub_tlvs};
 use crate::wire::{INFINITY, PREFIX_FLAG, ROUTER_ID_FLAG};
 use babel_prefix::{Addr, Family, Prefix};
+use byteorder::{ByteOrder, NetworkEndian};
 
 /// The octets of an Update's body before the prefix.
 const FIXED_LEN: usize = 10;
@@ -43,8 +44,8 @@ impl<'a> Update<'a> {
             flags: *flags,
             plen: *plen,
             omitted: *omitted,
-            seqno: u16::from_be_bytes([*s0, *s1]),
-            metric: u16::from_be_bytes([*m0, *m1]),
+            seqno: NetworkEndian::read_u16(&[*s0, *s1]),
+            metric: NetworkEndian::read_u16(&[*m0, *m1]),
             body,
         })
     }
