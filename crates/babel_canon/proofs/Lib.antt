@@ -8,6 +8,7 @@ mod Boxes
 mod Tables
 mod Headline
 mod Families
+mod Fewest
 mod Entries
 mod Verdicts
 mod Normal

@@ -2,6 +2,7 @@ pub mod RoundTrip
 pub mod Sizes
 pub mod Packing
 pub mod Boxes
+pub mod Fewest
 pub mod Headline
 pub mod Grids
 pub mod Canonical

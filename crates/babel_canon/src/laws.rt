@@ -1,6 +1,7 @@
 //! Laws of the definitions.
 ghost use Rattle.babel_canon.specs.RoundTrip.{TextReadsBack};
 ghost use Rattle.babel_canon.specs.Boxes.{BoxesAnswer, BoxesTellApart};
+ghost use Rattle.babel_canon.specs.Fewest.{BoxesAreFewest};
 ghost use Rattle.babel_canon.specs.Packing.{TextIsOne};
 ghost use Rattle.babel_canon.specs.Headline.{Headline};
 
@@ -19,6 +20,12 @@ pub fn text_reads_back()
 pub fn boxes_are_answers()
     ensures answer { BoxesAnswer }
     ensures tell_apart { BoxesTellApart }
+{}
+
+/// The boxes of rows, of both families together, do not overlap and have the answers of the rows, and no such list has fewer
+/// pairs.
+pub fn boxes_are_fewest()
+    ensures { BoxesAreFewest }
 {}
 
 /// Two dumps give every destination and source the same answer exactly if their canonical octets are equal; and these, read
