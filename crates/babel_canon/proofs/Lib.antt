@@ -4,6 +4,7 @@ mod RoundTrip
 mod Groups
 mod Packets
 mod OneText
+mod OneOutcome
 mod Boxes
 mod Tables
 mod Headline

@@ -9,3 +9,4 @@ pub mod Canonical
 pub mod Verdict
 pub mod NumberOrder
 pub mod Values
+pub mod OneOutcome

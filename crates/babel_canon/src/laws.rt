@@ -4,6 +4,7 @@ ghost use Rattle.babel_canon.specs.Boxes.{BoxesAnswer, BoxesTellApart};
 ghost use Rattle.babel_canon.specs.Fewest.{BoxesAreFewest};
 ghost use Rattle.babel_canon.specs.Packing.{TextIsOne};
 ghost use Rattle.babel_canon.specs.Headline.{Headline};
+ghost use Rattle.babel_canon.specs.OneOutcome.{NormalFormIsOne, NormaliseFaultIsOne, NormalFormHasNoFault};
 
 /// Pairs have exactly one canonical text for each size of a body.
 pub fn text_is_one()
@@ -29,7 +30,15 @@ pub fn boxes_are_fewest()
 {}
 
 /// Two dumps give every destination and source the same answer exactly if their canonical octets are equal; and these, read
-/// with any sender, give those answers again, and are their own canonical form.
+/// with any sender, give those answers again, and are their own canonical form, from which nothing but want of memory keeps them.
 pub fn canonical_octets_tell_answers()
     ensures { Headline }
+{}
+
+/// A dump has at most one canonical text for each size of a body; want of memory aside, at most one fault that keeps it from
+/// one; and never both.
+pub fn normal_form_is_one()
+    ensures text { NormalFormIsOne }
+    ensures fault { NormaliseFaultIsOne }
+    ensures no_fault { NormalFormHasNoFault }
 {}

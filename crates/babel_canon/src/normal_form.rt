@@ -15,7 +15,7 @@ use std::alloc::Global;
 ///
 /// The canonical octets of two dumps, under the same limits, mode and body size, are equal exactly where the dumps give
 /// every destination and source the same answer; read with any sender, they give these answers again, and normalising them
-/// gives them back. They say the fewest pairs that do not overlap and have these answers.
+/// gives them back, unless memory is wanting. They say the fewest pairs that do not overlap and have these answers.
 ///
 /// The faults are those of the dump, then `TooManyPairs` if its canonical pairs are more than the entries of
 /// the limits, and `Memory`.
