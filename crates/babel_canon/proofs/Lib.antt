@@ -12,6 +12,7 @@ mod Families
 mod Fewest
 mod Entries
 mod Verdicts
+mod OneVerdict
 mod Normal
 mod Numbered
 mod ValueLists

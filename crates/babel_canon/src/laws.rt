@@ -4,7 +4,7 @@ ghost use Rattle.babel_canon.specs.Boxes.{BoxesAnswer, BoxesTellApart};
 ghost use Rattle.babel_canon.specs.Fewest.{BoxesAreFewest};
 ghost use Rattle.babel_canon.specs.Packing.{TextIsOne};
 ghost use Rattle.babel_canon.specs.Headline.{Headline};
-ghost use Rattle.babel_canon.specs.OneOutcome.{NormalFormIsOne, NormaliseFaultIsOne, NormalFormHasNoFault};
+ghost use Rattle.babel_canon.specs.OneOutcome.{NormalFormIsOne, NormaliseFaultIsOne, NormalFormHasNoFault, VerdictIsOne};
 
 /// Pairs have exactly one canonical text for each size of a body.
 pub fn text_is_one()
@@ -41,4 +41,9 @@ pub fn normal_form_is_one()
     ensures text { NormalFormIsOne }
     ensures fault { NormaliseFaultIsOne }
     ensures no_fault { NormalFormHasNoFault }
+{}
+
+/// Two tables have at most one verdict.
+pub fn verdict_is_one()
+    ensures { VerdictIsOne }
 {}
