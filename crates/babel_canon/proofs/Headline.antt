@@ -15,7 +15,6 @@ use Rattle.babel_tlv.specs.Framing.{TlvAt}
 use Rattle.babel_tlv.specs.Says.{sayings}
 use Rattle.babel_tlv.specs.News.{spoken, pair_event}
 use Rattle.babel_tlv.proofs.Telling.{what_of}
-use Rattle.babel_tlv.proofs.TextOnce.{text_one}
 use Rattle.babel_table.specs.Bounds.{Bounds, AreBounds}
 use Rattle.babel_table.specs.Rows.{Routes, AreRows}
 use Rattle.babel_table.specs.DumpFault.{IsTableOf}
@@ -27,13 +26,9 @@ use Rattle.babel_canon.proofs.NoFault.{oks_one}
 use Rattle.babel_canon.proofs.PairRows.{rising-apart}
 use Rattle.babel_canon.proofs.RoundTrip.{text_reads_back}
 use Rattle.babel_canon.proofs.Boxes.{same_back, same_on, boxes_one, boxes_answer, boxes_too, box_held}
-use Rattle.babel_table.proofs.OutcomeLaws.{table_is_one}
 use Rattle.babel_table.proofs.ReadingLaws.{framed_one}
 use Rattle.babel_canon.proofs.Tables.{table_of_pairs}
-
--- a dump has one table, and so one list of rows
-rows_one : (limits : Bounds) (mode : Mode) (sender : Address) (dump : List ℕ) (table other : Routes) → IsTableOf limits mode sender dump table → IsTableOf limits mode sender dump other → table.rows ≡ other.rows
-rows_one limits mode sender dump table other is_table is_other = ap (λ (t : Routes). t.rows) (table_is_one limits mode sender dump table other is_table is_other)
+use Rattle.babel_canon.proofs.OneOutcome.{rows_one, texts_one, normal_form_is_one, normal_form_has_no_fault}
 
 -- ---- boxes can be read in the mode of their rows
 
@@ -90,9 +85,6 @@ pairs_one : (body : ℕ) (ps qs : List Pair) (octets : List ℕ) → IsBodySize 
 pairs_one body ps qs octets size p_rows q_rows p_text q_text =
     told_one any_sender octets ps qs (back modes.Hold body ps octets any_sender size p_rows tt p_text).tells (back modes.Hold body qs octets any_sender size q_rows tt q_text).tells
 
-texts_one : (body : ℕ) (ps qs : List Pair) (octets other : List ℕ) → ps ≡ qs → IsText body ps octets → IsText body qs other → octets ≡ other
-texts_one body ps qs octets other same p_text q_text = text_one body qs octets other (subst (λ (l : List Pair). IsText body l octets) same p_text) q_text
-
 -- ---- the headline
 
 tells_apart : (limits : Bounds) (mode : Mode) (body : ℕ) → IsBodySize body → (one : Sent) (octets : List ℕ) → Normalises limits mode body one.sender one.dump octets → TellsApart limits mode body one octets
@@ -138,14 +130,9 @@ stays_itself limits mode body bounds size sent octets one any =
           subst (λ (l : List Pair). AnswerTheSame l other_table.rows) (rows_one limits mode any octets _ table is_table a)
           (subst (λ (l : List Pair). AnswerTheSame one.boxes l) (rows_one limits mode sent.sender sent.dump one.table other_table one.is_table b) same);
       again = again;
-      unchanged = λ other normal. unchanged other normal again;
+      unchanged = λ other normal. normal_form_is_one limits mode body any octets other octets normal again;
+      only_memory = λ fault faulty. normal_form_has_no_fault limits mode body any octets octets fault again faulty;
     }
-  where
-    unchanged : (other : List ℕ) → Normalises limits mode body any octets other → Normalises limits mode body any octets octets → other ≡ octets
-    unchanged other normal again =
-        let rows : normal.table.rows ≡ again.table.rows = rows_one limits mode any octets normal.table again.table normal.is_table again.is_table in
-        let same : AnswerTheSame normal.table.rows again.table.rows = subst (λ (l : List Pair). AnswerTheSame normal.table.rows l) rows (λ d s d_in s_in e. refl) in
-        texts_one body normal.boxes again.boxes other octets (boxes_one normal.table.rows again.table.rows normal.boxes again.boxes same normal.are_boxes again.are_boxes) normal.text again.text
 
 pub headline : Headline
 headline limits mode body bounds size one octets normal =
