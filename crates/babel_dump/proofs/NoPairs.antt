@@ -1,5 +1,5 @@
 -- No dump has the fault TooManyPairs: it is about a canonical form.
-use Rattle.std.proofs.Common.{◌≡◌, ◌≢◌, ℕ, List, [], ◌∷◌, ◌++◌, take, Option, Result, Ok, Err, inl, inr, arith, subst}
+use Rattle.std.proofs.Common.{◌≡◌, ◌≢◌, ℕ, List, [], ◌∷◌, ◌++◌, take, Result, Ok, Err, inl, inr, arith, subst}
 use Rattle.std.proofs.lemmas.Grind.{common_steps}
 use Rattle.std.specs.List.{AllByRecursion}
 use Rattle.babel_prefix.specs.Address.{Address}
@@ -10,9 +10,6 @@ use Rattle.babel_tlv.specs.declared.mode.Mode.{Mode}
 use Rattle.babel_tlv.specs.Context.{Context}
 use Rattle.babel_tlv.specs.Framing.{TlvAt, PacketFault}
 use Rattle.babel_tlv.specs.Says.{Saying, said, sayings, sayings_behind}
-use Rattle.babel_dump.specs.Run.{HasCause, IsFaultOfGiven}
-use Rattle.babel_dump.specs.declared.run_fault.RunFault.{RunFault}
-use Rattle.babel_dump.specs.declared.run_fault.RunFault.TheVariants as run_faults
 use Rattle.babel_table.specs.Bounds.{Bounds}
 use Rattle.babel_table.specs.DumpFault.{DumpFault, StreamFault, Refuses}
 
@@ -60,18 +57,3 @@ no_pairs_fault limits mode sender dump (inl (within, stream)) = no_stream_fault 
 no_pairs_fault limits mode sender dump (inr (inl (past, stream, lasting))) =
     no_stream_fault mode limits.entries sender (take limits.bytes dump) stream
 no_pairs_fault limits mode sender dump (inr (inr (past, is, truncated))) = absurd cc
-
--- what a reader gave has another fault
-pub no_given_pairs : (limits : Bounds) (mode : Mode) (sender : Address) (old new : Option (List ℕ)) → IsFaultOfGiven limits mode sender old new faults.TooManyPairs → ⊥
-no_given_pairs limits mode sender old new is_fault = no_pairs_fault limits mode sender is_fault.given is_fault.refused
-
--- so has a run over one reader
-pub no_pairs_cause : (limits : Bounds) (mode : Mode) (sender : Address) (old new : Option (List ℕ)) (fault : RunFault) (read : Type 0) (write : Type 0)
-    → HasCause fault read (IsFaultOfGiven limits mode sender old new) ⊥ (λ _. ⊥) write → fault ≢ run_faults.Dump faults.TooManyPairs
-no_pairs_cause limits mode sender old new run_faults.Read read write cause = λ is. absurd cc
-no_pairs_cause limits mode sender old new (run_faults.Dump fault) read write cause = λ is.
-    let same : fault ≡ faults.TooManyPairs = cc in
-    no_given_pairs limits mode sender old new (rw same at cause (λ memory. absurd cc))
-no_pairs_cause limits mode sender old new run_faults.OtherRead read write cause = λ is. absurd cc
-no_pairs_cause limits mode sender old new (run_faults.OtherDump fault) read write cause = λ is. absurd cc
-no_pairs_cause limits mode sender old new run_faults.Write read write cause = λ is. absurd cc
