@@ -1,5 +1,5 @@
 //! The program's words: jobs, refusals and help.
-use super::{address, words};
+use super::{address, split};
 use crate::job::{Job, OneDump, Refusal};
 use crate::words::read_words;
 use babel_prefix::Addr;
@@ -105,7 +105,7 @@ static JOBS: [(&str, Wanted<'static>); 15] = [
 #[test]
 fn words_of_jobs(rt: HostRuntime) -> Result<(), Fail> {
     for (line, wanted) in &JOBS {
-        match read_words(rt.alloc(), &words(rt.alloc(), line)?) {
+        match read_words(rt.alloc(), &split(rt.alloc(), line)?) {
             Ok(job) => expect_job(&rt, line, &job, wanted)?,
             Err(_refusal) => assert!(rt; false, "no job of {line}"),
         }
@@ -176,7 +176,7 @@ fn expect_name(rt: &impl Abort, line: &str, given: Option<&str>, wanted: Option<
 
 /// The text that the words of a line are refused with.
 fn usage(rt: &impl Abort, alloc: Global, line: &str) -> Result<String, Fail> {
-    match read_words(alloc, &words(alloc, line)?) {
+    match read_words(alloc, &split(alloc, line)?) {
         Err(Refusal::Usage(text)) => Ok(text),
         Err(_refusal) => Err(Fail::from("no usage")),
         Ok(_job) => {
@@ -319,7 +319,7 @@ static HELPS: [(&str, &[&str], &[&str]); 7] = [
 #[test]
 fn words_that_ask_for_help(rt: HostRuntime) -> Result<(), Fail> {
     for (line, parts, own) in &HELPS {
-        match read_words(rt.alloc(), &words(rt.alloc(), line)?) {
+        match read_words(rt.alloc(), &split(rt.alloc(), line)?) {
             Err(Refusal::Help(help)) => {
                 expect_parts(&rt, help.as_str(), parts);
                 expect_parts(&rt, help.as_str(), own);
