@@ -52,7 +52,7 @@ pub held_tied : (h : Held) → held_cmp h h ≡ Equal
 held_tied (helds.Route ann) = rw (octets_tied ann.router_id, nat_tied ann.seqno, nat_tied ann.metric) (tied_itself address_total ann.next_hop)
 held_tied helds.Unreachable = refl
 
-held_test : HasEqualityTest Held
+pub held_test : HasEqualityTest Held
 held_test a b = by (held_cmp a b) refl
   where
     clash : (o : Ordering) → o ≡ Equal → o ≡ Less → ⊥
@@ -110,7 +110,7 @@ all_in P [] pair all none = elim none [ ]
 all_in P (first ∷ pairs) pair all (inl e) = subst P e all.0
 all_in P (first ∷ pairs) pair all (inr later) = all_in P pairs pair all.1 later
 
-same_in : (rows others : List Pair) → AnswerTheSame rows others → (family : Family) → SameAnswers (width_of family) (answers_in family (entries_of rows)) (answers_in family (entries_of others))
+pub same_in : (rows others : List Pair) → AnswerTheSame rows others → (family : Family) → SameAnswers (width_of family) (answers_in family (entries_of rows)) (answers_in family (entries_of others))
 same_in rows others same family d s d_in s_in = same (record { family = family; bits = d }) (record { family = family; bits = s }) d_in s_in refl
 
 pub same_back : (rows others : List Pair) → AnswerTheSame rows others → AnswerTheSame others rows

@@ -15,7 +15,6 @@ use Rattle.babel_tlv.specs.Framing.{TlvAt}
 use Rattle.babel_tlv.specs.Says.{sayings}
 use Rattle.babel_tlv.specs.News.{spoken, pair_event}
 use Rattle.babel_tlv.proofs.Telling.{what_of}
-use Rattle.babel_tlv.proofs.TextOnce.{text_one}
 use Rattle.babel_table.specs.Bounds.{Bounds, AreBounds}
 use Rattle.babel_table.specs.Rows.{Routes, AreRows}
 use Rattle.babel_table.specs.DumpFault.{IsTableOf}
@@ -27,7 +26,9 @@ use Rattle.babel_canon.proofs.NoFault.{oks_one}
 use Rattle.babel_canon.proofs.PairRows.{rising-apart}
 use Rattle.babel_canon.proofs.RoundTrip.{text_reads_back}
 use Rattle.babel_canon.proofs.Boxes.{same_back, same_on, boxes_one, boxes_answer, boxes_too, box_held}
-use Rattle.babel_canon.proofs.Tables.{packets_one, tables_one, table_of_pairs}
+use Rattle.babel_table.proofs.ReadingLaws.{framed_one}
+use Rattle.babel_canon.proofs.Tables.{table_of_pairs}
+use Rattle.babel_canon.proofs.OneOutcome.{rows_one, texts_one, normal_form_is_one, normal_form_has_no_fault}
 
 -- ---- boxes can be read in the mode of their rows
 
@@ -68,7 +69,7 @@ events_tell (p ∷ ps) (q ∷ qs) e =
 
 told_one : (sender : Address) (octets : List ℕ) (ps qs : List Pair) → TellsPairs sender octets ps → TellsPairs sender octets qs → ps ≡ qs
 told_one sender octets ps qs one other =
-    let packets_are : one.packets ≡ other.packets = packets_one octets one.packets other.packets one.reads other.reads in
+    let packets_are : one.packets ≡ other.packets = framed_one octets one.packets other.packets one.reads other.reads in
     let said_are : one.said ≡ other.said = oks_one one.said other.said
     (sym one.fine ∙ ap (λ (packets : List (List TlvAt)). map what_of (sayings sender packets)) packets_are ∙ other.fine) in
     events_tell ps qs (sym one.news ∙ ap spoken said_are ∙ other.news)
@@ -83,9 +84,6 @@ back mode body pairs octets sender size rows reads text = text_reads_back mode b
 pairs_one : (body : ℕ) (ps qs : List Pair) (octets : List ℕ) → IsBodySize body → AreRows ps → AreRows qs → IsText body ps octets → IsText body qs octets → ps ≡ qs
 pairs_one body ps qs octets size p_rows q_rows p_text q_text =
     told_one any_sender octets ps qs (back modes.Hold body ps octets any_sender size p_rows tt p_text).tells (back modes.Hold body qs octets any_sender size q_rows tt q_text).tells
-
-texts_one : (body : ℕ) (ps qs : List Pair) (octets other : List ℕ) → ps ≡ qs → IsText body ps octets → IsText body qs other → octets ≡ other
-texts_one body ps qs octets other same p_text q_text = text_one body qs octets other (subst (λ (l : List Pair). IsText body l octets) same p_text) q_text
 
 -- ---- the headline
 
@@ -106,8 +104,8 @@ tells_apart limits mode body size sent octets one other_sent other_octets other 
 
     answers_same : octets ≡ other_octets → DumpsAnswerTheSame limits mode sent other_sent
     answers_same same table other_table is_table is_other =
-        subst (λ (l : List Pair). AnswerTheSame l other_table.rows) (tables_one mode limits sent.sender sent.dump one.table table one.is_table is_table)
-        (subst (λ (l : List Pair). AnswerTheSame one.table.rows l) (tables_one mode limits other_sent.sender other_sent.dump other.table other_table other.is_table is_other) (tables_same same))
+        subst (λ (l : List Pair). AnswerTheSame l other_table.rows) (rows_one limits mode sent.sender sent.dump one.table table one.is_table is_table)
+        (subst (λ (l : List Pair). AnswerTheSame one.table.rows l) (rows_one limits mode other_sent.sender other_sent.dump other.table other_table other.is_table is_other) (tables_same same))
 
 stays_itself : (limits : Bounds) (mode : Mode) (body : ℕ) → AreBounds limits → IsBodySize body → (one : Sent) (octets : List ℕ) → Normalises limits mode body one.sender one.dump octets
     → (any : Address) → ReadsAgain limits mode body one octets any
@@ -129,17 +127,12 @@ stays_itself limits mode body bounds size sent octets one any =
     record {
       no_fault = fine;
       answers = λ table other_table a b.
-          subst (λ (l : List Pair). AnswerTheSame l other_table.rows) (tables_one mode limits any octets _ table is_table a)
-          (subst (λ (l : List Pair). AnswerTheSame one.boxes l) (tables_one mode limits sent.sender sent.dump one.table other_table one.is_table b) same);
+          subst (λ (l : List Pair). AnswerTheSame l other_table.rows) (rows_one limits mode any octets _ table is_table a)
+          (subst (λ (l : List Pair). AnswerTheSame one.boxes l) (rows_one limits mode sent.sender sent.dump one.table other_table one.is_table b) same);
       again = again;
-      unchanged = λ other normal. unchanged other normal again;
+      unchanged = λ other normal. normal_form_is_one limits mode body any octets other octets normal again;
+      only_memory = λ fault faulty. normal_form_has_no_fault limits mode body any octets octets fault again faulty;
     }
-  where
-    unchanged : (other : List ℕ) → Normalises limits mode body any octets other → Normalises limits mode body any octets octets → other ≡ octets
-    unchanged other normal again =
-        let rows : normal.table.rows ≡ again.table.rows = tables_one mode limits any octets normal.table again.table normal.is_table again.is_table in
-        let same : AnswerTheSame normal.table.rows again.table.rows = subst (λ (l : List Pair). AnswerTheSame normal.table.rows l) rows (λ d s d_in s_in e. refl) in
-        texts_one body normal.boxes again.boxes other octets (boxes_one normal.table.rows again.table.rows normal.boxes again.boxes same normal.are_boxes again.are_boxes) normal.text again.text
 
 pub headline : Headline
 headline limits mode body bounds size one octets normal =

@@ -4,12 +4,15 @@ mod RoundTrip
 mod Groups
 mod Packets
 mod OneText
+mod OneOutcome
 mod Boxes
 mod Tables
 mod Headline
 mod Families
+mod Fewest
 mod Entries
 mod Verdicts
+mod OneVerdict
 mod Normal
 mod Numbered
 mod ValueLists

@@ -1,5 +1,5 @@
 -- The canonical text of pairs is read back as the pairs.
-use Rattle.std.proofs.Common.{◌≡◌, ℕ, ◌*◌, ◌≤◌, List, [], ◌∷◌, ◌++◌, length, map, refl, sym, ap, ◌∙◌, arith, Contains}
+use Rattle.std.proofs.Common.{◌≡◌, ℕ, ◌*◌, ◌≤◌, List, [], length, map, sym, ap, ◌∙◌, arith, Contains}
 use Rattle.std.specs.Prelude.{◌↔◌}
 use Rattle.std.specs.List.{flat_map}
 use Rattle.std.proofs.lemmas.List.{append-nil}
@@ -10,7 +10,7 @@ use Rattle.babel_tlv.specs.Pair.{Pair}
 use Rattle.babel_tlv.specs.Says.{sayings}
 use Rattle.babel_tlv.specs.News.{spoken, pair_event}
 use Rattle.babel_tlv.proofs.Telling.{what_of}
-use Rattle.babel_tlv.proofs.OneReading.{go_on}
+use Rattle.babel_table.proofs.ReadingLaws.{framed_one}
 use Rattle.babel_tlv.proofs.TextTold.{text_told, length-text}
 use Rattle.babel_table.specs.Bounds.{Bounds}
 use Rattle.babel_table.specs.Rows.{Routes}
@@ -23,18 +23,10 @@ use Rattle.babel_canon.proofs.NoFault.{AreFine-said, oks_one, no_fault}
 table_news : (limits : Bounds) (mode : Mode) (sender : Address) (octets : List ℕ) (pairs : List Pair) (table : Routes) → TellsPairs sender octets pairs
     → (is_table : IsTableOf limits mode sender octets table) → spoken is_table.said ≡ map pair_event pairs
 table_news limits mode sender octets pairs table tells is_table =
-    let same : flat_map packet_octets tells.packets ≡ flat_map packet_octets is_table.packets ++ [] =
-    sym (append-nil (flat_map packet_octets tells.packets)) ∙ sym tells.reads.whole ∙ is_table.reads.whole in
-    let on = go_on 0 tells.packets is_table.packets [] tells.reads.placed is_table.reads.placed same in
-    let none : on.later ≡ [] = no_more on.later on.rest_is in
-    let packets_are : tells.packets ≡ is_table.packets = on.parts ∙ ap (λ (later : List (List TlvAt)). is_table.packets ++ later) none ∙ append-nil is_table.packets in
+    let packets_are : tells.packets ≡ is_table.packets = framed_one octets tells.packets is_table.packets tells.reads is_table.reads in
     let said = AreFine-said mode limits.entries [] (sayings sender is_table.packets) is_table.said is_table.fine in
     let told_is : said.told ≡ tells.said = oks_one said.told tells.said (sym said.whats ∙ ap (λ (ps : List (List TlvAt)). map what_of (sayings sender ps)) (sym packets_are) ∙ tells.fine) in
     ap spoken (said.parts ∙ told_is) ∙ tells.news
-  where
-    no_more : (later : List (List TlvAt)) → [] ≡ flat_map packet_octets later → later ≡ []
-    no_more [] e = refl
-    no_more (tlvs ∷ later) e = absurd (let len : 0 ≡ length (flat_map packet_octets (tlvs ∷ later)) = ap length e in omega (arith, len))
 
 table_rows : (limits : Bounds) (mode : Mode) (sender : Address) (octets : List ℕ) (pairs : List Pair) (table : Routes) → TellsPairs sender octets pairs → HaveDistinctKeys pairs
     → AreReadableIn mode pairs → IsTableOf limits mode sender octets table → (pair : Pair) → Contains table.rows pair ↔ Contains pairs pair

@@ -1,6 +1,5 @@
--- A dump has one table, and what tells pairs has the pairs as its table.
-use Rattle.std.proofs.Common.{◌≡◌, ℕ, ◌≤◌, List, [], ◌∷◌, ◌++◌, length, map, refl, sym, ap, subst, ◌∙◌, append_assoc, arith, inl, inr}
-use Rattle.std.specs.List.{flat_map}
+-- What tells pairs has the pairs as its table.
+use Rattle.std.proofs.Common.{◌≡◌, ℕ, ◌≤◌, List, [], ◌∷◌, ◌++◌, length, map, refl, sym, subst, ◌∙◌, append_assoc, inl, inr}
 use Rattle.std.proofs.lemmas.Bool.{cases_lt}
 use Rattle.std.proofs.lemmas.List.{append-nil}
 use Rattle.babel_prefix.specs.Address.{Address}
@@ -8,49 +7,17 @@ use Rattle.babel_tlv.specs.declared.event.Event.{Event}
 use Rattle.babel_tlv.specs.declared.event.Event.TheVariants as events
 use Rattle.babel_tlv.specs.declared.mode.Mode.{Mode}
 use Rattle.babel_tlv.specs.declared.mode.Mode.TheVariants as modes
-use Rattle.babel_tlv.specs.Framing.{TlvAt, Framed, packet_octets}
 use Rattle.babel_tlv.specs.Says.{Saying, sayings}
 use Rattle.babel_tlv.specs.Pair.{Pair}
 use Rattle.babel_tlv.proofs.Telling.{as_ok, what_of}
-use Rattle.babel_tlv.proofs.OneReading.{go_on}
 use Rattle.babel_table.specs.Bounds.{Bounds}
 use Rattle.babel_table.specs.Counts.{counts_of}
 use Rattle.babel_table.specs.DumpFault.{AreFine, IsTableOf}
 use Rattle.babel_table.specs.Holds.{AreRowsOf, HoldsAtMost}
-use Rattle.babel_table.specs.Rows.{IsRising, Routes}
-use Rattle.babel_table.proofs.RowsLaws.{rows-none, rows-one, rows-announce, rows-retract_hold, rows-retract_plain, rows-all_plain, rows-all_hold, rows_nothing, rows_ignored}
+use Rattle.babel_table.specs.Rows.{IsRising}
+use Rattle.babel_table.proofs.RowsLaws.{rows-none, rows-announce, rows-retract_hold, rows-retract_plain, rows-all_plain, rows-all_hold, rows_nothing, rows_ignored}
 use Rattle.babel_canon.specs.RoundTrip.{TellsPairs, AreReadableIn}
-use Rattle.babel_canon.proofs.NoFault.{AreFine-said, oks_one}
 use Rattle.babel_canon.proofs.PairRows.{few_hold, pairs_hold, rising-apart}
-
--- ---- octets are packets in one way
-
-pub packets_one : (octets : List ℕ) (packets others : List (List TlvAt)) → Framed octets packets → Framed octets others → packets ≡ others
-packets_one octets packets others one other =
-    let same : flat_map packet_octets packets ≡ flat_map packet_octets others ++ [] =
-    sym (append-nil (flat_map packet_octets packets)) ∙ sym one.whole ∙ other.whole in
-    let on = go_on 0 packets others [] one.placed other.placed same in
-    on.parts ∙ ap (λ (later : List (List TlvAt)). others ++ later) (no_more on.later on.rest_is) ∙ append-nil others
-  where
-    no_more : (later : List (List TlvAt)) → [] ≡ flat_map packet_octets later → later ≡ []
-    no_more [] e = refl
-    no_more (tlvs ∷ later) e = absurd (let len : 0 ≡ length (flat_map packet_octets (tlvs ∷ later)) = ap length e in omega (arith, len))
-
--- the events of a table are what its TLVs say
-pub events_one : (mode : Mode) (limits : Bounds) (sender : Address) (octets : List ℕ) (packets : List (List TlvAt)) (said : List Event) (table : Routes) → Framed octets packets
-    → map what_of (sayings sender packets) ≡ map as_ok said → (is_table : IsTableOf limits mode sender octets table) → is_table.said ≡ said
-events_one mode limits sender octets packets said table reads fine is_table =
-    let packets_are : packets ≡ is_table.packets = packets_one octets packets is_table.packets reads is_table.reads in
-    let told = AreFine-said mode limits.entries [] (sayings sender is_table.packets) is_table.said is_table.fine in
-    told.parts ∙ oks_one told.told said (sym told.whats ∙ ap (λ (ps : List (List TlvAt)). map what_of (sayings sender ps)) (sym packets_are) ∙ fine)
-
-pub tables_one : (mode : Mode) (limits : Bounds) (sender : Address) (octets : List ℕ) (table other : Routes) → IsTableOf limits mode sender octets table → IsTableOf limits mode sender octets other
-    → table.rows ≡ other.rows
-tables_one mode limits sender octets table other is_table is_other =
-    let told = AreFine-said mode limits.entries [] (sayings sender is_table.packets) is_table.said is_table.fine in
-    let fine : map what_of (sayings sender is_table.packets) ≡ map as_ok is_table.said = told.whats ∙ ap (map as_ok) (sym told.parts) in
-    let same : is_other.said ≡ is_table.said = events_one mode limits sender octets is_table.packets is_table.said other is_table.reads fine is_other in
-    rows-one mode is_table.said table.rows other.rows is_table.rows (subst (λ (es : List Event). AreRowsOf mode es other.rows) same is_other.rows)
 
 -- ---- some rows stand behind any events
 

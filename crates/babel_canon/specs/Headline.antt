@@ -1,6 +1,8 @@
 -- What canonical octets tell of the dumps that they were made from: this project's own.
 use Rattle.std.specs.Prelude.{◌≡◌, ℕ, ◌≤◌, List, length, ◌↔◌}
 use Rattle.babel_prefix.specs.Address.{Address}
+use Rattle.babel_tlv.specs.declared.fault.Fault.{Fault}
+use Rattle.babel_tlv.specs.declared.fault.Fault.TheVariants as faults
 use Rattle.babel_tlv.specs.declared.mode.Mode.{Mode}
 use Rattle.babel_tlv.specs.Pair.{Pair}
 use Rattle.babel_tlv.specs.Group.{IsText}
@@ -9,6 +11,7 @@ use Rattle.babel_table.specs.Rows.{Routes}
 use Rattle.babel_table.specs.DumpFault.{HasNoFault, IsTableOf}
 use Rattle.babel_canon.specs.Sizes.{IsBodySize}
 use Rattle.babel_canon.specs.Boxes.{AreBoxes, AnswerTheSame}
+use Rattle.babel_canon.specs.Canonical.{NormaliseFault}
 
 -- The octets are the canonical form of the dump: it has no fault, and they are the text of the boxes of its table's
 -- answers, which are no more than the limit.
@@ -39,12 +42,13 @@ TellsApart limits mode body one octets =
     → (octets ≡ other_octets) ↔ DumpsAnswerTheSame limits mode one other
 
 -- Canonical octets, read with this sender, have no fault and answer as the dump does; their canonical form is
--- themselves, and nothing else.
+-- themselves, and nothing else; and nothing but want of memory keeps them from it.
 pub record ReadsAgain (limits : Bounds) (mode : Mode) (body : ℕ) (one : Sent) (octets : List ℕ) (any : Address) : Type 0 where
   pub no_fault : HasNoFault limits mode any octets
   pub answers : DumpsAnswerTheSame limits mode (record { sender = any; dump = octets }) one
   pub again : Normalises limits mode body any octets octets
   pub unchanged : (other : List ℕ) → Normalises limits mode body any octets other → other ≡ octets
+  pub only_memory : (fault : Fault) → NormaliseFault limits mode any octets fault → fault ≡ faults.Memory
 
 -- The headline: canonical octets are equal exactly where the answers are, and, read with any sender, give the answers
 -- again and are their own canonical form.

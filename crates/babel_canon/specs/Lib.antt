@@ -2,9 +2,11 @@ pub mod RoundTrip
 pub mod Sizes
 pub mod Packing
 pub mod Boxes
+pub mod Fewest
 pub mod Headline
 pub mod Grids
 pub mod Canonical
 pub mod Verdict
 pub mod NumberOrder
 pub mod Values
+pub mod OneOutcome

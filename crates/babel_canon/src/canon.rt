@@ -1,6 +1,7 @@
 ghost use Rattle.std.specs.Prelude.{◌≡◌, ◌≤◌, IfOk, IfErr, length};
 ghost use Rattle.babel_canon.specs.Boxes.{AreBoxes};
 ghost use Rattle.babel_canon.specs.Canonical.{IsCanonical, CanonicalFault};
+ghost use Rattle.babel_canon.specs.Fewest.{AreFewest};
 
 use crate::body::Body;
 use crate::grids::Grids;
@@ -68,8 +69,11 @@ fn canonical_pairs(alloc: Global, limits: Limits, table: &Table) -> Result<Vec<(
 /// The canonical form of a table, in packets with bodies of at most this many octets. `TooManyPairs` if its canonical pairs
 /// are more than the entries of the limits, which is known before any of them is made; else `Memory`, if there is too
 /// little.
+///
+/// The pairs do not overlap and have the answers of the table, and no such list has fewer.
 pub fn canonical(alloc: Global, limits: Limits, body: Body, table: &Table) -> Result<Canon, Fault>
     ensures ok { IfOk result (IsCanonical limits body table.now.rows) }
+    ensures fewest { IfOk result (λ canon. AreFewest table.now.rows canon.pairs) }
     ensures err { IfErr result (CanonicalFault limits table.now.rows) }
 {
     let pairs = canonical_pairs(alloc, limits, table)?;

@@ -1,8 +1,10 @@
 //! Laws of the definitions.
 ghost use Rattle.babel_canon.specs.RoundTrip.{TextReadsBack};
 ghost use Rattle.babel_canon.specs.Boxes.{BoxesAnswer, BoxesTellApart};
+ghost use Rattle.babel_canon.specs.Fewest.{BoxesAreFewest};
 ghost use Rattle.babel_canon.specs.Packing.{TextIsOne};
 ghost use Rattle.babel_canon.specs.Headline.{Headline};
+ghost use Rattle.babel_canon.specs.OneOutcome.{NormalFormIsOne, NormaliseFaultIsOne, NormalFormHasNoFault, VerdictIsOne};
 
 /// Pairs have exactly one canonical text for each size of a body.
 pub fn text_is_one()
@@ -21,8 +23,27 @@ pub fn boxes_are_answers()
     ensures tell_apart { BoxesTellApart }
 {}
 
+/// The boxes of rows, of both families together, do not overlap and have the answers of the rows, and no such list has fewer
+/// pairs.
+pub fn boxes_are_fewest()
+    ensures { BoxesAreFewest }
+{}
+
 /// Two dumps give every destination and source the same answer exactly if their canonical octets are equal; and these, read
-/// with any sender, give those answers again, and are their own canonical form.
+/// with any sender, give those answers again, and are their own canonical form, from which nothing but want of memory keeps them.
 pub fn canonical_octets_tell_answers()
     ensures { Headline }
+{}
+
+/// A dump has at most one canonical text for each size of a body; want of memory aside, at most one fault that keeps it from
+/// one; and never both.
+pub fn normal_form_is_one()
+    ensures text { NormalFormIsOne }
+    ensures fault { NormaliseFaultIsOne }
+    ensures no_fault { NormalFormHasNoFault }
+{}
+
+/// Two tables have at most one verdict.
+pub fn verdict_is_one()
+    ensures { VerdictIsOne }
 {}

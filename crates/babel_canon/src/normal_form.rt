@@ -1,6 +1,7 @@
 ghost use Rattle.std.specs.Prelude.{IfOk, IfErr};
 ghost use Rattle.babel_prefix.specs.Address.{Address};
 ghost use Rattle.babel_canon.specs.Canonical.{NormaliseFault};
+ghost use Rattle.babel_canon.specs.Fewest.{SaysFewest};
 ghost use Rattle.babel_canon.specs.Headline.{Normalises, TellsApart, ReadsAgain};
 
 use crate::body::Body;
@@ -14,7 +15,9 @@ use std::alloc::Global;
 ///
 /// The canonical octets of two dumps, under the same limits, mode and body size, are equal exactly where the dumps give
 /// every destination and source the same answer; read with any sender, they give these answers again, and normalising them
-/// gives them back. The faults are those of the dump, then `TooManyPairs` if its canonical pairs are more than the entries of
+/// gives them back, unless memory is wanting. They say the fewest pairs that do not overlap and have these answers.
+///
+/// The faults are those of the dump, then `TooManyPairs` if its canonical pairs are more than the entries of
 /// the limits, and `Memory`.
 pub fn normalise(
     alloc: Global,
@@ -28,6 +31,7 @@ pub fn normalise(
     ensures err { IfErr result (NormaliseFault limits mode sender dump.now) }
     ensures tells_apart { IfOk result (λ text. TellsApart limits mode body (record { sender = sender; dump = dump.now }) text.items) }
     ensures reads_again { IfOk result (λ text. (any : Address) → ReadsAgain limits mode body (record { sender = sender; dump = dump.now }) text.items any) }
+    ensures fewest { IfOk result (λ text. SaysFewest limits mode body sender dump.now text.items) }
 {
     let _valid = (limits.entries(), body.octets());
     let table = read_dump(alloc, limits, mode, sender, dump)?;

@@ -9,6 +9,7 @@ use Rattle.babel_table.specs.Bounds.{Bounds}
 use Rattle.babel_table.specs.DumpFault.{DumpFault, HasNoFault, IsTableOf}
 use Rattle.babel_table.specs.Rows.{Routes}
 use Rattle.babel_canon.specs.Canonical.{Canonical, HasManyBoxes, IsCanonical}
+use Rattle.babel_canon.specs.Fewest.{AreFewest, SaysFewest}
 use Rattle.babel_canon.specs.Headline.{Normalises, TellsApart, ReadsAgain}
 use Rattle.babel_canon.specs.Verdict.{IsVerdict}
 use Rattle.babel_canon.specs.declared.verdict.Verdict.{Verdict}
@@ -69,19 +70,21 @@ IsFaultOfForm reader fault =
     ⊎ ((fault ≡ faults.TooManyPairs) × ((table : Routes) × GaveTable reader table × HasManyBoxes reader.reading.limits table.rows))
 
 -- The reader gave a dump, all that it had, and these are its canonical octets: they tell the dump apart from each that
--- answers otherwise, and, read with any sender, answer as it does.
+-- answers otherwise, and, read with any sender, answer as it does; and no list of pairs that says as much is shorter.
 pub record GaveNormal (reader : Input) (body : ℕ) (octets : List ℕ) : Type 0 where
   pub dump : List ℕ
   pub gave : GaveAll reader dump
   pub normalises : Normalises reader.reading.limits reader.reading.mode body reader.reading.sender dump octets
+  pub fewest : SaysFewest reader.reading.limits reader.reading.mode body reader.reading.sender dump octets
   pub tells_apart : TellsApart reader.reading.limits reader.reading.mode body (record { sender = reader.reading.sender; dump = dump }) octets
   pub reads_again : (any : Address)
       → ReadsAgain reader.reading.limits reader.reading.mode body (record { sender = reader.reading.sender; dump = dump }) octets any
 
--- the reader gave a dump, all that it had, and these are its table and the canonical form of that
+-- the reader gave a dump, all that it had, and these are its table and the canonical form of that, with the fewest pairs
 pub record GavePairs (reader : Input) (table : Routes) (canon : Canonical) : Type 0 where
   pub gave : GaveTable reader table
   pub is_canon : IsCanonical reader.reading.limits 1024 table.rows canon
+  pub fewest : AreFewest table.rows canon.pairs
 
 -- two readers gave a dump each, all that they had, and this is how the answers of the dumps' tables compare
 pub record GaveVerdict (reader other : Input) (verdict : Verdict) : Type 0 where

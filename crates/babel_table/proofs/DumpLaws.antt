@@ -17,7 +17,7 @@ use Rattle.babel_table.specs.DumpFault.{AreFine, RefusedBy, StreamFault, IsTrunc
 use Rattle.babel_table.specs.Feeding.{StandsBehind, Takes, Fails, TookPackets, StopsAt, StopsBehind, IsPartial, IsReady, IsLasting, NeedsMemory}
 use Rattle.babel_table.specs.Rows.{Routes}
 use Rattle.babel_table.proofs.FineLaws.{fine-not-refused}
-use Rattle.babel_table.proofs.ReadingLaws.{body_len-framed, length-framed, partial-no_packet, one_body, placed-no_stop, packets_one}
+use Rattle.babel_table.proofs.ReadingLaws.{body_len-framed, length-framed, partial-no_packet, partial-stuck, placed-drop, one_body, placed-no_stop, packets_one}
 
 -- ---- packets behind packets
 
@@ -27,7 +27,7 @@ flat-append a b = flat_map-append packet_octets a b
 length-flat : (a b : List (List TlvAt)) → length (flat_map packet_octets (a ++ b)) ≡ length (flat_map packet_octets a) + length (flat_map packet_octets b)
 length-flat a b = ap length (flat-append a b) ∙ length-append (flat_map packet_octets a) (flat_map packet_octets b)
 
-sayings-append : (sender : Address) (a b : List (List TlvAt)) → sayings sender (a ++ b) ≡ sayings sender a ++ sayings sender b
+pub sayings-append : (sender : Address) (a b : List (List TlvAt)) → sayings sender (a ++ b) ≡ sayings sender a ++ sayings sender b
 sayings-append sender a b = flat_map-append (sayings_behind sender []) a b
 
 placed-append : (at place : ℕ) (a b : List (List TlvAt)) → ArePackets at a → place ≡ at + length (flat_map packet_octets a) → ArePackets place b → ArePackets at (a ++ b)
@@ -42,7 +42,7 @@ whole-append octets more rest behind a b first second =
 
 -- ---- octets that go on
 
-header-more : (place : ℕ) (rest more : List ℕ) (fault : Fault) → HeaderFault place rest fault → HeaderFault place (rest ++ more) fault
+pub header-more : (place : ℕ) (rest more : List ℕ) (fault : Fault) → HeaderFault place rest fault → HeaderFault place (rest ++ more) fault
 header-more place [] more (faults.BadMagic at) (is, long, wrong) = absurd (omega (arith, long))
 header-more place (a ∷ rest) more (faults.BadMagic at) (is, long, wrong) = (is, omega (arith, long, length-append rest more), wrong)
 header-more place [] more (faults.BadVersion at) (is, long, magic, wrong) = absurd (omega (arith, long))
@@ -56,7 +56,7 @@ header-more place rest more faults.TooLong none = absurd none
 header-more place rest more faults.TooManyPairs none = absurd none
 header-more place rest more faults.Memory none = absurd none
 
-header-long : (place : ℕ) (rest : List ℕ) (fault : Fault) → HeaderFault place rest fault → HasHeader rest
+pub header-long : (place : ℕ) (rest : List ℕ) (fault : Fault) → HeaderFault place rest fault → HasHeader rest
 header-long place rest (faults.BadMagic at) (is, long, wrong) = long
 header-long place rest (faults.BadVersion at) (is, long, magic, wrong) = long
 header-long place rest (faults.Truncated at) none = absurd none
@@ -79,7 +79,7 @@ header-lasts place rest faults.TooManyPairs none = absurd none
 header-lasts place rest faults.Memory none = absurd none
 
 -- a good header has no fault
-header-good : (place : ℕ) (rest : List ℕ) (fault : Fault) → HeaderFault place rest fault → slice_index rest 0 ≡ 42 → slice_index rest 1 ≡ 2 → ⊥
+pub header-good : (place : ℕ) (rest : List ℕ) (fault : Fault) → HeaderFault place rest fault → slice_index rest 0 ≡ 42 → slice_index rest 1 ≡ 2 → ⊥
 header-good place rest (faults.BadMagic at) (is, long, wrong) magic version = wrong magic
 header-good place rest (faults.BadVersion at) (is, long, m, wrong) magic version = wrong version
 header-good place rest (faults.Truncated at) none magic version = none
@@ -90,7 +90,7 @@ header-good place rest faults.TooLong none magic version = none
 header-good place rest faults.TooManyPairs none magic version = none
 header-good place rest faults.Memory none magic version = none
 
-begins-more : (rest more body : List ℕ) → BeginsPacket rest body → BeginsPacket (rest ++ more) body
+pub begins-more : (rest more body : List ℕ) → BeginsPacket rest body → BeginsPacket (rest ++ more) body
 begins-more rest more body (fits, behind, is) = (fits, behind ++ more, ap (λ (t : List ℕ). t ++ more) is ∙ append_assoc (framed body) behind more)
 
 -- ---- taking on
@@ -336,19 +336,13 @@ module _ (mode : Mode) (entries : ℕ) (sender : Address) where
 
 -- ---- octets that were taken have no fault, or are truncated
 
-placed-drop : (at : ℕ) (a b : List (List TlvAt)) → ArePackets at (a ++ b) → ArePackets (at + length (flat_map packet_octets a)) b
-placed-drop at [] b placed = subst (λ (n : ℕ). ArePackets n b) (omega arith) placed
-placed-drop at (tlvs ∷ a) b placed =
-    subst (λ (n : ℕ). ArePackets n b) (omega (arith, length-append (packet_octets tlvs) (flat_map packet_octets a)))
-    (placed-drop (at + length (packet_octets tlvs)) a b placed.2)
-
 partial-truncated : (place : ℕ) (rest : List ℕ) (fault : Fault) → IsPartial rest → PacketFault place rest fault → IsTruncated fault
 partial-truncated place rest fault partial (inl (is, short)) = subst IsTruncated (sym is) tt
 partial-truncated place rest fault (inl short) (inr (inl header)) = absurd (omega (arith, short, header-long place rest fault header))
 partial-truncated place rest fault (inr lacks) (inr (inl header)) = absurd (header-good place rest fault header lacks.1 lacks.2)
 partial-truncated place rest fault partial (inr (inr (body, begins, past))) = absurd (partial-no_packet rest body partial begins)
 
-packet-no_fault : (place : ℕ) (rest behind : List ℕ) (tlvs : List TlvAt) (fault : Fault) → IsBody (body_octets tlvs) → ArePlaced (place + 4) tlvs → rest ≡ framed (body_octets tlvs) ++ behind → PacketFault place rest fault → ⊥
+pub packet-no_fault : (place : ℕ) (rest behind : List ℕ) (tlvs : List TlvAt) (fault : Fault) → IsBody (body_octets tlvs) → ArePlaced (place + 4) tlvs → rest ≡ framed (body_octets tlvs) ++ behind → PacketFault place rest fault → ⊥
 packet-no_fault place rest behind tlvs fault fits placed is (inl (is_fault, partial)) = partial-no_packet rest (body_octets tlvs) partial (fits, behind, is)
 packet-no_fault place rest behind tlvs fault fits placed is (inr (inl header)) =
     header-good place rest fault header (ap (λ (t : List ℕ). slice_index t 0) is) (ap (λ (t : List ℕ). slice_index t 1) is)
@@ -359,7 +353,7 @@ packet-no_fault place rest behind tlvs fault fits placed is (inr (inr (body, beg
 module _ (mode : Mode) (entries : ℕ) (sender : Address) (table : Routes) (at : ℕ) (pending octets : List ℕ) (taken : HasTakenTo mode entries sender table at pending octets) where
   pub only_truncated : (fault : Fault) → StreamFault mode entries sender octets fault → IsTruncated fault × (pending ≢ [])
   only_truncated fault (packets, rest, reads, why) =
-      let one = packets_one 0 taken.packets packets pending rest taken.reads.placed reads.placed taken.partial (sym taken.reads.whole ∙ reads.whole) in
+      let one = packets_one 0 at taken.packets packets pending rest (omega (arith, taken.place)) taken.reads.placed reads.placed (partial-stuck at pending taken.partial) (sym taken.reads.whole ∙ reads.whole) in
       by packets rest one.0 one.1 one.2 why
     where
       by : (packets : List (List TlvAt)) (rest : List ℕ) (more : List (List TlvAt)) → taken.packets ≡ packets ++ more → rest ≡ flat_map packet_octets more ++ pending

@@ -44,9 +44,9 @@ take-within bytes front more fits =
 
 module _ (limits : Bounds) (mode : Mode) (sender : Address) where
   -- a fault of octets within the limit stays that of the dump
-  dump_fault : (front more : List ℕ) (fault : Fault) → length front ≤ limits.bytes → IsLasting fault → ((more : List ℕ) → StreamFault mode limits.entries sender (front ++ more) fault)
+  pub dump_fault : (front more : List ℕ) (fault : Fault) → length front ≤ limits.bytes → ¬ IsTruncated fault → ((more : List ℕ) → StreamFault mode limits.entries sender (front ++ more) fault)
       → DumpFault limits mode sender (front ++ more) fault
-  dump_fault front more fault fits lasting stream = by (length (front ++ more) - limits.bytes) refl
+  dump_fault front more fault fits whole stream = by (length (front ++ more) - limits.bytes) refl
     where
       by : (past : ℕ) → length (front ++ more) - limits.bytes ≡ past → DumpFault limits mode sender (front ++ more) fault
       by zero is = inl (omega (arith, is), stream more)
@@ -54,7 +54,7 @@ module _ (limits : Bounds) (mode : Mode) (sender : Address) where
           inr (inl (
             omega (arith, is),
             subst (λ (t : List ℕ). StreamFault mode limits.entries sender t fault) (sym (take-within limits.bytes front more fits)) (stream (take (limits.bytes - length front) more)),
-            lasting-truncated fault lasting,
+            whole,
           ))
 
   -- octets up to the limit that were taken, and more behind them
@@ -141,7 +141,7 @@ module _ (p : Progress) where
               inr (
                 lasting,
                 λ more. subst (λ (t : List ℕ). DumpFault p.limits p.mode p.sender t fault) (sym (append_assoc (fed ++ near) far more))
-                    (dump_fault p.limits p.mode p.sender (fed ++ near) (far ++ more) fault fits lasting stream),
+                    (dump_fault p.limits p.mode p.sender (fed ++ near) (far ++ more) fault fits (lasting-truncated fault lasting) stream),
               )
       by (inr (is, long, now, rest, place, took, partial)) =
           inr (

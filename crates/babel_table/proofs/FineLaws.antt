@@ -49,13 +49,13 @@ refused_by mode entries table said one later fault stands refuses =
 
 -- ---- fine sayings are not refused
 
-one_event : (a b : Event) (r : Result Event Fault) → r ≡ Ok a → r ≡ Ok b → a ≡ b
+pub one_event : (a b : Event) (r : Result Event Fault) → r ≡ Ok a → r ≡ Ok b → a ≡ b
 one_event a b r p q = cc
 
 no_fault : (a : Event) (fault : Fault) (r : Result Event Fault) → r ≡ Ok a → r ≡ Err fault → ⊥
 no_fault a fault r p q = cc
 
-refuses-not : (mode : Mode) (entries : ℕ) (events : List Event) (at : ℕ) (what : Result Event Fault) (event : Event) (fault : Fault) → what ≡ Ok event → HoldsAtMost mode entries (events ++ event ∷ [])
+pub refuses-not : (mode : Mode) (entries : ℕ) (events : List Event) (at : ℕ) (what : Result Event Fault) (event : Event) (fault : Fault) → what ≡ Ok event → HoldsAtMost mode entries (events ++ event ∷ [])
     → Refuses mode entries events at what fault → ⊥
 refuses-not mode entries events at (Err f) event fault is few refuses = no_fault event f (Err f) is refl
 refuses-not mode entries events at (Ok e) event fault is few (isf, more) =

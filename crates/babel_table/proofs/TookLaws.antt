@@ -17,8 +17,8 @@ use Rattle.babel_table.specs.Feeding.{StandsBehind, Fails, TookSome, MayGrowAt, 
 use Rattle.babel_table.specs.Rows.{Routes}
 use Rattle.babel_table.proofs.FineLaws.{refused_by}
 
-record Lasts (r : Result Event Fault) : Type 0 where
-  lasts : IfErr r IsLasting
+pub record Lasts (r : Result Event Fault) : Type 0 where
+  pub lasts : IfErr r IsLasting
 
 either_lasts : (b : Bool) {x y : Result Event Fault} → Lasts x → Lasts y → Lasts (cond b x y)
 either_lasts true here there = here
@@ -33,7 +33,7 @@ update_lasts context tlv =
     (either_lasts (nat_le 3 (update_encoding tlv.body)) (either_lasts (sets_router_id tlv.body) (record { lasts = tt }) event_lasts)
     (either_lasts (update_encoding tlv.body == 0) event_lasts (either_lasts (update_encoding tlv.body == 1) event_lasts event_lasts)))
 
-said_lasts : (context : Context) (tlv : TlvAt) → Lasts (said context tlv)
+pub said_lasts : (context : Context) (tlv : TlvAt) → Lasts (said context tlv)
 said_lasts context tlv =
     either_lasts (tlv.kind == 6) event_lasts (either_lasts (tlv.kind == 7) event_lasts
     (either_lasts (tlv.kind == 8) (update_lasts context tlv) event_lasts))

@@ -6,3 +6,4 @@ pub mod Live
 pub mod DumpFault
 pub mod Feeding
 pub mod Lookup
+pub mod OneOutcome

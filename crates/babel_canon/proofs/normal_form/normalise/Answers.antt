@@ -2,6 +2,7 @@ use Rattle.std.proofs.Common.{ℕ, List, sym, subst}
 use Rattle.std.proofs.lemmas.Result.{err_from_is_err_and}
 use Rattle.babel_tlv.specs.Group.{IsText}
 use Rattle.babel_canon.specs.Headline.{Normalises}
+use Rattle.babel_canon.proofs.Fewest.{says_fewest}
 use Rattle.babel_canon.proofs.Headline.{headline}
 use Rattle.babel_canon.proofs.Normal.{of_dump}
 use Rattle.babel_canon.proofs.normal_form.normalise.Goals as goal
@@ -31,3 +32,6 @@ returns-clause-tells_apart c =
 pub returns-clause-reads_again : goal.returns-clause-reads_again
 returns-clause-reads_again c =
     (headline c.args.limits c.args.mode c.args.body c.entries.ensures.valid c.octets.ensures.valid (record { sender = c.args.sender; dump = c.args.dump.now }) c.into_bytes.result.items (normal c)).1
+
+pub returns-clause-fewest : goal.returns-clause-fewest
+returns-clause-fewest c = says_fewest c.args.limits c.args.mode c.args.body c.args.sender c.args.dump.now c.into_bytes.result.items (normal c)

@@ -1,0 +1,48 @@
+-- A dump has one canonical text or one fault, want of memory aside.
+use Rattle.std.proofs.Common.{◌≡◌, ℕ, List, length, refl, sym, ap, subst, ◌∙◌, arith, inl, inr}
+use Rattle.babel_prefix.specs.Address.{Address}
+use Rattle.babel_tlv.specs.declared.mode.Mode.{Mode}
+use Rattle.babel_tlv.specs.Pair.{Pair}
+use Rattle.babel_tlv.specs.Group.{IsText}
+use Rattle.babel_tlv.proofs.TextOnce.{text_one}
+use Rattle.babel_table.specs.Bounds.{Bounds}
+use Rattle.babel_table.specs.Rows.{Routes}
+use Rattle.babel_table.specs.DumpFault.{IsTableOf}
+use Rattle.babel_table.proofs.OutcomeLaws.{fault_is_one, table_is_one}
+use Rattle.babel_canon.specs.Boxes.{AnswerTheSame, AreBoxes}
+use Rattle.babel_canon.specs.OneOutcome.{NormalFormIsOne, NormaliseFaultIsOne, NormalFormHasNoFault}
+use Rattle.babel_canon.proofs.Boxes.{boxes_one}
+
+-- a dump has one table, and so one list of rows
+pub rows_one : (limits : Bounds) (mode : Mode) (sender : Address) (dump : List ℕ) (table other : Routes) → IsTableOf limits mode sender dump table → IsTableOf limits mode sender dump other → table.rows ≡ other.rows
+rows_one limits mode sender dump table other is_table is_other = ap (λ (t : Routes). t.rows) (table_is_one limits mode sender dump table other is_table is_other)
+
+pub texts_one : (body : ℕ) (ps qs : List Pair) (octets other : List ℕ) → ps ≡ qs → IsText body ps octets → IsText body qs other → octets ≡ other
+texts_one body ps qs octets other same p_text q_text = text_one body qs octets other (subst (λ (l : List Pair). IsText body l octets) same p_text) q_text
+
+-- equal rows have equal boxes
+boxes_same : (rows others ps qs : List Pair) → rows ≡ others → AreBoxes rows ps → AreBoxes others qs → ps ≡ qs
+boxes_same rows others ps qs same p_boxes q_boxes =
+    boxes_one rows others ps qs (subst (λ (l : List Pair). AnswerTheSame rows l) same (λ d s d_in s_in e. refl)) p_boxes q_boxes
+
+pub normal_form_is_one : NormalFormIsOne
+normal_form_is_one limits mode body sender dump octets other one two =
+    let rows = rows_one limits mode sender dump one.table two.table one.is_table two.is_table in
+    texts_one body one.boxes two.boxes octets other (boxes_same one.table.rows two.table.rows one.boxes two.boxes rows one.are_boxes two.are_boxes) one.text two.text
+
+pub normal_form_has_no_fault : NormalFormHasNoFault
+normal_form_has_no_fault limits mode body sender dump octets fault normal (inl of_dump) = absurd (normal.no_fault fault of_dump)
+normal_form_has_no_fault limits mode body sender dump octets fault normal (inr (inl (is, no_fault, (table, is_table, (boxes, are_boxes, many))))) =
+    let rows = rows_one limits mode sender dump table normal.table is_table normal.is_table in
+    let same = ap (λ (l : List Pair). length l) (boxes_same table.rows normal.table.rows boxes normal.boxes rows are_boxes normal.are_boxes) in
+    absurd (omega (arith, same, many, normal.few))
+normal_form_has_no_fault limits mode body sender dump octets fault normal (inr (inr memory)) = memory
+
+pub normalise_fault_is_one : NormaliseFaultIsOne
+normalise_fault_is_one limits mode sender dump fault other (inl one) (inl two) not_memory other_not = fault_is_one limits mode sender dump fault other one two
+normalise_fault_is_one limits mode sender dump fault other (inl one) (inr (inl two)) not_memory other_not = absurd (two.1 fault one)
+normalise_fault_is_one limits mode sender dump fault other (inl one) (inr (inr memory)) not_memory other_not = absurd (other_not memory)
+normalise_fault_is_one limits mode sender dump fault other (inr (inl one)) (inl two) not_memory other_not = absurd (one.1 other two)
+normalise_fault_is_one limits mode sender dump fault other (inr (inl one)) (inr (inl two)) not_memory other_not = one.0 ∙ sym two.0
+normalise_fault_is_one limits mode sender dump fault other (inr (inl one)) (inr (inr memory)) not_memory other_not = absurd (other_not memory)
+normalise_fault_is_one limits mode sender dump fault other (inr (inr memory)) two not_memory other_not = absurd (not_memory memory)
