@@ -4,7 +4,7 @@ mod RoundTrip
 mod Groups
 mod Packets
 mod OneText
-mod OneOutcome
+pub mod OneOutcome
 mod Boxes
 mod Tables
 mod Headline
@@ -12,7 +12,7 @@ mod Families
 mod Fewest
 mod Entries
 mod Verdicts
-mod OneVerdict
+pub mod OneVerdict
 mod Normal
 mod Numbered
 mod ValueLists

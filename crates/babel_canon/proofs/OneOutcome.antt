@@ -21,7 +21,7 @@ pub texts_one : (body : ℕ) (ps qs : List Pair) (octets other : List ℕ) → p
 texts_one body ps qs octets other same p_text q_text = text_one body qs octets other (subst (λ (l : List Pair). IsText body l octets) same p_text) q_text
 
 -- equal rows have equal boxes
-boxes_same : (rows others ps qs : List Pair) → rows ≡ others → AreBoxes rows ps → AreBoxes others qs → ps ≡ qs
+pub boxes_same : (rows others ps qs : List Pair) → rows ≡ others → AreBoxes rows ps → AreBoxes others qs → ps ≡ qs
 boxes_same rows others ps qs same p_boxes q_boxes =
     boxes_one rows others ps qs (subst (λ (l : List Pair). AnswerTheSame rows l) same (λ d s d_in s_in e. refl)) p_boxes q_boxes
 

@@ -42,7 +42,8 @@ impl Canon {
         &self.bytes
     }
 
-    pub(crate) fn into_bytes(self) -> Vec<u8>
+    /// The canonical octets of the pairs, which are let go.
+    pub fn into_bytes(self) -> Vec<u8>
         ensures { result.items ≡ self.octets }
     {
         self.bytes

@@ -1,22 +1,16 @@
-ghost use Rattle.std.specs.Prelude.{◌≡◌, ℕ, ◌+◌, ◌-◌, ◌^◌, ◌<◌, List, Option, None, length};
+ghost use Rattle.std.specs.Prelude.{◌≡◌, ◌+◌, ◌-◌, ◌^◌, ◌<◌, length};
 ghost use Rattle.std.specs.Io.{ReadsAtMost};
 ghost use Rattle.std.specs.Io.KnownBytes.{ReadConsumes};
-ghost use Rattle.babel_dump.specs.Device.{failed_reads, ended_reads};
+ghost use Rattle.babel_dump.specs.Device.{InputState, failed_reads, ended_reads};
 
 use std::io;
 use std::io::Read;
 
 /// A device that gives octets, as std's `Read` does, with counts that contracts alone see.
 pub trait ByteIn {
-    // The octets that are left to give, or `None` where the device doesn't say.
-    ghost remaining: { Self → Option (List ℕ) } = { λ _. None };
-
-    // How many calls failed, how many reads there were, and how many of them met the end.
-    ghost failures: { Self → ℕ };
-
-    ghost reads: { Self → ℕ };
-
-    ghost ends: { Self → ℕ };
+    // The octets that are left to give, where the device says them, how many calls failed, how many reads there were, and
+    // how many of them met the end.
+    ghost state: { Self → InputState };
 
     /// Gives its next octets, at least one where there are more and the buffer isn't empty.
     ///
@@ -24,14 +18,14 @@ pub trait ByteIn {
     ///
     /// What the device answers in place of octets.
     fn read(&mut self, buf: &mut [u8]) -> io::Result<usize>
-        requires few_failures { failures self.old < 2 ^ 64 - 1 }
-        requires few_reads { reads self.old < 2 ^ 64 - 1 }
-        requires few_ends { ends self.old < 2 ^ 64 - 1 }
+        requires few_failures { (state self.old).failures < 2 ^ 64 - 1 }
+        requires few_reads { (state self.old).reads < 2 ^ 64 - 1 }
+        requires few_ends { (state self.old).ends < 2 ^ 64 - 1 }
         ensures bound { ReadsAtMost result buf.new }
-        ensures octets { ReadConsumes (remaining self.old) (remaining self.new) result buf.new }
-        ensures counts_failure { failures self.new ≡ failures self.old + failed_reads result }
-        ensures counts_read { reads self.new ≡ reads self.old + 1 }
-        ensures counts_end { ends self.new ≡ ends self.old + ended_reads result (length buf.old) };
+        ensures octets { ReadConsumes (state self.old).left (state self.new).left result buf.new }
+        ensures counts_failure { (state self.new).failures ≡ (state self.old).failures + failed_reads result }
+        ensures counts_read { (state self.new).reads ≡ (state self.old).reads + 1 }
+        ensures counts_end { (state self.new).ends ≡ (state self.old).ends + ended_reads result (length buf.old) };
 }
 
 /// A device over any reader of std.
@@ -46,10 +40,7 @@ pub struct FromReader<R: Read> {
 impl<R: Read> FromReader<R> {
     /// A device that gives what the reader gives, and has counted nothing.
     pub fn new(reader: R) -> FromReader<R>
-        ensures octets { ⟦<FromReader<R> as ByteIn>⟧.remaining result ≡ R.remaining reader }
-        ensures failures { ⟦<FromReader<R> as ByteIn>⟧.failures result ≡ 0 }
-        ensures reads { ⟦<FromReader<R> as ByteIn>⟧.reads result ≡ 0 }
-        ensures ends { ⟦<FromReader<R> as ByteIn>⟧.ends result ≡ 0 }
+        ensures { ⟦<FromReader<R> as ByteIn>⟧.state result ≡ record { left = R.remaining reader; failures = 0; reads = 0; ends = 0 } }
     {
         FromReader {
             reader,
@@ -61,13 +52,7 @@ impl<R: Read> FromReader<R> {
 }
 
 impl<R: Read> ByteIn for FromReader<R> {
-    ghost remaining = { λ d. R.remaining d.reader };
-
-    ghost failures = { λ d. d.failures };
-
-    ghost reads = { λ d. d.reads };
-
-    ghost ends = { λ d. d.ends };
+    ghost state = { λ d. record { left = R.remaining d.reader; failures = d.failures; reads = d.reads; ends = d.ends } };
 
     fn read(&mut self, buf: &mut [u8]) -> io::Result<usize> {
         self.reads += 1;

@@ -1,20 +1,15 @@
-ghost use Rattle.std.specs.Prelude.{◌≡◌, ℕ, ◌+◌, ◌-◌, ◌^◌, ◌<◌, List, Option, None, length};
+ghost use Rattle.std.specs.Prelude.{◌≡◌, ◌+◌, ◌-◌, ◌^◌, ◌<◌, length};
 ghost use Rattle.std.specs.Io.{WritesAtMost};
 ghost use Rattle.std.specs.Io.KnownBytes.{Keeps, WriteAppends};
-ghost use Rattle.babel_dump.specs.Device.{failed_writes, failed_flushes};
+ghost use Rattle.babel_dump.specs.Device.{OutputState, failed_writes, failed_flushes};
 
 use std::io;
 use std::io::Write;
 
 /// A device that takes octets, as std's `Write` does, with counts that contracts alone see.
 pub trait ByteOut {
-    // The octets that were taken, or `None` where the device doesn't say.
-    ghost contents: { Self → Option (List ℕ) } = { λ _. None };
-
-    // How many calls failed, and how many flushes there were.
-    ghost failures: { Self → ℕ };
-
-    ghost flushes: { Self → ℕ };
+    // The octets that were taken, where the device says them, how many calls failed, and how many flushes there were.
+    ghost state: { Self → OutputState };
 
     /// Takes some of the first octets, and says how many.
     ///
@@ -22,11 +17,11 @@ pub trait ByteOut {
     ///
     /// What the device answers in place of a number. It has then taken nothing.
     fn write(&mut self, buf: &[u8]) -> io::Result<usize>
-        requires { failures self.old < 2 ^ 64 - 1 }
+        requires { (state self.old).failures < 2 ^ 64 - 1 }
         ensures bound { WritesAtMost result buf.now }
-        ensures octets { WriteAppends (contents self.old) (contents self.new) result buf.now }
-        ensures counts_failure { failures self.new ≡ failures self.old + failed_writes result (length buf.now) }
-        ensures no_flush { flushes self.new ≡ flushes self.old };
+        ensures octets { WriteAppends (state self.old).taken (state self.new).taken result buf.now }
+        ensures counts_failure { (state self.new).failures ≡ (state self.old).failures + failed_writes result (length buf.now) }
+        ensures no_flush { (state self.new).flushes ≡ (state self.old).flushes };
 
     /// Sends on what was taken.
     ///
@@ -34,11 +29,11 @@ pub trait ByteOut {
     ///
     /// What the device answers where it can't.
     fn flush(&mut self) -> io::Result<()>
-        requires few_failures { failures self.old < 2 ^ 64 - 1 }
-        requires few_flushes { flushes self.old < 2 ^ 64 - 1 }
-        ensures octets { Keeps (contents self.old) (contents self.new) }
-        ensures counts_failure { failures self.new ≡ failures self.old + failed_flushes result }
-        ensures counts_flush { flushes self.new ≡ flushes self.old + 1 };
+        requires few_failures { (state self.old).failures < 2 ^ 64 - 1 }
+        requires few_flushes { (state self.old).flushes < 2 ^ 64 - 1 }
+        ensures octets { Keeps (state self.old).taken (state self.new).taken }
+        ensures counts_failure { (state self.new).failures ≡ (state self.old).failures + failed_flushes result }
+        ensures counts_flush { (state self.new).flushes ≡ (state self.old).flushes + 1 };
 }
 
 /// A device over any writer of std.
@@ -52,9 +47,7 @@ pub struct FromWriter<W: Write> {
 impl<W: Write> FromWriter<W> {
     /// A device that hands all to the writer, and has counted nothing.
     pub fn new(writer: W) -> FromWriter<W>
-        ensures octets { ⟦<FromWriter<W> as ByteOut>⟧.contents result ≡ W.contents writer }
-        ensures failures { ⟦<FromWriter<W> as ByteOut>⟧.failures result ≡ 0 }
-        ensures flushes { ⟦<FromWriter<W> as ByteOut>⟧.flushes result ≡ 0 }
+        ensures { ⟦<FromWriter<W> as ByteOut>⟧.state result ≡ record { taken = W.contents writer; failures = 0; flushes = 0 } }
     {
         FromWriter {
             writer,
@@ -65,11 +58,7 @@ impl<W: Write> FromWriter<W> {
 }
 
 impl<W: Write> ByteOut for FromWriter<W> {
-    ghost contents = { λ d. W.contents d.writer };
-
-    ghost failures = { λ d. d.failures };
-
-    ghost flushes = { λ d. d.flushes };
+    ghost state = { λ d. record { taken = W.contents d.writer; failures = d.failures; flushes = d.flushes } };
 
     fn write(&mut self, buf: &[u8]) -> io::Result<usize> {
         match self.writer.write(buf) {

@@ -1,43 +1,87 @@
-ghost use Rattle.std.specs.Prelude.{◌≡◌, IsSome};
-ghost use Rattle.std.specs.Option.{ForSome};
-ghost use Rattle.babel_canon.specs.Sizes.{IsBodySize};
-ghost use Rattle.babel_dump.specs.declared.which.Which.TheVariants as commands;
+ghost use Rattle.std.specs.Prelude.{◌≡◌};
+ghost use Rattle.std.specs.Option.{option_copied};
+ghost use Rattle.babel_dump.specs.Files.{first_file, other_file};
 
-use crate::which::Which;
+use crate::addr_pair::AddrPair;
+use babel_canon::Body;
 use babel_prefix::Addr;
+use babel_tlv::Mode;
 use std::alloc::AllocError;
 
-/// What the program's words ask for. What a command doesn't have, or its line leaves out, is `None` or false.
+/// What the program's words ask for.
 #[derive(Debug, Drop)]
-pub struct Job {
-    /// The command.
-    pub which: Which,
+pub enum Job {
+    /// `show`: the rows of a dump's table and its report.
+    Show { dump: OneDump },
+    /// `lookup`: what a dump answers for two addresses.
+    Lookup { dump: OneDump, pair: AddrPair },
+    /// `normalise`: the canonical octets of a dump.
+    Normalise {
+        dump: OneDump,
+        /// How many octets the body of a canonical packet has at most: `--body`.
+        body: Body,
+        /// Whether the octets are written as hexadecimal digits: `--hex`.
+        hex: bool,
+    },
+    /// `pairs`: the canonical pairs of a dump.
+    Pairs {
+        dump: OneDump,
+        /// Whether only the rows and the pairs are counted: `--count`.
+        count: bool,
+    },
+    /// `compare`: how the answers of two dumps compare.
+    Compare { dumps: TwoDumps },
+}
+
+/// The dump of a command that reads one.
+#[derive(Debug, Drop)]
+pub struct OneDump {
     /// The sender of the dump: `--from`.
     pub from: Addr,
-    /// The sender of the other dump of a comparison: `--other-from`.
-    pub other_from: Option<Addr>,
-    /// The destination to look up: `--to`.
-    pub to: Option<Addr>,
-    /// The source to look up, of the destination's family: `--src`.
-    pub src: Option<Addr>,
     /// Whether retracted keys stay as unreachable rows: `--hold`.
-    pub hold: bool,
-    /// Whether the canonical octets are written as hexadecimal digits: `--hex`.
-    pub hex: bool,
-    /// How many octets the body of a canonical packet has at most: `--body`.
-    pub body: Option<u16>,
-    /// Whether only the rows and the canonical pairs are counted: `--count`.
-    pub count: bool,
+    pub mode: Mode,
     /// The name of the dump's file; standard input where it is left out.
     pub file: Option<String>,
+}
+
+/// The dumps of a comparison.
+#[derive(Debug, Drop)]
+pub struct TwoDumps {
+    /// The sender of the first dump: `--from`.
+    pub from: Addr,
+    /// The sender of the other dump: `--other-from`.
+    pub other_from: Addr,
+    /// Whether retracted keys stay as unreachable rows, in both: `--hold`.
+    pub mode: Mode,
+    /// The name of the first dump's file.
+    pub file: String,
+    /// The name of the other dump's file.
+    pub other: String,
+}
+
+impl Job {
+    /// The name of the file of the dump that is read first; standard input where there is none.
+    pub fn file(&self) -> Option<&String>
+        ensures { option_copied result ≡ first_file self.now }
+    {
+        match self {
+            Job::Show { dump }
+            | Job::Lookup { dump, .. }
+            | Job::Normalise { dump, .. }
+            | Job::Pairs { dump, .. } => dump.file.as_ref(),
+            Job::Compare { dumps } => Some(&dumps.file),
+        }
+    }
+
     /// The name of the other dump's file, of a comparison.
-    pub other: Option<String>,
-    ghost one_family: { ForSome to (λ dst. ForSome src (λ other. dst.family ≡ other.family)) },
-    ghost body_size: { ForSome body (λ octets. IsBodySize octets) },
-    ghost has_to: { which ≡ commands.Lookup → IsSome to },
-    ghost has_other_from: { which ≡ commands.Compare → IsSome other_from },
-    ghost has_other: { which ≡ commands.Compare → IsSome other },
-    ghost has_src: { which ≡ commands.Lookup → IsSome src },
+    pub fn other(&self) -> Option<&String>
+        ensures { option_copied result ≡ other_file self.now }
+    {
+        match self {
+            Job::Compare { dumps } => Some(&dumps.other),
+            _ => None,
+        }
+    }
 }
 
 /// Why the program's words give no job, with the text to print, which ends its last line.

@@ -1,16 +1,16 @@
-ghost use Rattle.std.specs.Prelude.{◌≡◌, ◌≢◌, ◌+◌, ◌^◌, ◌<◌, ◌≤◌, List, ℕ, IfOk, IfErr, OnOk};
-ghost use Rattle.std.specs.Io.KnownBytes.{Keeps};
-ghost use Rattle.babel_tlv.specs.declared.fault.Fault.{Fault as FaultValue};
-ghost use Rattle.babel_dump.specs.Device.{AppendsPrefix};
-ghost use Rattle.babel_dump.specs.Run.{GaveNormal, HasCause, IsFaultOfForm, NeedsEnd, UnlessWrite, Wrote};
-ghost use Rattle.babel_dump.specs.RunText.{form_text};
+ghost use Rattle.std.specs.Prelude.{◌^◌, ◌<◌, None};
+ghost use Rattle.babel_dump.specs.Command.{RanNormalise, WritesNormal};
+ghost use Rattle.babel_dump.specs.Given.{IsFaultOfForm, input, read_from};
+ghost use Rattle.babel_dump.specs.Parts.{Gathered, SaysSo};
+ghost use Rattle.babel_dump.specs.Run.{output};
 
 use crate::byte_in::ByteIn;
 use crate::byte_out::ByteOut;
+use crate::finish::{Found, finish};
 use crate::input::read_canon;
+use crate::reading::Reading;
 use crate::run_fault::RunFault;
 use crate::text::hex_text;
-use crate::write::write_text;
 use babel_canon::Body;
 use babel_prefix::Addr;
 use babel_table::Limits;
@@ -37,41 +37,41 @@ pub fn run_normalise<R: ByteIn, W: ByteOut>(
     reader: &mut R,
     writer: &mut W,
 ) -> Result<u8, RunFault>
-    requires reader_failures { R.failures reader.old < 2 ^ 63 }
-    requires reader_reads { R.reads reader.old < 2 ^ 63 }
-    requires reader_ends { R.ends reader.old < 2 ^ 63 }
-    requires writer_failures { W.failures writer.old < 2 ^ 63 }
-    requires writer_flushes { W.flushes writer.old < 2 ^ 63 }
-
-    // At a status the reader was read to its end, what it gave has no fault, and its canonical octets were written and flushed.
-    ensures normalised { IfOk result (λ status. (octets : List ℕ)
-        × GaveNormal limits mode body sender (R.remaining reader.old) (R.remaining reader.new) octets
-        × Wrote (W.contents writer.old) (W.contents writer.new) (form_text hex octets) 0 status) }
-    ensures met_end { OnOk result (R.ends reader.old < R.ends reader.new) }
-    ensures flushed { OnOk result (W.flushes writer.new ≡ W.flushes writer.old + 1) }
-
-    // Each fault has its cause. No fault but that of a write leaves anything written, and a write a prefix of the text.
-    ensures cause { IfErr result (λ fault. HasCause fault (R.failures reader.old < R.failures reader.new)
-        (IsFaultOfForm limits mode sender (R.remaining reader.old) (R.remaining reader.new)) ⊥ (λ _. ⊥)
-        (W.failures writer.old < W.failures writer.new)) }
-    ensures one_dump { IfErr result (λ fault. (other : FaultValue) → fault ≢ RunFault.OtherDump other) }
-    ensures end_needed { IfErr result (λ fault. NeedsEnd fault (R.ends reader.old < R.ends reader.new) ⊥) }
-    ensures prefix { IfErr result (λ fault. UnlessWrite fault (Keeps (W.contents writer.old) (W.contents writer.new))
-        ((octets : List ℕ) × GaveNormal limits mode body sender (R.remaining reader.old) (R.remaining reader.new) octets
-        × AppendsPrefix (W.contents writer.old) (W.contents writer.new) (form_text hex octets))) }
-
-    ensures few_reads { R.reads reader.new ≤ R.reads reader.old + limits.bytes + 2 }
-    ensures reader_failure { R.failures reader.new ≤ R.failures reader.old + 1 }
-    ensures reader_end { R.ends reader.new ≤ R.ends reader.old + 1 }
-    ensures writer_failure { W.failures writer.new ≤ W.failures writer.old + 1 }
-    ensures writer_flush { W.flushes writer.new ≤ W.flushes writer.old + 1 }
+    requires reader_failures { (R.state reader.old).failures < 2 ^ 63 }
+    requires reader_reads { (R.state reader.old).reads < 2 ^ 63 }
+    requires reader_ends { (R.state reader.old).ends < 2 ^ 63 }
+    requires writer_failures { (W.state writer.old).failures < 2 ^ 63 }
+    requires writer_flushes { (W.state writer.old).flushes < 2 ^ 63 }
+    ensures { RanNormalise (input limits mode sender (R.state reader.old) (R.state reader.new)) body hex
+        (output (W.state writer.old) (W.state writer.new)) result }
 {
-    let (_table, canon) = read_canon(alloc, limits, mode, body, sender, reader)?;
-    if hex {
-        let text = hex_text(alloc, canon.bytes())?;
-        write_text(writer, text.as_bytes())?;
+    let reading = Reading {
+        limits,
+        mode,
+        sender,
+    };
+    finish(writer, read_normal(alloc, reading, body, hex, reader))
+}
+
+/// Reads a dump to its end, or to its first fault, and makes its canonical octets, or their line.
+fn read_normal<R: ByteIn>(
+    alloc: Global,
+    reading: Reading,
+    body: Body,
+    hex: bool,
+    reader: &mut R,
+) -> Result<Found, RunFault>
+    requires failures { (R.state reader.old).failures < 2 ^ 63 }
+    requires reads { (R.state reader.old).reads < 2 ^ 63 }
+    requires ends { (R.state reader.old).ends < 2 ^ 63 }
+    ensures { let dump = read_from (R.state reader.old) (R.state reader.new) reading in
+        Gathered dump None (IsFaultOfForm dump) (SaysSo (WritesNormal dump body hex)) result }
+{
+    let (_table, canon) = read_canon(alloc, reading, body, reader)?;
+    let text = if hex {
+        hex_text(alloc, canon.bytes())?.into_bytes()
     } else {
-        write_text(writer, canon.bytes())?;
-    }
-    Ok(0)
+        canon.into_bytes()
+    };
+    Ok(Found { text, status: 0 })
 }

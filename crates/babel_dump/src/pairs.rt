@@ -1,16 +1,17 @@
-ghost use Rattle.std.specs.Prelude.{◌≡◌, ◌≢◌, ◌+◌, ◌^◌, ◌<◌, ◌≤◌, List, ℕ, IfOk, IfErr, OnOk, string_bytes};
-ghost use Rattle.std.specs.Io.KnownBytes.{Keeps};
-ghost use Rattle.babel_tlv.specs.declared.fault.Fault.{Fault as FaultValue};
-ghost use Rattle.babel_dump.specs.Device.{AppendsPrefix};
-ghost use Rattle.babel_dump.specs.Run.{GavePairs, HasCause, IsFaultOfForm, NeedsEnd, UnlessWrite, Wrote};
+ghost use Rattle.std.specs.Prelude.{◌≡◌, ◌^◌, ◌<◌, None, IfOk, string_bytes};
+ghost use Rattle.babel_dump.specs.Command.{ListsPairs, RanPairs};
+ghost use Rattle.babel_dump.specs.Given.{IsFaultOfForm, input, read_from};
+ghost use Rattle.babel_dump.specs.Parts.{Gathered, SaysSo};
+ghost use Rattle.babel_dump.specs.Run.{output};
 ghost use Rattle.babel_dump.specs.RunText.{pairs_or_counts};
 
 use crate::byte_in::ByteIn;
 use crate::byte_out::ByteOut;
+use crate::finish::{Found, finish};
 use crate::input::read_canon;
+use crate::reading::Reading;
 use crate::run_fault::RunFault;
 use crate::text::{counts_text, pairs_text};
-use crate::write::write_text;
 use babel_canon::Body;
 use babel_prefix::Addr;
 use babel_table::Limits;
@@ -33,68 +34,38 @@ pub fn run_pairs<R: ByteIn, W: ByteOut>(
     reader: &mut R,
     writer: &mut W,
 ) -> Result<u8, RunFault>
-    requires reader_failures { R.failures reader.old < 2 ^ 63 }
-    requires reader_reads { R.reads reader.old < 2 ^ 63 }
-    requires reader_ends { R.ends reader.old < 2 ^ 63 }
-    requires writer_failures { W.failures writer.old < 2 ^ 63 }
-    requires writer_flushes { W.flushes writer.old < 2 ^ 63 }
-
-    // At a status the reader was read to its end, what it gave has no fault, and its pairs were written and flushed.
-    ensures paired { IfOk result (λ status. (text : List ℕ)
-        × GavePairs limits mode sender count (R.remaining reader.old) (R.remaining reader.new) text
-        × Wrote (W.contents writer.old) (W.contents writer.new) text 0 status) }
-    ensures met_end { OnOk result (R.ends reader.old < R.ends reader.new) }
-    ensures flushed { OnOk result (W.flushes writer.new ≡ W.flushes writer.old + 1) }
-
-    // Each fault has its cause. No fault but that of a write leaves anything written, and a write a prefix of the text.
-    ensures cause { IfErr result (λ fault. HasCause fault (R.failures reader.old < R.failures reader.new)
-        (IsFaultOfForm limits mode sender (R.remaining reader.old) (R.remaining reader.new)) ⊥ (λ _. ⊥)
-        (W.failures writer.old < W.failures writer.new)) }
-    ensures one_dump { IfErr result (λ fault. (other : FaultValue) → fault ≢ RunFault.OtherDump other) }
-    ensures end_needed { IfErr result (λ fault. NeedsEnd fault (R.ends reader.old < R.ends reader.new) ⊥) }
-    ensures prefix { IfErr result (λ fault. UnlessWrite fault (Keeps (W.contents writer.old) (W.contents writer.new))
-        ((text : List ℕ) × GavePairs limits mode sender count (R.remaining reader.old) (R.remaining reader.new) text
-        × AppendsPrefix (W.contents writer.old) (W.contents writer.new) text)) }
-
-    ensures few_reads { R.reads reader.new ≤ R.reads reader.old + limits.bytes + 2 }
-    ensures reader_failure { R.failures reader.new ≤ R.failures reader.old + 1 }
-    ensures reader_end { R.ends reader.new ≤ R.ends reader.old + 1 }
-    ensures writer_failure { W.failures writer.new ≤ W.failures writer.old + 1 }
-    ensures writer_flush { W.flushes writer.new ≤ W.flushes writer.old + 1 }
+    requires reader_failures { (R.state reader.old).failures < 2 ^ 63 }
+    requires reader_reads { (R.state reader.old).reads < 2 ^ 63 }
+    requires reader_ends { (R.state reader.old).ends < 2 ^ 63 }
+    requires writer_failures { (W.state writer.old).failures < 2 ^ 63 }
+    requires writer_flushes { (W.state writer.old).flushes < 2 ^ 63 }
+    ensures { RanPairs (input limits mode sender (R.state reader.old) (R.state reader.new)) count
+        (output (W.state writer.old) (W.state writer.new)) result }
 {
-    let text = read_pairs(alloc, limits, mode, sender, count, reader)?;
-    write_text(writer, text.as_bytes())?;
-    Ok(0)
+    let reading = Reading {
+        limits,
+        mode,
+        sender,
+    };
+    finish(writer, read_pairs(alloc, reading, count, reader))
 }
 
 /// Reads a dump to its end, or to its first fault, and makes the lines of its canonical pairs, or of their count.
 fn read_pairs<R: ByteIn>(
     alloc: Global,
-    limits: Limits,
-    mode: Mode,
-    sender: Addr,
+    reading: Reading,
     count: bool,
     reader: &mut R,
-) -> Result<String, RunFault>
-    requires failures { R.failures reader.old < 2 ^ 63 }
-    requires reads { R.reads reader.old < 2 ^ 63 }
-    requires ends { R.ends reader.old < 2 ^ 63 }
-
-    ensures text { IfOk result (λ text.
-        GavePairs limits mode sender count (R.remaining reader.old) (R.remaining reader.new) (string_bytes text)) }
-    ensures met_end { OnOk result (R.ends reader.old < R.ends reader.new) }
-    ensures cause { IfErr result (λ fault. HasCause fault (R.failures reader.old < R.failures reader.new)
-        (IsFaultOfForm limits mode sender (R.remaining reader.old) (R.remaining reader.new)) ⊥ (λ _. ⊥) ⊥) }
-    ensures one_dump { IfErr result (λ fault. (other : FaultValue) → fault ≢ RunFault.OtherDump other) }
-    ensures end_needed { IfErr result (λ fault. NeedsEnd fault (R.ends reader.old < R.ends reader.new) ⊥) }
-
-    ensures few_reads { R.reads reader.new ≤ R.reads reader.old + limits.bytes + 2 }
-    ensures one_failure { R.failures reader.new ≤ R.failures reader.old + 1 }
-    ensures one_end { R.ends reader.new ≤ R.ends reader.old + 1 }
+) -> Result<Found, RunFault>
+    requires failures { (R.state reader.old).failures < 2 ^ 63 }
+    requires reads { (R.state reader.old).reads < 2 ^ 63 }
+    requires ends { (R.state reader.old).ends < 2 ^ 63 }
+    ensures { let dump = read_from (R.state reader.old) (R.state reader.new) reading in
+        Gathered dump None (IsFaultOfForm dump) (SaysSo (ListsPairs dump count)) result }
 {
-    let (table, canon) = read_canon(alloc, limits, mode, Body::usual(), sender, reader)?;
-    let text = lines(alloc, count, table.rows(), canon.pairs())?;
-    Ok(text)
+    let (table, canon) = read_canon(alloc, reading, Body::usual(), reader)?;
+    let text = lines(alloc, count, table.rows(), canon.pairs())?.into_bytes();
+    Ok(Found { text, status: 0 })
 }
 
 /// The lines of the pairs, or of how many rows and pairs there are.

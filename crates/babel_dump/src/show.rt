@@ -1,20 +1,19 @@
-ghost use Rattle.std.specs.Prelude.{◌≡◌, ◌≢◌, ◌+◌, ◌^◌, ◌<◌, ◌≤◌, IfOk, IfErr, OnOk};
-ghost use Rattle.std.specs.Io.KnownBytes.{Keeps};
-ghost use Rattle.babel_tlv.specs.declared.fault.Fault.{Fault as FaultValue};
-ghost use Rattle.babel_table.specs.Rows.{Routes};
-ghost use Rattle.babel_dump.specs.Device.{AppendsPrefix};
-ghost use Rattle.babel_dump.specs.Run.{GaveTable, HasCause, IsFaultOfGiven, NeedsEnd, UnlessWrite, Wrote};
-ghost use Rattle.babel_dump.specs.RunText.{show_text};
+ghost use Rattle.std.specs.Prelude.{◌^◌, ◌<◌, None};
+ghost use Rattle.babel_dump.specs.Command.{RanShow, Shows};
+ghost use Rattle.babel_dump.specs.Given.{IsFaultOfGiven, input, read_from};
+ghost use Rattle.babel_dump.specs.Parts.{Gathered, SaysSo};
+ghost use Rattle.babel_dump.specs.Run.{output};
 
 use crate::byte_in::ByteIn;
 use crate::byte_out::ByteOut;
+use crate::finish::{Found, finish};
 use crate::input::read_table;
+use crate::reading::Reading;
 use crate::run_fault::RunFault;
 use crate::text::show_text;
-use crate::write::write_text;
 use babel_prefix::Addr;
 use babel_table::Limits;
-use babel_tlv::{Fault, Mode};
+use babel_tlv::Mode;
 use std::alloc::Global;
 
 /// Reads a dump that this sender sent, and writes a line for each row of its table, how many TLVs it has, and a line for
@@ -31,38 +30,34 @@ pub fn run_show<R: ByteIn, W: ByteOut>(
     reader: &mut R,
     writer: &mut W,
 ) -> Result<u8, RunFault>
-    requires reader_failures { R.failures reader.old < 2 ^ 63 }
-    requires reader_reads { R.reads reader.old < 2 ^ 63 }
-    requires reader_ends { R.ends reader.old < 2 ^ 63 }
-    requires writer_failures { W.failures writer.old < 2 ^ 63 }
-    requires writer_flushes { W.flushes writer.old < 2 ^ 63 }
-
-    // At a status the reader was read to its end, what it gave has no fault, and its table was written and flushed.
-    ensures shown { IfOk result (λ status. (table : Routes)
-        × GaveTable limits mode sender (R.remaining reader.old) (R.remaining reader.new) table
-        × Wrote (W.contents writer.old) (W.contents writer.new) (show_text table) 0 status) }
-    ensures met_end { OnOk result (R.ends reader.old < R.ends reader.new) }
-    ensures flushed { OnOk result (W.flushes writer.new ≡ W.flushes writer.old + 1) }
-
-    // Each fault has its cause. No fault but that of a write leaves anything written, and a write a prefix of the text.
-    ensures cause { IfErr result (λ fault. HasCause fault (R.failures reader.old < R.failures reader.new)
-        (IsFaultOfGiven limits mode sender (R.remaining reader.old) (R.remaining reader.new)) ⊥ (λ _. ⊥)
-        (W.failures writer.old < W.failures writer.new)) }
-    ensures no_pairs { IfErr result (λ fault. fault ≢ RunFault.Dump Fault.TooManyPairs) }
-    ensures one_dump { IfErr result (λ fault. (other : FaultValue) → fault ≢ RunFault.OtherDump other) }
-    ensures end_needed { IfErr result (λ fault. NeedsEnd fault (R.ends reader.old < R.ends reader.new) ⊥) }
-    ensures prefix { IfErr result (λ fault. UnlessWrite fault (Keeps (W.contents writer.old) (W.contents writer.new))
-        ((table : Routes) × GaveTable limits mode sender (R.remaining reader.old) (R.remaining reader.new) table
-        × AppendsPrefix (W.contents writer.old) (W.contents writer.new) (show_text table))) }
-
-    ensures few_reads { R.reads reader.new ≤ R.reads reader.old + limits.bytes + 2 }
-    ensures reader_failure { R.failures reader.new ≤ R.failures reader.old + 1 }
-    ensures reader_end { R.ends reader.new ≤ R.ends reader.old + 1 }
-    ensures writer_failure { W.failures writer.new ≤ W.failures writer.old + 1 }
-    ensures writer_flush { W.flushes writer.new ≤ W.flushes writer.old + 1 }
+    requires reader_failures { (R.state reader.old).failures < 2 ^ 63 }
+    requires reader_reads { (R.state reader.old).reads < 2 ^ 63 }
+    requires reader_ends { (R.state reader.old).ends < 2 ^ 63 }
+    requires writer_failures { (W.state writer.old).failures < 2 ^ 63 }
+    requires writer_flushes { (W.state writer.old).flushes < 2 ^ 63 }
+    ensures { RanShow (input limits mode sender (R.state reader.old) (R.state reader.new)) (output (W.state writer.old) (W.state writer.new)) result }
 {
-    let table = read_table(alloc, limits, mode, sender, reader)?;
-    let text = show_text(alloc, &table)?;
-    write_text(writer, text.as_bytes())?;
-    Ok(0)
+    let reading = Reading {
+        limits,
+        mode,
+        sender,
+    };
+    finish(writer, read_rows(alloc, reading, reader))
+}
+
+/// Reads a dump to its end, or to its first fault, and makes the lines of its table.
+fn read_rows<R: ByteIn>(
+    alloc: Global,
+    reading: Reading,
+    reader: &mut R,
+) -> Result<Found, RunFault>
+    requires failures { (R.state reader.old).failures < 2 ^ 63 }
+    requires reads { (R.state reader.old).reads < 2 ^ 63 }
+    requires ends { (R.state reader.old).ends < 2 ^ 63 }
+    ensures { let dump = read_from (R.state reader.old) (R.state reader.new) reading in
+        Gathered dump None (IsFaultOfGiven dump) (SaysSo (Shows dump)) result }
+{
+    let table = read_table(alloc, reading, reader)?;
+    let text = show_text(alloc, &table)?.into_bytes();
+    Ok(Found { text, status: 0 })
 }

@@ -1,6 +1,6 @@
-ghost use Rattle.std.specs.Prelude.{◌≡◌, ◌+◌, ◌-◌, ◌^◌, ◌<◌, ◌≤◌, OnOk, OnErr};
-ghost use Rattle.std.specs.Io.KnownBytes.{Appends};
-ghost use Rattle.babel_dump.specs.Device.{AppendsPrefix};
+ghost use Rattle.std.specs.Prelude.{◌-◌, ◌^◌, ◌<◌};
+ghost use Rattle.babel_dump.specs.Parts.{WroteText};
+ghost use Rattle.babel_dump.specs.Run.{output};
 
 use crate::byte_out::ByteOut;
 
@@ -11,15 +11,9 @@ pub(crate) struct WriteFailed;
 /// Writes the text whole, by as many calls as it takes, and then flushes once.
 #[tactic(auto, using(crate::proofs::Devices::taken_more, crate::proofs::Devices::prefix_more, crate::proofs::Devices::prefix_kept))]
 pub(crate) fn write_text<W: ByteOut>(writer: &mut W, text: &[u8]) -> Result<(), WriteFailed>
-    requires few_failures { W.failures writer.old < 2 ^ 64 - 1 }
-    requires few_flushes { W.flushes writer.old < 2 ^ 64 - 1 }
-    ensures whole { OnOk result (Appends (W.contents writer.old) (W.contents writer.new) text.now) }
-    ensures flushed { OnOk result (W.flushes writer.new ≡ W.flushes writer.old + 1) }
-    ensures no_failure { OnOk result (W.failures writer.new ≡ W.failures writer.old) }
-    ensures prefix { OnErr result (AppendsPrefix (W.contents writer.old) (W.contents writer.new) text.now) }
-    ensures cause { OnErr result (W.failures writer.old < W.failures writer.new) }
-    ensures one_failure { W.failures writer.new ≤ W.failures writer.old + 1 }
-    ensures one_flush { W.flushes writer.new ≤ W.flushes writer.old + 1 }
+    requires few_failures { (W.state writer.old).failures < 2 ^ 64 - 1 }
+    requires few_flushes { (W.state writer.old).flushes < 2 ^ 64 - 1 }
+    ensures { WroteText (output (W.state writer.old) (W.state writer.new)) text.now result }
 {
     let mut taken = 0;
     while taken < text.len() {

@@ -1,6 +1,6 @@
 //! How the answers of two dumps compare.
 use super::dumps::{ONE_FAMILY, ONE_ROUTE, ONE_ROUTE_AGAIN, RETRACTED, TWO_FAMILIES, V4, V6};
-use super::{Asked, expect_text};
+use super::{expect_text, job};
 use babel_tlv::Mode;
 use std::test::Fail;
 
@@ -37,17 +37,10 @@ static VERDICTS: [(Mode, &str, &str, &str, &str, u8, &str); 8] = [
 #[test]
 fn verdicts(rt: HostRuntime) -> Result<(), Fail> {
     for (mode, sender, dump, other_sender, other, status, text) in &VERDICTS {
-        let asked = Asked::Comparison(other_sender, other);
-        expect_text(
-            &rt,
-            rt.alloc(),
-            *mode,
-            sender,
-            dump,
-            asked,
-            *status,
-            text.as_bytes(),
-        )?;
+        let asked = format!(in rt.alloc(); "compare a b --other-from {other_sender}")?;
+        let job = job(rt.alloc(), *mode, sender, asked.as_str())?;
+        let text = text.as_bytes();
+        expect_text(&rt, rt.alloc(), &job, (dump, other), *status, text)?;
     }
     Ok(())
 }

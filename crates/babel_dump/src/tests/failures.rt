@@ -2,7 +2,10 @@
 ghost use Rattle.std.specs.Prelude.{◌<◌};
 
 use super::dumps::{NESTED_SOURCES, ONE_FAMILY, ONE_ROUTE, TWO_FAMILIES, TWO_SOURCES, V4, V6};
-use super::{Asked, ONE_BY_ONE, Ran, Script, all_asked, expect_fault, octets, scripted_run};
+use super::{
+    ONE_BY_ONE, Ran, Script, all_asked, expect_fault, job, octets, scripted_run,
+};
+use crate::job::Job;
 use crate::run_fault::RunFault;
 use babel_table::Limits;
 use babel_tlv::{Fault, Mode};
@@ -10,12 +13,18 @@ use std::alloc::Global;
 use std::process::Abort;
 use std::test::Fail;
 
-/// A sender, its dump, the other dump of a comparison, and a destination and source to look up.
+const LOOKUP: &str = "lookup --to 10.1.2.3 --src 10.1.2.3";
+
+const LOOKUP_OF_SOURCE: &str = "lookup --to 172.16.0.1 --src 172.16.0.1";
+
+const LOOKUP_OF_HOST: &str = "lookup --to 0.0.0.1 --src 0.0.0.1";
+
+/// A sender, its dump, the other dump of a comparison, and the words of a lookup.
 static GIVEN: [(&str, &str, &str, &str); 4] = [
-    (V4, ONE_ROUTE, NESTED_SOURCES, "10.1.2.3"),
-    (V4, NESTED_SOURCES, ONE_ROUTE, "10.1.2.3"),
-    (V4, TWO_SOURCES, TWO_SOURCES, "172.16.0.1"),
-    (V6, TWO_FAMILIES, ONE_FAMILY, "0.0.0.1"),
+    (V4, ONE_ROUTE, NESTED_SOURCES, LOOKUP),
+    (V4, NESTED_SOURCES, ONE_ROUTE, LOOKUP),
+    (V4, TWO_SOURCES, TWO_SOURCES, LOOKUP_OF_SOURCE),
+    (V6, TWO_FAMILIES, ONE_FAMILY, LOOKUP_OF_HOST),
 ];
 
 /// How many octets one write takes.
@@ -27,31 +36,25 @@ const SCRIPT: Script = Script {
     ..ONE_BY_ONE
 };
 
-/// A run whose script may fail, in mode plain and under the usual limits.
-fn failing_run(
-    alloc: Global,
-    sender: &str,
-    asked: Asked<'_>,
-    dumps: (&[u8], &[u8]),
-    script: Script,
-) -> Result<Ran, Fail>
+/// A run whose script may fail, under the usual limits.
+fn failing_run(alloc: Global, job: &Job, dumps: (&[u8], &[u8]), script: Script) -> Result<Ran, Fail>
     requires { 0 < script.read }
 {
-    let limits = Limits::usual();
-    scripted_run(alloc, limits, Mode::Plain, sender, asked, dumps, script)
+    scripted_run(alloc, Limits::usual(), job, dumps, script)
 }
 
 /// The run read the dump, and the other, as often.
-fn expect_reads(rt: &impl Abort, asked: Asked<'_>, ran: &Ran, reads: u64, other_reads: u64) {
-    assert_eq!(rt; ran.reads, reads, "{asked:?}");
-    assert_eq!(rt; ran.other_reads, other_reads, "{asked:?}");
+fn expect_reads(rt: &impl Abort, job: &Job, ran: &Ran, reads: u64, other_reads: u64) {
+    assert_eq!(rt; ran.reads, reads, "{job:?}");
+    assert_eq!(rt; ran.other_reads, other_reads, "{job:?}");
 }
 
 #[test]
 fn each_read(rt: HostRuntime) -> Result<(), Fail> {
-    for (sender, dump, other, dst) in &GIVEN {
-        for asked in &all_asked(dst) {
-            expect_read_faults(&rt, rt.alloc(), sender, dump, other, *asked)?;
+    for (sender, dump, other, lookup) in &GIVEN {
+        for asked in &all_asked(lookup) {
+            let job = job(rt.alloc(), Mode::Plain, sender, asked)?;
+            expect_read_faults(&rt, rt.alloc(), &job, dump, other)?;
         }
     }
     Ok(())
@@ -61,10 +64,9 @@ fn each_read(rt: HostRuntime) -> Result<(), Fail> {
 fn expect_read_faults(
     rt: &impl Abort,
     alloc: Global,
-    sender: &str,
+    job: &Job,
     text: &str,
     other: &str,
-    asked: Asked<'_>,
 ) -> Result<(), Fail> {
     let dump = octets(alloc, text)?;
     let other = octets(alloc, other)?;
@@ -74,17 +76,19 @@ fn expect_read_faults(
             failing_other_read: 1,
             ..SCRIPT
         };
-        let ran = failing_run(alloc, sender, asked, (&dump, &other), script)?;
-        expect_fault(rt, text, asked, &ran, RunFault::Read, 4, &[]);
-        expect_reads(rt, asked, &ran, failing, 0);
+        let ran = failing_run(alloc, job, (&dump, &other), script)?;
+        expect_fault(rt, text, job, &ran, RunFault::Read, 4, &[]);
+        expect_reads(rt, job, &ran, failing, 0);
     }
     Ok(())
 }
 
 #[test]
 fn each_read_of_the_other_dump(rt: HostRuntime) -> Result<(), Fail> {
-    for (sender, dump, other, _dst) in &GIVEN {
-        expect_other_read_faults(&rt, rt.alloc(), sender, dump, other)?;
+    for (sender, dump, other, _lookup) in &GIVEN {
+        let asked = format!(in rt.alloc(); "compare a b --other-from {sender}")?;
+        let job = job(rt.alloc(), Mode::Plain, sender, asked.as_str())?;
+        expect_other_read_faults(&rt, rt.alloc(), &job, dump, other)?;
     }
     Ok(())
 }
@@ -93,11 +97,10 @@ fn each_read_of_the_other_dump(rt: HostRuntime) -> Result<(), Fail> {
 fn expect_other_read_faults(
     rt: &impl Abort,
     alloc: Global,
-    sender: &str,
+    job: &Job,
     text: &str,
     other: &str,
 ) -> Result<(), Fail> {
-    let asked = Asked::Comparison(sender, other);
     let dump = octets(alloc, text)?;
     let other = octets(alloc, other)?;
     for failing in 1..other.len() as u64 + 2 {
@@ -105,18 +108,19 @@ fn expect_other_read_faults(
             failing_other_read: failing,
             ..SCRIPT
         };
-        let ran = failing_run(alloc, sender, asked, (&dump, &other), script)?;
-        expect_fault(rt, text, asked, &ran, RunFault::OtherRead, 4, &[]);
-        expect_reads(rt, asked, &ran, dump.len() as u64 + 1, failing);
+        let ran = failing_run(alloc, job, (&dump, &other), script)?;
+        expect_fault(rt, text, job, &ran, RunFault::OtherRead, 4, &[]);
+        expect_reads(rt, job, &ran, dump.len() as u64 + 1, failing);
     }
     Ok(())
 }
 
 #[test]
 fn each_write_and_the_flush(rt: HostRuntime) -> Result<(), Fail> {
-    for (sender, dump, other, dst) in &GIVEN {
-        for asked in &all_asked(dst) {
-            expect_write_faults(&rt, rt.alloc(), sender, dump, other, *asked)?;
+    for (sender, dump, other, lookup) in &GIVEN {
+        for asked in &all_asked(lookup) {
+            let job = job(rt.alloc(), Mode::Plain, sender, asked)?;
+            expect_write_faults(&rt, rt.alloc(), &job, dump, other)?;
         }
     }
     Ok(())
@@ -126,24 +130,23 @@ fn each_write_and_the_flush(rt: HostRuntime) -> Result<(), Fail> {
 fn expect_write_faults(
     rt: &impl Abort,
     alloc: Global,
-    sender: &str,
+    job: &Job,
     text: &str,
     other: &str,
-    asked: Asked<'_>,
 ) -> Result<(), Fail> {
     let dump = octets(alloc, text)?;
     let other = octets(alloc, other)?;
-    let whole = failing_run(alloc, sender, asked, (&dump, &other), SCRIPT)?;
-    assert!(rt; whole.outcome.is_ok(), "{asked:?} of {text}");
+    let whole = failing_run(alloc, job, (&dump, &other), SCRIPT)?;
+    assert!(rt; whole.outcome.is_ok(), "{job:?} of {text}");
     let whole = whole.taken.as_slice();
     for call in 0..whole.len().div_ceil(TAKEN).saturating_add(1) {
         let script = Script {
             failing_call: call as u64 + 1,
             ..SCRIPT
         };
-        let ran = failing_run(alloc, sender, asked, (&dump, &other), script)?;
+        let ran = failing_run(alloc, job, (&dump, &other), script)?;
         let part = whole.len().min(call.saturating_mul(TAKEN));
-        expect_fault(rt, text, asked, &ran, RunFault::Write, 4, &whole[..part]);
+        expect_fault(rt, text, job, &ran, RunFault::Write, 4, &whole[..part]);
     }
     Ok(())
 }
@@ -156,9 +159,10 @@ fn a_write_that_takes_nothing(rt: HostRuntime) -> Result<(), Fail> {
         written: 0,
         ..ONE_BY_ONE
     };
-    for asked in &all_asked("10.1.2.3") {
-        let ran = failing_run(rt.alloc(), V4, *asked, (&dump, &[]), script)?;
-        expect_fault(&rt, ONE_ROUTE, *asked, &ran, RunFault::Write, 4, &[]);
+    for asked in &all_asked(LOOKUP) {
+        let job = job(rt.alloc(), Mode::Plain, V4, asked)?;
+        let ran = failing_run(rt.alloc(), &job, (&dump, &[]), script)?;
+        expect_fault(&rt, ONE_ROUTE, &job, &ran, RunFault::Write, 4, &[]);
     }
     Ok(())
 }
@@ -194,10 +198,11 @@ fn expect_second_read(
         failing_other_read: 1,
         ..SCRIPT
     };
-    for asked in &all_asked("10.1.2.3") {
-        let ran = failing_run(alloc, V4, *asked, (&dump, &dump), script)?;
-        expect_fault(rt, text, *asked, &ran, fault, status, &[]);
-        expect_reads(rt, *asked, &ran, reads, 0);
+    for asked in &all_asked(LOOKUP) {
+        let job = job(alloc, Mode::Plain, V4, asked)?;
+        let ran = failing_run(alloc, &job, (&dump, &dump), script)?;
+        expect_fault(rt, text, &job, &ran, fault, status, &[]);
+        expect_reads(rt, &job, &ran, reads, 0);
     }
     Ok(())
 }

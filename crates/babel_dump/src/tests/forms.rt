@@ -5,7 +5,7 @@ use super::dumps::{
     ONLY_RETRACTED, RETRACTED, ROUTER_ID_BY_FLAG, SOURCE_LEFT, THREE_ROUTES, TWO_ROUTES, V4, V6,
 };
 use super::{
-    Asked, ONE_BY_ONE, Row, Script, answer, expect_fault, expect_text, expect_texts, octets,
+    ONE_BY_ONE, Row, Script, answer, expect_fault, expect_text, expect_texts, job, octets,
     scripted_run,
 };
 use crate::run_fault::RunFault;
@@ -19,13 +19,13 @@ const PLAIN: Mode = Mode::Plain;
 
 const HOLD: Mode = Mode::Hold;
 
-const OCTETS: Asked<'static> = Asked::Normalise { hex: false };
+const OCTETS: &str = "normalise";
 
-const DIGITS: Asked<'static> = Asked::Normalise { hex: true };
+const DIGITS: &str = "normalise --hex";
 
-const PAIRS: Asked<'static> = Asked::Pairs { count: false };
+const PAIRS: &str = "pairs";
 
-const COUNTS: Asked<'static> = Asked::Pairs { count: true };
+const COUNTS: &str = "pairs --count";
 
 /// Nine pairs, which differ in their sources.
 const NESTED_SOURCES_FORM: &str =
@@ -98,12 +98,16 @@ fn expect_form(
     let mut line = hex::encode(alloc, &whole)?;
     line.push('\n')?;
     let line = line.as_bytes();
-    expect_text(rt, alloc, mode, sender, dump, OCTETS, 0, &whole)?;
-    expect_text(rt, alloc, mode, sender, dump, DIGITS, 0, line)?;
+    let plain = job(alloc, mode, sender, OCTETS)?;
+    expect_text(rt, alloc, &plain, (dump, ""), 0, &whole)?;
+    let digits = job(alloc, mode, sender, DIGITS)?;
+    expect_text(rt, alloc, &digits, (dump, ""), 0, line)?;
     for any in &[V4, "198.51.100.7", V6] {
-        let same = Asked::Comparison(any, form);
-        expect_text(rt, alloc, mode, any, form, DIGITS, 0, line)?;
-        expect_text(rt, alloc, mode, sender, dump, same, 0, b"same\n")?;
+        let again = job(alloc, mode, any, DIGITS)?;
+        expect_text(rt, alloc, &again, (form, ""), 0, line)?;
+        let asked = format!(in alloc; "compare a b --other-from {any}")?;
+        let same = job(alloc, mode, sender, asked.as_str())?;
+        expect_text(rt, alloc, &same, (dump, form), 0, b"same\n")?;
     }
     Ok(())
 }
@@ -122,6 +126,7 @@ static WRITTEN: [(usize, u64, &str); 3] = [
 #[test]
 fn canonical_octets_that_a_writer_takes_in_part(rt: HostRuntime) -> Result<(), Fail> {
     let dump = octets(rt.alloc(), ONE_ROUTE)?;
+    let job = job(rt.alloc(), PLAIN, V4, DIGITS)?;
     for (written, failing_call, text) in &WRITTEN {
         let script = Script {
             read: 7,
@@ -129,24 +134,10 @@ fn canonical_octets_that_a_writer_takes_in_part(rt: HostRuntime) -> Result<(), F
             failing_call: *failing_call,
             ..ONE_BY_ONE
         };
-        let ran = scripted_run(
-            rt.alloc(),
-            Limits::usual(),
-            PLAIN,
-            V4,
-            DIGITS,
-            (&dump, &[]),
-            script,
-        )?;
-        expect_fault(
-            &rt,
-            ONE_ROUTE,
-            DIGITS,
-            &ran,
-            RunFault::Write,
-            4,
-            text.as_bytes(),
-        );
+        let limits = Limits::usual();
+        let ran = scripted_run(rt.alloc(), limits, &job, (&dump, &[]), script)?;
+        let text = text.as_bytes();
+        expect_fault(&rt, ONE_ROUTE, &job, &ran, RunFault::Write, 4, text);
     }
     Ok(())
 }
@@ -157,8 +148,9 @@ fn more_pairs_than_the_limit(rt: HostRuntime) -> Result<(), Fail> {
     for bytes in [249, 332] {
         let limits = Limits::new(bytes, 3).ok_or("limits")?;
         for asked in &[OCTETS, DIGITS, PAIRS, COUNTS] {
-            let ran = answer(rt.alloc(), limits, PLAIN, V4, MORE_PAIRS, *asked, 1)?;
-            expect_fault(&rt, MORE_PAIRS, *asked, &ran, fault, 3, &[]);
+            let job = job(rt.alloc(), PLAIN, V4, asked)?;
+            let ran = answer(rt.alloc(), limits, &job, (MORE_PAIRS, ""), 1)?;
+            expect_fault(&rt, MORE_PAIRS, &job, &ran, fault, 3, &[]);
         }
     }
     Ok(())
@@ -250,7 +242,8 @@ static LINES: [(usize, &str); 5] = [
 
 #[test]
 fn lines_of_the_longest_path(rt: HostRuntime) -> Result<(), Fail> {
-    let ran = answer(rt.alloc(), Limits::usual(), PLAIN, V6, DEEPEST, PAIRS, 100)?;
+    let job = job(rt.alloc(), PLAIN, V6, PAIRS)?;
+    let ran = answer(rt.alloc(), Limits::usual(), &job, (DEEPEST, ""), 100)?;
     assert_eq!(rt; ran.outcome, Ok(0));
     let text = str::from_utf8(&ran.taken)?;
     for (place, line) in &LINES {

@@ -3,7 +3,7 @@ use super::dumps::{
     ALL_RETRACTED, MORE_OMITTED, ONE_IGNORED, ONE_ROUTE, ONE_V6_ROUTE, OTHER_ENCODING, RETRACTED,
     ROUTER_ID_BY_FLAG, SOURCE_LEFT, TWO_ROUTES, TWO_SOURCES, V4, V6,
 };
-use super::{Asked, expect_text};
+use super::{expect_text, job};
 use babel_tlv::Mode;
 use std::alloc::Global;
 use std::process::Abort;
@@ -94,17 +94,9 @@ static WHERE_ROUTES_ARE_RETRACTED: [Lookup<'static>; 12] = [
 /// Each lookup has its answer.
 fn expect_answers(rt: &impl Abort, alloc: Global, lookups: &[Lookup<'_>]) -> Result<(), Fail> {
     for (mode, sender, dump, dst, src, (status, text)) in lookups {
-        let asked = Asked::Answer(dst, src);
-        expect_text(
-            rt,
-            alloc,
-            *mode,
-            sender,
-            dump,
-            asked,
-            *status,
-            text.as_bytes(),
-        )?;
+        let asked = format!(in alloc; "lookup --to {dst} --src {src}")?;
+        let job = job(alloc, *mode, sender, asked.as_str())?;
+        expect_text(rt, alloc, &job, (dump, ""), *status, text.as_bytes())?;
     }
     Ok(())
 }

@@ -3,8 +3,12 @@ ghost use Rattle.std.specs.Prelude.{◌^◌, ◌<◌};
 
 use super::devices::{EndlessIn, ScriptedIn, ScriptedOut};
 use super::dumps::{ONE_ROUTE, V4};
-use super::{Asked, all_asked, answer, expect_fault, expect_outcome, octets, run};
+use super::{
+    COMPARE_V4, all_asked, answer, expect_fault, expect_outcome, job, octets,
+};
 use crate::byte_in::ByteIn;
+use crate::job::Job;
+use crate::job_run::run_job;
 use crate::run_fault::{RunFault, status_of};
 use babel_table::Limits;
 use babel_tlv::{Fault, Mode};
@@ -15,6 +19,8 @@ use std::test::Fail;
 /// A packet with no TLVs.
 const PACKET: &[u8] = b"*\x02\0\0";
 
+const LOOKUP: &str = "lookup --to 10.1.2.3 --src 10.1.2.3";
+
 /// Whatever is asked of these dumps, also of a comparison's other, they are refused with these faults.
 fn expect_refusals(
     rt: &impl Abort,
@@ -24,21 +30,15 @@ fn expect_refusals(
     rows: &[(&str, Fault)],
 ) -> Result<(), Fail> {
     for (dump, fault) in rows {
-        for asked in &all_asked("10.1.2.3") {
-            let ran = answer(alloc, limits, mode, V4, dump, *asked, 1)?;
-            expect_fault(rt, dump, *asked, &ran, RunFault::Dump(*fault), 3, &[]);
+        for asked in &all_asked(LOOKUP) {
+            let job = job(alloc, mode, V4, asked)?;
+            let ran = answer(alloc, limits, &job, (dump, ONE_ROUTE), 1)?;
+            expect_fault(rt, dump, &job, &ran, RunFault::Dump(*fault), 3, &[]);
         }
-        let asked = Asked::Comparison(V4, dump);
-        let ran = answer(alloc, limits, mode, V4, ONE_ROUTE, asked, 2)?;
-        expect_fault(
-            rt,
-            ONE_ROUTE,
-            asked,
-            &ran,
-            RunFault::OtherDump(*fault),
-            3,
-            &[],
-        );
+        let job = job(alloc, mode, V4, COMPARE_V4)?;
+        let ran = answer(alloc, limits, &job, (ONE_ROUTE, dump), 2)?;
+        let fault = RunFault::OtherDump(*fault);
+        expect_fault(rt, dump, &job, &ran, fault, 3, &[]);
     }
     Ok(())
 }
@@ -125,55 +125,47 @@ static AT_LIMITS: [(&str, &str); 2] = [
 #[test]
 fn dumps_at_their_limits(rt: HostRuntime) -> Result<(), Fail> {
     let limits = Limits::new(83, 1).ok_or("limits")?;
+    let job = job(rt.alloc(), Mode::Plain, V4, "show")?;
     for (dump, lines) in &AT_LIMITS {
-        let asked = Asked::Rows;
-        let ran = answer(rt.alloc(), limits, Mode::Plain, V4, dump, asked, 1)?;
-        expect_outcome(&rt, dump, asked, &ran, Ok(0), lines.as_bytes());
+        let ran = answer(rt.alloc(), limits, &job, (dump, ""), 1)?;
+        expect_outcome(&rt, dump, &job, &ran, Ok(0), lines.as_bytes());
     }
     Ok(())
 }
 
-/// What is asked of two readers, one of which has no end, is refused with this fault under narrow limits.
+/// The job of two readers, one of which has no end, is refused with this fault under narrow limits.
 fn expect_too_long<R: ByteIn, S: ByteIn>(
     rt: &impl Abort,
     alloc: Global,
-    asked: Asked<'_>,
+    job: &Job,
     reader: &mut R,
     other: &mut S,
     fault: RunFault,
 ) -> Result<(), Fail>
-    requires reader_failures { R.failures reader.old < 2 ^ 63 }
-    requires reader_reads { R.reads reader.old < 2 ^ 63 }
-    requires reader_ends { R.ends reader.old < 2 ^ 63 }
-    requires other_failures { S.failures other.old < 2 ^ 63 }
-    requires other_reads { S.reads other.old < 2 ^ 63 }
-    requires other_ends { S.ends other.old < 2 ^ 63 }
+    requires reader_failures { (R.state reader.old).failures < 2 ^ 63 }
+    requires reader_reads { (R.state reader.old).reads < 2 ^ 63 }
+    requires reader_ends { (R.state reader.old).ends < 2 ^ 63 }
+    requires other_failures { (S.state other.old).failures < 2 ^ 63 }
+    requires other_reads { (S.state other.old).reads < 2 ^ 63 }
+    requires other_ends { (S.state other.old).ends < 2 ^ 63 }
 {
     let limits = Limits::new(83, 1).ok_or("limits")?;
     let mut writer = ScriptedOut::new(alloc, 1, 0);
-    let outcome = run(
-        alloc,
-        limits,
-        Mode::Plain,
-        V4,
-        asked,
-        reader,
-        other,
-        &mut writer,
-    )?;
-    assert_eq!(rt; outcome, Err(fault), "{asked:?}");
+    let outcome = run_job(alloc, limits, job, reader, other, &mut writer);
+    assert_eq!(rt; outcome, Err(fault), "{job:?}");
     assert!(rt; writer.taken().is_empty());
     Ok(())
 }
 
 #[test]
 fn a_dump_without_end(rt: HostRuntime) -> Result<(), Fail> {
-    for asked in &all_asked("10.1.2.3") {
+    for asked in &all_asked(LOOKUP) {
+        let job = job(rt.alloc(), Mode::Plain, V4, asked)?;
         let mut reader = EndlessIn::new(PACKET);
         let mut other = ScriptedIn::new(&[], 1, 0);
         let fault = RunFault::Dump(Fault::TooLong);
-        expect_too_long(&rt, rt.alloc(), *asked, &mut reader, &mut other, fault)?;
-        assert!(rt; reader.reads() <= 85 && other.reads() == 0, "{asked:?}");
+        expect_too_long(&rt, rt.alloc(), &job, &mut reader, &mut other, fault)?;
+        assert!(rt; reader.reads() <= 84 && other.reads() == 0, "{job:?}");
     }
     Ok(())
 }
@@ -183,10 +175,10 @@ fn another_dump_without_end(rt: HostRuntime) -> Result<(), Fail> {
     let dump = octets(rt.alloc(), ONE_ROUTE)?;
     let mut reader = ScriptedIn::new(&dump, 1, 0);
     let mut other = EndlessIn::new(PACKET);
-    let asked = Asked::Comparison(V4, "");
+    let job = job(rt.alloc(), Mode::Plain, V4, COMPARE_V4)?;
     let fault = RunFault::OtherDump(Fault::TooLong);
-    expect_too_long(&rt, rt.alloc(), asked, &mut reader, &mut other, fault)?;
-    assert!(rt; other.reads() <= 85);
+    expect_too_long(&rt, rt.alloc(), &job, &mut reader, &mut other, fault)?;
+    assert!(rt; other.reads() <= 84);
     Ok(())
 }
 

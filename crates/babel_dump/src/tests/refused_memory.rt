@@ -1,10 +1,16 @@
 //! Each allocation refused in turn, by `rt try --test --fail-alloc N`: tests/refused_memory.sh runs it for N = 1, 2, ..
 //! A test here passes where nothing was refused, and fails with `REFUSED` where a refusal was answered with `Memory`.
+ghost use Rattle.std.specs.Prelude.{None};
+
 use super::devices::ScriptedIn;
 use super::dumps::{NESTED_SOURCES, ONE_FAMILY, TWO_FAMILIES, V4, V6};
-use super::{Asked, run};
+use super::address;
+use crate::addr_pair::AddrPair;
 use crate::byte_out::ByteOut;
+use crate::job::{Job, OneDump, TwoDumps};
+use crate::job_run::run_job;
 use crate::run_fault::RunFault;
+use babel_canon::Body;
 use babel_table::Limits;
 use babel_tlv::{Fault, Mode};
 use std::alloc::Global;
@@ -41,9 +47,7 @@ struct ExpectingOut<'a> {
 }
 
 impl ByteOut for ExpectingOut<'_> {
-    ghost failures = { λ d. d.failures };
-
-    ghost flushes = { λ d. d.flushes };
+    ghost state = { λ d. record { taken = None; failures = d.failures; flushes = d.flushes } };
 
     fn write(&mut self, buf: &[u8]) -> io::Result<usize> {
         match self.rest.strip_prefix(buf) {
@@ -64,13 +68,12 @@ impl ByteOut for ExpectingOut<'_> {
     }
 }
 
-/// What is asked of a dump, in pieces of seven octets. At `Memory` nothing was written.
+/// The run of a job, in pieces of seven octets. At `Memory` nothing was written.
 fn outcome(
     alloc: Global,
-    sender: &str,
+    job: &Job,
     dump: &str,
     other: &str,
-    asked: Asked<'_>,
     status: u8,
     text: &str,
 ) -> Result<(), Fail> {
@@ -84,16 +87,8 @@ fn outcome(
         failures: 0,
         flushes: 0,
     };
-    let outcome = run(
-        alloc,
-        Limits::usual(),
-        Mode::Plain,
-        sender,
-        asked,
-        &mut reader,
-        &mut other,
-        &mut writer,
-    )?;
+    let limits = Limits::usual();
+    let outcome = run_job(alloc, limits, job, &mut reader, &mut other, &mut writer);
     match outcome {
         Ok(given) if given == status && writer.rest.is_empty() && writer.flushes == 1 => Ok(()),
         Err(RunFault::Dump(Fault::Memory) | RunFault::OtherDump(Fault::Memory))
@@ -114,66 +109,66 @@ fn decoded<'a>(text: &str, room: &'a mut [u8; 64]) -> Result<&'a [u8], Fail> {
     Ok(room.get(..length).ok_or("too many digits")?)
 }
 
+/// A dump on standard input, in mode plain.
+fn dump_from(sender: &str) -> Result<OneDump, Fail> {
+    Ok(OneDump {
+        from: address(sender)?,
+        mode: Mode::Plain,
+        file: None,
+    })
+}
+
 #[test]
 fn refused_memory_of_show(rt: HostRuntime) -> Result<(), Fail> {
-    outcome(rt.alloc(), V4, NESTED_SOURCES, "", Asked::Rows, 0, ROWS)
+    let dump = dump_from(V4)?;
+    let job = Job::Show { dump };
+    outcome(rt.alloc(), &job, NESTED_SOURCES, "", 0, ROWS)
 }
 
 #[test]
 fn refused_memory_of_lookup(rt: HostRuntime) -> Result<(), Fail> {
-    let asked = Asked::Answer("10.1.2.3", "10.1.2.3");
-    outcome(rt.alloc(), V4, NESTED_SOURCES, "", asked, 0, ANSWER)
+    let dump = dump_from(V4)?;
+    let dst = address("10.1.2.3")?;
+    let pair = AddrPair { dst, src: dst };
+    let job = Job::Lookup { dump, pair };
+    outcome(rt.alloc(), &job, NESTED_SOURCES, "", 0, ANSWER)
 }
 
 #[test]
 fn refused_memory_of_normalise(rt: HostRuntime) -> Result<(), Fail> {
-    outcome(
-        rt.alloc(),
-        V4,
-        NESTED_SOURCES,
-        "",
-        Asked::Normalise { hex: true },
-        0,
-        DIGITS,
-    )
+    let (dump, body) = (dump_from(V4)?, Body::usual());
+    let job = Job::Normalise {
+        dump,
+        body,
+        hex: true,
+    };
+    outcome(rt.alloc(), &job, NESTED_SOURCES, "", 0, DIGITS)
 }
 
 #[test]
 fn refused_memory_of_pairs(rt: HostRuntime) -> Result<(), Fail> {
-    outcome(
-        rt.alloc(),
-        V6,
-        TWO_FAMILIES,
-        "",
-        Asked::Pairs { count: false },
-        0,
-        PAIRS,
-    )
+    let dump = dump_from(V6)?;
+    let job = Job::Pairs { dump, count: false };
+    outcome(rt.alloc(), &job, TWO_FAMILIES, "", 0, PAIRS)
 }
 
 #[test]
 fn refused_memory_of_count(rt: HostRuntime) -> Result<(), Fail> {
-    outcome(
-        rt.alloc(),
-        V4,
-        NESTED_SOURCES,
-        "",
-        Asked::Pairs { count: true },
-        0,
-        COUNTS,
-    )
+    let dump = dump_from(V4)?;
+    let job = Job::Pairs { dump, count: true };
+    outcome(rt.alloc(), &job, NESTED_SOURCES, "", 0, COUNTS)
 }
 
 #[test]
 fn refused_memory_of_compare(rt: HostRuntime) -> Result<(), Fail> {
-    let asked = Asked::Comparison(V6, "");
-    outcome(
-        rt.alloc(),
-        V6,
-        TWO_FAMILIES,
-        ONE_FAMILY,
-        asked,
-        1,
-        DIFFERENCE,
-    )
+    let from = address(V6)?;
+    let dumps = TwoDumps {
+        from,
+        other_from: from,
+        mode: Mode::Plain,
+        file: String::new(rt.alloc()),
+        other: String::new(rt.alloc()),
+    };
+    let job = Job::Compare { dumps };
+    outcome(rt.alloc(), &job, TWO_FAMILIES, ONE_FAMILY, 1, DIFFERENCE)
 }

@@ -3,7 +3,7 @@ use super::dumps::{
     ALL_RETRACTED, FAULTY_SUB_TLVS, MORE_OMITTED, ONE_IGNORED, ONE_ROUTE, ONE_ROUTE_AGAIN,
     ONLY_RETRACTED, OTHER_ENCODING, ROUTER_ID_BY_FLAG, SOURCE_LEFT, V4, V6,
 };
-use super::{Asked, Row, expect_texts};
+use super::{Row, expect_texts};
 use babel_tlv::Mode;
 use std::test::Fail;
 
@@ -44,7 +44,7 @@ static OF_ROWS: [Row<'static>; 6] = [
 
 #[test]
 fn lines_of_rows(rt: HostRuntime) -> Result<(), Fail> {
-    expect_texts(&rt, rt.alloc(), Asked::Rows, &OF_ROWS)
+    expect_texts(&rt, rt.alloc(), "show", &OF_ROWS)
 }
 
 const RESERVED: &str = "tlvs 2\nignored reserved-router-id 1 first 16\n";
@@ -80,7 +80,7 @@ static OF_REASONS: [Row<'static>; 9] = [
 
 #[test]
 fn lines_of_reasons(rt: HostRuntime) -> Result<(), Fail> {
-    expect_texts(&rt, rt.alloc(), Asked::Rows, &OF_REASONS)
+    expect_texts(&rt, rt.alloc(), "show", &OF_REASONS)
 }
 
 const HELD_AND_SOURCE: &str =
@@ -101,5 +101,5 @@ static OF_HELD_ROWS: [Row<'static>; 4] = [
 
 #[test]
 fn lines_where_retracted_routes_are_held(rt: HostRuntime) -> Result<(), Fail> {
-    expect_texts(&rt, rt.alloc(), Asked::Rows, &OF_HELD_ROWS)
+    expect_texts(&rt, rt.alloc(), "show", &OF_HELD_ROWS)
 }

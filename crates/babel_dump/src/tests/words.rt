@@ -1,22 +1,22 @@
 //! The program's words: jobs, refusals and help.
-use super::address;
-use crate::job::{Job, Refusal};
-use crate::which::Which;
+use super::{address, split};
+use crate::job::{Job, OneDump, Refusal};
 use crate::words::read_words;
 use babel_prefix::Addr;
+use babel_tlv::Mode;
 use std::alloc::Global;
 use std::process::Abort;
 use std::test::Fail;
 
-/// What a job is to be, with its addresses as texts.
+/// What a job is to be, with its addresses as texts. What its command doesn't have is `None` or false.
 #[derive(Clone, Copy)]
 struct Wanted<'a> {
-    which: Which,
+    command: &'a str,
     from: &'a str,
     other_from: Option<&'a str>,
     to: Option<&'a str>,
     src: Option<&'a str>,
-    hold: bool,
+    mode: Mode,
     hex: bool,
     body: Option<u16>,
     count: bool,
@@ -26,12 +26,12 @@ struct Wanted<'a> {
 
 /// What is to be shown of the dump on standard input that `::` sent.
 const SHOW: Wanted<'static> = Wanted {
-    which: Which::Show,
+    command: "show",
     from: "::",
     other_from: None,
     to: None,
     src: None,
-    hold: false,
+    mode: Mode::Plain,
     hex: false,
     body: None,
     count: false,
@@ -40,24 +40,25 @@ const SHOW: Wanted<'static> = Wanted {
 };
 
 const LOOKUP: Wanted<'static> = Wanted {
-    which: Which::Lookup,
+    command: "lookup",
     to: Some("::"),
     src: Some("::"),
     ..SHOW
 };
 
 const NORMALISE: Wanted<'static> = Wanted {
-    which: Which::Normalise,
+    command: "normalise",
+    body: Some(1024),
     ..SHOW
 };
 
 const PAIRS: Wanted<'static> = Wanted {
-    which: Which::Pairs,
+    command: "pairs",
     ..SHOW
 };
 
 const COMPARE: Wanted<'static> = Wanted {
-    which: Which::Compare,
+    command: "compare",
     other_from: Some("::"),
     file: Some("a"),
     other: Some("b"),
@@ -73,7 +74,7 @@ static JOBS: [(&str, Wanted<'static>); 15] = [
             from: "fe80::1",
             to: Some("10.1.2.3"),
             src: Some("0.0.0.0"),
-            hold: true,
+            mode: Mode::Hold,
             file: Some("x"),
             ..LOOKUP
         },
@@ -89,11 +90,11 @@ static JOBS: [(&str, Wanted<'static>); 15] = [
     ("show --from 192.0.2.1", Wanted { from: "192.0.2.1", ..SHOW }),
     ("normalise --from 192.0.2.1", Wanted { from: "192.0.2.1", ..NORMALISE }),
     ("pairs --from 192.0.2.1", Wanted { from: "192.0.2.1", ..PAIRS }),
-    ("show --from :: --hold", Wanted { hold: true, ..SHOW }),
-    ("lookup --from :: --to :: --src :: --hold", Wanted { hold: true, ..LOOKUP }),
-    ("normalise --from :: --hold", Wanted { hold: true, ..NORMALISE }),
-    ("pairs --from :: --hold", Wanted { hold: true, ..PAIRS }),
-    ("compare --from :: --other-from :: --hold a b", Wanted { hold: true, ..COMPARE }),
+    ("show --from :: --hold", Wanted { mode: Mode::Hold, ..SHOW }),
+    ("lookup --from :: --to :: --src :: --hold", Wanted { mode: Mode::Hold, ..LOOKUP }),
+    ("normalise --from :: --hold", Wanted { mode: Mode::Hold, ..NORMALISE }),
+    ("pairs --from :: --hold", Wanted { mode: Mode::Hold, ..PAIRS }),
+    ("compare --from :: --other-from :: --hold a b", Wanted { mode: Mode::Hold, ..COMPARE }),
     ("normalise --from :: --hex", Wanted { hex: true, ..NORMALISE }),
     ("pairs --from :: --count", Wanted { count: true, ..PAIRS }),
     ("normalise --from :: --body 128", Wanted { body: Some(128), ..NORMALISE }),
@@ -101,19 +102,10 @@ static JOBS: [(&str, Wanted<'static>); 15] = [
     ("normalise --from :: --body 65535", Wanted { body: Some(65535), ..NORMALISE }),
 ];
 
-/// The words of a line as it is typed. An empty word is written `''`.
-fn words<'a>(alloc: Global, line: &'a str) -> Result<Vec<&'a str>, Fail> {
-    let mut words = Vec::new(alloc);
-    for word in line.split_whitespace() {
-        words.push(if word == "''" { "" } else { word })?;
-    }
-    Ok(words)
-}
-
 #[test]
 fn words_of_jobs(rt: HostRuntime) -> Result<(), Fail> {
     for (line, wanted) in &JOBS {
-        match read_words(rt.alloc(), &words(rt.alloc(), line)?) {
+        match read_words(rt.alloc(), &split(rt.alloc(), line)?) {
             Ok(job) => expect_job(&rt, line, &job, wanted)?,
             Err(_refusal) => assert!(rt; false, "no job of {line}"),
         }
@@ -123,16 +115,46 @@ fn words_of_jobs(rt: HostRuntime) -> Result<(), Fail> {
 
 /// The job that these words ask for is the one that is wanted.
 fn expect_job(rt: &impl Abort, line: &str, job: &Job, wanted: &Wanted<'_>) -> Result<(), Fail> {
-    assert_eq!(rt; job.which, wanted.which, "of {line}");
-    assert_eq!(rt; job.body, wanted.body, "of {line}");
-    let flags = (job.hold, job.hex, job.count);
-    assert_eq!(rt; flags, (wanted.hold, wanted.hex, wanted.count), "of {line}");
-    expect_address(rt, line, Some(job.from), Some(wanted.from))?;
-    expect_address(rt, line, job.other_from, wanted.other_from)?;
-    expect_address(rt, line, job.to, wanted.to)?;
-    expect_address(rt, line, job.src, wanted.src)?;
-    expect_name(rt, line, job.file.as_deref(), wanted.file);
-    expect_name(rt, line, job.other.as_deref(), wanted.other);
+    match job {
+        Job::Show { dump } => expect_dump(rt, line, "show", dump, wanted),
+        Job::Lookup { dump, pair } => {
+            expect_address(rt, line, pair.dst, wanted.to)?;
+            expect_address(rt, line, pair.src, wanted.src)?;
+            expect_dump(rt, line, "lookup", dump, wanted)
+        }
+        Job::Normalise { dump, body, hex } => {
+            assert_eq!(rt; Some(body.octets()), wanted.body, "of {line}");
+            assert_eq!(rt; *hex, wanted.hex, "of {line}");
+            expect_dump(rt, line, "normalise", dump, wanted)
+        }
+        Job::Pairs { dump, count } => {
+            assert_eq!(rt; *count, wanted.count, "of {line}");
+            expect_dump(rt, line, "pairs", dump, wanted)
+        }
+        Job::Compare { dumps } => {
+            assert_eq!(rt; "compare", wanted.command, "of {line}");
+            assert_eq!(rt; dumps.mode, wanted.mode, "of {line}");
+            expect_address(rt, line, dumps.from, Some(wanted.from))?;
+            expect_address(rt, line, dumps.other_from, wanted.other_from)?;
+            expect_name(rt, line, Some(dumps.file.as_str()), wanted.file);
+            expect_name(rt, line, Some(dumps.other.as_str()), wanted.other);
+            Ok(())
+        }
+    }
+}
+
+/// The command over one dump, and its dump, are those that are wanted.
+fn expect_dump(
+    rt: &impl Abort,
+    line: &str,
+    command: &str,
+    dump: &OneDump,
+    wanted: &Wanted<'_>,
+) -> Result<(), Fail> {
+    assert_eq!(rt; command, wanted.command, "of {line}");
+    assert_eq!(rt; dump.mode, wanted.mode, "of {line}");
+    expect_address(rt, line, dump.from, Some(wanted.from))?;
+    expect_name(rt, line, dump.file.as_deref(), wanted.file);
     Ok(())
 }
 
@@ -140,14 +162,10 @@ fn expect_job(rt: &impl Abort, line: &str, job: &Job, wanted: &Wanted<'_>) -> Re
 fn expect_address(
     rt: &impl Abort,
     line: &str,
-    given: Option<Addr>,
+    given: Addr,
     wanted: Option<&str>,
 ) -> Result<(), Fail> {
-    let wanted = match wanted {
-        Some(text) => Some(address(text)?),
-        None => None,
-    };
-    assert_eq!(rt; given, wanted, "of {line}");
+    assert_eq!(rt; given, address(wanted.ok_or("no address")?)?, "of {line}");
     Ok(())
 }
 
@@ -158,7 +176,7 @@ fn expect_name(rt: &impl Abort, line: &str, given: Option<&str>, wanted: Option<
 
 /// The text that the words of a line are refused with.
 fn usage(rt: &impl Abort, alloc: Global, line: &str) -> Result<String, Fail> {
-    match read_words(alloc, &words(alloc, line)?) {
+    match read_words(alloc, &split(alloc, line)?) {
         Err(Refusal::Usage(text)) => Ok(text),
         Err(_refusal) => Err(Fail::from("no usage")),
         Ok(_job) => {
@@ -301,7 +319,7 @@ static HELPS: [(&str, &[&str], &[&str]); 7] = [
 #[test]
 fn words_that_ask_for_help(rt: HostRuntime) -> Result<(), Fail> {
     for (line, parts, own) in &HELPS {
-        match read_words(rt.alloc(), &words(rt.alloc(), line)?) {
+        match read_words(rt.alloc(), &split(rt.alloc(), line)?) {
             Err(Refusal::Help(help)) => {
                 expect_parts(&rt, help.as_str(), parts);
                 expect_parts(&rt, help.as_str(), own);

@@ -1,0 +1,78 @@
+-- What each command promises: what every run does, and its own text and status. These are this project's own.
+use Rattle.std.specs.Prelude.{ℕ, Bool, ◌≡◌, ◌⊎◌, List, None, Some, Result, IfErr}
+use Rattle.babel_prefix.specs.Address.{Address}
+use Rattle.babel_tlv.specs.declared.fault.Fault.TheVariants as faults
+use Rattle.babel_table.specs.Rows.{Routes}
+use Rattle.babel_canon.specs.Canonical.{Canonical}
+use Rattle.babel_canon.specs.declared.verdict.Verdict.{Verdict}
+use Rattle.babel_dump.specs.Given.{GaveNormal, GavePairs, GaveTable, GaveVerdict, Input, IsFaultOfForm, IsFaultOfGiven}
+use Rattle.babel_dump.specs.Run.{Output, Ran}
+use Rattle.babel_dump.specs.RunText.{answer_in, form_text, lookup_status, lookup_text, pairs_or_counts, show_text, verdict_status, verdict_text}
+use Rattle.babel_dump.specs.declared.run_fault.RunFault.{RunFault}
+use Rattle.babel_dump.specs.declared.run_fault.RunFault.TheVariants as run_faults
+
+-- `show`: the rows and the report of the dump's table
+pub record Shows (reader : Input) (text : List ℕ) (status : ℕ) : Type 0 where
+  pub table : Routes
+  pub gave : GaveTable reader table
+  pub text_is : text ≡ show_text table
+  pub status_is : status ≡ 0
+
+-- `lookup`: what the dump's table answers for a destination and a source
+pub record LooksUp (reader : Input) (dst src : Address) (text : List ℕ) (status : ℕ) : Type 0 where
+  pub table : Routes
+  pub gave : GaveTable reader table
+  pub text_is : text ≡ lookup_text (answer_in table dst src)
+  pub status_is : status ≡ lookup_status (answer_in table dst src)
+
+-- `normalise`: the dump's canonical octets
+pub record WritesNormal (reader : Input) (body : ℕ) (hex : Bool) (text : List ℕ) (status : ℕ) : Type 0 where
+  pub octets : List ℕ
+  pub gave : GaveNormal reader body octets
+  pub text_is : text ≡ form_text hex octets
+  pub status_is : status ≡ 0
+
+-- `pairs`: the canonical pairs of the dump's table, or how many rows and pairs there are
+pub record ListsPairs (reader : Input) (count : Bool) (text : List ℕ) (status : ℕ) : Type 0 where
+  pub table : Routes
+  pub canon : Canonical
+  pub gave : GavePairs reader table canon
+  pub text_is : text ≡ pairs_or_counts count table.rows canon.pairs
+  pub status_is : status ≡ 0
+
+-- `compare`: how the answers of the dumps' tables compare
+pub record Compares (reader other : Input) (text : List ℕ) (status : ℕ) : Type 0 where
+  pub verdict : Verdict
+  pub gave : GaveVerdict reader other verdict
+  pub text_is : text ≡ verdict_text verdict
+  pub status_is : status ≡ verdict_status verdict
+
+abbrev pub RanShow : Input → Output → Result ℕ RunFault → Type 0
+RanShow reader writer result = Ran reader None writer (IsFaultOfGiven reader) (Shows reader) result
+
+abbrev pub RanLookup : Input → Address → Address → Output → Result ℕ RunFault → Type 0
+RanLookup reader dst src writer result = Ran reader None writer (IsFaultOfGiven reader) (LooksUp reader dst src) result
+
+abbrev pub RanNormalise : Input → ℕ → Bool → Output → Result ℕ RunFault → Type 0
+RanNormalise reader body hex writer result = Ran reader None writer (IsFaultOfForm reader) (WritesNormal reader body hex) result
+
+abbrev pub RanPairs : Input → Bool → Output → Result ℕ RunFault → Type 0
+RanPairs reader count writer result = Ran reader None writer (IsFaultOfForm reader) (ListsPairs reader count) result
+
+-- the reader gave a dump without a fault
+abbrev pub GaveSound : Input → Type 0
+GaveSound reader = (table : Routes) × GaveTable reader table
+
+-- Two dumps are read in turn: a fault of the first leaves the other reader as it was, and one of the other comes where the
+-- first has none. Want of memory is the other's only while that is read, and else the first's.
+abbrev pub InTurn : Input → Input → (untouched : Type 0) → RunFault → Type 0
+InTurn reader other untouched run_faults.Read = untouched
+InTurn reader other untouched (run_faults.Dump fault) = untouched ⊎ ((fault ≡ faults.Memory) × GaveSound reader × GaveSound other)
+InTurn reader other untouched run_faults.OtherRead = GaveSound reader
+InTurn reader other untouched (run_faults.OtherDump fault) = GaveSound reader
+InTurn reader other untouched run_faults.Write = GaveSound reader × GaveSound other
+
+-- `untouched` says that the other reader is as it was
+pub record RanCompare (reader other : Input) (writer : Output) (untouched : Type 0) (result : Result ℕ RunFault) : Type 0 where
+  pub ran : Ran reader (Some other) writer (IsFaultOfGiven reader) (Compares reader other) result
+  pub in_turn : IfErr result (InTurn reader other untouched)

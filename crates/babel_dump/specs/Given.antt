@@ -1,0 +1,95 @@
+-- What readers gave, as dumps. No RFC speaks of readers: these are this project's own.
+use Rattle.std.specs.Prelude.{ℕ, Bool, ◌≡◌, ◌≢◌, ◌+◌, ◌<◌, ◌≤◌, ◌⊎◌, List, Option}
+use Rattle.std.specs.Io.KnownBytes.{Consumes, IsAtEnd}
+use Rattle.babel_prefix.specs.Address.{Address}
+use Rattle.babel_tlv.specs.declared.fault.Fault.{Fault}
+use Rattle.babel_tlv.specs.declared.fault.Fault.TheVariants as faults
+use Rattle.babel_tlv.specs.declared.mode.Mode.{Mode}
+use Rattle.babel_table.specs.Bounds.{Bounds}
+use Rattle.babel_table.specs.DumpFault.{DumpFault, HasNoFault, IsTableOf}
+use Rattle.babel_table.specs.Rows.{Routes}
+use Rattle.babel_canon.specs.Canonical.{Canonical, HasManyBoxes, IsCanonical}
+use Rattle.babel_canon.specs.Fewest.{AreFewest, SaysFewest}
+use Rattle.babel_canon.specs.Headline.{Normalises, TellsApart, ReadsAgain}
+use Rattle.babel_canon.specs.Verdict.{IsVerdict}
+use Rattle.babel_canon.specs.declared.verdict.Verdict.{Verdict}
+use Rattle.babel_dump.specs.Device.{InputState}
+use Rattle.babel_dump.specs.declared.reading.Reading.{Reading}
+
+-- a reader that is read so, before a run and after it
+pub record Input : Type 0 where
+  pub reading : Reading
+  pub old : InputState
+  pub new : InputState
+
+abbrev pub read_from : InputState → InputState → Reading → Input
+read_from old new reading = record { reading = reading; old = old; new = new }
+
+abbrev pub input : Bounds → Mode → Address → InputState → InputState → Input
+input limits mode sender old new = read_from old new (record { limits = limits; mode = mode; sender = sender })
+
+-- the reader gave these octets, all that it had, and met its end
+pub record GaveAll (reader : Input) (dump : List ℕ) : Type 0 where
+  pub gave : Consumes reader.old.left reader.new.left dump
+  pub all : IsAtEnd reader.new.left
+  pub met_end : reader.old.ends < reader.new.ends
+
+-- the reader gave a dump, all that it had, which has no fault, and this is the table of that dump
+pub record GaveTable (reader : Input) (table : Routes) : Type 0 where
+  pub dump : List ℕ
+  pub gave : GaveAll reader dump
+  pub accepted : HasNoFault reader.reading.limits reader.reading.mode reader.reading.sender dump
+  pub is_table : IsTableOf reader.reading.limits reader.reading.mode reader.reading.sender dump table
+
+-- only a whole dump has the fault: octets may mend it, or it is about what all octets say
+abbrev pub IsOfWhole : Fault → Type 0
+IsOfWhole (faults.Truncated at) = Unit {0}
+IsOfWhole (faults.BadMagic at) = ⊥
+IsOfWhole (faults.BadVersion at) = ⊥
+IsOfWhole (faults.TlvPastEnd at) = ⊥
+IsOfWhole (faults.EncodingSetsRouterId at) = ⊥
+IsOfWhole (faults.TooManyRoutes at) = ⊥
+IsOfWhole faults.TooLong = ⊥
+IsOfWhole faults.TooManyPairs = Unit {0}
+IsOfWhole faults.Memory = ⊥
+
+-- The fault is that of the octets that the reader gave: of all that it had, where only a whole dump has it. That canonical
+-- pairs are too many is no fault of octets.
+pub record IsFaultOfGiven (reader : Input) (fault : Fault) : Type 0 where
+  pub given : List ℕ
+  pub gave : Consumes reader.old.left reader.new.left given
+  pub refused : DumpFault reader.reading.limits reader.reading.mode reader.reading.sender given fault
+  pub whole : IsOfWhole fault → GaveAll reader given
+  pub not_pairs : fault ≢ faults.TooManyPairs
+
+-- the fault is that of the octets that the reader gave; or, where they have none, that the boxes of what their table
+-- answers are more than the limit
+abbrev pub IsFaultOfForm : Input → Fault → Type 0
+IsFaultOfForm reader fault =
+    IsFaultOfGiven reader fault
+    ⊎ ((fault ≡ faults.TooManyPairs) × ((table : Routes) × GaveTable reader table × HasManyBoxes reader.reading.limits table.rows))
+
+-- The reader gave a dump, all that it had, and these are its canonical octets: they tell the dump apart from each that
+-- answers otherwise, and, read with any sender, answer as it does; and no list of pairs that says as much is shorter.
+pub record GaveNormal (reader : Input) (body : ℕ) (octets : List ℕ) : Type 0 where
+  pub dump : List ℕ
+  pub gave : GaveAll reader dump
+  pub normalises : Normalises reader.reading.limits reader.reading.mode body reader.reading.sender dump octets
+  pub fewest : SaysFewest reader.reading.limits reader.reading.mode body reader.reading.sender dump octets
+  pub tells_apart : TellsApart reader.reading.limits reader.reading.mode body (record { sender = reader.reading.sender; dump = dump }) octets
+  pub reads_again : (any : Address)
+      → ReadsAgain reader.reading.limits reader.reading.mode body (record { sender = reader.reading.sender; dump = dump }) octets any
+
+-- the reader gave a dump, all that it had, and these are its table and the canonical form of that, with the fewest pairs
+pub record GavePairs (reader : Input) (table : Routes) (canon : Canonical) : Type 0 where
+  pub gave : GaveTable reader table
+  pub is_canon : IsCanonical reader.reading.limits 1024 table.rows canon
+  pub fewest : AreFewest table.rows canon.pairs
+
+-- two readers gave a dump each, all that they had, and this is how the answers of the dumps' tables compare
+pub record GaveVerdict (reader other : Input) (verdict : Verdict) : Type 0 where
+  pub table : Routes
+  pub gave : GaveTable reader table
+  pub other_table : Routes
+  pub other_gave : GaveTable other other_table
+  pub is_verdict : IsVerdict table.rows other_table.rows verdict
