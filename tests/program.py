@@ -8,7 +8,9 @@ import subprocess
 import tempfile
 
 import transcript
-from checks import TOP, built_program
+from checks import CAPTURES, TOP, built_program
+
+import agree
 
 HEADER = bytes((42, 2))
 ROUTER_ID = bytes.fromhex("060a0000 0200000000000001")
@@ -18,6 +20,7 @@ IN_A_PACKET = 2_048
 # Room for the program and its libraries, and not for the rows of most-routes.dump.
 LITTLE_MEMORY = 8 << 20
 SHOW = ["show", "--from", "192.0.2.1"]
+ONE_ROUTE = TOP / "examples/one-route.dump"
 
 
 def packet(body):
@@ -47,9 +50,9 @@ def large_dumps():
     yield "longest", longest + packet(bytes(OCTETS - len(longest) - 4))
 
 
-def run(program, words, **how):
+def run(program, words, stdin=subprocess.DEVNULL, stdout=subprocess.PIPE, **how):
     """The status of a run, and what it writes on standard error."""
-    done = subprocess.run([program, *words], stderr=subprocess.PIPE, stdin=subprocess.DEVNULL, **how)
+    done = subprocess.run([program, *words], stdin=stdin, stdout=stdout, stderr=subprocess.PIPE, **how)
     return done.returncode, done.stderr
 
 
@@ -63,16 +66,40 @@ def check_closed_pipe(program, tally):
         reader, writer = os.pipe()
         os.close(reader)
         ready = lambda: signal.signal(signal.SIGPIPE, disposition)
-        found = run(program, [*SHOW, TOP / "examples/one-route.dump"], stdout=writer, preexec_fn=ready, restore_signals=False)
+        found = run(program, [*SHOW, ONE_ROUTE], stdout=writer, preexec_fn=ready, restore_signals=False)
         os.close(writer)
         expect(tally, f"a closed pipe, the signal {disposition.name}", found, (4, b"write failed\n"))
+
+
+def check_failed_read(program, tally):
+    """Standard input gives some octets, and then an error: nothing is there, and it does not wait."""
+    reader, writer = os.pipe()
+    os.set_blocking(reader, False)
+    os.write(writer, ONE_ROUTE.read_bytes()[:20])
+    found = run(program, SHOW, stdin=reader)
+    os.close(reader)
+    os.close(writer)
+    expect(tally, "a read that fails after 20 octets", found, (4, b"read failed\n"))
+
+
+def check_failed_write(program, tally):
+    """Standard output takes what a pipe holds, and then fails: what it took is the start of the text."""
+    words = ["pairs", "--from", agree.SENDERS["babeld-retract"], CAPTURES / "babeld-retract.dump"]
+    text = subprocess.run([program, *words], check=True, capture_output=True).stdout
+    reader, writer = os.pipe()
+    os.set_blocking(writer, False)
+    found = run(program, words, stdout=writer)
+    os.close(writer)
+    with open(reader, "rb") as pipe:
+        taken = pipe.read()
+    is_start = 0 < len(taken) < len(text) and text.startswith(taken)
+    expect(tally, "a write that fails after what a pipe holds", (*found, is_start), (4, b"write failed\n", True))
 
 
 def check_little_memory(program, folder, tally):
     """Each command answers that memory is wanting, and writes nothing."""
     dump, sent = folder / "most-routes.dump", ["--from", "192.0.2.1"]
     lookup = ["--to", "10.0.0.1", "--src", "0.0.0.0"]
-    small = TOP / "examples/one-route.dump"
     ready = lambda: resource.setrlimit(resource.RLIMIT_AS, (LITTLE_MEMORY, LITTLE_MEMORY))
     for words, other in (
         ([*SHOW, dump], b""),
@@ -80,8 +107,8 @@ def check_little_memory(program, folder, tally):
         (["normalise", *sent, dump], b""),
         (["pairs", *sent, dump], b""),
         (["pairs", *sent, "--count", dump], b""),
-        (["compare", *sent, "--other-from", "192.0.2.1", dump, small], b""),
-        (["compare", *sent, "--other-from", "192.0.2.1", small, dump], b"other: "),
+        (["compare", *sent, "--other-from", "192.0.2.1", dump, ONE_ROUTE], b""),
+        (["compare", *sent, "--other-from", "192.0.2.1", ONE_ROUTE, dump], b"other: "),
     ):
         with tempfile.TemporaryFile() as output:
             found = run(program, words, stdout=output, preexec_fn=ready)
@@ -98,4 +125,6 @@ def check(tally, _long):
         transcript.put(dict(large_dumps()), folder)
         transcript.play(TOP / "tests/limits.txt", folder, tally)
         check_closed_pipe(program, tally)
+        check_failed_read(program, tally)
+        check_failed_write(program, tally)
         check_little_memory(program, folder, tally)
