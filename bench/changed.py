@@ -1,25 +1,30 @@
 #!/usr/bin/env python3
-"""Runs a built program and the plain Rust yardstick over captures with octets changed at random.
+"""Runs a built program and the plain Rust program over captures with octets changed at random.
 
     changed.py PROGRAM [--dumps N] [--seed N]
 
 Each dump is one of examples/captures, with one to four octets changed, and in one of eight dumps the end cut off. Both
-programs must write the same octets and texts and give the same status in each run: `show`, `pairs`, `normalise`, a
-`lookup`, and `compare` with the capture as it was. Exits 1 where they do not. The same seed makes the same dumps.
+programs must write the same octets and texts and give the same status in each run: `show`, `pairs`, `normalise` at some
+size of a packet's body, two lookups, and `compare` with the capture as it was, each with and without `--hold`. Exits 1
+where they do not. The same seed makes the same dumps.
 """
 
 import argparse
 import collections
+import concurrent.futures
+import os
 import pathlib
 import random
 import sys
 import tempfile
 
-from run import HERE, build, outcome
+from run import HERE, PLAIN, build, outcome
 
 CAPTURES = HERE.parent / "examples" / "captures"
 sys.path.append(str(CAPTURES))
 from agree import SENDERS  # noqa: E402
+
+BODIES = (128, 129, 255, 1_024, 65_535)
 
 
 def changed(rng, octets):
@@ -31,15 +36,37 @@ def changed(rng, octets):
     return bytes(octets)
 
 
-def runs(sender, capture, dump):
+def runs(sender, capture, dump, body):
     """The words of each run over a changed dump."""
-    sent = ["--from", sender]
-    yield ["show", *sent, dump]
-    yield ["pairs", *sent, dump]
-    yield ["normalise", *sent, "--hex", dump]
-    yield ["lookup", *sent, "--to", "10.0.0.1", "--src", "192.0.2.7", dump]
-    yield ["lookup", *sent, "--to", "2001:db8::1", "--src", "2001:db8::2", dump]
-    yield ["compare", *sent, "--other-from", sender, dump, capture]
+    for hold in [], ["--hold"]:
+        sent = [*hold, "--from", sender]
+        yield ["show", *sent, dump]
+        yield ["pairs", *sent, dump]
+        yield ["normalise", *sent, "--body", str(body), "--hex", dump]
+        yield ["lookup", *sent, "--to", "10.0.0.1", "--src", "192.0.2.7", dump]
+        yield ["lookup", *sent, "--to", "2001:db8::1", "--src", "2001:db8::2", dump]
+        yield ["compare", *sent, "--other-from", sender, dump, capture]
+
+
+def compared(program, plain, folder, dumps, seed):
+    """For each run over so many changed dumps: its command, its status, and how the two programs differ, if they do."""
+
+    def compare(turn):
+        rng = random.Random(f"{seed} {turn}")
+        name, sender = rng.choice(sorted(SENDERS.items()))
+        dump, capture = folder / f"changed-{turn}.dump", CAPTURES / f"{name}.dump"
+        dump.write_bytes(changed(rng, capture.read_bytes()))
+        found = []
+        for words in runs(sender, capture, dump, rng.choice(BODIES)):
+            ours, theirs = (outcome([side, *words]) for side in (program, plain))
+            told = f"dump {turn}, {name}, {' '.join(map(str, words))}: {ours[0]} {ours[2]!r}, {theirs[0]} {theirs[2]!r}"
+            found.append((words[0], ours[0], "" if ours == theirs else told))
+        dump.unlink()
+        return found
+
+    with concurrent.futures.ThreadPoolExecutor(os.cpu_count()) as pool:
+        for found in pool.map(compare, range(dumps)):
+            yield from found
 
 
 def main():
@@ -48,22 +75,15 @@ def main():
     parser.add_argument("--dumps", type=int, default=400)
     parser.add_argument("--seed", type=int, default=1)
     options = parser.parse_args()
-    rng = random.Random(options.seed)
     statuses, differing = collections.Counter(), 0
     with tempfile.TemporaryDirectory() as folder:
         folder = pathlib.Path(folder)
-        yardstick = build(HERE / "yardstick.rs", folder)
-        dump = folder / "changed.dump"
-        for turn in range(options.dumps):
-            name, sender = rng.choice(sorted(SENDERS.items()))
-            capture = CAPTURES / f"{name}.dump"
-            dump.write_bytes(changed(rng, capture.read_bytes()))
-            for words in runs(sender, capture, dump):
-                ours, theirs = (outcome([side, *words]) for side in (options.program.resolve(), yardstick))
-                statuses[words[0], ours[0]] += 1
-                if ours != theirs:
-                    differing += 1
-                    print(f"dump {turn}, {name}, {words[0]}: status {ours[0]} and {theirs[0]}, {ours[2]!r} and {theirs[2]!r}")
+        plain = build(PLAIN, folder)
+        for command, status, difference in compared(options.program.resolve(), plain, folder, options.dumps, options.seed):
+            statuses[command, status] += 1
+            if difference:
+                differing += 1
+                print(difference)
     for (command, status), count in sorted(statuses.items()):
         print(f"{command}: status {status} in {count} runs")
     print(f"{differing} of {sum(statuses.values())} runs differ")

@@ -15,6 +15,7 @@ import sys
 import tempfile
 
 HERE = pathlib.Path(__file__).resolve().parent
+PLAIN = HERE / "yardstick.rs"
 FROM = ["--from", "192.0.2.1"]
 LOOKUP = ["--to", "10.0.0.1", "--src", "192.0.2.7"]
 LOOKUP_IPV6 = ["--to", "2001:db8::1", "--src", "2001:db8::2"]
@@ -78,7 +79,7 @@ def main():
     differing = 0
     with tempfile.TemporaryDirectory() as folder:
         folder = pathlib.Path(folder)
-        yardstick = build(HERE / "yardstick.rs", folder)
+        yardstick = build(PLAIN, folder)
         measurer = build(HERE / "measure.rs", folder)
         print("| load | command | program min / median s | yardstick min / median s | time min / median | program MB | yardstick MB | memory |")
         print("|---|---|---|---|---|---|---|---|")

@@ -1,10 +1,11 @@
 //! A plain Rust program that does what babel-dump does, to measure it against: std alone, no proofs, one file.
 //!
 //!     rustc -O --edition 2021 yardstick.rs
-//!     yardstick show|pairs --from A [FILE]
-//!     yardstick normalise --from A [--hex] [FILE]
-//!     yardstick lookup --from A --to D --src S [FILE]
-//!     yardstick compare --from A --other-from B FILE OTHER
+//!     yardstick show --from A [--hold] [FILE]
+//!     yardstick pairs --from A [--hold] [--count] [FILE]
+//!     yardstick normalise --from A [--hold] [--body N] [--hex] [FILE]
+//!     yardstick lookup --from A --to D --src S [--hold] [FILE]
+//!     yardstick compare --from A --other-from B [--hold] FILE OTHER
 //!
 //! It reads a dump packet by packet into a `BTreeMap`, and makes canonical pairs by interned nested tries.
 
@@ -19,7 +20,8 @@ use std::process::ExitCode;
 
 const MAX_BYTES: u64 = 33_554_432;
 const MAX_ENTRIES: usize = 262_144;
-const MAX_BODY: usize = 1_024;
+const LEAST_BODY: usize = 128;
+const USUAL_BODY: usize = 1_024;
 const INFINITY: u16 = 0xffff;
 const INTERVAL: [u8; 2] = 1_600u16.to_be_bytes();
 
@@ -160,6 +162,22 @@ impl fmt::Display for Ann {
             "via {} id {id:016x} seqno {} metric {}",
             self.next_hop, self.seqno, self.metric
         )
+    }
+}
+
+/// What a key has. A retracted one is unreachable where retractions are held (RFC 8966, 2.8).
+#[derive(Clone, Copy, Debug, PartialEq, Eq, Hash)]
+enum Held {
+    Route(Ann),
+    Unreachable,
+}
+
+impl fmt::Display for Held {
+    fn fmt(&self, f: &mut fmt::Formatter<'_>) -> fmt::Result {
+        match self {
+            Held::Route(ann) => ann.fmt(f),
+            Held::Unreachable => f.write_str("unreachable"),
+        }
     }
 }
 
@@ -478,7 +496,8 @@ fn source_prefix(family: Family, octets: &[u8]) -> Result<Prefix, Reason> {
 
 #[derive(Default)]
 struct Table {
-    rows: BTreeMap<Key, Ann>,
+    hold: bool,
+    rows: BTreeMap<Key, Held>,
     tlvs: u64,
     ignored: [Option<(u64, u64)>; 16],
 }
@@ -508,10 +527,13 @@ fn fill(reader: &mut impl Read, buffer: &mut [u8]) -> Result<usize, ReadFault> {
     Ok(filled)
 }
 
-fn read_dump(reader: impl Read, sender: Addr) -> Result<Table, ReadFault> {
+fn read_dump(reader: impl Read, sender: Addr, hold: bool) -> Result<Table, ReadFault> {
     let mut reader = BufReader::with_capacity(1 << 16, reader);
     let mut limited = (&mut reader).take(MAX_BYTES);
-    let mut table = Table::default();
+    let mut table = Table {
+        hold,
+        ..Table::default()
+    };
     let mut body = Vec::new();
     let mut at = 0;
     let fault = loop {
@@ -569,18 +591,15 @@ impl Table {
 
     fn take(&mut self, event: Event, at: u64) -> Result<(), Fault> {
         match event {
-            Event::Announce(key, ann) => {
-                let full = self.rows.len() == MAX_ENTRIES;
-                match self.rows.entry(key) {
-                    Entry::Occupied(mut row) => *row.get_mut() = ann,
-                    Entry::Vacant(_) if full => return Err(Fault::TooManyRoutes(at)),
-                    Entry::Vacant(row) => {
-                        row.insert(ann);
-                    }
-                }
-            }
+            Event::Announce(key, ann) => self.put(key, Held::Route(ann), at)?,
+            Event::Retract(key) if self.hold => self.put(key, Held::Unreachable, at)?,
             Event::Retract(key) => {
                 self.rows.remove(&key);
+            }
+            Event::RetractAll if self.hold => {
+                self.rows
+                    .values_mut()
+                    .for_each(|held| *held = Held::Unreachable);
             }
             Event::RetractAll => self.rows.clear(),
             Event::Nothing => {}
@@ -588,13 +607,25 @@ impl Table {
         Ok(())
     }
 
+    fn put(&mut self, key: Key, held: Held, at: u64) -> Result<(), Fault> {
+        let full = self.rows.len() == MAX_ENTRIES;
+        match self.rows.entry(key) {
+            Entry::Occupied(mut row) => *row.get_mut() = held,
+            Entry::Vacant(_) if full => return Err(Fault::TooManyRoutes(at)),
+            Entry::Vacant(row) => {
+                row.insert(held);
+            }
+        }
+        Ok(())
+    }
+
     /// RFC 9079, 4: the longest destination prefix that has both, then the longest source prefix.
-    fn lookup(&self, dst: Addr, src: Addr) -> Option<&Ann> {
+    fn lookup(&self, dst: Addr, src: Addr) -> Option<&Held> {
         self.rows
             .iter()
             .filter(|(key, _)| key.dst.contains(dst) && key.src.contains(src))
             .max_by_key(|(key, _)| (key.dst.len, key.src.len))
-            .map(|(_, ann)| ann)
+            .map(|(_, held)| held)
     }
 }
 
@@ -652,8 +683,8 @@ impl<L: Copy + Eq + Hash> Nodes<L> {
 struct Grid {
     sources: Nodes<Option<u32>>,
     destinations: Nodes<u32>,
-    anns: Vec<Ann>,
-    numbers: HashMap<Ann, u32>,
+    values: Vec<Held>,
+    numbers: HashMap<Held, u32>,
 }
 
 type Row = (Key, u32);
@@ -663,24 +694,24 @@ impl Grid {
         Grid {
             sources: Nodes::new(),
             destinations: Nodes::new(),
-            anns: Vec::new(),
+            values: Vec::new(),
             numbers: HashMap::new(),
         }
     }
 
-    fn ann(&mut self, ann: Ann) -> u32 {
-        *self.numbers.entry(ann).or_insert_with(|| {
-            self.anns.push(ann);
-            self.anns.len() as u32 - 1
+    fn value(&mut self, held: Held) -> u32 {
+        *self.numbers.entry(held).or_insert_with(|| {
+            self.values.push(held);
+            self.values.len() as u32 - 1
         })
     }
 
     /// The number of the trie of a family's rows.
     fn add(&mut self, family: Family, table: &Table) -> u32 {
         let mut rows = Vec::new();
-        for (key, ann) in &table.rows {
+        for (key, held) in &table.rows {
             if key.dst.addr.family == family {
-                rows.push((*key, self.ann(*ann)));
+                rows.push((*key, self.value(*held)));
             }
         }
         let nothing = self.sources.intern(Node::Leaf(None));
@@ -735,7 +766,7 @@ impl Grid {
         &self,
         block: Prefix,
         number: u32,
-        pairs: &mut Vec<(Key, Ann)>,
+        pairs: &mut Vec<(Key, Held)>,
     ) -> Result<(), Fault> {
         match self.destinations.get(number) {
             Node::Leaf(source) => {
@@ -753,13 +784,13 @@ impl Grid {
         dst: Prefix,
         src: Prefix,
         number: u32,
-        pairs: &mut Vec<(Key, Ann)>,
+        pairs: &mut Vec<(Key, Held)>,
     ) -> Result<(), Fault> {
         match self.sources.get(number) {
             Node::Leaf(None) => Ok(()),
             Node::Leaf(Some(_)) if pairs.len() == MAX_ENTRIES => Err(Fault::TooManyPairs),
             Node::Leaf(Some(value)) => {
-                pairs.push((Key { dst, src }, self.anns[value as usize]));
+                pairs.push((Key { dst, src }, self.values[value as usize]));
                 Ok(())
             }
             Node::Fork(lower, upper) => {
@@ -797,12 +828,12 @@ impl Grid {
                 self.sources.get(source_left),
                 self.sources.get(source_right),
             ) {
-                let ann = |number: Option<u32>| number.map(|n| self.anns[n as usize]);
+                let held = |number: Option<u32>| number.map(|n| self.values[n as usize]);
                 return Some(Difference {
                     dst: block.addr,
                     src: source.addr,
-                    left: ann(l),
-                    right: ann(r),
+                    left: held(l),
+                    right: held(r),
                 });
             }
             let (low_left, high_left) = self.sources.halves(source_left);
@@ -821,11 +852,11 @@ impl Grid {
 struct Difference {
     dst: Addr,
     src: Addr,
-    left: Option<Ann>,
-    right: Option<Ann>,
+    left: Option<Held>,
+    right: Option<Held>,
 }
 
-fn canonical_pairs(table: &Table) -> Result<Vec<(Key, Ann)>, Fault> {
+fn canonical_pairs(table: &Table) -> Result<Vec<(Key, Held)>, Fault> {
     let mut pairs = Vec::new();
     for family in [Family::V4, Family::V6] {
         let mut grid = Grid::new();
@@ -855,17 +886,15 @@ struct Said {
 }
 
 impl Said {
-    fn put(&mut self, key: &Key, ann: &Ann, out: &mut Vec<u8>) {
+    fn put(&mut self, key: &Key, held: &Held, out: &mut Vec<u8>) {
         let family = key.dst.addr.family;
-        if self.router_id != Some(ann.router_id) {
-            out.extend([6, 10, 0, 0]);
-            out.extend(ann.router_id);
-            self.router_id = Some(ann.router_id);
-        }
-        if self.next_hops[family as usize] != Some(ann.next_hop) {
-            put_next_hop(ann.next_hop, out);
-            self.next_hops[family as usize] = Some(ann.next_hop);
-        }
+        let (seqno, metric) = match held {
+            Held::Route(ann) => {
+                self.put_route(family, ann, out);
+                (ann.seqno, ann.metric)
+            }
+            Held::Unreachable => (0, INFINITY),
+        };
         let octets = key.dst.addr.octets();
         let count = usize::from(key.dst.len.div_ceil(8));
         let omitted = match self.destinations[family as usize] {
@@ -882,12 +911,24 @@ impl Said {
         out.extend([8, (10 + count - omitted + source_len) as u8]);
         out.extend([family as u8 + 1, 0x80, key.dst.len, omitted as u8]);
         out.extend(INTERVAL);
-        out.extend(ann.seqno.to_be_bytes());
-        out.extend(ann.metric.to_be_bytes());
+        out.extend(seqno.to_be_bytes());
+        out.extend(metric.to_be_bytes());
         out.extend(&octets[omitted..count]);
         if key.src.len != 0 {
             out.extend([128, 1 + source_count as u8, key.src.len]);
             out.extend(&key.src.addr.octets()[..source_count]);
+        }
+    }
+
+    fn put_route(&mut self, family: Family, ann: &Ann, out: &mut Vec<u8>) {
+        if self.router_id != Some(ann.router_id) {
+            out.extend([6, 10, 0, 0]);
+            out.extend(ann.router_id);
+            self.router_id = Some(ann.router_id);
+        }
+        if self.next_hops[family as usize] != Some(ann.next_hop) {
+            put_next_hop(ann.next_hop, out);
+            self.next_hops[family as usize] = Some(ann.next_hop);
         }
     }
 }
@@ -906,15 +947,15 @@ fn put_next_hop(next_hop: Addr, out: &mut Vec<u8>) {
     }
 }
 
-fn canonical_text(pairs: &[(Key, Ann)]) -> Vec<u8> {
+fn canonical_text(body: usize, pairs: &[(Key, Held)]) -> Vec<u8> {
     let mut out = Vec::new();
     let mut start = None;
     let mut said = Said::default();
-    for (key, ann) in pairs {
+    for (key, held) in pairs {
         if let Some(header) = start {
             let before = out.len();
-            said.put(key, ann, &mut out);
-            if out.len() - (header + 4) <= MAX_BODY {
+            said.put(key, held, &mut out);
+            if out.len() - (header + 4) <= body {
                 continue;
             }
             out.truncate(before);
@@ -923,7 +964,7 @@ fn canonical_text(pairs: &[(Key, Ann)]) -> Vec<u8> {
         start = Some(out.len());
         out.extend([42, 2, 0, 0]);
         said = Said::default();
-        said.put(key, ann, &mut out);
+        said.put(key, held, &mut out);
     }
     if let Some(header) = start {
         close_packet(&mut out, header);
@@ -952,31 +993,33 @@ impl From<io::Error> for Failure {
     }
 }
 
+#[derive(Default)]
 struct Words {
     command: String,
     options: HashMap<String, String>,
+    hold: bool,
     hex: bool,
+    count: bool,
     files: Vec<String>,
 }
 
 fn read_words(mut words: impl Iterator<Item = String>) -> Option<Words> {
-    let command = words.next()?;
-    let (mut options, mut files, mut hex) = (HashMap::new(), Vec::new(), false);
+    let mut read = Words {
+        command: words.next()?,
+        ..Words::default()
+    };
     while let Some(word) = words.next() {
         match word.strip_prefix("--") {
-            Some("hex") => hex = true,
+            Some("hold") => read.hold = true,
+            Some("hex") => read.hex = true,
+            Some("count") => read.count = true,
             Some(option) => {
-                options.insert(option.to_string(), words.next()?);
+                read.options.insert(option.to_string(), words.next()?);
             }
-            None => files.push(word),
+            None => read.files.push(word),
         }
     }
-    Some(Words {
-        command,
-        options,
-        hex,
-        files,
-    })
+    Some(read)
 }
 
 impl Words {
@@ -988,14 +1031,24 @@ impl Words {
         Addr::parse(word).ok_or_else(|| Failure::Usage(format!("not an address: {word}")))
     }
 
+    fn body(&self) -> Result<usize, Failure> {
+        let Some(word) = self.options.get("body") else {
+            return Ok(USUAL_BODY);
+        };
+        match word.parse::<u16>() {
+            Ok(octets) if usize::from(octets) >= LEAST_BODY => Ok(octets.into()),
+            _ => Err(Failure::Usage(format!("not a size of a body: {word}"))),
+        }
+    }
+
     fn table(&self, index: usize, sender: &str, side: &'static str) -> Result<Table, Failure> {
         let sender = self.addr(sender)?;
         let read = match self.files.get(index) {
             Some(name) => {
                 let file = File::open(name).map_err(|_| Failure::Open(name.clone()))?;
-                read_dump(file, sender)
+                read_dump(file, sender, self.hold)
             }
-            None => read_dump(io::stdin().lock(), sender),
+            None => read_dump(io::stdin().lock(), sender, self.hold),
         };
         read.map_err(|fault| match fault {
             ReadFault::Io => Failure::Read(side),
@@ -1019,12 +1072,18 @@ fn run(words: &Words) -> Result<u8, Failure> {
             0
         }
         "pairs" => {
-            let pairs = pairs_of(&words.table(0, "from", "")?)?;
-            write_pairs(out, pairs.iter().map(|(key, ann)| (key, ann)))?;
+            let table = words.table(0, "from", "")?;
+            let pairs = pairs_of(&table)?;
+            if words.count {
+                writeln!(out, "rows {}\npairs {}", table.rows.len(), pairs.len())?;
+            } else {
+                write_pairs(out, pairs.iter().map(|(key, held)| (key, held)))?;
+            }
             0
         }
         "normalise" => {
-            let text = canonical_text(&pairs_of(&words.table(0, "from", "")?)?);
+            let body = words.body()?;
+            let text = canonical_text(body, &pairs_of(&words.table(0, "from", "")?)?);
             if words.hex {
                 let digits: String = text.iter().map(|octet| format!("{octet:02x}")).collect();
                 writeln!(out, "{digits}")?;
@@ -1038,7 +1097,7 @@ fn run(words: &Words) -> Result<u8, Failure> {
             let table = words.table(0, "from", "")?;
             let found = table.lookup(dst, src);
             writeln!(out, "{}", answer(found))?;
-            u8::from(found.is_none())
+            u8::from(!matches!(found, Some(Held::Route(_))))
         }
         "compare" => {
             let left = words.table(0, "from", "")?;
@@ -1062,22 +1121,22 @@ fn run(words: &Words) -> Result<u8, Failure> {
     Ok(status)
 }
 
-fn pairs_of(table: &Table) -> Result<Vec<(Key, Ann)>, Failure> {
+fn pairs_of(table: &Table) -> Result<Vec<(Key, Held)>, Failure> {
     canonical_pairs(table).map_err(|fault| Failure::Dump("", fault))
 }
 
 fn write_pairs<'a>(
     out: &mut impl Write,
-    pairs: impl Iterator<Item = (&'a Key, &'a Ann)>,
+    pairs: impl Iterator<Item = (&'a Key, &'a Held)>,
 ) -> io::Result<()> {
-    for (key, ann) in pairs {
-        writeln!(out, "{} from {} {ann}", key.dst, key.src)?;
+    for (key, held) in pairs {
+        writeln!(out, "{} from {} {held}", key.dst, key.src)?;
     }
     Ok(())
 }
 
-fn answer(ann: Option<&Ann>) -> String {
-    ann.map_or("none".to_string(), Ann::to_string)
+fn answer(held: Option<&Held>) -> String {
+    held.map_or("none".to_string(), Held::to_string)
 }
 
 fn main() -> ExitCode {

@@ -1,0 +1,48 @@
+"""The captures of examples/captures: the neighbour's tables, the canonical dumps, and the golden files."""
+
+import concurrent.futures
+import os
+import pathlib
+import tempfile
+
+import golden
+import transcript
+from checks import built_program
+
+import agree
+import canonical
+from agree import SENDERS
+
+
+def check_tables(program, tally):
+    """The rows are those of the router that heard the capture."""
+    for name, sender in SENDERS.items():
+        theirs, _ = agree.neighbour_rows(name, sender)
+        differing = sorted(map(str, theirs ^ agree.program_rows(program, name, sender)))
+        tally.check(f"the neighbour's table of {name}", "\n".join(differing))
+
+
+def check_canonical(program, folder, tally):
+    """The canonical dumps are normalised to themselves and answer as the captures do."""
+    cases = [(name, sender, mode.split()) for name, sender in SENDERS.items() for mode in golden.MODES]
+
+    def wrong(case):
+        name, sender, hold = case
+        room = folder / f"{name}{''.join(hold)}"
+        room.mkdir()
+        return canonical.check(program, name, sender, hold, room)[1]
+
+    with concurrent.futures.ThreadPoolExecutor(os.cpu_count()) as pool:
+        for (name, _, hold), lines in zip(cases, pool.map(wrong, cases)):
+            tally.check(f"the canonical dump of {' '.join([name, *hold])}", "\n".join(lines))
+
+
+def check(tally, _long):
+    program = built_program()
+    with tempfile.TemporaryDirectory() as folder:
+        folder = pathlib.Path(folder)
+        check_tables(program, tally)
+        check_canonical(program, folder, tally)
+        transcript.link(program, folder)
+        golden.play(folder, tally)
+        print("the golden files were made by the plain program of bench/; tests/golden.py makes them anew")

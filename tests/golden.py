@@ -1,0 +1,98 @@
+#!/usr/bin/env python3
+"""Makes the golden files anew: what each command writes of each capture, by the plain Rust program of bench/.
+
+    python3 tests/golden.py
+
+The files are transcripts, golden/CAPTURE.COMMAND.txt. The plain program shares no code with babel-dump, which is not run
+here, so that what babel-dump is held to is never its own output. `./check captures` holds babel-dump to the files, and
+`./check fuzz` the plain program.
+"""
+
+import pathlib
+import shutil
+import tempfile
+
+import transcript
+from checks import CAPTURES, TOP
+
+from agree import SENDERS
+from canonical import questions
+from run import PLAIN, build
+
+GOLDEN = TOP / "tests/golden"
+MODES = ["", " --hold"]
+LOOKUPS = 12
+# What is longer is kept by its length, its hash, and its first and its last line.
+LONGEST = 40_000
+BY_HASH = " > whole; wc -c < whole; sha256sum < whole; (head -n 1 whole; tail -n 1 whole) | cut -c 1-200"
+
+
+def show(name, sent):
+    return [f"show{mode} {sent} {name}.dump" for mode in MODES]
+
+
+def lookup(name, sent):
+    """Some of the addresses that the neighbour's table names, and some that are none of its."""
+    named = questions(name)
+    asked = named[:: len(named) // LOOKUPS + 1] + [("203.0.113.1", "198.51.100.1"), ("3fff::1", "3fff::2")]
+    return [f"lookup{mode} {sent} --to {dst} --src {src} {name}.dump" for dst, src in asked for mode in MODES]
+
+
+def pairs(name, sent):
+    return [f"pairs{mode}{count} {sent} {name}.dump" for count in (" --count", "") for mode in MODES]
+
+
+def normalise(name, sent):
+    sizes = ["", " --body 128", " --body 65535"]
+    return [f"normalise{mode} --hex{body} {sent} {name}.dump" for body in sizes for mode in MODES]
+
+
+def compare(name, sent):
+    others = [f"--other-from {sender} {name}.dump {other}.dump" for other, sender in SENDERS.items()]
+    return [f"compare{mode} {sent} {other}" for other in others for mode in MODES]
+
+
+COMMANDS = (show, lookup, pairs, normalise, compare)
+
+
+def put_captures(folder):
+    for name in SENDERS:
+        shutil.copy(CAPTURES / f"{name}.dump", folder)
+
+
+def golden(command, folder):
+    """A command of a transcript, and what it prints."""
+    printed = transcript.found(command, folder)
+    if len(printed) > LONGEST:
+        command += BY_HASH
+        printed = transcript.found(command, folder)
+    return f"$ {command}\n{printed}"
+
+
+def files():
+    """The name of each golden file, and the words of its commands."""
+    for name, sender in SENDERS.items():
+        for command in COMMANDS:
+            yield f"{name}.{command.__name__}.txt", command(name, f"--from {sender}")
+
+
+def play(folder, tally):
+    """Holds the babel-dump of a folder to the golden files."""
+    put_captures(folder)
+    for file, _ in files():
+        transcript.play(GOLDEN / file, folder, tally)
+
+
+def main():
+    GOLDEN.mkdir(exist_ok=True)
+    with tempfile.TemporaryDirectory() as folder:
+        folder = pathlib.Path(folder)
+        transcript.link(build(PLAIN, folder), folder)
+        put_captures(folder)
+        for file, commands in files():
+            text = "\n".join(golden(f"babel-dump {words}", folder) for words in commands)
+            (GOLDEN / file).write_text(text)
+
+
+if __name__ == "__main__":
+    main()

@@ -1,0 +1,148 @@
+"""Each allocation refused in turn: of the program over program.txt, of the crates' tests, in the long form over the captures.
+
+refuse.c is loaded into a process and refuses its Nth allocation, for N = 1, 2, .. until none is refused. The program must
+print what it prints otherwise, or `out of memory` alone, with status 5. A test must pass, or fail with the text that
+it has for a refusal that was answered.
+"""
+
+import concurrent.futures
+import os
+import pathlib
+import re
+import shlex
+import subprocess
+import tempfile
+from dataclasses import dataclass
+from typing import Callable
+
+import golden
+import transcript
+from checks import TOP, built_program, need
+
+OUT_OF_MEMORY = ["! out of memory\n? 5\n", "! other: out of memory\n? 5\n"]
+# What the crates' tests named so fail with where a refusal was answered as such.
+TESTS = "refused_memory"
+CRATES = ["babel_table", "babel_trie", "babel_canon", "babel_dump"]
+TEST_REFUSED = re.compile(rb"memory was refused, and Memory answered|error: AllocError")
+# Words with one of these are the shell's, and not the program's alone.
+OF_SHELL = re.compile(r"[|&;<>$`(){}*?\\]")
+
+
+@dataclass
+class Case:
+    """A process, and whether a run of it is right, of which an allocation was refused or was not."""
+
+    name: str
+    words: list
+    folder: pathlib.Path
+    is_right: Callable
+
+
+def build_refuser(folder):
+    need("cc", "it has to build tests/refuse.c")
+    refuser = folder / "refuse.so"
+    subprocess.run(["cc", "-O", "-shared", "-fPIC", "-o", refuser, TOP / "tests/refuse.c"], check=True)
+    return refuser
+
+
+def run_refused(case, refuser, number):
+    """A run whose allocation of this number is refused, and whether there was such a one."""
+    reader, writer = os.pipe()
+    environment = {**os.environ, "LD_PRELOAD": str(refuser), "REFUSE": str(number), "REFUSED_TO": str(writer)}
+    how = {"cwd": case.folder, "env": environment, "pass_fds": [writer], "stdin": subprocess.DEVNULL}
+    run = subprocess.run(case.words, capture_output=True, timeout=transcript.SECONDS, **how)
+    os.close(writer)
+    with open(reader, "rb") as told:
+        return run, told.read() != b""
+
+
+def refuse_each(case, refuser):
+    """How many allocations were refused in turn, and what was wrong of the last."""
+    number = 0
+    while True:
+        run, was_refused = run_refused(case, refuser, number + 1)
+        number += was_refused
+        if not case.is_right(run, was_refused):
+            return number, f"with refused allocation {number} it prints\n{transcript.printed(run)[:2_000]}"
+        if not was_refused:
+            return number, "" if number else "no allocation could be refused"
+
+
+def answers(known):
+    """A judge of runs of the program that are to print this."""
+
+    def is_right(run, was_refused):
+        printed = transcript.printed(run)
+        return printed == known or was_refused and printed in OUT_OF_MEMORY
+
+    return is_right
+
+
+def is_right_test(run, was_refused):
+    return run.returncode == 0 or was_refused and TEST_REFUSED.search(run.stdout + run.stderr) is not None
+
+
+def program_cases(program, folder):
+    """The commands of program.txt that are words of the program alone."""
+    dumps, steps = transcript.read(TOP / "tests/program.txt")
+    transcript.put(dumps, folder)
+    for each in steps:
+        if not OF_SHELL.search(each.command):
+            words = [program, *shlex.split(each.command)[1:]]
+            yield Case(f"{each.place}: {each.command}", words, folder, answers(each.expected))
+
+
+def capture_cases(program, folder):
+    """The commands of the golden files. What the program prints without a refusal is what the captures' part judges."""
+    golden.put_captures(folder)
+    for _, commands in golden.files():
+        for command in commands:
+            words = [program, *command.split()]
+            known = transcript.printed(subprocess.run(words, cwd=folder, capture_output=True))
+            yield Case(command, words, folder, answers(known))
+
+
+def tests_of(crate):
+    return TOP / f"crates/{crate}/out/{crate}_tests"
+
+
+def is_current(crate):
+    """The crate's tests were built after the last change of a source."""
+    tests, sources = tests_of(crate), TOP.glob("crates/*/src/**/*.rt")
+    return tests.is_file() and all(source.stat().st_mtime < tests.stat().st_mtime for source in sources)
+
+
+def test_cases(crate, folder):
+    """A crate's tests of refused memory."""
+    tests = tests_of(crate)
+    listed = subprocess.run([tests, "--list"], check=True, capture_output=True, text=True).stdout
+    for name in re.findall(rf"^(\S+::{TESTS}_\w+): test$", listed, re.MULTILINE):
+        yield Case(f"{crate}: {name}", [tests, name], folder, is_right_test)
+
+
+def cases(program, folder, tally, long):
+    yield from program_cases(program, folder)
+    for crate in CRATES:
+        what, why = f"the tests of {crate}", "they are not built, or older than the sources; ./check gate builds them"
+        if is_current(crate):
+            yield from test_cases(crate, folder)
+        elif long:
+            tally.check(what, why)
+        else:
+            print(f"not run: {what}: {why}")
+    if long:
+        yield from capture_cases(program, folder)
+
+
+def check(tally, long):
+    program = built_program()
+    with tempfile.TemporaryDirectory() as folder, concurrent.futures.ThreadPoolExecutor(os.cpu_count()) as pool:
+        folder = pathlib.Path(folder)
+        refuser = build_refuser(folder)
+        tried = [(case, pool.submit(refuse_each, case, refuser)) for case in cases(program, folder, tally, long)]
+        refusals = 0
+        for case, trial in tried:
+            number, problem = trial.result()
+            refusals += number
+            tally.check(case.name, problem)
+        print(f"{refusals} refused allocations in {len(tried)} commands and tests")

@@ -1,0 +1,130 @@
+"""The program as a process: program.txt, and what a shell's words can't bring about."""
+
+import os
+import pathlib
+import resource
+import signal
+import subprocess
+import tempfile
+
+import transcript
+from checks import CAPTURES, TOP, built_program
+
+import agree
+
+HEADER = bytes((42, 2))
+ROUTER_ID = bytes.fromhex("060a0000 0200000000000001")
+ROWS = 262_144
+OCTETS = 33_554_432
+IN_A_PACKET = 2_048
+# Room for the program and its libraries, and not for the rows of most-routes.dump.
+LITTLE_MEMORY = 8 << 20
+SHOW = ["show", "--from", "192.0.2.1"]
+ONE_ROUTE = TOP / "examples/one-route.dump"
+
+
+def packet(body):
+    return HEADER + len(body).to_bytes(2, "big") + body
+
+
+def update(address, length, metric):
+    """An Update for an IPv4 prefix: address encoding 1, no flags, interval 1600, sequence number 1."""
+    octets = address.to_bytes(4, "big")[: (length + 7) // 8]
+    return bytes((8, 10 + len(octets), 1, 0, length, 0)) + bytes.fromhex("06400001") + metric.to_bytes(2, "big") + octets
+
+
+def routes(count):
+    """So many hosts from 10.0.0.0 on, at the metrics 256 and 512 in turn, so that no two of them are one pair."""
+    updates = [update((10 << 24) + place, 32, 256 if place % 2 == 0 else 512) for place in range(count)]
+    starts = range(0, count, IN_A_PACKET)
+    return b"".join(packet(ROUTER_ID + b"".join(updates[start : start + IN_A_PACKET])) for start in starts)
+
+
+def large_dumps():
+    """Dumps at the limits of the program, and past them."""
+    yield "most-routes", routes(ROWS)
+    yield "too-many-routes", routes(ROWS + 1)
+    # The addresses outside 10.0.0.0/8 have the metric 768, which makes more pairs than there are rows.
+    yield "too-many-pairs", routes(ROWS - 1) + packet(ROUTER_ID + update(0, 0, 768))
+    longest = packet(bytes(65_535)) * (OCTETS // 65_539)
+    yield "longest", longest + packet(bytes(OCTETS - len(longest) - 4))
+
+
+def run(program, words, stdin=subprocess.DEVNULL, stdout=subprocess.PIPE, **how):
+    """The status of a run, and what it writes on standard error."""
+    done = subprocess.run([program, *words], stdin=stdin, stdout=stdout, stderr=subprocess.PIPE, **how)
+    return done.returncode, done.stderr
+
+
+def expect(tally, what, found, wanted):
+    tally.check(what, "" if found == wanted else f"expected {wanted}\nfound {found}")
+
+
+def check_closed_pipe(program, tally):
+    """Nobody reads what is written, and the program was started with the signal of a closed pipe on or off."""
+    for disposition in signal.SIG_DFL, signal.SIG_IGN:
+        reader, writer = os.pipe()
+        os.close(reader)
+        ready = lambda: signal.signal(signal.SIGPIPE, disposition)
+        found = run(program, [*SHOW, ONE_ROUTE], stdout=writer, preexec_fn=ready, restore_signals=False)
+        os.close(writer)
+        expect(tally, f"a closed pipe, the signal {disposition.name}", found, (4, b"write failed\n"))
+
+
+def check_failed_read(program, tally):
+    """Standard input gives some octets, and then an error: nothing is there, and it does not wait."""
+    reader, writer = os.pipe()
+    os.set_blocking(reader, False)
+    os.write(writer, ONE_ROUTE.read_bytes()[:20])
+    found = run(program, SHOW, stdin=reader)
+    os.close(reader)
+    os.close(writer)
+    expect(tally, "a read that fails after 20 octets", found, (4, b"read failed\n"))
+
+
+def check_failed_write(program, tally):
+    """Standard output takes what a pipe holds, and then fails: what it took is the start of the text."""
+    words = ["pairs", "--from", agree.SENDERS["babeld-retract"], CAPTURES / "babeld-retract.dump"]
+    text = subprocess.run([program, *words], check=True, capture_output=True).stdout
+    reader, writer = os.pipe()
+    os.set_blocking(writer, False)
+    found = run(program, words, stdout=writer)
+    os.close(writer)
+    with open(reader, "rb") as pipe:
+        taken = pipe.read()
+    is_start = 0 < len(taken) < len(text) and text.startswith(taken)
+    expect(tally, "a write that fails after what a pipe holds", (*found, is_start), (4, b"write failed\n", True))
+
+
+def check_little_memory(program, folder, tally):
+    """Each command answers that memory is wanting, and writes nothing."""
+    dump, sent = folder / "most-routes.dump", ["--from", "192.0.2.1"]
+    lookup = ["--to", "10.0.0.1", "--src", "0.0.0.0"]
+    ready = lambda: resource.setrlimit(resource.RLIMIT_AS, (LITTLE_MEMORY, LITTLE_MEMORY))
+    for words, other in (
+        ([*SHOW, dump], b""),
+        (["lookup", *sent, *lookup, dump], b""),
+        (["normalise", *sent, dump], b""),
+        (["pairs", *sent, dump], b""),
+        (["pairs", *sent, "--count", dump], b""),
+        (["compare", *sent, "--other-from", "192.0.2.1", dump, ONE_ROUTE], b""),
+        (["compare", *sent, "--other-from", "192.0.2.1", ONE_ROUTE, dump], b"other: "),
+    ):
+        with tempfile.TemporaryFile() as output:
+            found = run(program, words, stdout=output, preexec_fn=ready)
+            written = output.tell()
+        expect(tally, f"{' '.join(map(str, words))} in little memory", (*found, written), (5, other + b"out of memory\n", 0))
+
+
+def check(tally, _long):
+    program = built_program()
+    with tempfile.TemporaryDirectory() as folder:
+        folder = pathlib.Path(folder)
+        transcript.link(program, folder)
+        transcript.play(TOP / "tests/program.txt", folder, tally)
+        transcript.put(dict(large_dumps()), folder)
+        transcript.play(TOP / "tests/limits.txt", folder, tally)
+        check_closed_pipe(program, tally)
+        check_failed_read(program, tally)
+        check_failed_write(program, tally)
+        check_little_memory(program, folder, tally)
