@@ -1,11 +1,12 @@
 #!/usr/bin/env python3
-"""Runs a built program and the plain Rust yardstick over captures with octets changed at random.
+"""Runs a built program and the plain Rust program over captures with octets changed at random.
 
     changed.py PROGRAM [--dumps N] [--seed N]
 
 Each dump is one of examples/captures, with one to four octets changed, and in one of eight dumps the end cut off. Both
-programs must write the same octets and texts and give the same status in each run: `show`, `pairs`, `normalise`, a
-`lookup`, and `compare` with the capture as it was. Exits 1 where they do not. The same seed makes the same dumps.
+programs must write the same octets and texts and give the same status in each run: `show`, `pairs`, also with `--count`,
+`normalise`, also with a size of packets, two lookups, and `compare` with the capture as it was; each with and without
+`--hold`. Exits 1 where they do not. The same seed makes the same dumps.
 """
 
 import argparse
@@ -15,7 +16,7 @@ import random
 import sys
 import tempfile
 
-from run import HERE, build, outcome
+from run import HERE, PLAIN, build, outcome
 
 CAPTURES = HERE.parent / "examples" / "captures"
 sys.path.append(str(CAPTURES))
@@ -31,15 +32,18 @@ def changed(rng, octets):
     return bytes(octets)
 
 
-def runs(sender, capture, dump):
+def runs(rng, sender, capture, dump):
     """The words of each run over a changed dump."""
-    sent = ["--from", sender]
-    yield ["show", *sent, dump]
-    yield ["pairs", *sent, dump]
-    yield ["normalise", *sent, "--hex", dump]
-    yield ["lookup", *sent, "--to", "10.0.0.1", "--src", "192.0.2.7", dump]
-    yield ["lookup", *sent, "--to", "2001:db8::1", "--src", "2001:db8::2", dump]
-    yield ["compare", *sent, "--other-from", sender, dump, capture]
+    for hold in ([], ["--hold"]):
+        sent = [*hold, "--from", sender]
+        yield ["show", *sent, dump]
+        yield ["pairs", *sent, dump]
+        yield ["pairs", "--count", *sent, dump]
+        yield ["normalise", *sent, "--hex", dump]
+        yield ["normalise", *sent, "--body", str(rng.choice((128, 129, 200, 1_400, 65_535))), dump]
+        yield ["lookup", *sent, "--to", "10.0.0.1", "--src", "192.0.2.7", dump]
+        yield ["lookup", *sent, "--to", "2001:db8::1", "--src", "2001:db8::2", dump]
+        yield ["compare", *sent, "--other-from", sender, dump, capture]
 
 
 def main():
@@ -52,14 +56,14 @@ def main():
     statuses, differing = collections.Counter(), 0
     with tempfile.TemporaryDirectory() as folder:
         folder = pathlib.Path(folder)
-        yardstick = build(HERE / "yardstick.rs", folder)
+        plain = build(HERE / PLAIN, folder)
         dump = folder / "changed.dump"
         for turn in range(options.dumps):
             name, sender = rng.choice(sorted(SENDERS.items()))
             capture = CAPTURES / f"{name}.dump"
             dump.write_bytes(changed(rng, capture.read_bytes()))
-            for words in runs(sender, capture, dump):
-                ours, theirs = (outcome([side, *words]) for side in (options.program.resolve(), yardstick))
+            for words in runs(rng, sender, capture, dump):
+                ours, theirs = (outcome([side, *words]) for side in (options.program.resolve(), plain))
                 statuses[words[0], ours[0]] += 1
                 if ours != theirs:
                     differing += 1

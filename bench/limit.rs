@@ -21,7 +21,7 @@ use std::hash::{BuildHasher, Hasher};
 use std::io::{self, Read, Write};
 use std::mem;
 use std::net::{Ipv4Addr, Ipv6Addr};
-use std::ops::{BitAnd, BitOr, BitXor, Not};
+use std::ops::{BitAnd, BitOr, BitXor, Not, Range};
 use std::process::ExitCode;
 
 const MAX_BYTES: u64 = 33_554_432;
@@ -30,6 +30,7 @@ const USUAL_BODY: usize = 1_024;
 const LEAST_BODY: usize = 128;
 const LONGEST_PACKET: usize = 65_539;
 const INFINITY: u16 = 0xffff;
+const INTERVAL: u16 = 1_600;
 
 // ---- addresses and prefixes
 
@@ -784,21 +785,25 @@ impl<A: Address> Reading<A> {
 /// Below so many rows, comparing them is faster than counting them.
 const FEW: usize = 48;
 
-/// Sorts rows by the highest bits in which their addresses differ, then each part so, with room for as many rows.
-fn sort_rows<A: Address>(rows: &mut [Row<A>], spare: &mut [Row<A>]) {
-    let all = rows.iter().fold((A::MAX, A::ZERO), |(and, or), row| {
-        (and & row.key.bits, or | row.key.bits)
+/// By so many bits at most are rows counted at once, for the sake of the caches.
+const MOST_DIGITS: u32 = 12;
+
+/// Sorts the rows into as much room, by the highest bits in which their addresses differ, and then each part of them.
+fn sort_into<A: Address>(rows: &mut [Row<A>], sorted: &mut [Row<A>]) {
+    let (all, any) = rows.iter().fold((A::MAX, A::ZERO), |(all, any), row| {
+        (all & row.key.bits, any | row.key.bits)
     });
-    let differing = A::WIDTH - (all.0 ^ all.1).leading_zeros();
+    let differing = A::WIDTH - (all ^ any).leading_zeros();
     if rows.len() < FEW || differing == 0 {
-        return rows.sort_unstable_by_key(Row::order);
+        sorted.copy_from_slice(rows);
+        return sorted.sort_unstable_by_key(Row::order);
     }
-    let digit = differing.min(rows.len().ilog2());
+    let digit = differing.min(rows.len().ilog2()).min(MOST_DIGITS);
     let part = |row: &Row<A>| {
         let bits = row.key.bits.down(differing - digit).low_word();
         bits as usize & ((1 << digit) - 1)
     };
-    let mut ends = vec![0; 1 << digit];
+    let mut ends = vec![0u32; 1 << digit];
     for row in rows.iter() {
         ends[part(row)] += 1;
     }
@@ -808,16 +813,31 @@ fn sort_rows<A: Address>(rows: &mut [Row<A>], spare: &mut [Row<A>]) {
     }
     for row in rows.iter() {
         let place = &mut ends[part(row)];
-        spare[*place] = *row;
+        sorted[*place as usize] = *row;
         *place += 1;
     }
-    rows.copy_from_slice(spare);
     let mut start = 0;
     for end in ends {
-        if end - start > 1 {
-            sort_rows(&mut rows[start..end], &mut spare[start..end]);
-        }
+        let end = end as usize;
+        sort_part(&mut sorted[start..end], &mut rows[start..end]);
         start = end;
+    }
+}
+
+/// Sorts rows where they are.
+fn sort_part<A: Address>(rows: &mut [Row<A>], spare: &mut [Row<A>]) {
+    match rows {
+        [] | [_] => {}
+        [first, second] => {
+            if first.order() > second.order() {
+                mem::swap(first, second);
+            }
+        }
+        _ if rows.len() < FEW => rows.sort_unstable_by_key(Row::order),
+        _ => {
+            spare.copy_from_slice(rows);
+            sort_into(spare, rows);
+        }
     }
 }
 
@@ -836,8 +856,9 @@ impl<A: Address> Rows<A> {
             self.sort_sources();
         }
         if !self.rising {
-            let mut spare = self.rows.clone();
-            sort_rows(&mut self.rows, &mut spare);
+            let mut sorted = self.rows.clone();
+            sort_into(&mut self.rows, &mut sorted);
+            self.rows = sorted;
         }
     }
 
@@ -1808,7 +1829,11 @@ fn block_count<A: Address>(first: A, last: A) -> u32 {
 }
 
 /// Gives the largest aligned blocks from the first address to the last, in order.
-fn each_block<A: Address>(mut first: A, last: A, mut take: impl FnMut(Prefix<A>)) {
+fn each_block<A: Address>(
+    mut first: A,
+    last: A,
+    mut take: impl FnMut(Prefix<A>) -> io::Result<()>,
+) -> io::Result<()> {
     loop {
         let addresses = last.distance_from(first).next();
         let fits = if addresses == A::ZERO {
@@ -1817,95 +1842,75 @@ fn each_block<A: Address>(mut first: A, last: A, mut take: impl FnMut(Prefix<A>)
             A::WIDTH - 1 - addresses.leading_zeros()
         };
         let bits = first.trailing_zeros().min(fits);
-        take(Block { start: first, bits }.prefix());
+        take(Block { start: first, bits }.prefix())?;
         let end = first.last(bits);
         if end == last {
-            return;
+            return Ok(());
         }
         first = end.next();
     }
 }
 
-#[derive(Clone, Copy)]
-struct Pair<A> {
-    dst: A,
-    src: A,
-    dst_len: u8,
-    src_len: u8,
-    owner: u32,
-    stated: u32,
+/// The runs of a family that have sources with a value. Where a function is not constant, it is a number of `parts`, which
+/// says where its sources stand.
+struct Canon<A> {
+    runs: Vec<Run<A>>,
+    parts: Vec<Range<usize>>,
+    sources: Vec<(Prefix<A>, u64)>,
 }
 
-impl<A: Address> Pair<A> {
-    fn new(dst: Prefix<A>, src: Prefix<A>, value: u64) -> Pair<A> {
-        Pair {
-            dst: dst.bits,
-            src: src.bits,
-            dst_len: dst.len,
-            src_len: src.len,
-            owner: (value >> 32) as u32,
-            stated: value as u32,
-        }
-    }
-
-    fn dst(&self) -> Prefix<A> {
-        Prefix {
-            bits: self.dst,
-            len: self.dst_len,
-        }
-    }
-
-    fn src(&self) -> Prefix<A> {
-        Prefix {
-            bits: self.src,
-            len: self.src_len,
-        }
-    }
-
-    fn value(&self) -> u64 {
-        u64::from(self.owner) << 32 | u64::from(self.stated)
-    }
-}
-
-/// Gives each run of destinations that have sources with a value, and these. There is a fault where the pairs, with so many
-/// others, are more than the limit.
-fn each_run<A: Address>(
-    table: &Rows<A>,
-    count: &mut u64,
-    mut take: impl FnMut(&Forks<A>, Run<A>),
-) -> Result<(), Fault> {
-    let mut forks = Forks::new();
-    let mut sweep = Sweep::new(table);
-    while let Some(run) = sweep.run(&mut forks) {
-        if run.function == Function::NOTHING {
-            continue;
-        }
-        let sources = forks.count(run.function, A::WIDTH);
-        *count += u64::from(block_count(run.first, run.last)) * u64::from(sources);
-        if *count > MAX_ENTRIES as u64 {
-            return Err(Fault::TooManyPairs);
-        }
-        take(&forks, run);
-    }
-    Ok(())
-}
-
-/// Gives the canonical pairs of a family, in order, up to the limit.
-fn each_pair<A: Address>(
-    table: &Rows<A>,
-    count: &mut u64,
-    mut take: impl FnMut(Pair<A>),
-) -> Result<(), Fault> {
-    let mut sources = Vec::new();
-    each_run(table, count, |forks, run| {
-        sources.clear();
-        forks.list(run.function, Block::WHOLE, &mut sources);
-        each_block(run.first, run.last, |dst| {
-            for &(src, value) in &sources {
-                take(Pair::new(dst, src, value));
+impl<A: Address> Canon<A> {
+    /// A fault where the pairs, with so many others, are more than the limit.
+    fn of(table: &Rows<A>, count: &mut u64) -> Result<Canon<A>, Fault> {
+        let mut forks = Forks::new();
+        let mut sweep = Sweep::new(table);
+        let (mut runs, mut parts, mut sources) = (Vec::new(), Vec::new(), Vec::new());
+        while let Some(mut run) = sweep.run(&mut forks) {
+            if run.function == Function::NOTHING {
+                continue;
             }
-        });
-    })
+            let each = forks.count(run.function, A::WIDTH);
+            *count += u64::from(block_count(run.first, run.last)) * u64::from(each);
+            if *count > MAX_ENTRIES as u64 {
+                return Err(Fault::TooManyPairs);
+            }
+            if !run.function.is_constant() {
+                let start = sources.len();
+                forks.list(run.function, Block::WHOLE, &mut sources);
+                run.function = Function(FORK | parts.len() as u64);
+                parts.push(start..sources.len());
+            }
+            runs.push(run);
+        }
+        Ok(Canon {
+            runs,
+            parts,
+            sources,
+        })
+    }
+
+    /// Gives the canonical pairs, in order.
+    fn each_pair(
+        &self,
+        mut take: impl FnMut(Prefix<A>, Prefix<A>, u64) -> io::Result<()>,
+    ) -> io::Result<()> {
+        for run in &self.runs {
+            if run.function.is_constant() {
+                each_block(run.first, run.last, |dst| {
+                    take(dst, Prefix::WHOLE, run.function.0)
+                })?;
+                continue;
+            }
+            let part = &self.parts[run.function.0 as u32 as usize];
+            let sources = &self.sources[part.clone()];
+            each_block(run.first, run.last, |dst| {
+                sources
+                    .iter()
+                    .try_for_each(|&(src, value)| take(dst, src, value))
+            })?;
+        }
+        Ok(())
+    }
 }
 
 struct Difference<A> {
@@ -1984,8 +1989,6 @@ struct Out<W: Write> {
     hex: bool,
     octets: Vec<u8>,
     at: usize,
-    /// What stands before these octets and is not handed over yet.
-    kept: Vec<Vec<u8>>,
 }
 
 const SLICE: usize = 1 << 16;
@@ -1998,7 +2001,6 @@ impl<W: Write> Out<W> {
             hex,
             octets,
             at: 0,
-            kept: Vec::new(),
         }
     }
 
@@ -2091,26 +2093,9 @@ impl<W: Write> Out<W> {
         Ok(())
     }
 
-    /// As long as it may still turn out that nothing is to be written, full slices are kept.
-    fn keep_if_full(&mut self) {
-        if self.at >= SLICE {
-            self.kept.push(self.octets[..self.at].to_vec());
-            self.at = 0;
-        }
-    }
-
     fn hand_over(&mut self) -> io::Result<()> {
-        for octets in mem::take(&mut self.kept) {
-            self.write(&octets)?;
-        }
-        let octets = mem::take(&mut self.octets);
-        self.write(&octets[..self.at])?;
-        self.octets = octets;
+        let octets = &self.octets[..self.at];
         self.at = 0;
-        Ok(())
-    }
-
-    fn write(&mut self, octets: &[u8]) -> io::Result<()> {
         if !self.hex {
             return self.sink.write_all(octets);
         }
@@ -2154,30 +2139,36 @@ impl<A> Said<A> {
 }
 
 impl<W: Write> Writer<W> {
-    fn put_pairs<A: Address>(&mut self, table: &Rows<A>, count: &mut u64) -> Result<(), Fault> {
+    fn put_pairs<A: Address>(&mut self, canon: &Canon<A>, owners: &[Owner<A>]) -> io::Result<()> {
         let mut said = Said::NOTHING;
-        each_pair(table, count, |pair| {
-            self.put_pair(&mut said, &table.owners.list, &pair)
-        })
+        canon.each_pair(|dst, src, value| self.put_pair(&mut said, owners, dst, src, value))
     }
 
     /// Puts a pair into the open packet if it fits there, else into a new one.
-    fn put_pair<A: Address>(&mut self, said: &mut Said<A>, owners: &[Owner<A>], pair: &Pair<A>) {
+    fn put_pair<A: Address>(
+        &mut self,
+        said: &mut Said<A>,
+        owners: &[Owner<A>],
+        dst: Prefix<A>,
+        src: Prefix<A>,
+        value: u64,
+    ) -> io::Result<()> {
         if let Some(start) = self.start {
             let before = self.out.at;
-            self.put_group(said, owners, pair);
+            self.put_group(said, owners, dst, src, value);
             if self.out.at - (start + 4) <= self.body {
-                return;
+                return Ok(());
             }
             self.out.at = before;
             self.close_packet();
-            self.out.keep_if_full();
+            self.out.hand_over_if_full()?;
         }
         self.start = Some(self.out.at);
         self.router_id = None;
         *said = Said::NOTHING;
         self.out.text(&[42, 2, 0, 0]);
-        self.put_group(said, owners, pair);
+        self.put_group(said, owners, dst, src, value);
+        Ok(())
     }
 
     fn close_packet(&mut self) {
@@ -2187,10 +2178,16 @@ impl<W: Write> Writer<W> {
         }
     }
 
-    fn put_group<A: Address>(&mut self, said: &mut Said<A>, owners: &[Owner<A>], pair: &Pair<A>) {
-        let (dst, src) = (pair.dst(), pair.src());
-        if pair.stated as u16 != INFINITY {
-            self.put_owner(said, &owners[pair.owner as usize]);
+    fn put_group<A: Address>(
+        &mut self,
+        said: &mut Said<A>,
+        owners: &[Owner<A>],
+        dst: Prefix<A>,
+        src: Prefix<A>,
+        value: u64,
+    ) {
+        if value != UNREACHABLE {
+            self.put_owner(said, &owners[(value >> 32) as usize]);
         }
         let count = u32::from(dst.len.div_ceil(8));
         let omitted = match said.destination {
@@ -2201,25 +2198,14 @@ impl<W: Write> Writer<W> {
         let source_count = usize::from(src.len.div_ceil(8));
         let source_len = if src.len == 0 { 0 } else { 3 + source_count };
         let field = (count - omitted) as usize;
-        let [s, t, m, n] = pair.stated.to_be_bytes();
-        let len = (10 + field + source_len) as u8;
-        let encoding = A::ENCODING;
-        let [interval_0, interval_1] = 1_600u16.to_be_bytes();
-        self.out.text(&[
-            8,
-            len,
-            encoding,
-            0x80,
-            dst.len,
-            omitted as u8,
-            interval_0,
-            interval_1,
-            s,
-            t,
-            m,
-            n,
-        ]);
-        self.out.put(dst.bits.up(8 * omitted).octets(), field);
+        let mut update = [0; WINDOW];
+        update[0] = 8;
+        update[1] = (10 + field + source_len) as u8;
+        update[2..6].copy_from_slice(&[A::ENCODING, 0x80, dst.len, omitted as u8]);
+        update[6..8].copy_from_slice(&INTERVAL.to_be_bytes());
+        update[8..FIXED].copy_from_slice(&(value as u32).to_be_bytes());
+        update[FIXED..].copy_from_slice(&dst.bits.up(8 * omitted).octets());
+        self.out.put(update, FIXED + field);
         if src.len != 0 {
             self.out.text(&[128, 1 + source_count as u8, src.len]);
             self.out.put(src.bits.octets(), source_count);
@@ -2335,29 +2321,24 @@ impl Words {
         let sender = self.addr("from")?;
         self.table(self.open(0)?, sender, Owners::new(), "")
     }
-
-    fn only_sorted_table(&self) -> Result<Table, Failure> {
-        let mut table = self.only_table()?;
-        table.sort();
-        Ok(table)
-    }
 }
 
 fn run(words: &Words) -> Result<u8, Failure> {
     match words.command.as_str() {
-        "show" => show(words.only_sorted_table()?),
+        "show" => show(words.only_table()?),
         "lookup" => lookup(words),
-        "pairs" => pairs(words.only_sorted_table()?, words.has("count")),
+        "pairs" => pairs(&canonical(words.only_table()?)?, words.has("count")),
         "normalise" => {
             let body = words.body()?;
-            normalise(words.only_sorted_table()?, words.has("hex"), body)
+            normalise(&canonical(words.only_table()?)?, words.has("hex"), body)
         }
         "compare" => compare(words),
         other => Err(Failure::Usage(format!("no command {other}"))),
     }
 }
 
-fn show(table: Table) -> Result<u8, Failure> {
+fn show(mut table: Table) -> Result<u8, Failure> {
+    table.sort();
     let out = &mut Out::new(io::stdout().lock(), false);
     put_rows(out, &table.v4)?;
     put_rows(out, &table.v6)?;
@@ -2406,67 +2387,58 @@ fn look_up<A: Address>(out: &mut Out<impl Write>, table: &Rows<A>, dst: A, src: 
     value
 }
 
-fn pairs(table: Table, count: bool) -> Result<u8, Failure> {
+struct Canons {
+    v4: Canon<u32>,
+    v6: Canon<u128>,
+    owners: Owners,
+    rows: usize,
+    pairs: u64,
+}
+
+/// The canonical form of a table, whose rows are given up.
+fn canonical(mut table: Table) -> Result<Canons, Failure> {
+    table.sort();
+    let mut pairs = 0;
+    let fault = |fault| Failure::Dump("", fault);
+    Ok(Canons {
+        v4: Canon::of(&table.v4, &mut pairs).map_err(fault)?,
+        v6: Canon::of(&table.v6, &mut pairs).map_err(fault)?,
+        owners: table.take_owners(),
+        rows: table.v4.rows.len() + table.v6.rows.len(),
+        pairs,
+    })
+}
+
+fn pairs(canons: &Canons, count: bool) -> Result<u8, Failure> {
     let out = &mut Out::new(io::stdout().lock(), false);
     if count {
-        let rows = table.v4.rows.len() + table.v6.rows.len();
-        let pairs = count_pairs(&table).map_err(|fault| Failure::Dump("", fault))?;
+        let Canons { rows, pairs, .. } = canons;
         out.words(&format!("rows {rows}\npairs {pairs}\n"));
     } else {
-        let pairs = list_pairs(table).map_err(|fault| Failure::Dump("", fault))?;
-        put_pair_lines(out, &pairs.v4, &pairs.owners.v4.list)?;
-        put_pair_lines(out, &pairs.v6, &pairs.owners.v6.list)?;
+        put_pair_lines(out, &canons.v4, &canons.owners.v4.list)?;
+        put_pair_lines(out, &canons.v6, &canons.owners.v6.list)?;
     }
     out.finish()?;
     Ok(0)
 }
 
-fn count_pairs(table: &Table) -> Result<u64, Fault> {
-    let mut count = 0;
-    each_run(&table.v4, &mut count, |_, _| ())?;
-    each_run(&table.v6, &mut count, |_, _| ())?;
-    Ok(count)
-}
-
-struct Pairs {
-    v4: Vec<Pair<u32>>,
-    v6: Vec<Pair<u128>>,
-    owners: Owners,
-}
-
-/// The canonical pairs of a table, whose rows are given up.
-fn list_pairs(mut table: Table) -> Result<Pairs, Fault> {
-    let mut count = 0;
-    let (mut v4, mut v6) = (Vec::new(), Vec::new());
-    each_pair(&table.v4, &mut count, |pair| v4.push(pair))?;
-    each_pair(&table.v6, &mut count, |pair| v6.push(pair))?;
-    let owners = table.take_owners();
-    Ok(Pairs { v4, v6, owners })
-}
-
 fn put_pair_lines<A: Address>(
     out: &mut Out<impl Write>,
-    pairs: &[Pair<A>],
+    canon: &Canon<A>,
     owners: &[Owner<A>],
 ) -> io::Result<()> {
-    for pair in pairs {
-        out.line(owners, pair.dst(), pair.src(), pair.value())?;
-    }
-    Ok(())
+    canon.each_pair(|dst, src, value| out.line(owners, dst, src, value))
 }
 
-fn normalise(table: Table, hex: bool, body: usize) -> Result<u8, Failure> {
+fn normalise(canons: &Canons, hex: bool, body: usize) -> Result<u8, Failure> {
     let mut writer = Writer {
         out: Out::new(io::stdout().lock(), hex),
         body,
         start: None,
         router_id: None,
     };
-    let mut count = 0;
-    let put = writer
-        .put_pairs(&table.v4, &mut count)
-        .and_then(|()| writer.put_pairs(&table.v6, &mut count));
-    put.map_err(|fault| Failure::Dump("", fault))?;
+    writer.put_pairs(&canons.v4, &canons.owners.v4.list)?;
+    writer.put_pairs(&canons.v6, &canons.owners.v6.list)?;
     writer.close_packet();
     writer.out.finish()?;
     Ok(0)
