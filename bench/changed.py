@@ -4,9 +4,9 @@
     changed.py PROGRAM [--dumps N] [--seed N]
 
 Each dump is one of examples/captures, with one to four octets changed, and in one of eight dumps the end cut off. Both
-programs must write the same octets and texts and give the same status in each run: `show`, `pairs`, `normalise` at some
-size of a packet's body, two lookups, and `compare` with the capture as it was, each with and without `--hold`. Exits 1
-where they do not. The same seed makes the same dumps.
+programs must write the same octets and texts and give the same status in each run: `show`, `pairs`, also with `--count`,
+`normalise` at some size of a packet's body, two lookups, and `compare` with the capture as it was, each with and without
+`--hold`. Exits 1 where they do not. The same seed makes the same dumps.
 """
 
 import argparse
@@ -42,6 +42,7 @@ def runs(sender, capture, dump, body):
         sent = [*hold, "--from", sender]
         yield ["show", *sent, dump]
         yield ["pairs", *sent, dump]
+        yield ["pairs", "--count", *sent, dump]
         yield ["normalise", *sent, "--body", str(body), "--hex", dump]
         yield ["lookup", *sent, "--to", "10.0.0.1", "--src", "192.0.2.7", dump]
         yield ["lookup", *sent, "--to", "2001:db8::1", "--src", "2001:db8::2", dump]

@@ -8,12 +8,14 @@ canonical pairs.
 """
 
 import argparse
+import itertools
 import pathlib
 import random
 import struct
 
 MAX_BYTES = 33_554_432
 MAX_BODY = 1_400
+MAX_ROWS = 262_144
 INFINITY = 0xFFFF
 WIDTH = {4: 32, 6: 128}
 NEXT_HOP = bytes.fromhex("070a0300") + bytes.fromhex("0000000000000001")
@@ -75,6 +77,33 @@ class Dump:
     def close(self):
         self.flush()
         self.file.close()
+
+
+ROUTER_ID = bytes.fromhex("060a0000 02e0905949f30003")
+WILDCARD = struct.pack(">BBBBBBHHH", 8, 10, 0, 0, 0, 0, 1_600, 1, INFINITY)
+
+
+def update(family, bits, length, metric=256):
+    """An Update that leaves nothing out."""
+    field = bits.to_bytes(WIDTH[family] // 8, "big")[: (length + 7) // 8]
+    encoding = 1 if family == 4 else 2
+    return struct.pack(">BBBBBBHHH", 8, 10 + len(field), encoding, 0, length, 0, 1_600, 1, metric) + field
+
+
+def write_tlvs(path, tlvs):
+    """As many of the TLVs as fit into a dump, in packets that begin with one router-id and one IPv6 next hop."""
+    head = ROUTER_ID + NEXT_HOP
+    body, written = bytearray(head), 0
+    with open(path, "wb") as file:
+        for tlv in tlvs:
+            if len(body) + len(tlv) > MAX_BODY:
+                file.write(struct.pack(">BBH", 42, 2, len(body)) + body)
+                written += 4 + len(body)
+                body = bytearray(head)
+                if written + 4 + MAX_BODY > MAX_BYTES:
+                    return
+            body += tlv
+        file.write(struct.pack(">BBH", 42, 2, len(body)) + body)
 
 
 def announcements(rng, count):
@@ -163,29 +192,122 @@ def write_sources(path, rng):
     dump.close()
 
 
-def write_shared(folder, rng):
-    """20,000 sources of all destinations, and as many destinations that each have one of them otherwise; and the same with
-    one other metric at the last destination. Nearly all that the destinations answer is shared by all of them."""
-    sources = disjoint(rng, 4, 100 << 24, {24: 1}, 20_000, 1 << 8)
-    destinations = disjoint(rng, 4, 1 << 24, {24: 1}, 20_000, 1 << 8)
-    anns = announcements(rng, 20)
-    routes = [(0, 0, rng.choice(anns), source) for source in sources]
-    routes += [(bits, length, rng.choice(anns), source) for (bits, length), source in zip(destinations, sources)]
-    for name, other in (("shared.dump", 0), ("shared-other.dump", 1)):
-        dump = Dump(folder / name)
-        for place, (bits, length, (router_id, seqno, metric), source) in enumerate(routes, 1):
+def write_with_other(folder, name, routes):
+    """The routes; and the same with one other metric at the last."""
+    for path, other in ((f"{name}.dump", 0), (f"{name}-other.dump", 1)):
+        dump = Dump(folder / path)
+        for place, (family, bits, length, (router_id, seqno, metric), source) in enumerate(routes, 1):
             metric += other if place == len(routes) else 0
-            dump.put(4, bits, length, (router_id, seqno, metric), source)
+            dump.put(family, bits, length, (router_id, seqno, metric), source)
         dump.close()
 
 
-def write_merging(path, rng):
-    """512 blocks of 256 sibling prefixes with one announcement each."""
+def write_shared(folder, name, rng, count):
+    """So many sources of all destinations, and nearly as many destinations that each have one of them otherwise. Nearly all
+    that the destinations answer is shared by all of them."""
+    sources = disjoint(rng, 4, 100 << 24, {24: 1}, count, 1 << 8)
+    destinations = disjoint(rng, 4, 1 << 24, {24: 1}, count - 1, 1 << 8)
+    anns = announcements(rng, 20)
+    routes = [(4, 0, 0, rng.choice(anns), source) for source in sources]
+    routes += [(4, *destination, rng.choice(anns), source) for destination, source in zip(destinations, sources)]
+    write_with_other(folder, name, routes)
+
+
+def hosts(rng, family, count):
+    """So many addresses of one network, in any order."""
+    network, free = {4: (10 << 24, 24), 6: (0x2001_0DB8 << 96, 96)}[family]
+    found = dict.fromkeys(rng.getrandbits(free) for _ in range(count))
+    while len(found) < count:
+        found[rng.getrandbits(free)] = None
+    return [network | bits for bits in found]
+
+
+def write_hosts(path, rng, family, count):
+    """Host routes with no shorter route, as mesh networks announce them."""
+    write(path, rng, family, [(bits, WIDTH[family]) for bits in hosts(rng, family, count)])
+
+
+def write_hosts_from_hosts(folder, rng):
+    """100,000 IPv6 hosts, each from a host of its own; and the same with one other metric at the last."""
+    anns = announcements(rng, 20)
+    sources = ((bits, 128) for bits in hosts(rng, 6, 100_000))
+    routes = [(6, bits, 128, rng.choice(anns), source) for bits, source in zip(hosts(rng, 6, 100_000), sources)]
+    write_with_other(folder, "hosts-from-hosts", routes)
+
+
+def write_default_over_hosts(path, rng):
+    """A default route and as many IPv6 hosts as there may be besides: far too many pairs."""
+    write(path, rng, 6, [(0, 0)] + [(bits, 128) for bits in hosts(rng, 6, MAX_ROWS - 1)])
+
+
+def write_deep(folder, rng):
+    """A default route and 3,100 long prefixes in it: 3,101 rows and 262,043 pairs. Each bit of a prefix that it shares with
+    no other makes one more pair."""
+    lengths = dict.fromkeys((rng.getrandbits(96) for _ in range(3_100)), 96)
+    pairs = 1 + sum(len({bits >> 96 - length for bits in lengths}) for length in range(96))
+    for bits in itertools.islice(itertools.cycle(lengths), pairs - 262_043):
+        lengths[bits] -= 1
+    prefixes = [(0, 0)] + [(bits >> 96 - length << 128 - length, length) for bits, length in lengths.items()]
+    default, *anns = announcements(rng, 20)
+    rng.shuffle(prefixes)
+    routes = [(6, bits, length, rng.choice(anns) if length else default, None) for bits, length in prefixes]
+    write_with_other(folder, "deep", routes)
+
+
+def fold(state, octets):
+    """A step of a hash whose seed is the same in every run."""
+    if len(octets) < 4:
+        word = octets[0] | octets[len(octets) // 2] << 8 | octets[-1] << 16
+    else:
+        word = int.from_bytes(octets[:4], "little") | int.from_bytes(octets[-4:], "little") << 32
+    product = (state ^ word) * (0x9E37_79B9_7F4A_7C15 ^ 2 * len(octets))
+    return product & 2**64 - 1 ^ product >> 64
+
+
+def flooding_keys(count):
+    """IPv6 addresses that such a hash puts into one place, since a word that equals its state makes it forget all before: for
+    three ways to write a family before the address."""
+    for kind, size in enumerate((1, 4, 8)):
+        state = fold(fold(0x243F_6A88_85A3_08D3, (1).to_bytes(size, "little")), bytes((128,)))
+        for place in range(count // 3):
+            high = 0x2001 << 48 | kind << 32 | place
+            yield high << 64 | fold(state, high.to_bytes(8, "little"))
+
+
+def write_readings(folder, seed):
+    """Loads that differ in the order and in the kind of their Updates alone."""
+    rng = random.Random(f"{seed} readings")
+    rising = [(4, bits, length) for bits, length in ipv4_routes(rng, 200_000)]
+    write_tlvs(folder / "rising.dump", (update(*route) for route in rising))
+    write_tlvs(folder / "shuffled.dump", (update(*route) for route in rng.sample(rising, len(rising))))
+    keys = [10 << 24 | 7 * place for place in range(131_072)]
+    for name, order in (("turns", keys), ("turns-shuffled", rng.sample(keys, len(keys)))):
+        metrics = itertools.chain.from_iterable((256 + turn, INFINITY) for turn in range(16))
+        write_tlvs(folder / f"{name}.dump", (update(4, bits, 32, metric) for metric in metrics for bits in order))
+    few = keys[:600]
+    write_tlvs(folder / "random.dump", (update(4, bits, 32, rng.randrange(1, 60_000)) for bits in rng.choices(few, k=2_400_000)))
+    write_tlvs(folder / "flooding.dump", (update(6, bits, 128) for bits in flooding_keys(MAX_ROWS)))
+    write_tlvs(folder / "wildcards.dump", wildcards(rising))
+    passing = ((place * 2_654_435_761 & 0xFFFF_FFFF, metric) for place in itertools.count() for metric in (256, INFINITY))
+    write_tlvs(folder / "passing.dump", (update(4, bits, 32, metric) for bits, metric in passing))
+
+
+def wildcards(routes):
+    """Many routes, and then in turn a retraction of all and a new route."""
+    yield from (update(*route) for route in routes)
+    for place in itertools.count():
+        yield WILDCARD
+        yield update(4, place & 0xFF_FFFF, 32)
+
+
+def write_merging(path, rng, blocks):
+    """131,072 sibling prefixes in so many blocks with one announcement each."""
     anns = announcements(rng, 20)
     routes = []
-    for block in range(512):
+    each = 131_072 // blocks
+    for block in range(blocks):
         ann = anns[block % len(anns)]
-        routes += [(20 << 24 | block << 16 | place << 8, 24, ann) for place in range(256)]
+        routes += [(20 << 24 | (block * each + place) << 8, 24, ann) for place in range(each)]
     rng.shuffle(routes)
     dump = Dump(path)
     for bits, length, ann in routes:
@@ -205,11 +327,20 @@ def main():
     rng = random.Random(f"{seed} ipv6")
     write(folder / "ipv6.dump", rng, 6, disjoint(rng, 6, 0x2001 << 112, IPV6_LENGTHS, 100_000, 1 << 84))
     write_sources(folder / "sources.dump", random.Random(f"{seed} sources"))
-    write_shared(folder, random.Random(f"{seed} shared"))
-    write_merging(folder / "merging.dump", random.Random(f"{seed} merging"))
+    write_shared(folder, "shared", random.Random(f"{seed} shared"), 20_000)
+    write_shared(folder, "shared-131k", random.Random(f"{seed} shared 131k"), 131_072)
+    write_merging(folder / "merging.dump", random.Random(f"{seed} merging"), 512)
+    write_merging(folder / "merging-16.dump", random.Random(f"{seed} merging 16"), 16)
+    write_hosts(folder / "hosts-ipv4.dump", random.Random(f"{seed} hosts ipv4"), 4, 200_000)
+    write_hosts(folder / "hosts-ipv6.dump", random.Random(f"{seed} hosts ipv6"), 6, 200_000)
+    write_hosts_from_hosts(folder, random.Random(f"{seed} hosts from hosts"))
+    write_default_over_hosts(folder / "default-over-hosts.dump", random.Random(f"{seed} default"))
+    write_deep(folder, random.Random(f"{seed} deep"))
+    write_readings(folder, seed)
     for size in (1, 4, 16, 64, 256):
         rng = random.Random(f"{seed} growth {size}")
         write(folder / f"growth-{size}k.dump", rng, 4, ipv4_routes(rng, size * 1_024))
+        write_hosts(folder / f"growth-hosts-{size}k.dump", rng, 6, size * 1_024)
 
 
 if __name__ == "__main__":

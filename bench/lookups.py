@@ -66,7 +66,7 @@ def run(words):
 def measure(options, scratch):
     dump, rows, pairs = options.loads.resolve() / options.load, scratch / "rows", scratch / "pairs"
     text = subprocess.run(
-        [build_plain(HERE / "yardstick.rs", scratch), "show", "--from", "192.0.2.1", dump],
+        [build_plain(HERE / "limit.rs", scratch), "show", "--from", "192.0.2.1", dump],
         capture_output=True, text=True, check=True).stdout
     rows.write_text(text)
     write_pairs(text, pairs, options.lookups)

@@ -1,10 +1,12 @@
 #!/usr/bin/env python3
-"""Measures a built program against the plain Rust yardstick, alternately, on the loads of loads.py.
+"""Measures a built program against the limit, a plain Rust program, alternately, on the loads of loads.py.
 
-    run.py PROGRAM LOADS [--rounds N] [--only WORD]
+    run.py PROGRAM LOADS [--rounds N] [--only WORD] [--plain SOURCE]
 
 For each command and load it first compares what the two write, then runs them in turn, and prints the minimum and median
-of processor time (user and system), the peak memory, and the program's figures divided by the yardstick's.
+of processor time (user and system), the peak memory, and the program's figures divided by the limit's; and the
+microseconds of the program for each TLV read (show, lookup), row or canonical pair, whichever are more. The last column says
+whether both ratios are at most 3; of two times below 2 ms and of two memories below 8 MB it does not ask.
 """
 
 import argparse
@@ -15,30 +17,45 @@ import sys
 import tempfile
 
 HERE = pathlib.Path(__file__).resolve().parent
-PLAIN = HERE / "yardstick.rs"
+PLAIN = HERE / "limit.rs"
+MOST = 3
 FROM = ["--from", "192.0.2.1"]
 LOOKUP = ["--to", "10.0.0.1", "--src", "192.0.2.7"]
 LOOKUP_IPV6 = ["--to", "2001:db8::1", "--src", "2001:db8::2"]
+IPV4 = ("ipv4", "sources", "merging", "merging-16", "hosts-ipv4")
+IPV6 = ("ipv6", "hosts-ipv6", "hosts-from-hosts", "deep", "default-over-hosts")
+READINGS = ("updates", "rising", "shuffled", "turns", "turns-shuffled", "random", "wildcards", "passing")
+COMPARED = (
+    ("ipv4", "ipv4-other"),
+    ("ipv6", "ipv6"),
+    ("sources", "sources"),
+    ("shared", "shared-other"),
+    ("shared-131k", "shared-131k-other"),
+    ("hosts-ipv6", "hosts-ipv6"),
+    ("hosts-from-hosts", "hosts-from-hosts-other"),
+    ("deep", "deep-other"),
+    ("default-over-hosts", "default-over-hosts"),
+)
+SIZES = (1, 4, 16, 64, 256)
 
 
 def cases():
     """Each load with the words of each command that is measured on it."""
-    yield "updates.dump", ["lookup", *FROM, *LOOKUP]
-    yield "updates.dump", ["show", *FROM]
-    for load, lookup in (("ipv4.dump", LOOKUP), ("ipv6.dump", LOOKUP_IPV6), ("sources.dump", LOOKUP), ("merging.dump", LOOKUP)):
-        yield load, ["lookup", *FROM, *lookup]
-        for command in ("show", "pairs", "normalise"):
-            yield load, [command, *FROM]
-    for load, other in (
-        ("ipv4.dump", "ipv4-other.dump"),
-        ("ipv6.dump", "ipv6.dump"),
-        ("sources.dump", "sources.dump"),
-        ("shared.dump", "shared-other.dump"),
-    ):
-        yield load, ["compare", *FROM, "--other-from", "192.0.2.1", other]
-    for size in (1, 4, 16, 64, 256):
-        for command in ("show", "normalise"):
-            yield f"growth-{size}k.dump", [command, *FROM]
+    for load in READINGS:
+        yield load, ["lookup", *FROM, *LOOKUP]
+        yield load, ["show", *FROM]
+    yield "flooding", ["lookup", *FROM, *LOOKUP_IPV6]
+    for loads, lookup in ((IPV4, LOOKUP), (IPV6, LOOKUP_IPV6)):
+        for load in loads:
+            yield load, ["lookup", *FROM, *lookup]
+            for command in (["show"], ["pairs"], ["pairs", "--count"], ["normalise"]):
+                yield load, [*command, *FROM]
+    for load, other in COMPARED:
+        yield load, ["compare", *FROM, "--other-from", "192.0.2.1", f"{other}.dump"]
+    for kind in ("growth", "growth-hosts"):
+        for size in SIZES:
+            for command in ("show", "normalise"):
+                yield f"{kind}-{size}k", [command, *FROM]
 
 
 def build(source, folder):
@@ -62,10 +79,40 @@ def measure(measurer, words):
 
 def words_of(program, load, command, loads):
     first, *rest = command
-    other = [str(loads / word) if word.endswith(".dump") else word for word in rest]
+    dump = loads / f"{load}.dump"
     if first == "compare":
-        return [program, first, *other[:-1], loads / load, other[-1]]
-    return [program, first, *other, loads / load]
+        *rest, other = rest
+        return [program, first, *rest, dump, loads / other]
+    return [program, first, *rest, dump]
+
+
+def numbers_of(plain, words):
+    """The numbers that end the lines of a text of the plain program."""
+    run = subprocess.run([plain, *words], capture_output=True, text=True)
+    return {line.split()[0]: int(line.split()[1]) for line in run.stdout.splitlines()[-20:] if len(line.split()) == 2}
+
+
+def size_of(plain, load, command, loads, sizes):
+    """How much there is to do: TLVs of a dump that is read, or else the rows or pairs, whichever are more."""
+    if load not in sizes:
+        dump = [*FROM, loads / f"{load}.dump"]
+        read = numbers_of(plain, ["show", *dump])
+        rows = outcome([plain, "show", *dump])[1].count(b" from ")
+        pairs = numbers_of(plain, ["pairs", "--count", *dump]).get("pairs", 0)
+        sizes[load] = {"tlvs": read["tlvs"], "rows": rows, "most": max(rows, pairs)}
+    size = sizes[load]
+    if command in ("show", "lookup"):
+        return size["tlvs"]
+    return 2 * size["rows"] if command == "compare" else size["most"]
+
+
+def verdict(time, plain_time, memory, plain_memory):
+    far = []
+    if time > MOST * plain_time and time > 0.002:
+        far.append("time")
+    if memory > MOST * plain_memory and memory > 8:
+        far.append("memory")
+    return " and ".join(far) or "yes"
 
 
 def main():
@@ -74,32 +121,39 @@ def main():
     parser.add_argument("loads", type=pathlib.Path)
     parser.add_argument("--rounds", type=int, default=9)
     parser.add_argument("--only", default="", help="the cases whose load or command has this word")
+    parser.add_argument("--plain", type=pathlib.Path, default=PLAIN, help="the source of the plain program")
     options = parser.parse_args()
     program = options.program.resolve()
-    differing = 0
+    differing, within, measured, sizes = 0, 0, 0, {}
     with tempfile.TemporaryDirectory() as folder:
         folder = pathlib.Path(folder)
-        yardstick = build(PLAIN, folder)
+        plain = build(options.plain, folder)
         measurer = build(HERE / "measure.rs", folder)
-        print("| load | command | program min / median s | yardstick min / median s | time min / median | program MB | yardstick MB | memory |")
-        print("|---|---|---|---|---|---|---|---|")
+        print("| load | command | program min / median ms | limit min / median ms | time min / median | program MB | limit MB | memory | µs each | within 3 |")
+        print("|---|---|---|---|---|---|---|---|---|---|")
         for load, command in cases():
-            if options.only not in f"{load} {command[0]}":
+            name = " ".join(word for word in command[:2] if word != "--from")
+            if options.only not in f"{load} {name}":
                 continue
-            sides = [words_of(side, load, command, options.loads) for side in (program, yardstick)]
+            sides = [words_of(side, load, command, options.loads) for side in (program, plain)]
             same = outcome(sides[0]) == outcome(sides[1])
-            differing += not same
             runs = [[measure(measurer, side) for side in sides] for _ in range(options.rounds)]
             (low, mid, memory), (low_2, mid_2, memory_2) = (
                 (min(t for t, _ in side), statistics.median(t for t, _ in side), max(m for _, m in side))
                 for side in zip(*runs)
             )
+            size = size_of(plain, load, command[0], options.loads, sizes)
+            answer = verdict(low, low_2, memory, memory_2)
+            differing += not same
+            within += answer == "yes"
+            measured += 1
             print(
-                f"| {load} | {command[0]} | {low:.3f} / {mid:.3f} | {low_2:.3f} / {mid_2:.3f} "
-                f"| {low / low_2:.2f} / {mid / mid_2:.2f} | {memory:.1f} | {memory_2:.1f} | {memory / memory_2:.2f} |"
-                + ("" if same else " THE TWO WRITE DIFFERENT TEXTS"),
+                f"| {load} | {name} | {low * 1e3:.1f} / {mid * 1e3:.1f} | {low_2 * 1e3:.1f} / {mid_2 * 1e3:.1f} "
+                f"| {low / low_2:.2f} / {mid / mid_2:.2f} | {memory:.1f} | {memory_2:.1f} | {memory / memory_2:.2f} "
+                f"| {low * 1e6 / size:.2f} | {answer} |" + ("" if same else " THE TWO WRITE DIFFERENT TEXTS"),
                 flush=True,
             )
+    print(f"{within} of {measured} cases within {MOST} times the limit")
     return 1 if differing else 0
 
 
