@@ -102,15 +102,64 @@ fn cut_off(rt: HostRuntime) -> Result<(), Fail> {
     Ok(())
 }
 
+/// The octets behind the whole packets, as their headers have it.
+fn after_packets(octets: &[u8]) -> &[u8] {
+    let mut rest = octets;
+    for _ in 0..octets.len() {
+        if rest.len() < 4 {
+            break;
+        }
+        let body = u16::from_be_bytes([rest[2], rest[3]]) as usize;
+        let Some(behind) = rest.get(4 + body..) else {
+            break;
+        };
+        rest = behind;
+    }
+    rest
+}
+
+/// Whether the dump, cut off at each place, gives what its whole packets give, and if they have no fault is truncated
+/// where the next one begins.
+fn is_cut_off(alloc: Global, mode: Mode, sender: Addr, dump: &[u8]) -> bool {
+    for len in 0..dump.len() {
+        let front = &dump[..len];
+        let at = len.saturating_sub(after_packets(front).len());
+        let whole = front.get(..at).unwrap_or(&[]);
+        let want = match read_dump(alloc, Limits::usual(), mode, sender, whole) {
+            Ok(_) if at < len => Err(Fault::Truncated { at: at as u64 }),
+            answer => answer,
+        };
+        if !same(
+            &want,
+            &read_dump(alloc, Limits::usual(), mode, sender, front),
+        ) {
+            return false;
+        }
+    }
+    true
+}
+
+#[test]
+fn cut_off_anywhere(rt: HostRuntime) -> Result<(), Fail> {
+    let alloc = rt.alloc();
+    for text in DUMPS {
+        let dump = octets(alloc, text)?;
+        for mode in [Mode::Plain, Mode::Hold] {
+            assert!(rt; is_cut_off(alloc, mode, router(), &dump), "{text}");
+        }
+    }
+    Ok(())
+}
+
 /// Whether the dump, with each octet changed in turn, gives in pieces what it gives whole.
-fn agrees_changed(alloc: Global, sender: Addr, text: &str) -> Result<bool, Fail> {
+fn agrees_changed(alloc: Global, mode: Mode, sender: Addr, text: &str) -> Result<bool, Fail> {
     let mut dump = octets(alloc, text)?;
     for place in 0..dump.len() {
         if place < dump.len() {
             let octet = dump[place];
             for changed in [0, 255, octet ^ 1] {
                 dump[place] = changed;
-                if !agrees(alloc, Limits::usual(), Mode::Hold, sender, &dump) {
+                if !agrees(alloc, Limits::usual(), mode, sender, &dump) {
                     return Ok(false);
                 }
             }
@@ -123,9 +172,11 @@ fn agrees_changed(alloc: Global, sender: Addr, text: &str) -> Result<bool, Fail>
 #[test]
 fn changed_octets(rt: HostRuntime) -> Result<(), Fail> {
     let alloc = rt.alloc();
-    assert!(rt; agrees_changed(alloc, router(), ONE_ROUTE)?);
-    assert!(rt; agrees_changed(alloc, router(), TWO_SOURCES)?);
-    assert!(rt; agrees_changed(alloc, router(), SUB_TLVS)?);
-    assert!(rt; agrees_changed(alloc, router_v6(), ID_BY_FLAG)?);
+    for mode in [Mode::Plain, Mode::Hold] {
+        for text in [ONE_ROUTE, TWO_SOURCES, SUB_TLVS] {
+            assert!(rt; agrees_changed(alloc, mode, router(), text)?, "{text}");
+        }
+        assert!(rt; agrees_changed(alloc, mode, router_v6(), ID_BY_FLAG)?);
+    }
     Ok(())
 }
