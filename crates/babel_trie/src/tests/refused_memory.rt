@@ -1,4 +1,4 @@
-//! Each allocation refused in turn, by `rt try --test --fail-alloc N`: tests/refused_memory.sh runs it for N = 1, 2, ..
+//! Each allocation refused in turn, by `./check memory`, which runs each test here once for each of its allocations.
 //! A test here passes where nothing was refused, and fails with `AllocError` where a refusal was answered with it.
 use crate::tests::rows::{Line, Rows, answer, last, wanted_at};
 use babel_prefix::Family;
