@@ -1,5 +1,5 @@
 -- What the canonical form of a reader's dump is.
-use Rattle.std.proofs.Common.{ℕ, List}
+use Rattle.std.proofs.Common.{ℕ}
 use Rattle.babel_table.specs.Bounds.{AreBounds}
 use Rattle.babel_table.specs.Rows.{Routes}
 use Rattle.babel_canon.specs.Sizes.{IsBodySize}

@@ -1,5 +1,5 @@
 -- What a job's run answers and writes is settled by the octets of its readers.
-use Rattle.std.proofs.Common.{◌≡◌, ◌≢◌, refl, ℕ, ◌<◌, ◌≤◌, Bool, List, [], ◌++◌, length, take, Option, None, Some, Result, Ok, Err, inl, inr, ◌⊎◌, arith, append-nil, subst, ap, sym, ◌∙◌}
+use Rattle.std.proofs.Common.{◌≡◌, ◌≢◌, refl, ℕ, ◌≤◌, Bool, List, [], ◌++◌, length, take, Option, None, Some, Result, Ok, Err, inl, inr, ◌⊎◌, arith, append-nil, subst, ap, sym, ◌∙◌}
 use Rattle.std.specs.Prelude.{IfOk, IfErr}
 use Rattle.std.specs.Io.KnownBytes.{Appends, Consumes, IsAtEnd, Keeps}
 use Rattle.babel_prefix.specs.Address.{Address}
@@ -10,7 +10,7 @@ use Rattle.babel_tlv.specs.Pair.{Pair}
 use Rattle.babel_table.specs.Bounds.{Bounds}
 use Rattle.babel_table.specs.DumpFault.{DumpFault, HasNoFault, IsTableOf, IsTruncated}
 use Rattle.babel_table.specs.Rows.{Routes}
-use Rattle.babel_table.proofs.OutcomeLaws.{fault_is_of_octets, fault_is_one, fault_stays, table_is_one}
+use Rattle.babel_table.proofs.OutcomeLaws.{fault_is_one, fault_stays, table_is_one}
 use Rattle.babel_canon.specs.Boxes.{AreBoxes}
 use Rattle.babel_canon.specs.Canonical.{HasManyBoxes, NormaliseFault}
 use Rattle.babel_canon.specs.Headline.{Normalises}
@@ -19,9 +19,9 @@ use Rattle.babel_canon.specs.declared.verdict.Verdict.{Verdict}
 use Rattle.babel_canon.proofs.OneOutcome.{boxes_same, normal_form_is_one, normal_form_has_no_fault, normalise_fault_is_one}
 use Rattle.babel_canon.proofs.OneVerdict.{verdict_is_one}
 use Rattle.babel_dump.specs.Command.{Compares, InTurn, ListsPairs, LooksUp, Shows, WritesNormal}
-use Rattle.babel_dump.specs.Device.{AppendsPrefix, InputState}
+use Rattle.babel_dump.specs.Device.{AppendsPrefix}
 use Rattle.babel_dump.specs.Given.{GaveAll, GaveTable, Input, IsFaultOfForm, IsFaultOfGiven, IsOfWhole, read_from}
-use Rattle.babel_dump.specs.JobRun.{RanJob, reading_of}
+use Rattle.babel_dump.specs.JobRun.{reading_of}
 use Rattle.babel_dump.specs.OneOutcome.{FaultIsOfAll, FaultIsOne, IsOfOctets, NothingWritten, OtherFaultIsOfAll, RanOver, StatusIsOne, StatusOrFault, WrittenIsPrefix}
 use Rattle.babel_dump.specs.Run.{HasCause, Output, Ran, UnlessWrite}
 use Rattle.babel_dump.specs.RunText.{answer_in, form_text, lookup_status, lookup_text, pairs_or_counts, show_text, verdict_status, verdict_text}
@@ -90,13 +90,13 @@ truncated_or_not faults.Memory = inr (λ no. no)
 fault_of_all : (reader : Input) (dump : List ℕ) (fault : Fault) → reader.old.left ≡ Some dump → IsFaultOfGiven reader fault
     → DumpFault reader.reading.limits reader.reading.mode reader.reading.sender dump fault
 fault_of_all reader dump fault has given = elim (truncated_or_not fault) [
-    | inl is ↦ subst (λ (d : List ℕ). DumpFault reader.reading.limits reader.reading.mode reader.reading.sender d fault)
-        (gave_all reader dump given.given has (given.whole (lasts fault is))) given.refused
-    | inr lasting ↦
-        let more = begins reader.old.left reader.new.left dump given.given has given.gave in
-        subst (λ (d : List ℕ). DumpFault reader.reading.limits reader.reading.mode reader.reading.sender d fault) (sym more.1)
-        (fault_stays _ _ _ given.given more.0 fault given.refused lasting)
-  ]
+  | inl is ↦ subst (λ (d : List ℕ). DumpFault reader.reading.limits reader.reading.mode reader.reading.sender d fault)
+      (gave_all reader dump given.given has (given.whole (lasts fault is))) given.refused
+  | inr lasting ↦
+      let more = begins reader.old.left reader.new.left dump given.given has given.gave in
+      subst (λ (d : List ℕ). DumpFault reader.reading.limits reader.reading.mode reader.reading.sender d fault) (sym more.1)
+      (fault_stays _ _ _ given.given more.0 fault given.refused lasting)
+]
 
 -- what a command over one dump says of a dump's table
 pub record TableSays (reading : Reading) (dump : List ℕ) (text_of : Routes → List ℕ) (status_of : Routes → ℕ) (text : List ℕ) (status : ℕ) : Type 0 where

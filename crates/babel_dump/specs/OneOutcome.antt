@@ -1,7 +1,6 @@
 -- Laws of the definitions: what a job's run answers and writes is settled by the octets of its readers. These are this
 -- project's own.
 use Rattle.std.specs.Prelude.{◌≡◌, ◌≢◌, ℕ, List, ◌++◌, take, Some, Result, Ok, Err}
-use Rattle.babel_prefix.specs.Address.{Address}
 use Rattle.babel_tlv.specs.declared.fault.Fault.{Fault}
 use Rattle.babel_tlv.specs.declared.fault.Fault.TheVariants as faults
 use Rattle.babel_table.specs.Bounds.{Bounds}

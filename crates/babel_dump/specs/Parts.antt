@@ -5,7 +5,7 @@ use Rattle.babel_tlv.specs.declared.fault.Fault.{Fault}
 use Rattle.babel_tlv.specs.declared.fault.Fault.TheVariants as faults
 use Rattle.babel_table.specs.Feeding.{Progress, HasRead}
 use Rattle.babel_dump.specs.Device.{AppendsPrefix}
-use Rattle.babel_dump.specs.Given.{GaveAll, GaveTable, Input, IsFaultOfGiven}
+use Rattle.babel_dump.specs.Given.{GaveAll, Input, IsFaultOfGiven}
 use Rattle.babel_dump.specs.Run.{FewCalls, HasCause, HasFailed, IfOther, NoFailure, Output}
 use Rattle.babel_dump.specs.declared.finish.Found.{Found}
 use Rattle.babel_dump.specs.declared.run_fault.RunFault.{RunFault}

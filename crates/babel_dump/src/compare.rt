@@ -57,7 +57,8 @@ pub fn run_compare<R: ByteIn, S: ByteIn, W: ByteOut>(
         sender: other_sender,
         ..reading
     };
-    finish(writer, read_verdict(alloc, reading, other_reading, reader, other))
+    let found = read_verdict(alloc, reading, other_reading, reader, other);
+    finish(writer, found)
 }
 
 /// Reads two dumps, the first to its end before the other, and makes the lines of how their answers compare.
@@ -91,11 +92,7 @@ fn read_verdict<R: ByteIn, S: ByteIn>(
 }
 
 /// Reads the other dump of a comparison to its end, or to its first fault, which is then the other's.
-fn read_other<S: ByteIn>(
-    alloc: Global,
-    reading: Reading,
-    other: &mut S,
-) -> Result<Table, RunFault>
+fn read_other<S: ByteIn>(alloc: Global, reading: Reading, other: &mut S) -> Result<Table, RunFault>
     requires failures { (S.state other.old).failures < 2 ^ 63 }
     requires reads { (S.state other.old).reads < 2 ^ 63 }
     requires ends { (S.state other.old).ends < 2 ^ 63 }

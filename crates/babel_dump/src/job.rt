@@ -12,9 +12,14 @@ use std::alloc::AllocError;
 #[derive(Debug, Drop)]
 pub enum Job {
     /// `show`: the rows of a dump's table and its report.
-    Show { dump: OneDump },
+    Show {
+        dump: OneDump,
+    },
     /// `lookup`: what a dump answers for two addresses.
-    Lookup { dump: OneDump, pair: AddrPair },
+    Lookup {
+        dump: OneDump,
+        pair: AddrPair,
+    },
     /// `normalise`: the canonical octets of a dump.
     Normalise {
         dump: OneDump,
@@ -30,7 +35,9 @@ pub enum Job {
         count: bool,
     },
     /// `compare`: how the answers of two dumps compare.
-    Compare { dumps: TwoDumps },
+    Compare {
+        dumps: TwoDumps,
+    },
 }
 
 /// The dump of a command that reads one.

@@ -43,17 +43,23 @@ pub fn run_job<R: ByteIn, S: ByteIn, W: ByteOut>(
         Job::Show { dump } => run_show(alloc, limits, dump.mode, dump.from, reader, writer),
         Job::Lookup { dump, pair } => {
             let (dst, src) = (pair.dst, pair.src);
-            run_lookup(alloc, limits, dump.mode, dump.from, dst, src, reader, writer)
+            run_lookup(
+                alloc, limits, dump.mode, dump.from, dst, src, reader, writer,
+            )
         }
         Job::Normalise { dump, body, hex } => {
-            run_normalise(alloc, limits, dump.mode, *body, dump.from, *hex, reader, writer)
+            run_normalise(
+                alloc, limits, dump.mode, *body, dump.from, *hex, reader, writer,
+            )
         }
         Job::Pairs { dump, count } => {
             run_pairs(alloc, limits, dump.mode, dump.from, *count, reader, writer)
         }
         Job::Compare { dumps } => {
             let (from, other_from) = (dumps.from, dumps.other_from);
-            run_compare(alloc, limits, dumps.mode, from, other_from, reader, other, writer)
+            run_compare(
+                alloc, limits, dumps.mode, from, other_from, reader, other, writer,
+            )
         }
     }
 }

@@ -48,7 +48,8 @@ pub fn run_lookup<R: ByteIn, W: ByteOut>(
         mode,
         sender,
     };
-    finish(writer, read_answer(alloc, reading, dst, src, reader))
+    let found = read_answer(alloc, reading, dst, src, reader);
+    finish(writer, found)
 }
 
 /// Reads a dump to its end, or to its first fault, and makes the line of what it answers.

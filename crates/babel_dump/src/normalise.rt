@@ -50,7 +50,8 @@ pub fn run_normalise<R: ByteIn, W: ByteOut>(
         mode,
         sender,
     };
-    finish(writer, read_normal(alloc, reading, body, hex, reader))
+    let found = read_normal(alloc, reading, body, hex, reader);
+    finish(writer, found)
 }
 
 /// Reads a dump to its end, or to its first fault, and makes its canonical octets, or their line.

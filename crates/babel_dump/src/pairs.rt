@@ -47,7 +47,8 @@ pub fn run_pairs<R: ByteIn, W: ByteOut>(
         mode,
         sender,
     };
-    finish(writer, read_pairs(alloc, reading, count, reader))
+    let found = read_pairs(alloc, reading, count, reader);
+    finish(writer, found)
 }
 
 /// Reads a dump to its end, or to its first fault, and makes the lines of its canonical pairs, or of their count.

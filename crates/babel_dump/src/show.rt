@@ -42,15 +42,12 @@ pub fn run_show<R: ByteIn, W: ByteOut>(
         mode,
         sender,
     };
-    finish(writer, read_rows(alloc, reading, reader))
+    let found = read_rows(alloc, reading, reader);
+    finish(writer, found)
 }
 
 /// Reads a dump to its end, or to its first fault, and makes the lines of its table.
-fn read_rows<R: ByteIn>(
-    alloc: Global,
-    reading: Reading,
-    reader: &mut R,
-) -> Result<Found, RunFault>
+fn read_rows<R: ByteIn>(alloc: Global, reading: Reading, reader: &mut R) -> Result<Found, RunFault>
     requires failures { (R.state reader.old).failures < 2 ^ 63 }
     requires reads { (R.state reader.old).reads < 2 ^ 63 }
     requires ends { (R.state reader.old).ends < 2 ^ 63 }

@@ -2,9 +2,7 @@
 ghost use Rattle.std.specs.Prelude.{◌<◌};
 
 use super::dumps::{NESTED_SOURCES, ONE_FAMILY, ONE_ROUTE, TWO_FAMILIES, TWO_SOURCES, V4, V6};
-use super::{
-    ONE_BY_ONE, Ran, Script, all_asked, expect_fault, job, octets, scripted_run,
-};
+use super::{ONE_BY_ONE, Ran, Script, all_asked, expect_fault, job, octets, scripted_run};
 use crate::job::Job;
 use crate::run_fault::RunFault;
 use babel_table::Limits;

@@ -3,9 +3,7 @@ ghost use Rattle.std.specs.Prelude.{◌^◌, ◌<◌};
 
 use super::devices::{EndlessIn, ScriptedIn, ScriptedOut};
 use super::dumps::{ONE_ROUTE, V4};
-use super::{
-    COMPARE_V4, all_asked, answer, expect_fault, expect_outcome, job, octets,
-};
+use super::{COMPARE_V4, all_asked, answer, expect_fault, expect_outcome, job, octets};
 use crate::byte_in::ByteIn;
 use crate::job::Job;
 use crate::job_run::run_job;

@@ -2,9 +2,9 @@
 //! A test here passes where nothing was refused, and fails with `REFUSED` where a refusal was answered with `Memory`.
 ghost use Rattle.std.specs.Prelude.{None};
 
+use super::address;
 use super::devices::ScriptedIn;
 use super::dumps::{NESTED_SOURCES, ONE_FAMILY, TWO_FAMILIES, V4, V6};
-use super::address;
 use crate::addr_pair::AddrPair;
 use crate::byte_out::ByteOut;
 use crate::job::{Job, OneDump, TwoDumps};

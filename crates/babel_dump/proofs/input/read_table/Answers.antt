@@ -20,7 +20,7 @@ returns-in_err-table g c =
       made = search rules;
       no_failure = search rules;
       cause = rw (exit.1, exit.2) (λ not_memory. given_fault _ c.feed_all.new.feeder _ (record { limits = same.0; mode = same.1; sender = same.2 })
-      c.in_ok-feed_all.ensures.gathered.made (c.in_err-table.ensures.fault not_memory));
+          c.in_ok-feed_all.ensures.gathered.made (c.in_err-table.ensures.fault not_memory));
       few_calls = search rules;
       few_other_calls = search rules;
     }
