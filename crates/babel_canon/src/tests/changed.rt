@@ -8,8 +8,8 @@ use std::alloc::Global;
 use std::test::Fail;
 
 /// Whether a dump is refused with its own fault or for its pairs, or else with canonical octets that are their own form.
-fn is_settled(alloc: Global, sender: Addr, dump: &[u8]) -> bool {
-    let (limits, mode, body) = (Limits::usual(), Mode::Hold, Body::usual());
+fn is_settled(alloc: Global, mode: Mode, sender: Addr, dump: &[u8]) -> bool {
+    let (limits, body) = (Limits::usual(), Body::usual());
     let own = read_dump(alloc, limits, mode, sender, dump).err();
     match normalise(alloc, limits, mode, body, sender, dump) {
         Ok(text) => {
@@ -24,14 +24,14 @@ fn is_settled(alloc: Global, sender: Addr, dump: &[u8]) -> bool {
 }
 
 /// Whether this holds with each octet changed in turn.
-fn are_settled(alloc: Global, sender: Addr, text: &str) -> Result<bool, Fail> {
+fn are_settled(alloc: Global, mode: Mode, sender: Addr, text: &str) -> Result<bool, Fail> {
     let mut dump = octets(alloc, text)?;
     for place in 0..dump.len() {
         if place < dump.len() {
             let octet = dump[place];
             for changed in [0, 255, octet ^ 1] {
                 dump[place] = changed;
-                if !is_settled(alloc, sender, &dump) {
+                if !is_settled(alloc, mode, sender, &dump) {
                     return Ok(false);
                 }
             }
@@ -44,8 +44,14 @@ fn are_settled(alloc: Global, sender: Addr, text: &str) -> Result<bool, Fail> {
 #[test]
 fn changed_octets(rt: HostRuntime) -> Result<(), Fail> {
     let alloc = rt.alloc();
-    assert!(rt; are_settled(alloc, addr(&rt, "192.0.2.1"), SOURCES)?);
-    assert!(rt; are_settled(alloc, addr(&rt, "192.0.2.1"), FAULTY_SUB_TLVS)?);
-    assert!(rt; are_settled(alloc, addr(&rt, "fe80::1"), ID_BY_FLAG)?);
+    for mode in [Mode::Plain, Mode::Hold] {
+        for text in [SOURCES, FAULTY_SUB_TLVS] {
+            assert!(rt;
+                are_settled(alloc, mode, addr(&rt, "192.0.2.1"), text)?,
+                "{text}"
+            );
+        }
+        assert!(rt; are_settled(alloc, mode, addr(&rt, "fe80::1"), ID_BY_FLAG)?);
+    }
     Ok(())
 }

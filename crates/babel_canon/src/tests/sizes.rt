@@ -1,7 +1,7 @@
 //! How pairs are packed.
 use super::{addr, octets};
 use crate::{Body, normalise};
-use babel_table::Limits;
+use babel_table::{Limits, read_dump};
 use babel_tlv::Mode;
 use std::alloc::{AllocError, Global};
 use std::process::Abort;
@@ -25,19 +25,22 @@ fn many_routes(alloc: Global, long: u8) -> Result<Vec<u8>, AllocError> {
     Ok(dump)
 }
 
-/// How long the bodies of the packets are.
-fn body_lens(alloc: Global, text: &[u8]) -> Result<Vec<usize>, AllocError> {
-    let mut lens = Vec::new(alloc);
+/// How long the body of each packet is, and how many pairs the packet has.
+fn packets(rt: &impl Abort, alloc: Global, text: &[u8]) -> Result<Vec<(usize, usize)>, AllocError> {
+    let sender = addr(rt, "192.0.2.1");
+    let mut packets = Vec::new(alloc);
     let mut rest = text;
     for _ in 0..text.len() {
         if rest.len() < 4 {
             break;
         }
         let len = u16::from_be_bytes([rest[2], rest[3]]) as usize;
-        lens.push(len)?;
+        let packet = rest.get(..4 + len).unwrap_or(rest);
+        let table = read_dump(alloc, Limits::usual(), Mode::Plain, sender, packet);
+        packets.push((len, table.expect(rt, "no fault").rows().len()))?;
         rest = rest.get(4 + len..).unwrap_or(&[]);
     }
-    Ok(lens)
+    Ok(packets)
 }
 
 /// The canonical octets of a dump from 192.0.2.1, in packets of this size.
@@ -46,35 +49,49 @@ fn form(rt: &impl Abort, alloc: Global, body: Body, dump: &[u8]) -> Vec<u8> {
     normalise(alloc, Limits::usual(), Mode::Plain, body, sender, dump).expect(rt, "no fault")
 }
 
+/// With so many routes of length 16 and bodies of this size: the length of each packet's body and how many pairs it has, and
+/// how many octets there are in all.
+static SIZES: [(u8, u16, &[(usize, usize)], usize); 5] = [
+    (3, 1024, &[(1024, 77)], 1028),
+    (4, 1024, &[(1012, 76), (33, 1)], 1053),
+    (3, 1023, &[(1011, 76), (33, 1)], 1052),
+    (
+        3,
+        128,
+        &[
+            (127, 8),
+            (124, 8),
+            (124, 8),
+            (124, 8),
+            (124, 8),
+            (124, 8),
+            (124, 8),
+            (124, 8),
+            (124, 8),
+            (85, 5),
+        ],
+        1244,
+    ),
+    (4, 1025, &[(1025, 77)], 1029),
+];
+
 #[test]
 fn packet_sizes(rt: HostRuntime) -> Result<(), Fail> {
-    let rows: [(u8, u16, &[usize], usize); 5] = [
-        (3, 1024, &[1024], 1028),
-        (4, 1024, &[1012, 33], 1053),
-        (3, 1023, &[1011, 33], 1052),
-        (
-            3,
-            128,
-            &[127, 124, 124, 124, 124, 124, 124, 124, 124, 85],
-            1244,
-        ),
-        (4, 1025, &[1025], 1029),
-    ];
-    for (long, size, lens, total) in rows {
+    for (long, size, wanted, total) in SIZES {
         let body = Body::new(size).expect(&rt, "a size");
         let dump = many_routes(rt.alloc(), long)?;
         let text = form(&rt, rt.alloc(), body, &dump);
         assert_eq!(rt; text.len(), total, "with {size}");
         assert_eq!(rt;
-            body_lens(rt.alloc(), &text)?.as_slice(),
-            lens,
+            packets(&rt, rt.alloc(), &text)?.as_slice(),
+            wanted,
             "with {size}"
         );
         let again = form(&rt, rt.alloc(), body, &text);
         assert_eq!(rt; again.as_slice(), text.as_slice(), "with {size}");
         let usual = form(&rt, rt.alloc(), Body::usual(), &text);
-        let wanted = form(&rt, rt.alloc(), Body::usual(), &dump);
-        assert_eq!(rt; usual.as_slice(), wanted.as_slice(), "with {size}");
+        let whole = form(&rt, rt.alloc(), Body::usual(), &dump);
+        assert_eq!(rt; usual.as_slice(), whole.as_slice(), "with {size}");
     }
     Ok(())
 }
