@@ -209,9 +209,8 @@ impl Address for u128 {
     fn print<W: Write>(self, out: &mut Out<W>) {
         for group in Ipv6Addr::from(self).segments() {
             let skipped = (group | 1).leading_zeros() / 4;
-            let digits = hex_digits(group << (4 * skipped));
-            out.put(digits, 4 - skipped as usize);
-            out.put([b':'], 1);
+            let text = u64::from(hex_digits(group)) << 32 | u64::from(b':') << 24;
+            out.put((text << (8 * skipped)).to_be_bytes(), 5 - skipped as usize);
         }
         out.at -= 1;
     }
@@ -1951,7 +1950,7 @@ fn first_difference<A: Address>(left: &Rows<A>, right: &Rows<A>) -> Option<Diffe
 const DIGITS: [u8; 16] = *b"0123456789abcdef";
 
 /// Each octet in decimal digits, a dot behind them, and how many octets these are.
-const OCTETS: [([u8; 4], usize); 256] = {
+static OCTETS: [([u8; 4], usize); 256] = {
     let mut texts = [([b'.'; 4], 0); 256];
     let mut octet = 0;
     while octet < 256 {
@@ -1978,9 +1977,21 @@ const OCTETS: [([u8; 4], usize); 256] = {
     texts
 };
 
-fn hex_digits(number: u16) -> [u8; 4] {
-    let digit = |place: u32| DIGITS[usize::from(number >> (4 * place) & 15)];
-    [digit(3), digit(2), digit(1), digit(0)]
+/// Each octet in two hexadecimal digits.
+static HEX: [u16; 256] = {
+    let mut texts = [0; 256];
+    let mut octet = 0;
+    while octet < 256 {
+        texts[octet] = u16::from_be_bytes([DIGITS[octet >> 4], DIGITS[octet & 15]]);
+        octet += 1;
+    }
+    texts
+};
+
+/// Four digits, the first in the highest octet.
+fn hex_digits(number: u16) -> u32 {
+    let [high, low] = number.to_be_bytes();
+    u32::from(HEX[usize::from(high)]) << 16 | u32::from(HEX[usize::from(low)])
 }
 
 /// Octets being written, in large slices. There is always room for a line or a packet.
@@ -2062,7 +2073,8 @@ impl<W: Write> Out<W> {
         owner.next_hop.print(self);
         self.text(b" id ");
         for place in (0..4).rev() {
-            self.put(hex_digits((owner.router_id >> (16 * place)) as u16), 4);
+            let group = (owner.router_id >> (16 * place)) as u16;
+            self.text(&hex_digits(group).to_be_bytes());
         }
         self.text(b" seqno ");
         self.number((value >> 16) as u16);
@@ -2099,10 +2111,7 @@ impl<W: Write> Out<W> {
         if !self.hex {
             return self.sink.write_all(octets);
         }
-        let digits = |octet: &u8| {
-            let [_, _, high, low] = hex_digits((*octet).into());
-            [high, low]
-        };
+        let digits = |octet: &u8| HEX[usize::from(*octet)].to_be_bytes();
         let text: Vec<u8> = octets.iter().flat_map(digits).collect();
         self.sink.write_all(&text)
     }

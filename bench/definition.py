@@ -1,0 +1,253 @@
+#!/usr/bin/env python3
+"""Runs a program over small random tables, and compares what it writes with what a slow program has from the definitions.
+
+    definition.py PROGRAM [--tables N] [--seed N]
+
+Each table has a few routes of both families, with and without source prefixes, some retracted, in any order; half of them
+have prefixes within the first four bits alone, the others prefixes of any length that share long beginnings. `pairs`, with
+and without `--count` and `--hold`, `lookup`, and `compare` with a table that differs in a few Updates must write what the
+definitions say. Exits 1 where they do not. The same seed makes the same tables.
+"""
+
+import argparse
+import functools
+import ipaddress
+import pathlib
+import random
+import struct
+import subprocess
+import sys
+import tempfile
+
+from loads import INFINITY, NEXT_HOP, ROUTER_ID, WIDTH, WILDCARD
+
+FROM = ["--from", "192.0.2.1"]
+ANY = (0, 0)
+VIA = {4: "192.0.2.1", 6: "fe80:0:0:0:0:0:0:1"}
+
+
+# ---- random Updates: (family, destination, source, metric), or None for a retraction of all; a prefix is (bits, length)
+
+
+def short_prefix(rng, width):
+    """One within the first bits, so that many lie side by side."""
+    length = rng.randrange(rng.choice((2, 3, 4, 5)))
+    return rng.randrange(1 << length) << width - length, length
+
+
+def long_prefix(rng, width, stems):
+    """One of any length that begins as others do."""
+    length = rng.choice((0, 1, width // 2, width - 1, width, rng.randrange(width + 1)))
+    bits = rng.choice(stems) ^ rng.choice((0, 1 << rng.randrange(width), 1 << width - length if length else 0))
+    return bits >> width - length << width - length, length
+
+
+def sibling(prefix, width):
+    bits, length = prefix
+    return (bits ^ 1 << width - length, length) if length else prefix
+
+
+def random_updates(rng):
+    """Few sources and few values, so that functions of the source repeat."""
+    updates = []
+    for family, width in WIDTH.items():
+        stems = [rng.getrandbits(width) for _ in range(2)]
+        prefix = rng.choice((lambda: short_prefix(rng, width), lambda: long_prefix(rng, width, stems)))
+        sources = [ANY]
+        for _ in range(rng.randrange(3)):
+            source = prefix()
+            sources += [source, sibling(source, width)]
+        for _ in range(rng.randrange(7 if prefix()[1] > 4 else 16)):
+            metric = rng.choice((256, 256, 256, 257, 257, INFINITY))
+            updates.append((family, prefix(), rng.choice(sources), metric))
+    rng.shuffle(updates)
+    if rng.randrange(8) == 0:
+        updates.insert(rng.randrange(len(updates) + 1), None)
+    return updates
+
+
+def changed(rng, updates):
+    """The Updates in another order of their keys, with up to one left out and up to one of another metric."""
+    updates = list(updates)
+    if updates and rng.randrange(2):
+        updates.pop(rng.randrange(len(updates)))
+    place = rng.randrange(len(updates)) if updates else None
+    if place is not None and updates[place] is not None and rng.randrange(2):
+        updates[place] = (*updates[place][:3], 259)
+    return updates
+
+
+def field(family, prefix):
+    bits, length = prefix
+    return bits.to_bytes(WIDTH[family] // 8, "big")[: (length + 7) // 8]
+
+
+def dump_of(updates):
+    body = ROUTER_ID + NEXT_HOP
+    for update in updates:
+        if update is None:
+            body += WILDCARD
+            continue
+        family, dst, src, metric = update
+        source = field(family, src)
+        sub = bytes((128, 1 + len(source), src[1])) + source if src[1] else b""
+        fixed = struct.pack(">BBBBHHH", 1 if family == 4 else 2, 0, dst[1], 0, 1_600, 1, metric)
+        tlv = fixed + field(family, dst) + sub
+        body += bytes((8, len(tlv))) + tlv
+    return struct.pack(">BBH", 42, 2, len(body)) + body
+
+
+# ---- the definitions
+
+
+def table_of(updates, hold):
+    """What stands for each key: its last Update decides, and after it a retraction of all."""
+    table = {}
+    for place, update in enumerate(updates):
+        if update is None:
+            continue
+        family, dst, src, metric = update
+        later = updates[place + 1 :]
+        if any(other is not None and other[:3] == update[:3] for other in later):
+            continue
+        reachable = metric != INFINITY and None not in later
+        if reachable or hold:
+            table[family, dst, src] = metric if reachable else "unreachable"
+    return table
+
+
+def matches(prefix, addr, width):
+    bits, length = prefix
+    return bits >> width - length == addr >> width - length
+
+
+def answer(table, family, dst, src):
+    width = WIDTH[family]
+    found = [
+        (to[1], of[1], value)
+        for (own, to, of), value in table.items()
+        if own == family and matches(to, dst, width) and matches(of, src, width)
+    ]
+    return max(found, key=lambda row: row[:2])[2] if found else None
+
+
+def places(prefixes, width):
+    """The addresses from which an answer may be another one: the first of each prefix, and the one after its last."""
+    ends = (bits + (1 << width - length) for bits, length in prefixes)
+    return sorted({0, *(bits for bits, _ in prefixes), *(end for end in ends if end < 1 << width)})
+
+
+def longest_blocks(width, places, answer_at):
+    """The blocks whose addresses all have one answer, while those of the block that is one bit shorter have not."""
+    blocks, open_blocks = [], [ANY]
+    while open_blocks:
+        bits, length = open_blocks.pop()
+        end = bits + (1 << width - length)
+        answers = {answer_at(place) for place in [bits, *(place for place in places if bits <= place < end)]}
+        if len(answers) == 1:
+            blocks.append(((bits, length), answers.pop()))
+        else:
+            half = 1 << width - length - 1
+            open_blocks += [(bits + half, length + 1), (bits, length + 1)]
+    return blocks
+
+
+def canonical_pairs(table):
+    """For each destination block with one function of the source, the source blocks with one answer."""
+    for family, width in WIDTH.items():
+        rows = [key for key in table if key[0] == family]
+        destinations, sources = (places([key[part] for key in rows], width) for part in (1, 2))
+        at = functools.lru_cache(None)(lambda dst, src: answer(table, family, dst, src))
+        function = functools.lru_cache(None)(lambda dst: tuple(at(dst, src) for src in sources))
+        for dst, _ in longest_blocks(width, destinations, function):
+            for src, value in longest_blocks(width, sources, lambda place: at(dst[0], place)):
+                if value is not None:
+                    yield family, dst, src, value
+
+
+def difference(left, right):
+    for family, width in WIDTH.items():
+        rows = [key for key in [*left, *right] if key[0] == family]
+        for dst in places([key[1] for key in rows], width):
+            for src in places([key[2] for key in rows], width):
+                answers = [answer(table, family, dst, src) for table in (left, right)]
+                if answers[0] != answers[1]:
+                    return family, dst, src, *answers
+    return None
+
+
+# ---- texts
+
+
+def text_of_address(family, bits):
+    if family == 4:
+        return str(ipaddress.IPv4Address(bits))
+    return ":".join(f"{bits >> 16 * group & 0xFFFF:x}" for group in reversed(range(8)))
+
+
+def text_of(family, value):
+    if value is None or value == "unreachable":
+        return value or "none"
+    return f"via {VIA[family]} id {ROUTER_ID[4:].hex()} seqno 1 metric {value}"
+
+
+def text_of_pairs(table):
+    prefix = lambda family, prefix: f"{text_of_address(family, prefix[0])}/{prefix[1]}"
+    return [
+        f"{prefix(family, dst)} from {prefix(family, src)} {text_of(family, value)}"
+        for family, dst, src, value in canonical_pairs(table)
+    ]
+
+
+def text_of_difference(found):
+    if found is None:
+        return ["same"]
+    family, dst, src, left, right = found
+    addresses = (text_of_address(family, bits) for bits in (dst, src))
+    return ["differ " + " from ".join(addresses), f"left {text_of(family, left)}", f"right {text_of(family, right)}"]
+
+
+def expected_runs(rng, updates, others, dump, other):
+    """Words, and the lines that they must give."""
+    for hold in ([], ["--hold"]):
+        sent = [*hold, *FROM]
+        table = table_of(updates, bool(hold))
+        pairs = text_of_pairs(table)
+        yield ["pairs", *sent, dump], pairs
+        yield ["pairs", "--count", *sent, dump], [f"rows {len(table)}", f"pairs {len(pairs)}"]
+        family = rng.choice((4, 6))
+        dst, src = (rng.choice([key[part][0] for key in table if key[0] == family] or [0]) for part in (1, 2))
+        asked = ["--to", text_of_address(family, dst), "--src", text_of_address(family, src)]
+        yield ["lookup", *sent, *asked, dump], [text_of(family, answer(table, family, dst, src))]
+        found = difference(table, table_of(others, bool(hold)))
+        yield ["compare", *sent, "--other-from", "192.0.2.1", dump, other], text_of_difference(found)
+
+
+def main():
+    parser = argparse.ArgumentParser(description=__doc__, formatter_class=argparse.RawDescriptionHelpFormatter)
+    parser.add_argument("program", type=pathlib.Path)
+    parser.add_argument("--tables", type=int, default=1_000)
+    parser.add_argument("--seed", type=int, default=1)
+    options = parser.parse_args()
+    program, rng = options.program.resolve(), random.Random(options.seed)
+    runs, wrong, most = 0, 0, 0
+    with tempfile.TemporaryDirectory() as folder:
+        dump, other = (pathlib.Path(folder) / name for name in ("one.dump", "other.dump"))
+        for turn in range(options.tables):
+            updates = random_updates(rng)
+            others = changed(rng, updates)
+            dump.write_bytes(dump_of(updates))
+            other.write_bytes(dump_of(others))
+            for words, lines in expected_runs(rng, updates, others, dump, other):
+                run = subprocess.run([program, *words], capture_output=True, text=True)
+                runs += 1
+                most = max(most, len(lines))
+                if run.stdout.splitlines() != lines or run.stderr:
+                    wrong += 1
+                    print(f"table {turn}, {words[:-1]}: {run.stdout!r} and {run.stderr!r} in place of {lines!r}: {updates}")
+    print(f"{wrong} of {runs} runs differ from the definitions; the longest text had {most} lines")
+    return 1 if wrong else 0
+
+
+if __name__ == "__main__":
+    sys.exit(main())
