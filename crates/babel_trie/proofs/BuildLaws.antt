@@ -74,7 +74,7 @@ module _ {V : Type 0} where
       ordered (x ∷ xs) one o = ((λ y t. o.0 y t (one x y (inl refl) (inr t))), ordered xs (λ a b t u. one a b (inr t) (inr u)) o.1)
 
   -- what is laid over the inherited sources, as rows of a block of destinations
-  own_overlays : (w bits start : ℕ) (rows own rest : List (Entry V)) (nodes : List (Node (Option V))) (n : ℕ) (old : Shape (Option V)) → IsPlace w bits start → InBlock (side_block Destination) w bits start rows →
+  pub own_overlays : (w bits start : ℕ) (rows own rest : List (Entry V)) (nodes : List (Node (Option V))) (n : ℕ) (old : Shape (Option V)) → IsPlace w bits start → InBlock (side_block Destination) w bits start rows →
       rows ≡ own ++ rest → ((x : Entry V) → Listed own x → (block_of x.0).len ≡ w - bits) → (laid : IsOverlaid w w 0 (map row_of own) nodes n old) →
       (a s : ℕ) → a < 2 ^ bits → s < 2 ^ w → Overlays w (map row_of own) (start + a) s (value_at old w s) (value_at laid.new w s)
   own_overlays w bits start rows own rest nodes n old place rows_in whole lens laid a s a_in s_in =

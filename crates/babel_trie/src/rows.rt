@@ -1,6 +1,6 @@
 //! Rows in order, and their parts.
-ghost use Rattle.std.specs.Prelude.{◌≡◌, ◌≢◌, ◌+◌, ◌-◌, ◌^◌, ◌++◌, ◌<◌, ◌≤◌, ◌==◌, nat_lt, List, All, IfOk, IfSome, IfNone};
-ghost use Rattle.std.specs.List.Sorted.{IsPartitionedBy, IsPermutation};
+ghost use Rattle.std.specs.Prelude.{◌≡◌, ◌≢◌, ◌+◌, ◌-◌, ◌^◌, ◌++◌, ◌<◌, ◌≤◌, ◌==◌, nat_lt, List, All, IfOk, IfSome, IfNone, true, false, length};
+ghost use Rattle.std.specs.List.Sorted.{IsPartitionedBy, IsPartitionPoint, IsPermutation};
 ghost use Rattle.babel_prefix.specs.Entries.{HasPrefixes};
 ghost use Rattle.babel_prefix.specs.Members.{Listed};
 ghost use Rattle.babel_trie.specs.Held.{RowOrder};
@@ -68,6 +68,40 @@ impl Side {
         }
     }
 
+    /// How many rows have this length, which come first.
+    fn own_count<V>(self, rows: &[Row<V>], len: u8) -> usize
+        requires { IsPartitionedBy (λ x. (side_block self x).len == len) rows.now }
+        ensures within { result ≤ length rows.now }
+        ensures point { IsPartitionPoint (λ x. ((side_block self x).len == len) ≡ true) (λ x. ((side_block self x).len == len) ≡ false) rows.now result }
+    {
+        if rows.is_empty() {
+            return 0;
+        }
+        if self.of(&rows[0]).len() != len {
+            return 0;
+        }
+        rows.partition_point(|row| self.of(row).len() == len)
+    }
+
+    /// How many rows start below an address, which come first.
+    fn low_count<V>(self, rows: &[Row<V>], middle: u128) -> usize
+        requires { IsPartitionedBy (λ x. nat_lt (side_block self x).start middle) rows.now }
+        ensures within { result ≤ length rows.now }
+        ensures point { IsPartitionPoint (λ x. nat_lt (side_block self x).start middle ≡ true) (λ x. nat_lt (side_block self x).start middle ≡ false) rows.now result }
+    {
+        if rows.is_empty() {
+            return 0;
+        }
+        let last = rows.len() - 1;
+        if self.of(&rows[last]).addr().bits() < middle {
+            return rows.len();
+        }
+        if self.of(&rows[0]).addr().bits() >= middle {
+            return 0;
+        }
+        rows.partition_point(|row| self.of(row).addr().bits() < middle)
+    }
+
     /// The rows of this length, which come first, and the others.
     fn own_and_rest<V>(self, rows: &[Row<V>], len: u8) -> (&[Row<V>], &[Row<V>])
         requires { IsPartitionedBy (λ x. (side_block self x).len == len) rows.now }
@@ -75,7 +109,7 @@ impl Side {
         ensures own { (x : _) → Listed result.0.now x → (side_block self x).len ≡ len }
         ensures rest { (x : _) → Listed result.1.now x → (side_block self x).len ≢ len }
     {
-        let own = rows.partition_point(|row| self.of(row).len() == len);
+        let own = self.own_count(rows, len);
         rows.split_at(own)
     }
 
@@ -86,7 +120,7 @@ impl Side {
         ensures low { (x : _) → Listed result.0.now x → (side_block self x).start < middle }
         ensures high { (x : _) → Listed result.1.now x → middle ≤ (side_block self x).start }
     {
-        let low = rows.partition_point(|row| self.of(row).addr().bits() < middle);
+        let low = self.low_count(rows, middle);
         rows.split_at(low)
     }
 

@@ -1,7 +1,6 @@
 -- The rows below the partition point have the length.
-use Rattle.std.proofs.Common.{◌≡◌, ◌==◌, true, false, sym, ◌∙◌, eqb-true, eq-eqb, rules}
+use Rattle.std.proofs.Common.{◌≡◌, ◌==◌, true, false, sym, ◌∙◌, eqb-true, eq-eqb}
 use Rattle.std.proofs.lemmas.Bool.{false≢true}
-use Rattle.std.proofs.lemmas.List.Sorted.{IsPartitionPoint-from_clause}
 use Rattle.babel_trie.specs.Rows.{side_block}
 use Rattle.babel_trie.proofs.PlaceLaws.{first_part, other_part}
 use Rattle.babel_trie.proofs.rows.Side.own_and_rest.Goals as goal
@@ -9,11 +8,9 @@ use Rattle.babel_trie.proofs.rows.Side.own_and_rest.Goals as goal
 pub returns-clause-own : goal.returns-clause-own
 returns-clause-own g c x listed =
     let rows = c.args.rows.now in
-    let point = IsPartitionPoint-from_clause (λ y. (side_block c.args.self y).len == c.args.len) rows c.partition_point-own.result c.partition_point-own.ensures.partitioned c.requires (λ a r q k. search rules) in
-    eqb-true _ _ (first_part (λ y. (side_block c.args.self y).len == c.args.len ≡ true) rows c.split_at.result.0.now c.split_at.result.1.now c.partition_point-own.result c.split_at.ensures.by_index.0 c.split_at.ensures.front_len point.0 x listed)
+    eqb-true _ _ (first_part (λ y. (side_block c.args.self y).len == c.args.len ≡ true) rows c.split_at.result.0.now c.split_at.result.1.now c.own_count-own.result c.split_at.ensures.by_index.0 c.split_at.ensures.front_len c.own_count-own.ensures.point.0 x listed)
 
 pub returns-clause-rest : goal.returns-clause-rest
 returns-clause-rest g c x listed same =
     let rows = c.args.rows.now in
-    let point = IsPartitionPoint-from_clause (λ y. (side_block c.args.self y).len == c.args.len) rows c.partition_point-own.result c.partition_point-own.ensures.partitioned c.requires (λ a r q k. search rules) in
-    false≢true (sym (other_part (λ y. (side_block c.args.self y).len == c.args.len ≡ false) rows c.split_at.result.0.now c.split_at.result.1.now c.partition_point-own.result c.split_at.ensures.by_index.0 c.split_at.ensures.front_len point.1 x listed) ∙ eq-eqb _ _ same)
+    false≢true (sym (other_part (λ y. (side_block c.args.self y).len == c.args.len ≡ false) rows c.split_at.result.0.now c.split_at.result.1.now c.own_count-own.result c.split_at.ensures.by_index.0 c.split_at.ensures.front_len c.own_count-own.ensures.point.1 x listed) ∙ eq-eqb _ _ same)

@@ -1,0 +1,28 @@
+-- The last change says it already, or one more does.
+use Rattle.std.proofs.Common.{◌≡◌, ◌≢◌, ◌-◌, List, length, Some, refl, subst}
+use Rattle.std.specs.List.{slice_get}
+use Rattle.babel_trie.specs.declared.runs.Change.{Change}
+use Rattle.babel_trie.specs.declared.table.NodeNumber.{NodeNumber}
+use Rattle.babel_trie.proofs.RunLaws.{filled-same, filled-push, longer-push}
+use Rattle.babel_trie.proofs.runs.say.Goals as goal
+
+pub returns-then-ends_with-clause-filled : goal.returns-then-ends_with-clause-filled
+returns-then-ends_with-clause-filled c to lt =
+    let a = c.args in
+    let last = c.ends_with.ensures.same c.if-ends_with.true in
+    let at = subst (λ (xs : List (Change NodeNumber)). slice_get xs (length xs - 1) ≡ Some last.0) c.deref.ensures.value last.1 in
+    filled-same a.out.now.items last.0 a.sources a.start to lt c.requires.runs c.requires.below at last.2
+
+pub returns-clause-filled : goal.returns-clause-filled
+returns-clause-filled c to lt =
+    let a = c.args in
+    let x : Change NodeNumber = record { start = a.start; sources = a.sources } in
+    let other = subst (λ (xs : List (Change NodeNumber)). (y : Change NodeNumber) → slice_get xs (length xs - 1) ≡ Some y → y.sources ≢ a.sources) c.deref.ensures.value (c.ends_with.ensures.other c.if-ends_with.false) in
+    filled-push a.out.now.items c.push.new.self.items x to c.in_ok-push.ensures.items lt c.requires.runs c.requires.below other
+
+pub returns-clause-longer : goal.returns-clause-longer
+returns-clause-longer c =
+    let a = c.args in
+    let x : Change NodeNumber = record { start = a.start; sources = a.sources } in
+    let other = subst (λ (xs : List (Change NodeNumber)). (y : Change NodeNumber) → slice_get xs (length xs - 1) ≡ Some y → y.sources ≢ a.sources) c.deref.ensures.value (c.ends_with.ensures.other c.if-ends_with.false) in
+    longer-push a.sources a.out.now.items c.push.new.self.items x c.in_ok-push.ensures.items refl other
