@@ -9,7 +9,6 @@ use Rattle.babel_prefix.specs.Block.{Block, BlockCovers, IsBlock}
 use Rattle.babel_prefix.specs.Address.{block_of}
 use Rattle.babel_prefix.specs.Entries.{Entry, row_of}
 use Rattle.babel_prefix.proofs.Members.{Listed}
-use Rattle.babel_trie.specs.Descent.{taken, is_number, IsLaid}
 use Rattle.babel_trie.specs.Interned.{Represents}
 use Rattle.babel_trie.specs.Laid.{IsOverlaid, IsSorted}
 use Rattle.babel_trie.specs.Rows.{InOrder, IsNoLater, IsPlace, InBlock, AreParted, side_block}
@@ -18,7 +17,6 @@ use Rattle.babel_trie.specs.declared.rows.Side.TheVariants.{Destination}
 use Rattle.babel_trie.specs.declared.table.Node.{Node}
 use Rattle.babel_trie.specs.declared.table.NodeNumber.{NodeNumber}
 use Rattle.babel_trie.proofs.BitLaws.{pow_twice}
-use Rattle.babel_trie.proofs.DescentLaws.{taken_none, laid_joined}
 use Rattle.babel_trie.proofs.NumberLaws.{one_trie}
 use Rattle.babel_trie.proofs.PlaceLaws.{place_low, place_high}
 use Rattle.babel_trie.proofs.Reduced.{halves_of_fork}
@@ -166,161 +164,3 @@ module _ {X : Type 0} (key : X → Block) (w bits start : ℕ) (rows : List X) (
           no_shorter = no_shorter;
           in_order = rows_in.in_order;
         }
-
--- rows of a lesser block are rows of a block around it
-widen : {X : Type 0} (key : X → Block) (w few s bits start : ℕ) (rows : List X) → InBlock key w few s rows → few ≤ bits → start ≤ s → s + 2 ^ few ≤ start + 2 ^ bits → InBlock key w bits start rows
-widen key w few s bits start rows r le low high =
-    record {
-      prefixes = r.prefixes;
-      from_start = λ z t. let a : s ≤ (key z).start = r.from_start z t in omega arith;
-      before_end = λ z t. let a : (key z).start < s + 2 ^ few = r.before_end z t in omega arith;
-      no_shorter = λ z t. let a : w - few ≤ (key z).len = r.no_shorter z t in omega arith;
-      in_order = r.in_order;
-    }
-
-no_rows : {X : Type 0} (key : X → Block) (w bits start : ℕ) → InBlock key w bits start []
-no_rows key w bits start =
-    record { prefixes = λ z t. elim t [ ]; from_start = λ z t. elim t [ ]; before_end = λ z t. elim t [ ]; no_shorter = λ z t. elim t [ ]; in_order = tt }
-
--- where there are rows something is answered
-pub something : {V : Type 0} (w bits start : ℕ) (rows : List (Entry V)) (sources : List (Node (Option V))) (none : NodeNumber) (new : Shape NodeNumber) → InBlock (side_block Destination) w bits start rows → IsSorted w rows →
-    Represents sources none.0 (leaf None) → IsLaid w bits start (map row_of rows) sources new (leaf None) → 0 < length rows → new ≡ leaf none → ⊥
-something {V} w bits start [] sources none new rows_in sorted none_stands laid some e = absurd (omega arith)
-something {V} w bits start (x ∷ xs) sources none new rows_in sorted none_stands laid some e =
-    let d : Block = block_of x.0 in
-    let s : ℕ = (block_of x.1).start in
-    let low : start ≤ d.start = rows_in.from_start x (inl refl) in
-    let high : d.start < start + 2 ^ bits = rows_in.before_end x (inl refl) in
-    let a : ℕ = d.start - start in
-    let a_in : a < 2 ^ bits = omega arith in
-    let at : start + a ≡ d.start = omega arith in
-    let here : Represents sources (value_at new bits a).0 (leaf None) = subst (λ (t : Shape NodeNumber). Represents sources (value_at t bits a).0 (leaf None)) (sym e) none_stands in
-    elim (laid.values a s a_in (sorted.sources x (inl refl)).start_in_range (leaf None) here) [
-      | inl best ↦ let never : None ≡ Some best.0.value = best.2 in absurd (cc)
-      | inr none_matches ↦ none_matches.0 (row_of x) (inl refl) (subst (BlockCovers w d) (sym at) refl, refl)
-    ]
-
-module _ {V : Type 0} (w few s : ℕ) (rows : List (Entry V)) (place_in : IsPlace w few s) (rows_in : InBlock (side_block Destination) w few s rows) (sources : List (Node (Option V)))
-    (none : NodeNumber) (none_stands : Represents sources none.0 (leaf None)) (new : Shape NodeNumber) (laid : IsLaid w few s (map row_of rows) sources new (leaf None)) (some : new ≡ leaf none → ⊥) where
-  -- the trie of a block around the lesser one, outside which nothing is answered
-  pub record Lifted (bits start : ℕ) : Type 0 where
-    pub whole : Shape NodeNumber
-    pub whole_laid : IsLaid w bits start (map row_of rows) sources whole (leaf None)
-    pub taken_is : taken (is_number none) bits start whole ≡ taken (is_number none) few s new
-    pub not_none : whole ≡ leaf none → ⊥
-
-  pub record Forked (bits start : ℕ) : Type 0 where
-    pub whole : Shape NodeNumber
-    pub whole_laid : IsLaid w bits start (map row_of rows) sources whole (leaf None)
-    pub taken_is : taken (is_number none) bits start whole ≡ taken (is_number none) few s new
-    pub not_leaf : (f : NodeNumber) → whole ≡ leaf f → ⊥
-
-  left_out : is_number none none ≡ true
-  left_out = grind arith
-
-  -- nothing laid over nothing
-  abbrev nothing_laid : IsOverlaid w w 0 (map row_of (let xs : List (Entry V) = [] in xs)) sources none.0 (leaf None)
-  nothing_laid =
-      record { new = leaf None; stands = none_stands; fits = λ h. h; reduced = λ h. h; values = λ d a covered a_in. inr (λ row t m. elim t [ ], refl) }
-
-  nothing_in : (bits start : ℕ) → IsLaid w bits start (map row_of (let xs : List (Entry V) = [] in xs)) sources (leaf none) (leaf None)
-  nothing_in bits start =
-      record {
-        fits = omega arith;
-        reduced = tt;
-        each_stands = λ b a. record { trie = leaf None; stands = none_stands; fits = omega arith; reduced = tt };
-        values = λ a t a_in t_in u p. inr (λ row l m. elim l [ ], ap (λ x. value_at x w t) (sym (one_trie sources none.0 (leaf None) u none_stands p)));
-      }
-
-  -- a half of the block, with the lesser one inside it, and the other half without rows
-  fork_low : (bits start : ℕ) → 0 < bits → bits ≤ w → few ≤ bits - 1 → IsPlace w bits start → start ≤ s → s + 2 ^ few ≤ start + 2 ^ (bits - 1) → Lifted (bits - 1) start → Forked bits start
-  fork_low bits start some_bits le few_le place low high half =
-      let twice = pow_twice bits some_bits in
-      let all : InBlock (side_block Destination) w (bits - 1) start rows = widen (side_block Destination) w few s (bits - 1) start rows rows_in few_le low high in
-      let parts : AreParted (side_block Destination) w bits start rows [] rows [] = record {
-        some = some_bits;
-        place = place;
-        rows_in = widen (side_block Destination) w few s bits start rows rows_in (omega arith) low (omega arith);
-        whole = sym (append-nil rows);
-        own_len = λ x t. elim t [ ];
-        longer = λ x t. let a : w - few ≤ (block_of x.0).len = rows_in.no_shorter x (subst (λ xs. Listed xs x) (append-nil rows) t) in omega arith;
-        low_in = all;
-        high_in = no_rows (side_block Destination) w (bits - 1) (start + 2 ^ (bits - 1));
-      } in
-      let fits : height half.whole ≤ bits - 1 = half.whole_laid.fits in
-      record {
-        whole = fork half.whole (leaf none);
-        whole_laid = laid_joined w bits start rows [] rows [] parts sources sources sources none.0 (leaf None) half.whole (leaf none) (fork half.whole (leaf none)) (λ i node e. e) nothing_laid
-            half.whole_laid (nothing_in (bits - 1) (start + 2 ^ (bits - 1))) (halves_of_fork half.whole (leaf none)) (omega arith)
-            ((λ v e d. let is : v ≡ none = cc in half.not_none (e ∙ ap leaf is)), half.whole_laid.reduced, tt);
-        taken_is = ap (λ xs. taken (is_number none) (bits - 1) start half.whole ++ xs) (taken_none (is_number none) (bits - 1) (start + 2 ^ (bits - 1)) none (leaf none) refl left_out)
-            ∙ append-nil (taken (is_number none) (bits - 1) start half.whole) ∙ half.taken_is;
-        not_leaf = λ f e. cc;
-      }
-
-  fork_high : (bits start : ℕ) → 0 < bits → bits ≤ w → few ≤ bits - 1 → IsPlace w bits start → start + 2 ^ (bits - 1) ≤ s → s + 2 ^ few ≤ start + 2 ^ bits → Lifted (bits - 1) (start + 2 ^ (bits - 1)) → Forked bits start
-  fork_high bits start some_bits le few_le place low high half =
-      let twice = pow_twice bits some_bits in
-      let middle : ℕ = start + 2 ^ (bits - 1) in
-      let all : InBlock (side_block Destination) w (bits - 1) middle rows = widen (side_block Destination) w few s (bits - 1) middle rows rows_in few_le low (omega arith) in
-      let parts : AreParted (side_block Destination) w bits start rows [] [] rows = record {
-        some = some_bits;
-        place = place;
-        rows_in = widen (side_block Destination) w few s bits start rows rows_in (omega arith) (omega arith) high;
-        whole = refl;
-        own_len = λ x t. elim t [ ];
-        longer = λ x t. let a : w - few ≤ (block_of x.0).len = rows_in.no_shorter x t in omega arith;
-        low_in = no_rows (side_block Destination) w (bits - 1) start;
-        high_in = all;
-      } in
-      let fits : height half.whole ≤ bits - 1 = half.whole_laid.fits in
-      record {
-        whole = fork (leaf none) half.whole;
-        whole_laid = laid_joined w bits start rows [] [] rows parts sources sources sources none.0 (leaf None) (leaf none) half.whole (fork (leaf none) half.whole) (λ i node e. e) nothing_laid
-            (nothing_in (bits - 1) start) half.whole_laid (halves_of_fork (leaf none) half.whole) (omega arith)
-            ((λ v e d. let is : v ≡ none = cc in half.not_none (d ∙ ap leaf is)), tt, half.whole_laid.reduced);
-        taken_is = ap (λ xs. xs ++ taken (is_number none) (bits - 1) middle half.whole) (taken_none (is_number none) (bits - 1) start none (leaf none) refl left_out) ∙ half.taken_is;
-        not_leaf = λ f e. cc;
-      }
-
-  -- the lesser block lies in one of the halves
-  in_half : (bits start : ℕ) → 0 < bits → few ≤ bits - 1 → IsPlace w bits start → start ≤ s → s + 2 ^ few ≤ start + 2 ^ bits → (s + 2 ^ few ≤ start + 2 ^ (bits - 1)) ⊎ (start + 2 ^ (bits - 1) ≤ s)
-  in_half bits start some_bits few_le place low high =
-      let middle : ℕ = start + 2 ^ (bits - 1) in
-      let e : s / 2 ^ few ≡ place_in.index = ap (λ n. n / 2 ^ few) place_in.start_is ∙ shl-shr place_in.index few in
-      elim (cases_lt s middle) [
-        | inl lt ↦ let inside = within_place w (bits - 1) start few s place_in.index (place_low w bits start place some_bits) few_le low lt e in
-            let is : s ≡ place_in.index * 2 ^ few = place_in.start_is in
-            inl (omega (arith, inside.1))
-        | inr ge ↦ inr ge
-      ]
-
-  abbrev Lifts : ℕ → Type 0
-  Lifts n = (bits start : ℕ) → bits ≡ few + n → IsPlace w bits start → start ≤ s → s + 2 ^ few ≤ start + 2 ^ bits → Lifted bits start
-
-  step : (n : ℕ) → Lifts n → (bits start : ℕ) → bits ≡ few + suc n → IsPlace w bits start → start ≤ s → s + 2 ^ few ≤ start + 2 ^ bits → Forked bits start
-  step n rec bits start is place low high =
-      let some_bits : 0 < bits = omega arith in
-      let le : bits ≤ w = place.bits_in in
-      let fewer : bits - 1 ≡ few + n = omega arith in
-      let few_le : few ≤ bits - 1 = omega arith in
-      let twice = pow_twice bits some_bits in
-      elim (in_half bits start some_bits few_le place low high) [
-        | inl lower ↦ fork_low bits start some_bits le few_le place low lower (rec (bits - 1) start fewer (place_low w bits start place some_bits) low lower)
-        | inr upper ↦ fork_high bits start some_bits le few_le place upper high (rec (bits - 1) (start + 2 ^ (bits - 1)) fewer (place_high w bits start place some_bits) upper (omega arith))
-      ]
-
-  lifts : (n : ℕ) → Lifts n
-  lifts zero bits start is place low high =
-      let same_bits : few ≡ bits = omega arith in
-      let size : 2 ^ few ≡ 2 ^ bits = ap (λ n. 2 ^ n) same_bits in
-      let same_start : s ≡ start = omega arith in
-      let P : ℕ → ℕ → Type 0 = λ b t. Lifted b t in
-      let here : Lifted few s = record { whole = new; whole_laid = laid; taken_is = refl; not_none = some } in
-      subst (λ t. P bits t) same_start (subst (λ b. P b s) same_bits here)
-  lifts (suc n) bits start is place low high =
-      let f = step n (lifts n) bits start is place low high in
-      record { whole = f.whole; whole_laid = f.whole_laid; taken_is = f.taken_is; not_none = f.not_leaf none }
-
-  pub lifted : (bits start : ℕ) → few < bits → IsPlace w bits start → start ≤ s → s + 2 ^ few ≤ start + 2 ^ bits → Forked bits start
-  lifted bits start fewer place low high = step (bits - few - 1) (lifts (bits - few - 1)) bits start (omega arith) place low high

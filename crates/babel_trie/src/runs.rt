@@ -7,15 +7,17 @@ ghost use Rattle.babel_trie.specs.Held.{RowOrder};
 ghost use Rattle.babel_trie.specs.Interned.{Represents, HasTrie};
 ghost use Rattle.babel_trie.specs.Laid.{IsSorted};
 ghost use Rattle.babel_trie.specs.Rows.{side_block, InBlock, InOrder, IsPlace};
-ghost use Rattle.babel_trie.specs.Runs.{AreRuns, StartBelow, IsFilled, IsSwept, IsLonger, HasRuns};
+ghost use Rattle.babel_trie.specs.Runs.{said_at, AreRuns, StartBelow, IsFilled, IsSwept, IsLonger, HasRuns};
 ghost use Rattle.babel_trie.specs.Shape.{Shape};
 ghost use Rattle.babel_trie.specs.Sound.{IsSound, KeepsNodes};
+ghost use Rattle.babel_trie.specs.Spans.{start_or};
 ghost use Rattle.babel_trie.specs.declared.rows.Side.TheVariants.{Destination};
 ghost use Rattle.babel_trie.specs.declared.runs.Change.{Change};
 ghost use Rattle.babel_trie.specs.declared.table.NodeNumber.{NodeNumber};
 
-use crate::descent::narrowed;
+use crate::fit::last_address;
 use crate::lawful::LawfulOrd;
+use crate::narrow::narrowed;
 use crate::rows::{Row, Side, sorted_rows};
 use crate::table::{Node, NodeNumber, Table};
 use babel_prefix::Family;
@@ -26,6 +28,16 @@ use std::alloc::{AllocError, Global};
 pub struct Change<F> {
     pub start: u128,
     pub sources: F,
+}
+
+/// What is answered for a destination.
+pub fn sources_of(list: &[Change<NodeNumber>], dst: u128) -> NodeNumber
+    requires runs { AreRuns list.now }
+    requires from_zero { start_or 1 list.now ≡ 0 }
+    ensures { (none : NodeNumber) → result ≡ said_at none list.now dst }
+{
+    let behind = list.partition_point(|change| change.start <= dst);
+    list[behind - 1].sources
 }
 
 /// Whether the last change is to these answers.
@@ -94,17 +106,6 @@ fn fill_behind(
         say(out, at + 1, sources)?;
     }
     Ok(())
-}
-
-/// The last address of a block.
-pub fn last_address(start: u128, bits: u8) -> u128
-    requires { start + 2 ^ bits ≤ 2 ^ 128 }
-    ensures { result + 1 ≡ start + 2 ^ bits }
-{
-    if bits >= 128 {
-        return u128::MAX;
-    }
-    start + ((1 << bits) - 1)
 }
 
 impl<V: LawfulOrd> Table<Option<V>> {
@@ -193,26 +194,5 @@ impl<V: LawfulOrd> Table<Option<V>> {
         let sorted = sorted_rows(alloc, rows)?;
         let list = self.table_runs(alloc, family.width(), &sorted)?;
         Ok(list)
-    }
-}
-
-/// The best-match answers of rows of one family, as the list of their changes.
-#[derive(Drop)]
-pub struct Runs<V: Ord> {
-    pub sources: Table<Option<V>>,
-    pub list: Vec<Change<NodeNumber>>,
-}
-
-impl<V: LawfulOrd> Runs<V> {
-    /// The answers of these rows, in whatever order they stand.
-    pub fn of(alloc: Global, family: Family, rows: &[Row<V>]) -> Result<Runs<V>, AllocError>
-        requires family { All (AreOfFamily family) rows.now }
-        requires prefixes { HasDistinctPrefixes rows.now }
-        ensures answers { IfOk result (λ runs. HasRuns (width_of family) runs.sources.nodes.items runs.list.items (answers_in family rows.now)) }
-        ensures few { IfOk result (λ runs. length runs.list.items ≤ 2 * length rows.now + 1) }
-    {
-        let mut sources = Table::new(alloc);
-        let list = sources.runs(alloc, family, rows)?;
-        Ok(Runs { sources, list })
     }
 }
