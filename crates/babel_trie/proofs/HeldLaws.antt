@@ -1,19 +1,10 @@
 -- What a number stands for, and sorted rows of a table.
-use Rattle.std.proofs.Common.{◌≡◌, ℕ, zero, suc, ◌<◌, ◌≤◌, List, Option, None, map, ◌∙◌, ap, arith}
-use Rattle.babel_prefix.specs.Address.{block_of}
-use Rattle.babel_prefix.specs.Best.{IsTable}
-use Rattle.babel_prefix.specs.Entries.{Entry, row_of}
-use Rattle.babel_prefix.proofs.Members.{Listed, Contains-from_Listed}
-use Rattle.babel_trie.specs.Held.{trie_at, node_trie, sources_at, RowOrder}
+use Rattle.std.proofs.Common.{◌≡◌, ℕ, zero, suc, ◌<◌, List, Option, None, ◌∙◌, ap, arith}
+use Rattle.babel_trie.specs.Held.{trie_at, node_trie, sources_at}
 use Rattle.babel_trie.specs.Interned.{Represents, HasTrie}
-use Rattle.babel_trie.specs.Laid.{IsSorted}
-use Rattle.babel_trie.specs.Rows.{InOrder, IsNoLater, InBlock, side_block}
 use Rattle.babel_trie.specs.Shape.{Shape, leaf, fork, height}
-use Rattle.babel_trie.specs.declared.rows.Side.TheVariants.{Destination}
 use Rattle.babel_trie.specs.declared.table.Node.{Node}
 use Rattle.babel_trie.specs.declared.table.NodeNumber.{NodeNumber}
-use Rattle.babel_trie.proofs.OrderLaws.{InOrder-weaken}
-use Rattle.babel_trie.proofs.PartLaws.{to_map}
 
 module _ {V : Type 0} where
   -- what a number stands for, as far down as it goes
@@ -28,22 +19,3 @@ module _ {V : Type 0} where
 module _ {V : Type 0} where
   pub sources_at-stands : (w : ℕ) (sources : List (Node (Option V))) (n : NodeNumber) → (h : HasTrie w sources n.0) → sources_at w sources n ≡ h.trie
   sources_at-stands w sources n h = trie_at-stands None sources (suc w) n.0 h.trie h.stands (omega (arith, h.fits))
-
-  -- sorted rows of a table lie in the block of all addresses
-  pub all_in_block : (w : ℕ) (rows : List (Entry V)) → IsTable w (map row_of rows) → InOrder RowOrder rows → InBlock (side_block Destination) w w 0 rows
-  all_in_block w rows t o =
-      let prefix = λ (x : Entry V) (l : Listed rows x). (t.prefixes (row_of x) (Contains-from_Listed (map row_of rows) (row_of x) (to_map row_of rows x l))).0 in
-      record {
-        prefixes = prefix;
-        from_start = λ x l. omega arith;
-        before_end = λ x l. omega (arith, (prefix x l).start_in_range);
-        no_shorter = λ x l. omega arith;
-        in_order = InOrder-weaken RowOrder (λ x y. IsNoLater (block_of x.0) (block_of y.0)) (λ x y r. r.destinations) rows o;
-      }
-
-  pub all_sorted : (w : ℕ) (rows : List (Entry V)) → IsTable w (map row_of rows) → InOrder RowOrder rows → IsSorted w rows
-  all_sorted w rows t o =
-      record {
-        sources = λ x l. (t.prefixes (row_of x) (Contains-from_Listed (map row_of rows) (row_of x) (to_map row_of rows x l))).1;
-        in_order = InOrder-weaken RowOrder (λ x y. (block_of x.0) ≡ (block_of y.0) → IsNoLater (block_of x.1) (block_of y.1)) (λ x y r. r.sources) rows o;
-      }

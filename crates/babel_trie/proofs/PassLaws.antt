@@ -1,7 +1,7 @@
 -- One pass over sorted rows: what it has said and what is ahead of it are the answers of the rows so far.
-use Rattle.std.proofs.Common.{◌≡◌, ◌≢◌, ◌⊎◌, inl, inr, ℕ, ◌+◌, ◌-◌, ◌*◌, ◌%◌, ◌^◌, ◌<◌, ◌≤◌, cond, List, [], ◌∷◌, ◌++◌, take, reverse, suc, append-nil, nat_le, length, Option, Some, None, map, refl, sym, ◌∙◌, ap, subst, arith}
+use Rattle.std.proofs.Common.{◌≡◌, ◌≢◌, ◌⊎◌, inl, inr, ℕ, ◌+◌, ◌-◌, ◌%◌, ◌^◌, ◌<◌, ◌≤◌, cond, List, [], ◌∷◌, ◌++◌, take, reverse, suc, nat_le, length, Option, Some, None, map, refl, sym, ◌∙◌, ap, subst, arith}
 use Rattle.std.specs.List.{slice_get}
-use Rattle.std.proofs.lemmas.List.{map-append, length-append, reverse-append}
+use Rattle.std.proofs.lemmas.List.{map-append, reverse-append}
 use Rattle.std.proofs.lemmas.Bool.{cases_lt}
 use Rattle.std.proofs.lemmas.Nat.{pow_pos}
 use Rattle.babel_prefix.specs.Address.{block_of}
@@ -14,9 +14,9 @@ use Rattle.babel_trie.specs.Held.{RowOrder}
 use Rattle.babel_trie.specs.Interned.{Represents, HasTrie}
 use Rattle.babel_trie.specs.Laid.{HasOneDestination, IsOverlaid}
 use Rattle.babel_trie.specs.Pass.{IsFilled, AreOpen}
-use Rattle.babel_trie.specs.Rows.{InOrder, IsNoLater, InBlock, Overlays, NoneMatches, side_block}
+use Rattle.babel_trie.specs.Rows.{InOrder, IsNoLater, InBlock, Overlays, side_block}
 use Rattle.babel_trie.specs.Runs.{said_at, AreRuns, StartBelow, StartBehind, HasRuns}
-use Rattle.babel_trie.specs.Shape.{Shape, leaf, height, value_at, IsReduced}
+use Rattle.babel_trie.specs.Shape.{Shape, leaf, value_at}
 use Rattle.babel_trie.specs.Sound.{KeepsNodes}
 use Rattle.babel_trie.specs.declared.rows.Side.TheVariants.{Source}
 use Rattle.babel_trie.specs.declared.runs.Change.{Change}

@@ -116,12 +116,6 @@ pub low_misses : (w bits start : ℕ) (b : Block) (a : ℕ) → IsPlace w bits s
 low_misses w bits start b a p len lt from c =
     two_sides bits p.index b.start a (subst (λ n. b.start < n) p.start_is lt) (subst (λ n. n ≤ a) p.start_is from) (sym (covered_agrees w bits b a p.bits_in len c))
 
--- a prefix within a block covers no address behind it
-pub behind_misses : (w bits start : ℕ) (b : Block) (a : ℕ) → IsPlace w bits start → w - bits ≤ b.len → b.start < start + 2 ^ bits → start + 2 ^ bits ≤ a → BlockCovers w b a → ⊥
-behind_misses w bits start b a p len lt from c =
-    let is : start + 2 ^ bits ≡ (p.index + 1) * 2 ^ bits = ap (λ n. n + 2 ^ bits) p.start_is ∙ omega arith in
-    two_sides bits (p.index + 1) b.start a (subst (λ n. b.start < n) is lt) (subst (λ n. n ≤ a) is from) (sym (covered_agrees w bits b a p.bits_in len c))
-
 module _ {X : Type 0} (key : X → Block) where
   pairs_of : (w bits start : ℕ) (rows : List X) → InBlock key w bits start rows → (i j : ℕ) (d : X) → i < j → j < length rows → IsNoLater (key (get_or rows i d)) (key (get_or rows j d))
   pairs_of w bits start rows b i j d lt j_in = AllPairs-from_order (λ x y. IsNoLater (key x) (key y)) rows b.in_order i j d lt j_in
