@@ -14,11 +14,10 @@ use Rattle.babel_trie.specs.Held.{RowOrder}
 use Rattle.babel_trie.specs.Interned.{Represents, HasTrie}
 use Rattle.babel_trie.specs.Laid.{HasOneDestination, IsOverlaid}
 use Rattle.babel_trie.specs.Pass.{IsFilled, AreOpen}
-use Rattle.babel_trie.specs.Rows.{InOrder, IsNoLater, InBlock, Overlays, side_block}
+use Rattle.babel_trie.specs.Rows.{InOrder, IsNoLater, InBlock, Overlays, source_block}
 use Rattle.babel_trie.specs.Runs.{said_at, AreRuns, StartBelow, StartBehind, HasRuns}
 use Rattle.babel_trie.specs.Shape.{Shape, leaf, value_at}
 use Rattle.babel_trie.specs.Sound.{KeepsNodes}
-use Rattle.babel_trie.specs.declared.rows.Side.TheVariants.{Source}
 use Rattle.babel_trie.specs.declared.runs.Change.{Change}
 use Rattle.babel_trie.specs.declared.table.Node.{Node}
 use Rattle.babel_trie.specs.declared.table.NodeNumber.{NodeNumber}
@@ -77,7 +76,7 @@ module _ {F : Type 0} where
       said-append none list (now ∷ ahead) d ∙ ap (λ b. said_at (cond b now.sources (said_at none list d)) ahead d) (reached now d le) ∙ said-before now.sources ahead d behind
 
   -- one more change counts where it is reached
-  pub said-next : (list rest : List (Change F)) (now next : Change F) (none : F) (d : ℕ) →
+  said-next : (list rest : List (Change F)) (now next : Change F) (none : F) (d : ℕ) →
       said_at none (list ++ now ∷ next ∷ rest) d ≡ said_at (cond (nat_le next.start d) next.sources (cond (nat_le now.start d) now.sources (said_at none list d))) rest d
   said-next list rest now next none d = said-append none list (now ∷ next ∷ rest) d
 
@@ -147,19 +146,6 @@ module _ {F : Type 0} where
   pub open-next : (list after rest : List (Change F)) (now next : Change F) → AreOpen list now (next ∷ rest) → IsFilled now.start next.start now.sources list after → AreOpen after next rest
   open-next list after rest now next o p = record { runs = p.runs; below = p.below; in_order = o.in_order.1 }
 
-  -- a block is come to
-  pub open-entered : (list after ahead : List (Change F)) (now next : Change F) → AreOpen list now ahead → IsFilled now.start next.start now.sources list after → StartBehind next.start ahead → AreOpen after next ahead
-  open-entered list after ahead now next o p behind = record { runs = p.runs; below = p.below; in_order = ((λ y t. omega (arith, behind y t)), o.in_order.1) }
-
-  pub open-back : (list after ahead : List (Change F)) (now next back : Change F) → AreOpen list now ahead → IsFilled now.start next.start now.sources list after → next.start ≤ back.start → ((x : Change F) → Listed ahead x → back.start ≤ x.start) →
-      AreOpen after next (back ∷ ahead)
-  open-back list after ahead now next back o p le from =
-      record {
-        runs = p.runs;
-        below = p.below;
-        in_order = ((λ y t. elim t [ inl here ↦ subst (λ (x : Change F). next.start ≤ x.start) here le | inr there ↦ omega (arith, le, from y there) ]), (from, o.in_order.1));
-      }
-
   -- where the nearest change ahead lies behind an address all do
   pub nearest-behind : (ahead rest : List (Change F)) (now next : Change F) (start : ℕ) → ahead ≡ next ∷ rest → InOrder (λ x y. x.start ≤ y.start) (now ∷ ahead) → start < next.start → StartBehind start ahead
   nearest-behind ahead rest now next start is order lt x t =
@@ -183,14 +169,14 @@ split-last (y ∷ z ∷ zs) x at =
 pub reverse-push : {X : Type 0} (xs : List X) (x : X) → reverse (xs ++ x ∷ []) ≡ x ∷ reverse xs
 reverse-push xs x = reverse-append xs (x ∷ [])
 
-pub InOrder-across : {X : Type 0} (R : X → X → Type 0) (xs ys : List X) → InOrder R (xs ++ ys) → (x y : X) → Listed xs x → Listed ys y → R x y
+InOrder-across : {X : Type 0} (R : X → X → Type 0) (xs ys : List X) → InOrder R (xs ++ ys) → (x y : X) → Listed xs x → Listed ys y → R x y
 InOrder-across R [] ys o x y t u = elim t [ ]
 InOrder-across R (z ∷ xs) ys o x y (inl here) u = subst (λ a. R a y) here (o.0 y (Listed-append_right xs ys y u))
 InOrder-across R (z ∷ xs) ys o x y (inr t) u = InOrder-across R xs ys o.1 x y t u
 
 module _ (w : ℕ) (a b : Block) (a_block : IsBlock w a) (b_block : IsBlock w b) (order : IsNoLater a b) where
   -- a prefix that starts in one before it ends in it
-  pub ends_within : b.start < a.start + size w a → b.start + size w b ≤ a.start + size w a
+  ends_within : b.start < a.start + size w a → b.start + size w b ≤ a.start + size w a
   ends_within lt =
       elim (cases_lt b.len a.len) [
         | inl shorter ↦ elim order [
@@ -255,7 +241,7 @@ module _ {V : Type 0} where
         }
 
   -- of rows in order that both match the earlier is no longer
-  pub order-no_longer : (w d s : ℕ) (x y : Entry V) → IsBlock w (block_of x.0) × IsBlock w (block_of x.1) → IsBlock w (block_of y.0) × IsBlock w (block_of y.1) → RowOrder x y →
+  order-no_longer : (w d s : ℕ) (x y : Entry V) → IsBlock w (block_of x.0) × IsBlock w (block_of x.1) → IsBlock w (block_of y.0) × IsBlock w (block_of y.1) → RowOrder x y →
       Matches w d s (row_of x) → Matches w d s (row_of y) → IsNoLonger (row_of x) (row_of y)
   order-no_longer w d s x y p q r m n =
       let le = no_longer w (block_of x.0) (block_of y.0) p.0 q.0 r.destinations d m.0 n.0 in
@@ -348,7 +334,7 @@ module _ {V : Type 0} where
     ]
 
     -- the sources of its rows are in order
-    pub sources_in : InBlock (side_block Source) w w 0 own
+    pub sources_in : InBlock source_block w w 0 own
     sources_in =
         record {
           prefixes = λ x t. (prefixes x (own_in x t)).1;
@@ -361,9 +347,6 @@ module _ {V : Type 0} where
         ordered : (xs : List (Entry V)) → HasOneDestination xs → InOrder RowOrder xs → InOrder (λ x y. IsNoLater (block_of x.1) (block_of y.1)) xs
         ordered [] same o = tt
         ordered (x ∷ xs) same o = ((λ y t. (o.0 y t).sources (same x y (inl refl) (inr t))), ordered xs (λ p q t u. same p q (inr t) (inr u)) o.1)
-
-    pub one_destination : HasOneDestination own
-    one_destination x y t u = n.one x t ∙ sym (n.one y u)
 
     -- the pass has come no further than it
     pub starts_before : (sources : List (Node (Option V))) (list ahead : List (Change NodeNumber)) (now : Change NodeNumber) → AreSoFar w gone (own ++ others) sources list now ahead → now.start ≤ b.start

@@ -1,15 +1,15 @@
 -- The rows of the whole block come first, and where others are left a bit is left.
 use Rattle.std.proofs.Common.{◌-◌, refl, arith}
 use Rattle.std.proofs.Math.Pow.{pow_mono}
-use Rattle.babel_trie.specs.Rows.{side_block}
+use Rattle.babel_trie.specs.Rows.{source_block}
 use Rattle.babel_trie.proofs.PlaceLaws.{whole_first}
 use Rattle.babel_trie.proofs.PartLaws.{rest_sorted, bit_left, parts_of}
-use Rattle.babel_trie.proofs.rows.Side.parts.Goals as goal
+use Rattle.babel_trie.proofs.rows.parts.Goals as goal
 
 pub own_and_rest-requires : goal.own_and_rest-requires
 own_and_rest-requires g c =
     let a = c.args in
-    whole_first (side_block a.self) a.width a.bits a.start a.rows.now c.requires.place c.requires.rows (a.width - a.bits) refl
+    whole_first source_block a.width a.bits a.start a.rows.now c.requires.place c.requires.rows (a.width - a.bits) refl
 
 pub upper_start-middle-requires-clause-some : goal.upper_start-middle-requires-clause-some
 upper_start-middle-requires-clause-some g c =
