@@ -1,13 +1,11 @@
 -- What is answered from an address on, as a list of the addresses at which that changes: this project's own, over the best
 -- match of RFC 9079, 4.
-use Rattle.std.specs.Prelude.{◌≡◌, ◌≢◌, ℕ, ◌+◌, ◌^◌, ◌<◌, ◌≤◌, cond, nat_le, ◌==◌, length, List, [], ◌∷◌, Option}
-use Rattle.babel_prefix.specs.Best.{Row}
+use Rattle.std.specs.Prelude.{◌≡◌, ◌≢◌, ℕ, ◌^◌, ◌<◌, ◌≤◌, cond, nat_le, List, [], ◌∷◌, Option}
 use Rattle.babel_prefix.specs.Members.{Listed}
 use Rattle.babel_trie.specs.Boxes.{Answers, SameAnswers}
 use Rattle.babel_trie.specs.Held.{sources_at}
-use Rattle.babel_trie.specs.Shape.{Shape, height, value_at, IsReduced}
-use Rattle.babel_trie.specs.Interned.{Represents, HasTrie}
-use Rattle.babel_trie.specs.Rows.{Overlays}
+use Rattle.babel_trie.specs.Shape.{value_at}
+use Rattle.babel_trie.specs.Interned.{HasTrie}
 use Rattle.babel_trie.specs.declared.runs.Change.{Change}
 use Rattle.babel_trie.specs.declared.table.Node.{Node}
 use Rattle.babel_trie.specs.declared.table.NodeNumber.{NodeNumber}
