@@ -5,15 +5,12 @@ use Rattle.std.proofs.Math.Pow.{pow_mono}
 use Rattle.std.proofs.lemmas.Nat.{pow_pos}
 use Rattle.babel_trie.specs.Boxes.{Answers, IsLeastDifference}
 use Rattle.babel_trie.specs.Differs.{AgreeBelow, DifferFirst, AgreeBelowBoth, DifferFirstAt}
-use Rattle.babel_trie.specs.Held.{sources_at, answers_below}
 use Rattle.std.specs.List.{slice_get}
 use Rattle.babel_trie.specs.declared.table.Node.TheVariants.{Leaf}
 use Rattle.babel_trie.specs.Shape.{Shape, leaf, fork, height, value_at}
 use Rattle.babel_trie.specs.Interned.{Represents, HasTrie, IsHalved}
 use Rattle.babel_trie.specs.declared.table.Node.{Node}
-use Rattle.babel_trie.specs.declared.table.NodeNumber.{NodeNumber}
 use Rattle.babel_trie.proofs.BitLaws.{pow_twice}
-use Rattle.babel_trie.proofs.HeldLaws.{sources_at-stands}
 use Rattle.babel_trie.proofs.NumberLaws.{one_trie}
 use Rattle.babel_trie.proofs.Reduced.{value_at-low, value_at-high}
 
@@ -86,39 +83,6 @@ module _ {V : Type 0} {bits : ℕ} {t low high u low' high' : Shape V} (s : Side
         agree_below = below_high s (λ x y. x ≡ y) at (omega arith) in_low d.agree_below;
       }
 
-module _ {V : Type 0} (w : ℕ) (left right : List (Node (Option V))) where
-  -- the two numbers stand for tries of sources with the same values
-  abbrev pub SameSources : NodeNumber → NodeNumber → Type 0
-  SameSources x y = AgreeBelow (2 ^ w) (value_at (sources_at w left x) w) (value_at (sources_at w right y) w)
-
-  abbrev DifferAt : ℕ → NodeNumber → NodeNumber → Type 0
-  DifferAt src x y = DifferFirst (2 ^ w) (value_at (sources_at w left x) w) (value_at (sources_at w right y) w) src
-
--- values that stand for functions of sources
-module _ {V : Type 0} (w : ℕ) (left right : List (Node (Option V))) {bits : ℕ} {t low high u low' high' : Shape NodeNumber} (s : SideBySide bits t low high u low' high') where
-  pub pair_low : (at : ℕ × ℕ) → DifferFirstAt (2 ^ (bits - 1)) (2 ^ w) (answers_below w left (bits - 1) low) (answers_below w right (bits - 1) low') at →
-      DifferFirstAt (2 ^ bits) (2 ^ w) (answers_below w left bits t) (answers_below w right bits u) at
-  pair_low at d =
-      let twice = pow_twice bits s.some in
-      let at_in : at.0 < 2 ^ (bits - 1) = d.in_range in
-      record {
-        in_range = omega arith;
-        differ = s.at_low (DifferAt w left right at.1) at.0 at_in d.differ;
-        agree_below = λ a lt. s.at_low (SameSources w left right) a (omega arith) (d.agree_below a lt);
-      }
-
-  pub pair_high : (at : ℕ × ℕ) → AgreeBelowBoth (2 ^ (bits - 1)) (2 ^ w) (answers_below w left (bits - 1) low) (answers_below w right (bits - 1) low') →
-      DifferFirstAt (2 ^ (bits - 1)) (2 ^ w) (answers_below w left (bits - 1) high) (answers_below w right (bits - 1) high') at →
-      DifferFirstAt (2 ^ bits) (2 ^ w) (answers_below w left bits t) (answers_below w right bits u) (2 ^ (bits - 1) + at.0, at.1)
-  pair_high at in_low d =
-      let twice = pow_twice bits s.some in
-      let at_in : at.0 < 2 ^ (bits - 1) = d.in_range in
-      record {
-        in_range = omega arith;
-        differ = s.at_high (DifferAt w left right at.1) at.0 at_in d.differ;
-        agree_below = below_high s (SameSources w left right) at.0 (omega arith) in_low d.agree_below;
-      }
-
 module _ {V : Type 0} where
   -- the halves of a reduced trie are reduced tries of one bit fewer
   pub halves_are_tries : (bits : ℕ) (nodes : List (Node V)) (n l h : ℕ) → (t : HasTrie bits nodes n) → 0 < bits → IsHalved nodes t.trie l h → HasTrie (bits - 1) nodes l × HasTrie (bits - 1) nodes h
@@ -163,24 +127,6 @@ module _ {V : Type 0} (nodes others : List (Node V)) (n m bits : ℕ) (v w : V) 
       let right : value_at u bits 0 ≡ w = ap (λ x. value_at x bits 0) (one_trie others m u (leaf w) stands' q) in
       record { in_range = pow_pos bits; differ = λ e. apart (sym left ∙ e ∙ right); agree_below = λ a none. absurd (omega arith) }
 
-module _ {V : Type 0} (w : ℕ) (left right : List (Node (Option V))) (nodes others : List (Node NodeNumber)) (n m bits : ℕ) (x y : NodeNumber) (p : Represents nodes n (leaf x)) (q : Represents others m (leaf y))
-    (t u : Shape NodeNumber) (stands : Represents nodes n t) (stands' : Represents others m u) (h : HasTrie w left x.0) (k : HasTrie w right y.0) where
-  -- what holds of the tries of sources holds of the tries that have one leaf each
-  at_sources : (R : (ℕ → Option V) → (ℕ → Option V) → Type 0) → R (value_at h.trie w) (value_at k.trie w) → (d : ℕ) → R (answers_below w left bits t d) (answers_below w right bits u d)
-  at_sources R r d =
-      subst (λ a. R (value_at (sources_at w left (value_at a bits d)) w) (answers_below w right bits u d)) (one_trie nodes n (leaf x) t p stands)
-      (subst (λ b. R (value_at (sources_at w left x) w) (value_at (sources_at w right (value_at b bits d)) w)) (one_trie others m (leaf y) u q stands')
-      (subst (λ a. R (value_at a w) (value_at (sources_at w right y) w)) (sym (sources_at-stands w left x h))
-      (subst (λ b. R (value_at h.trie w) (value_at b w)) (sym (sources_at-stands w right y k)) r)))
-
-  pub agree_at_sources : AgreeBelow (2 ^ w) (value_at h.trie w) (value_at k.trie w) → AgreeBelowBoth (2 ^ bits) (2 ^ w) (answers_below w left bits t) (answers_below w right bits u)
-  agree_at_sources same d d_in = at_sources (AgreeBelow (2 ^ w)) same d
-
-  pub differ_at_sources : (src : ℕ) → DifferFirst (2 ^ w) (value_at h.trie w) (value_at k.trie w) src →
-      DifferFirstAt (2 ^ bits) (2 ^ w) (answers_below w left bits t) (answers_below w right bits u) (0, src)
-  differ_at_sources src d =
-      record { in_range = pow_pos bits; differ = at_sources (λ f g. DifferFirst (2 ^ w) f g src) d 0; agree_below = λ a none. absurd (omega arith) }
-
 -- in one table one number stands for one trie
 module _ {V : Type 0} where
   pub same_trie : (nodes others : List (Node V)) (n m : ℕ) (t u : Shape V) → nodes ≡ others → n ≡ m → Represents nodes n t → Represents others m u → t ≡ u
@@ -189,11 +135,6 @@ module _ {V : Type 0} where
 
   pub agree_in_one : (nodes others : List (Node V)) (n m bits : ℕ) (t u : Shape V) → nodes ≡ others → n ≡ m → Represents nodes n t → Represents others m u → AgreeBelow (2 ^ bits) (value_at t bits) (value_at u bits)
   agree_in_one nodes others n m bits t u one same p q a a_in = ap (λ x. value_at x bits a) (same_trie nodes others n m t u one same p q)
-
-pub agree_in_one_pair : {V : Type 0} (w : ℕ) (left right : List (Node (Option V))) (nodes others : List (Node NodeNumber)) (n m bits : ℕ) (t u : Shape NodeNumber) → left ≡ right → nodes ≡ others → n ≡ m →
-    Represents nodes n t → Represents others m u → AgreeBelowBoth (2 ^ bits) (2 ^ w) (answers_below w left bits t) (answers_below w right bits u)
-agree_in_one_pair w left right nodes others n m bits t u one_left one same p q d d_in s s_in =
-    ap (λ (x : Shape NodeNumber). answers_below w left bits x d s) (same_trie nodes others n m t u one same p q) ∙ ap (λ sources. answers_below w sources bits u d s) one_left
 
 -- the first pair by destination, then source, is the least
 pub least_from_first : {V : Type 0} (w : ℕ) (f g : Answers V) (at : ℕ × ℕ) → DifferFirstAt (2 ^ w) (2 ^ w) f g at → IsLeastDifference w f g at.0 at.1

@@ -9,10 +9,9 @@ use Rattle.babel_prefix.specs.Entries.{Entry, row_of}
 use Rattle.babel_trie.specs.Shape.{Shape, leaf, height, value_at, IsReduced}
 use Rattle.babel_trie.specs.Interned.{HasTrie, IsHalved, IsJoined}
 use Rattle.babel_prefix.proofs.Members.{Listed}
-use Rattle.babel_trie.specs.Rows.{IsPlace, InBlock, Overlays, side_block, AreParted}
+use Rattle.babel_trie.specs.Rows.{IsPlace, InBlock, Overlays, source_block, AreParted}
 use Rattle.babel_trie.specs.Laid.{HasOneDestination, IsSet, IsOverlaid}
 use Rattle.babel_trie.specs.declared.table.Node.{Node}
-use Rattle.babel_trie.specs.declared.rows.Side.TheVariants.{Source}
 use Rattle.babel_trie.proofs.BitLaws.{pow_twice}
 use Rattle.babel_trie.proofs.Reduced.{value_at-low, value_at-high}
 use Rattle.babel_prefix.proofs.Members.{Listed-append_left, Listed-append_right}
@@ -58,10 +57,10 @@ module _ {V : Type 0} where
   set_reduced rows old new (inr (row, listed, is)) r = subst IsReduced (sym is) tt
 
   -- where all rows are of the whole block, what is set is the whole
-  pub overlaid_set : (w bits start : ℕ) (rows own : List (Entry V)) (nodes : List (Node (Option V))) (n : ℕ) (old : Shape (Option V)) → IsPlace w bits start → InBlock (side_block Source) w bits start rows →
+  pub overlaid_set : (w bits start : ℕ) (rows own : List (Entry V)) (nodes : List (Node (Option V))) (n : ℕ) (old : Shape (Option V)) → IsPlace w bits start → InBlock source_block w bits start rows →
       HasOneDestination rows → rows ≡ own → ((x : Entry V) → Listed own x → (block_of x.1).len ≡ w - bits) → IsSet own nodes n old → IsOverlaid w bits start (map row_of rows) nodes n old
   overlaid_set w bits start rows own nodes n old place rows_in one all lens set =
-      let own_in : InBlock (side_block Source) w bits start own = subst (InBlock (side_block Source) w bits start) all rows_in in
+      let own_in : InBlock source_block w bits start own = subst (InBlock source_block w bits start) all rows_in in
       subst (λ (r : List (Entry V)). IsOverlaid w bits start (map row_of r) nodes n old) (sym all) (record {
         new = set.new;
         stands = set.stands;
@@ -72,7 +71,7 @@ module _ {V : Type 0} where
       })
 
   -- the halves, with their rows laid over them, are joined
-  pub overlaid_joined : (w bits start : ℕ) (rows own low high : List (Entry V)) → AreParted (side_block Source) w bits start rows own low high → HasOneDestination rows →
+  pub overlaid_joined : (w bits start : ℕ) (rows own low high : List (Entry V)) → AreParted source_block w bits start rows own low high → HasOneDestination rows →
       (nodes1 nodes2 nodes3 nodes4 : List (Node (Option V))) (n1 l1 h1 l h n : ℕ) (old : Shape (Option V)) →
       (set : IsSet own nodes1 n1 old) → (halved : IsHalved nodes1 set.new l1 h1) →
       (in_low : IsOverlaid w (bits - 1) start (map row_of low) nodes2 l halved.low_half) →
@@ -109,7 +108,7 @@ module _ {V : Type 0} where
             dst row (subst (λ r. Listed r row) (sym whole) (Listed-append_right (map row_of own) (map row_of low ++ map row_of high) row (Listed-append_left (map row_of low) (map row_of high) row t))) in
             let dst_high : (row : Row V) → Listed (map row_of high) row → BlockCovers w row.dst d = λ row t.
             dst row (subst (λ r. Listed r row) (sym whole) (Listed-append_right (map row_of own) (map row_of low ++ map row_of high) row (Listed-append_right (map row_of low) (map row_of high) row t))) in
-            let first = set_overlays w bits start own old set.new set.is own_one p.own_len (own_covers (side_block Source) w bits start rows own low high p) d a dst_own a_in in
+            let first = set_overlays w bits start own old set.new set.is own_one p.own_len (own_covers source_block w bits start rows own low high p) d a dst_own a_in in
             elim (cases_lt a m) [
               | inl lt ↦
                   let before : value_at set.new bits a ≡ value_at halved.low_half (bits - 1) a = value_at-low set.new halved.low_half halved.high_half halved.halves bits a lt in
@@ -119,7 +118,7 @@ module _ {V : Type 0} where
                   (subst (Overlays w (map row_of low) d (start + a) (value_at halved.low_half (bits - 1) a)) (sym after) (in_low.values d a dst_low lt)) in
                   overlays_low w (map row_of rows) (map row_of own) (map row_of low) (map row_of high) d (start + a) (value_at old bits a) (value_at set.new bits a) (value_at joined.whole bits a) whole
                   (λ row t match. let f = from_map row_of high row t in
-                  high_is_apart (side_block Source) w bits start rows own low high p f.0 f.1 a lt (subst (λ (r : Row V). BlockCovers w r.src (start + a)) (sym f.2) match.1))
+                  high_is_apart source_block w bits start rows own low high p f.0 f.1 a lt (subst (λ (r : Row V). BlockCovers w r.src (start + a)) (sym f.2) match.1))
                   no_longer first second
               | inr ge ↦
                   let b : ℕ = a - m in
@@ -135,7 +134,7 @@ module _ {V : Type 0} where
                   (subst (Overlays w (map row_of high) d (start + a) (value_at halved.high_half (bits - 1) b)) (sym after) there) in
                   overlays_high w (map row_of rows) (map row_of own) (map row_of low) (map row_of high) d (start + a) (value_at old bits a) (value_at set.new bits a) (value_at joined.whole bits a) whole
                   (λ row t match. let f = from_map row_of low row t in
-                  low_is_apart (side_block Source) w bits start rows own low high p f.0 f.1 b (subst (BlockCovers w (block_of f.0.1)) (sym place_is) (subst (λ (r : Row V). BlockCovers w r.src (start + a)) (sym f.2) match.1)))
+                  low_is_apart source_block w bits start rows own low high p f.0 f.1 b (subst (BlockCovers w (block_of f.0.1)) (sym place_is) (subst (λ (r : Row V). BlockCovers w r.src (start + a)) (sym f.2) match.1)))
                   no_longer first second
             ];
       }

@@ -1,15 +1,14 @@
 -- What laying rows over a trie gives: the best match of RFC 9079, 4, block by block.
 use Rattle.std.specs.Prelude.{◌≡◌, ◌⊎◌, ℕ, ◌+◌, ◌^◌, ◌<◌, ◌≤◌, List, [], Option, Some}
 use Rattle.babel_prefix.specs.Entries.{Entry}
-use Rattle.babel_prefix.specs.Block.{BlockCovers, IsBlock}
+use Rattle.babel_prefix.specs.Block.{BlockCovers}
 use Rattle.babel_prefix.specs.Address.{block_of}
 use Rattle.babel_prefix.specs.Best.{Row}
 use Rattle.babel_trie.specs.Shape.{Shape, leaf, height, value_at, IsReduced}
-use Rattle.babel_trie.specs.Interned.{Represents, HasTrie}
+use Rattle.babel_trie.specs.Interned.{Represents}
 use Rattle.babel_prefix.specs.Members.{Listed}
-use Rattle.babel_trie.specs.Rows.{InOrder, IsNoLater, Overlays}
+use Rattle.babel_trie.specs.Rows.{Overlays}
 use Rattle.babel_trie.specs.declared.table.Node.{Node}
-use Rattle.babel_trie.specs.declared.table.NodeNumber.{NodeNumber}
 
 module _ {V : Type 0} where
   -- the rows have one destination prefix
@@ -32,20 +31,3 @@ module _ {V : Type 0} where
     pub reduced : IsReduced old → IsReduced new
     pub values : (d a : ℕ) → ((row : Row V) → Listed rows row → BlockCovers w row.dst d) → a < 2 ^ bits →
         Overlays w rows d (start + a) (value_at old bits a) (value_at new bits a)
-
-  -- the number stands for a trie of numbers of source tries, each of which has the rows laid over the inherited one
-  pub record IsBuilt (w bits start : ℕ) (rows : List (Row V)) (sources : List (Node (Option V)))
-      (nodes : List (Node NodeNumber)) (n : ℕ) (old : Shape (Option V)) : Type 0 where
-    pub new : Shape NodeNumber
-    pub stands : Represents nodes n new
-    pub fits : height new ≤ bits
-    pub reduced : IsReduced new
-    pub each_stands : (b a : ℕ) → HasTrie w sources (value_at new b a).0
-    pub values : (a s : ℕ) → a < 2 ^ bits → s < 2 ^ w → (t : Shape (Option V)) →
-        Represents sources (value_at new bits a).0 t →
-        Overlays w rows (start + a) s (value_at old w s) (value_at t w s)
-
-  -- the sources are prefixes, and those of one destination are in order
-  pub record IsSorted (w : ℕ) (rows : List (Entry V)) : Type 0 where
-    pub sources : (x : Entry V) → Listed rows x → IsBlock w (block_of x.1)
-    pub in_order : InOrder (λ x y. (block_of x.0) ≡ (block_of y.0) → IsNoLater (block_of x.1) (block_of y.1)) rows

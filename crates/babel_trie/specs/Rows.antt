@@ -2,11 +2,9 @@
 use Rattle.std.specs.Prelude.{◌≡◌, ◌⊎◌, ℕ, ◌+◌, ◌-◌, ◌*◌, ◌^◌, ◌<◌, ◌≤◌, List, [], ◌∷◌, ◌++◌, Option, Some}
 use Rattle.babel_prefix.specs.Entries.{Entry}
 use Rattle.babel_prefix.specs.Block.{Block, IsBlock}
-use Rattle.babel_prefix.specs.Address.{block_of, AddressPrefix}
+use Rattle.babel_prefix.specs.Address.{block_of}
 use Rattle.babel_prefix.specs.Best.{Row, Matches, IsBest}
 use Rattle.babel_prefix.specs.Members.{Listed}
-use Rattle.babel_trie.specs.declared.rows.Side.{Side}
-use Rattle.babel_trie.specs.declared.rows.Side.TheVariants.{Destination, Source}
 
 module _ {X : Type 0} where
   -- the relation holds of each member and each later one, by cases on the list
@@ -45,13 +43,9 @@ pub record AreParted {X : Type 0} (key : X → Block) (w bits start : ℕ) (rows
   pub high_in : InBlock key w (bits - 1) (start + 2 ^ (bits - 1)) high
 
 module _ {V : Type 0} where
-  -- the prefix of one side
-  abbrev pub side_of : Side → Entry V → AddressPrefix
-  side_of Destination row = row.0
-  side_of Source row = row.1
-
-  abbrev pub side_block : Side → Entry V → Block
-  side_block side row = block_of (side_of side row)
+  -- the source prefix of a row
+  abbrev pub source_block : Entry V → Block
+  source_block row = block_of row.1
 
   -- no row matches
   abbrev pub NoneMatches : ℕ → List (Row V) → ℕ → ℕ → Type 0

@@ -1,17 +1,12 @@
-//! Where two tries first differ, and where two nested tries do.
-ghost use Rattle.std.specs.Prelude.{◌≡◌, ℕ, ◌+◌, ◌-◌, ◌^◌, ◌<◌, ◌≤◌, length, IsTrue, IfSome, IfNone, MatchOption};
-ghost use Rattle.babel_prefix.specs.Width.{width_of};
-ghost use Rattle.babel_trie.specs.Boxes.{SameAnswers, IsLeastDifference};
-ghost use Rattle.babel_trie.specs.Differs.{IsFirstDifference, IsFirstPair};
-ghost use Rattle.babel_trie.specs.Held.{HasNested, answers_below};
+//! Where two tries first differ.
+ghost use Rattle.std.specs.Prelude.{◌≡◌, ℕ, ◌+◌, ◌-◌, ◌^◌, ◌<◌, ◌≤◌, length, IsTrue, IfSome, IfNone};
+ghost use Rattle.babel_trie.specs.Differs.{IsFirstDifference};
 ghost use Rattle.babel_trie.specs.Interned.{Represents, HasTrie};
 ghost use Rattle.babel_trie.specs.Shape.{Shape, leaf, value_at};
 ghost use Rattle.babel_trie.specs.declared.difference.Tables.TheVariants.{One};
 
 use crate::lawful::{LawfulOrd, are_same};
-use crate::nested::Nested;
 use crate::table::{Node, NodeNumber, Table};
-use babel_prefix::{Addr, Family};
 
 /// Whether two tries that are compared have their nodes in one table, in which a trie has one
 /// number.
@@ -92,71 +87,5 @@ impl<V: LawfulOrd> Table<V> {
         }
         let at = self.first_difference(high, other, other_high, tables, bits - 1)?;
         Some(in_upper_half(at, bits))
-    }
-}
-
-impl<V: LawfulOrd> Nested<V> {
-    /// The least pair of addresses at which two nested tries have different answers: by the
-    /// destination, counted from the block's start, and then by the source.
-    pub fn first_pair(
-        &self,
-        number: NodeNumber,
-        other: &Nested<V>,
-        other_number: NodeNumber,
-        tables: Tables,
-        width: u8,
-        bits: u8,
-    ) -> Option<(u128, u128)>
-        requires trie { HasNested width bits self.now.sources.nodes.items self.now.destinations.nodes.items number.0 }
-        requires other_trie { HasNested width bits other.now.sources.nodes.items other.now.destinations.nodes.items other_number.0 }
-        requires one_sources { tables ≡ One → self.now.sources.nodes.items ≡ other.now.sources.nodes.items }
-        requires one_destinations { tables ≡ One → self.now.destinations.nodes.items ≡ other.now.destinations.nodes.items }
-        requires width { width ≤ 128 }
-        requires bits { bits ≤ width }
-        ensures { (t u : Shape NodeNumber) → Represents self.now.destinations.nodes.items number.0 t → Represents other.now.destinations.nodes.items other_number.0 u → IsFirstPair (2 ^ bits) (2 ^ width) (answers_below width self.now.sources.nodes.items bits t) (answers_below width other.now.sources.nodes.items bits u) result }
-    {
-        if tables.are_one_trie(number, other_number) {
-            return None;
-        }
-        if let Some((left, right)) = self
-            .destinations
-            .both_leaves(number, &other.destinations, other_number)
-        {
-            let src = self
-                .sources
-                .first_difference(left, &other.sources, right, tables, width)?;
-            return Some((0, src));
-        }
-        let (low, high) = self.destinations.halves(number);
-        let (other_low, other_high) = other.destinations.halves(other_number);
-        if let Some(at) = self.first_pair(low, other, other_low, tables, width, bits - 1) {
-            return Some(at);
-        }
-        let (dst, src) = self.first_pair(high, other, other_high, tables, width, bits - 1)?;
-        Some((in_upper_half(dst, bits), src))
-    }
-
-    /// The least pair of a destination and a source of the family, by destination, then source, at
-    /// which two nested tries have different answers; `None` if there is none.
-    pub fn least_difference(
-        &self,
-        root: NodeNumber,
-        other: &Nested<V>,
-        other_root: NodeNumber,
-        tables: Tables,
-        family: Family,
-    ) -> Option<(Addr, Addr)>
-        requires trie { HasNested (width_of family) (width_of family) self.now.sources.nodes.items self.now.destinations.nodes.items root.0 }
-        requires other_trie { HasNested (width_of family) (width_of family) other.now.sources.nodes.items other.now.destinations.nodes.items other_root.0 }
-        requires one_sources { tables ≡ One → self.now.sources.nodes.items ≡ other.now.sources.nodes.items }
-        requires one_destinations { tables ≡ One → self.now.destinations.nodes.items ≡ other.now.destinations.nodes.items }
-        ensures family { IfSome result (λ p. (p.0.family ≡ family) × (p.1.family ≡ family)) }
-        ensures least { (t u : Shape NodeNumber) → Represents self.now.destinations.nodes.items root.0 t → Represents other.now.destinations.nodes.items other_root.0 u → MatchOption result (SameAnswers (width_of family) (answers_below (width_of family) self.now.sources.nodes.items (width_of family) t) (answers_below (width_of family) other.now.sources.nodes.items (width_of family) u)) (λ p. IsLeastDifference (width_of family) (answers_below (width_of family) self.now.sources.nodes.items (width_of family) t) (answers_below (width_of family) other.now.sources.nodes.items (width_of family) u) p.0.bits p.1.bits) }
-    {
-        let width = family.width();
-        let (dst, src) = self.first_pair(root, other, other_root, tables, width, width)?;
-        let dst = Addr::new(family, dst).unwrap();
-        let src = Addr::new(family, src).unwrap();
-        Some((dst, src))
     }
 }

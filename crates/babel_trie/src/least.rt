@@ -5,8 +5,8 @@ ghost use Rattle.babel_trie.specs.Boxes.{SameAnswers, IsLeastDifference};
 
 use crate::difference::Tables;
 use crate::lawful::LawfulOrd;
-use crate::nested::Nested;
 use crate::rows::Row;
+use crate::table::Table;
 use babel_prefix::{Addr, Family};
 use std::alloc::{AllocError, Global};
 
@@ -14,8 +14,8 @@ use std::alloc::{AllocError, Global};
 /// answer differently; `None` if there is none. All prefixes are of the family, and no two rows of a
 /// list have the same two. `Err` for want of memory.
 ///
-/// The tries of both lists stand in one table of nodes, so that the way to a difference passes no
-/// trie that both have: it is found in as many steps as two addresses have bits.
+/// The tries of sources of both lists stand in one table of nodes, in which equal tries have one number: the lists are
+/// read side by side up to the first destination for which they have two.
 pub fn least_difference<V: LawfulOrd>(
     alloc: Global,
     family: Family,
@@ -29,8 +29,8 @@ pub fn least_difference<V: LawfulOrd>(
     ensures family { IfOk result (λ found. IfSome found (λ p. (p.0.family ≡ family) × (p.1.family ≡ family))) }
     ensures least { IfOk result (λ found. MatchOption found (SameAnswers (width_of family) (answers_in family left.now) (answers_in family right.now)) (λ p. IsLeastDifference (width_of family) (answers_in family left.now) (answers_in family right.now) p.0.bits p.1.bits)) }
 {
-    let mut nodes = Nested::new(alloc);
-    let left = nodes.add_rows(alloc, family, left)?;
-    let right = nodes.add_rows(alloc, family, right)?;
-    Ok(nodes.least_difference(left, &nodes, right, Tables::One, family))
+    let mut sources = Table::new(alloc);
+    let left = sources.runs(alloc, family, left)?;
+    let right = sources.runs(alloc, family, right)?;
+    Ok(sources.least_difference(&left, &sources, &right, Tables::One, family))
 }

@@ -1,16 +1,25 @@
-//! The rows that a nested trie stands for.
-ghost use Rattle.std.specs.Prelude.{◌≡◌, ◌+◌, ◌-◌, ◌*◌, ◌^◌, ◌<◌, ◌≤◌, ◌++◌, map, All, OnOk, Option};
+//! The rows of a list of changes.
+ghost use Rattle.std.specs.Prelude.{◌≡◌, ◌+◌, ◌-◌, ◌*◌, ◌^◌, ◌<◌, ◌≤◌, ◌++◌, map, length, All, OnOk, Option, None, true, false};
 ghost use Rattle.babel_prefix.specs.Address.{IsAddressPrefix, block_of};
+ghost use Rattle.babel_prefix.specs.Block.{IsBlock};
+ghost use Rattle.babel_prefix.specs.Entries.{row_of};
+ghost use Rattle.babel_prefix.specs.Members.{Listed};
 ghost use Rattle.babel_prefix.specs.Width.{width_of};
-ghost use Rattle.babel_trie.specs.Held.{sources_at, shape_map, HasNested};
+ghost use Rattle.babel_trie.specs.Cut.{block_from, largest_in};
+ghost use Rattle.babel_trie.specs.Held.{sources_at};
 ghost use Rattle.babel_trie.specs.Interned.{Represents, HasTrie};
 ghost use Rattle.babel_trie.specs.Nested.{IsEntryIn, node_block, leaves, rows_at, rows_of};
-ghost use Rattle.babel_prefix.specs.Entries.{row_of};
-ghost use Rattle.babel_trie.specs.Shape.{Shape};
+ghost use Rattle.babel_trie.specs.Runs.{AreRuns, StartBelow};
+ghost use Rattle.babel_trie.specs.Shape.{Shape, leaf};
+ghost use Rattle.babel_trie.specs.Spans.{each_with, run_rows};
+ghost use Rattle.babel_trie.specs.declared.runs.Change.{Change};
+ghost use Rattle.babel_trie.specs.declared.table.NodeNumber.{NodeNumber};
 
+use crate::cut::run_last;
+use crate::fit::{first_bits, last_address};
 use crate::lawful::LawfulOrd;
-use crate::nested::Nested;
 use crate::rows::Row;
+use crate::runs::Change;
 use crate::table::{Node, NodeNumber, Table};
 use babel_prefix::{Addr, Family, Prefix};
 use std::alloc::AllocError;
@@ -28,6 +37,18 @@ fn shifted(place: u128, bits: u8, family: Family) -> u128
     place << bits
 }
 
+/// The prefix of the block with this many free bits at an address.
+fn block_prefix(family: Family, start: u128, bits: u8) -> Prefix
+    requires bits { bits ≤ width_of family }
+    requires block { IsBlock (width_of family) (block_from (width_of family) start bits) }
+    ensures family { result.address.family ≡ family }
+    ensures valid { IsAddressPrefix result }
+    ensures block { block_of result ≡ block_from (width_of family) start bits }
+{
+    let len = family.width() - bits;
+    Prefix::new(Addr::new(family, start).unwrap(), len).unwrap()
+}
+
 /// The prefix of the block at this place among the blocks that differ in this many bits.
 fn node_prefix(family: Family, bits: u8, place: u128) -> Prefix
     requires bits { bits ≤ width_of family }
@@ -36,9 +57,7 @@ fn node_prefix(family: Family, bits: u8, place: u128) -> Prefix
     ensures valid { IsAddressPrefix result }
     ensures block { block_of result ≡ node_block (width_of family) bits place }
 {
-    let len = family.width() - bits;
-    let start = shifted(place, bits, family);
-    Prefix::new(Addr::new(family, start).unwrap(), len).unwrap()
+    block_prefix(family, shifted(place, bits, family), bits)
 }
 
 /// The places of the halves of a block.
@@ -88,37 +107,68 @@ impl<V: LawfulOrd> Table<Option<V>> {
             }
         }
     }
-}
 
-impl<V: LawfulOrd> Nested<V> {
-    /// Appends the rows of a trie of destinations, in order.
-    pub fn push_all(
+    /// Whether the trie of a number is a leaf that answers nothing.
+    fn answers_nothing(&self, number: NodeNumber) -> bool
+        requires { number.0 < length self.now.nodes.items }
+        ensures { result ≡ true → Represents self.now.nodes.items number.0 (leaf None) }
+    {
+        match self.node(number) {
+            Node::Leaf(None) => true,
+            _ => false,
+        }
+    }
+
+    /// Appends the rows of the largest blocks from one destination to another, in order, all with the same sources.
+    fn push_blocks(
         &self,
-        number: NodeNumber,
+        sources: NodeNumber,
         family: Family,
-        bits: u8,
-        place: u128,
+        from: u128,
+        last: u128,
         out: &mut Vec<Row<V>>,
     ) -> Result<(), AllocError>
-        requires trie { HasNested (width_of family) bits self.now.sources.nodes.items self.now.destinations.nodes.items number.0 }
-        requires bits { bits ≤ width_of family }
-        requires place { place < 2 ^ (width_of family - bits) }
+        requires trie { HasTrie (width_of family) self.now.nodes.items sources.0 }
+        requires some { from ≤ last }
+        requires fits { last < 2 ^ width_of family }
         ensures entries { OnOk result (All (IsEntryIn family) out.old.items → All (IsEntryIn family) out.new.items) }
-        ensures rows { OnOk result ((t : Shape NodeNumber) → Represents self.now.destinations.nodes.items number.0 t → map row_of out.new.items ≡ map row_of out.old.items ++ rows_of (width_of family) (leaves (width_of family) bits place (shape_map (sources_at (width_of family) self.now.sources.nodes.items) t))) }
+        ensures rows { OnOk result (map row_of out.new.items ≡ map row_of out.old.items ++ rows_of (width_of family) (each_with (sources_at (width_of family) self.now.nodes.items sources) (largest_in (width_of family) from last))) }
     {
-        match self.destinations.node(number) {
-            Node::Leaf(trie) => {
-                let dst = node_prefix(family, bits, place);
-                self.sources
-                    .push_rows(trie, family, dst, family.width(), 0, out)?;
-                Ok(())
+        let width = family.width();
+        let mut at = from;
+        loop {
+            let bits = first_bits(at, last);
+            let dst = block_prefix(family, at, bits);
+            self.push_rows(sources, family, dst, width, 0, out)?;
+            let end = last_address(at, bits);
+            if end == last {
+                return Ok(());
             }
-            Node::Fork(low, high) => {
-                let (low_place, high_place) = places(family, bits, place);
-                self.push_all(low, family, bits - 1, low_place, out)?;
-                self.push_all(high, family, bits - 1, high_place, out)?;
-                Ok(())
-            }
+            at = end + 1;
         }
+    }
+
+    /// Appends the rows of a list of changes, in order.
+    pub fn push_runs(
+        &self,
+        runs: &[Change<NodeNumber>],
+        family: Family,
+        out: &mut Vec<Row<V>>,
+    ) -> Result<(), AllocError>
+        requires runs { AreRuns runs.now }
+        requires below { StartBelow (2 ^ width_of family) runs.now }
+        requires each { (x : Change NodeNumber) → Listed runs.now x → HasTrie (width_of family) self.now.nodes.items x.sources.0 }
+        ensures entries { OnOk result (All (IsEntryIn family) out.old.items → All (IsEntryIn family) out.new.items) }
+        ensures rows { OnOk result (map row_of out.new.items ≡ map row_of out.old.items ++ run_rows (width_of family) self.now.nodes.items runs.now) }
+    {
+        let top = last_address(0, family.width());
+        let mut rest = runs;
+        while let Some((run, later)) = rest.split_first() {
+            if !self.answers_nothing(run.sources) {
+                self.push_blocks(run.sources, family, run.start, run_last(top, later), out)?;
+            }
+            rest = later;
+        }
+        Ok(())
     }
 }

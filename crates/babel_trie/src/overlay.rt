@@ -4,12 +4,11 @@ ghost use Rattle.babel_trie.specs.Shape.{Shape};
 ghost use Rattle.babel_trie.specs.Interned.{Represents, HasTrie};
 ghost use Rattle.babel_trie.specs.Laid.{HasOneDestination, IsSet, IsOverlaid};
 ghost use Rattle.babel_prefix.specs.Entries.{row_of};
-ghost use Rattle.babel_trie.specs.Rows.{side_block, InBlock, IsPlace};
+ghost use Rattle.babel_trie.specs.Rows.{source_block, InBlock, IsPlace};
 ghost use Rattle.babel_trie.specs.Sound.{IsSound, KeepsNodes};
-ghost use Rattle.babel_trie.specs.declared.rows.Side.TheVariants.{Source};
 
 use crate::lawful::LawfulOrd;
-use crate::rows::{Row, Side};
+use crate::rows::{Row, parts};
 use crate::table::{Node, NodeNumber, Table};
 use std::alloc::AllocError;
 
@@ -42,14 +41,14 @@ impl<V: LawfulOrd> Table<Option<V>> {
         requires sound { IsSound ⟦<Node<Option<V>> as Ord>⟧.cmp self.old.nodes.items self.old.numbers }
         requires trie { HasTrie bits self.old.nodes.items old.0 }
         requires place { IsPlace width bits start }
-        requires rows { InBlock (side_block Source) width bits start rows.now }
+        requires rows { InBlock source_block width bits start rows.now }
         requires one { HasOneDestination rows.now }
         requires width { width ≤ 128 }
         ensures sound { OnOk result (IsSound ⟦<Node<Option<V>> as Ord>⟧.cmp self.new.nodes.items self.new.numbers) }
         ensures keeps { OnOk result (KeepsNodes self.old.nodes.items self.new.nodes.items) }
         ensures overlaid { IfOk result (λ n. (t : Shape (Option V)) → Represents self.old.nodes.items old.0 t → IsOverlaid width bits start (map row_of rows.now) self.new.nodes.items n.0 t) }
     {
-        let (own, rest) = Side::Source.parts(rows, width, bits, start);
+        let (own, rest) = parts(rows, width, bits, start);
         let old = self.set(own, old)?;
         let Some(rest) = rest else {
             return Ok(old);

@@ -1,10 +1,10 @@
 //! Rows in order, and their parts.
-ghost use Rattle.std.specs.Prelude.{◌≡◌, ◌≢◌, ◌+◌, ◌-◌, ◌^◌, ◌++◌, ◌<◌, ◌≤◌, ◌==◌, nat_lt, List, All, IfOk, IfSome, IfNone};
-ghost use Rattle.std.specs.List.Sorted.{IsPartitionedBy, IsPermutation};
+ghost use Rattle.std.specs.Prelude.{◌≡◌, ◌≢◌, ◌+◌, ◌-◌, ◌^◌, ◌++◌, ◌<◌, ◌≤◌, ◌==◌, nat_lt, List, All, IfOk, IfSome, IfNone, true, false, length};
+ghost use Rattle.std.specs.List.Sorted.{IsPartitionedBy, IsPartitionPoint, IsPermutation};
 ghost use Rattle.babel_prefix.specs.Entries.{HasPrefixes};
 ghost use Rattle.babel_prefix.specs.Members.{Listed};
 ghost use Rattle.babel_trie.specs.Held.{RowOrder};
-ghost use Rattle.babel_trie.specs.Rows.{InOrder, InBlock, IsPlace, AreParted, side_of, side_block};
+ghost use Rattle.babel_trie.specs.Rows.{InOrder, InBlock, IsPlace, AreParted, source_block};
 
 use babel_prefix::Prefix;
 use std::alloc::{AllocError, Global};
@@ -50,69 +50,83 @@ fn upper_start(start: u128, bits: u8) -> u128
     start + (1 << (bits - 1))
 }
 
-/// Which prefix of a row is looked at.
-#[derive(Clone, Copy)]
-pub enum Side {
-    Destination,
-    Source,
+/// How many rows have a source of this length, which come first.
+fn own_count<V>(rows: &[Row<V>], len: u8) -> usize
+    requires { IsPartitionedBy (λ x. (source_block x).len == len) rows.now }
+    ensures within { result ≤ length rows.now }
+    ensures point { IsPartitionPoint (λ x. ((source_block x).len == len) ≡ true) (λ x. ((source_block x).len == len) ≡ false) rows.now result }
+{
+    if rows.is_empty() {
+        return 0;
+    }
+    if rows[0].1.len() != len {
+        return 0;
+    }
+    rows.partition_point(|row| row.1.len() == len)
 }
 
-impl Side {
-    /// The prefix of this side.
-    pub fn of<V>(self, row: &(Prefix, Prefix, V)) -> Prefix
-        ensures { result ≡ side_of self row.now }
-    {
-        match self {
-            Side::Destination => row.0,
-            Side::Source => row.1,
-        }
+/// How many rows have a source that starts below an address, which come first.
+fn low_count<V>(rows: &[Row<V>], middle: u128) -> usize
+    requires { IsPartitionedBy (λ x. nat_lt (source_block x).start middle) rows.now }
+    ensures within { result ≤ length rows.now }
+    ensures point { IsPartitionPoint (λ x. nat_lt (source_block x).start middle ≡ true) (λ x. nat_lt (source_block x).start middle ≡ false) rows.now result }
+{
+    if rows.is_empty() {
+        return 0;
     }
+    let last = rows.len() - 1;
+    if rows[last].1.addr().bits() < middle {
+        return rows.len();
+    }
+    if rows[0].1.addr().bits() >= middle {
+        return 0;
+    }
+    rows.partition_point(|row| row.1.addr().bits() < middle)
+}
 
-    /// The rows of this length, which come first, and the others.
-    fn own_and_rest<V>(self, rows: &[Row<V>], len: u8) -> (&[Row<V>], &[Row<V>])
-        requires { IsPartitionedBy (λ x. (side_block self x).len == len) rows.now }
-        ensures parts { rows.now ≡ result.0.now ++ result.1.now }
-        ensures own { (x : _) → Listed result.0.now x → (side_block self x).len ≡ len }
-        ensures rest { (x : _) → Listed result.1.now x → (side_block self x).len ≢ len }
-    {
-        let own = rows.partition_point(|row| self.of(row).len() == len);
-        rows.split_at(own)
-    }
+/// The rows with a source of this length, which come first, and the others.
+fn own_and_rest<V>(rows: &[Row<V>], len: u8) -> (&[Row<V>], &[Row<V>])
+    requires { IsPartitionedBy (λ x. (source_block x).len == len) rows.now }
+    ensures parts { rows.now ≡ result.0.now ++ result.1.now }
+    ensures own { (x : _) → Listed result.0.now x → (source_block x).len ≡ len }
+    ensures rest { (x : _) → Listed result.1.now x → (source_block x).len ≢ len }
+{
+    let own = own_count(rows, len);
+    rows.split_at(own)
+}
 
-    /// The rows that start below an address, which come first, and the others.
-    fn low_and_high<V>(self, rows: &[Row<V>], middle: u128) -> (&[Row<V>], &[Row<V>])
-        requires { IsPartitionedBy (λ x. nat_lt (side_block self x).start middle) rows.now }
-        ensures parts { rows.now ≡ result.0.now ++ result.1.now }
-        ensures low { (x : _) → Listed result.0.now x → (side_block self x).start < middle }
-        ensures high { (x : _) → Listed result.1.now x → middle ≤ (side_block self x).start }
-    {
-        let low = rows.partition_point(|row| self.of(row).addr().bits() < middle);
-        rows.split_at(low)
-    }
+/// The rows with a source that starts below an address, which come first, and the others.
+fn low_and_high<V>(rows: &[Row<V>], middle: u128) -> (&[Row<V>], &[Row<V>])
+    requires { IsPartitionedBy (λ x. nat_lt (source_block x).start middle) rows.now }
+    ensures parts { rows.now ≡ result.0.now ++ result.1.now }
+    ensures low { (x : _) → Listed result.0.now x → (source_block x).start < middle }
+    ensures high { (x : _) → Listed result.1.now x → middle ≤ (source_block x).start }
+{
+    let low = low_count(rows, middle);
+    rows.split_at(low)
+}
 
-    /// The rows of a block: those of the whole block, and those of its halves, if there are any.
-    pub fn parts<V>(
-        self,
-        rows: &[Row<V>],
-        width: u8,
-        bits: u8,
-        start: u128,
-    ) -> (&[Row<V>], Option<Halves<'_, V>>)
-        requires place { IsPlace width bits start }
-        requires rows { InBlock (side_block self) width bits start rows.now }
-        requires width { width ≤ 128 }
-        ensures first { (rest : List _) × (rows.now ≡ result.0.now ++ rest) }
-        ensures own { (x : _) → Listed result.0.now x → (side_block self x).len ≡ width - bits }
-        ensures none { IfNone result.1 (rows.now ≡ result.0.now) }
-        ensures middle { IfSome result.1 (λ rest. rest.middle ≡ start + 2 ^ (bits - 1)) }
-        ensures halves { IfSome result.1 (λ rest. AreParted (side_block self) width bits start rows.now result.0.now rest.low.now rest.high.now) }
-    {
-        let (own, rest) = self.own_and_rest(rows, width - bits);
-        if rest.is_empty() {
-            return (own, None);
-        }
-        let middle = upper_start(start, bits);
-        let (low, high) = self.low_and_high(rest, middle);
-        (own, Some(Halves { low, high, middle }))
+/// The rows of a block of sources: those of the whole block, and those of its halves, if there are any.
+pub fn parts<V>(
+    rows: &[Row<V>],
+    width: u8,
+    bits: u8,
+    start: u128,
+) -> (&[Row<V>], Option<Halves<'_, V>>)
+    requires place { IsPlace width bits start }
+    requires rows { InBlock source_block width bits start rows.now }
+    requires width { width ≤ 128 }
+    ensures first { (rest : List _) × (rows.now ≡ result.0.now ++ rest) }
+    ensures own { (x : _) → Listed result.0.now x → (source_block x).len ≡ width - bits }
+    ensures none { IfNone result.1 (rows.now ≡ result.0.now) }
+    ensures middle { IfSome result.1 (λ rest. rest.middle ≡ start + 2 ^ (bits - 1)) }
+    ensures halves { IfSome result.1 (λ rest. AreParted source_block width bits start rows.now result.0.now rest.low.now rest.high.now) }
+{
+    let (own, rest) = own_and_rest(rows, width - bits);
+    if rest.is_empty() {
+        return (own, None);
     }
+    let middle = upper_start(start, bits);
+    let (low, high) = low_and_high(rest, middle);
+    (own, Some(Halves { low, high, middle }))
 }

@@ -4,8 +4,7 @@ use Rattle.babel_trie.specs.Interned.{HasTrie}
 use Rattle.babel_trie.specs.Laid.{HasOneDestination, IsOverlaid}
 use Rattle.babel_prefix.specs.Entries.{row_of}
 use Rattle.babel_trie.specs.Shape.{height}
-use Rattle.babel_trie.specs.Rows.{side_block, InBlock, IsPlace}
-use Rattle.babel_trie.specs.declared.rows.Side.TheVariants.{Source}
+use Rattle.babel_trie.specs.Rows.{source_block, InBlock, IsPlace}
 use Rattle.babel_trie.proofs.NumberLaws.{one_trie, Represents-in, Represents-grows, HasTrie-grows}
 use Rattle.babel_trie.proofs.PlaceLaws.{place_low}
 use Rattle.babel_trie.proofs.PartLaws.{some_holds, none_holds, upper_place, upper_rows}
@@ -39,7 +38,7 @@ overlaid-requires g t c κs within =
     let falls : a.bits - 1 < t = omega (arith, c.decreases) in
     let trie : HasTrie (a.bits - 1) nodes c.halves.result.0.0 = tries.0 in
     let place : IsPlace a.width (a.bits - 1) a.start = place_low a.width a.bits a.start c.requires.place parts.some in
-    let rows : InBlock (side_block Source) a.width (a.bits - 1) a.start low = parts.low_in in
+    let rows : InBlock source_block a.width (a.bits - 1) a.start low = parts.low_in in
     let one : HasOneDestination low = one_left low high (one_right own (low ++ high) (subst HasOneDestination parts.whole c.requires.one)) in
     search rules
 
@@ -57,7 +56,7 @@ overlaid-requires-2 g t c κs within =
     let falls : a.bits - 1 < t = omega (arith, c.decreases) in
     let trie : HasTrie (a.bits - 1) c.overlaid.new.self.nodes.items c.halves.result.1.0 = HasTrie-grows (a.bits - 1) nodes c.overlaid.new.self.nodes.items c.in_ok-low.ensures.keeps c.halves.result.1.0 tries.1 in
     let place : IsPlace a.width (a.bits - 1) c.in-Some.rest.middle = upper_place middle parts in
-    let rows : InBlock (side_block Source) a.width (a.bits - 1) c.in-Some.rest.middle high = upper_rows middle parts in
+    let rows : InBlock source_block a.width (a.bits - 1) c.in-Some.rest.middle high = upper_rows middle parts in
     let one : HasOneDestination high = one_right low high (one_right own (low ++ high) (subst HasOneDestination parts.whole c.requires.one)) in
     search rules
 

@@ -1,0 +1,24 @@
+-- The blocks so far are a cut up to the next address, and their rows are listed.
+use Rattle.std.proofs.Common.{◌≡◌, ◌≤◌, ◌-◌, ◌++◌, List, map}
+use Rattle.std.specs.List.{All}
+use Rattle.babel_prefix.specs.Block.{Block}
+use Rattle.babel_prefix.specs.Entries.{row_of}
+use Rattle.babel_prefix.specs.Width.{width_of}
+use Rattle.babel_trie.specs.Held.{sources_at}
+use Rattle.babel_trie.specs.Nested.{IsEntryIn, rows_of}
+use Rattle.babel_trie.specs.Spans.{each_with}
+use Rattle.babel_trie.proofs.Cuts.{IsCutTo}
+use Rattle.babel_trie.proofs.listing.Table+Option+V.push_blocks.Given as goal
+
+abbrev pub invariant-loop-end : goal.invariant-loop-end
+invariant-loop-end g l = record {
+  from_in : l.from ≤ l.at;
+  at_in : l.at ≤ l.last;
+  blocks : List Block;
+  cut : IsCutTo (width_of l.family) l.from l.last l.at blocks;
+  entries : All (IsEntryIn l.family) l.fn.out.items → All (IsEntryIn l.family) l.out.items;
+  rows : map row_of l.out.items ≡ map row_of l.fn.out.items ++ rows_of (width_of l.family) (each_with (sources_at (width_of l.family) l.self.nodes.items l.sources) blocks);
+}
+
+abbrev pub decreases-loop-end : goal.decreases-loop-end
+decreases-loop-end g l = l.last - l.at

@@ -1,0 +1,108 @@
+-- One change's rows after another's.
+use Rattle.std.proofs.Common.{◌≡◌, inl, inr, ℕ, ◌+◌, ◌-◌, ◌^◌, true, List, ◌∷◌, ◌++◌, map, refl, sym, ◌∙◌, ap, subst, arith, rules}
+use Rattle.babel_prefix.specs.Entries.{row_of}
+use Rattle.babel_prefix.specs.Width.{width_of}
+use Rattle.babel_prefix.proofs.Members.{Listed}
+use Rattle.babel_trie.specs.Interned.{HasTrie}
+use Rattle.babel_trie.specs.Spans.{start_or, spans, span_rows, run_rows}
+use Rattle.babel_trie.specs.declared.runs.Change.{Change}
+use Rattle.babel_trie.specs.declared.table.NodeNumber.{NodeNumber}
+use Rattle.babel_trie.proofs.ListLaws.{append_none}
+use Rattle.babel_trie.proofs.NumberLaws.{Represents-in}
+use Rattle.babel_trie.proofs.SpanBlocks.{none_left, start_within}
+use Rattle.babel_trie.proofs.SpanLaws.{IsRising, rising_runs}
+use Rattle.babel_trie.proofs.SpanRows.{rows_more, rows_none}
+use Rattle.babel_trie.proofs.listing.Table+Option+V.push_runs.Goals as goal
+
+pub loop-run-init : goal.loop-run-init
+loop-run-init g c =
+    record {
+      rising = rising_runs (2 ^ width_of c.args.family) c.args.runs.now c.requires.runs c.requires.below;
+      each = c.requires.each;
+      entries = λ old. old;
+      rows = refl;
+    }
+
+pub answers_nothing-requires : goal.answers_nothing-requires
+answers_nothing-requires g c =
+    let w = width_of c.args.family in
+    let run = c.in-Some.run'.now in
+    let later = c.in-Some.later.now in
+    let each = subst (λ (xs : List (Change NodeNumber)). (x : Change NodeNumber) → Listed xs x → HasTrie w c.args.self.now.nodes.items x.sources.0) c.in-Some.ensures.cases.0 c.loop-run.invariant.each in
+    let h = each run (inl refl) in
+    Represents-in c.args.self.now.nodes.items run.sources.0 h.trie h.stands
+
+pub run_last-requires : goal.run_last-requires
+run_last-requires g c =
+    let w = width_of c.args.family in
+    let run = c.in-Some.run'.now in
+    let later = c.in-Some.later.now in
+    let rising : IsRising (2 ^ w) (run ∷ later) = subst (IsRising (2 ^ w)) c.in-Some.ensures.cases.0 c.loop-run.invariant.rising in
+    let top_is : c.last_address-top.result + 1 ≡ 2 ^ w = omega (arith, c.last_address-top.ensures, ap (λ (n : ℕ). 2 ^ n) c.width.ensures) in
+    let same : start_or (c.last_address-top.result + 1) later ≡ start_or (2 ^ w) later = ap (λ (e : ℕ). start_or e later) top_is in
+    omega (arith, rising.0)
+
+pub push_blocks-requires-clause-trie : goal.push_blocks-requires-clause-trie
+push_blocks-requires-clause-trie g c =
+    let w = width_of c.args.family in
+    let run = c.in-Some.run'.now in
+    let later = c.in-Some.later.now in
+    let each = subst (λ (xs : List (Change NodeNumber)). (x : Change NodeNumber) → Listed xs x → HasTrie w c.args.self.now.nodes.items x.sources.0) c.in-Some.ensures.cases.0 c.loop-run.invariant.each in
+    each run (inl refl)
+
+pub push_blocks-requires-clause-some : goal.push_blocks-requires-clause-some
+push_blocks-requires-clause-some g c =
+    let w = width_of c.args.family in
+    let run = c.in-Some.run'.now in
+    let later = c.in-Some.later.now in
+    let rising : IsRising (2 ^ w) (run ∷ later) = subst (IsRising (2 ^ w)) c.in-Some.ensures.cases.0 c.loop-run.invariant.rising in
+    let top_is : c.last_address-top.result + 1 ≡ 2 ^ w = omega (arith, c.last_address-top.ensures, ap (λ (n : ℕ). 2 ^ n) c.width.ensures) in
+    let same : start_or (c.last_address-top.result + 1) later ≡ start_or (2 ^ w) later = ap (λ (e : ℕ). start_or e later) top_is in
+    omega (arith, rising.0, c.run_last.ensures)
+
+pub push_blocks-requires-clause-fits : goal.push_blocks-requires-clause-fits
+push_blocks-requires-clause-fits g c =
+    let w = width_of c.args.family in
+    let run = c.in-Some.run'.now in
+    let later = c.in-Some.later.now in
+    let rising : IsRising (2 ^ w) (run ∷ later) = subst (IsRising (2 ^ w)) c.in-Some.ensures.cases.0 c.loop-run.invariant.rising in
+    let top_is : c.last_address-top.result + 1 ≡ 2 ^ w = omega (arith, c.last_address-top.ensures, ap (λ (n : ℕ). 2 ^ n) c.width.ensures) in
+    let same : start_or (c.last_address-top.result + 1) later ≡ start_or (2 ^ w) later = ap (λ (e : ℕ). start_or e later) top_is in
+    omega (arith, start_within (2 ^ w) later rising.1, c.run_last.ensures)
+
+pub loop-run-preserved-in_ok-push_blocks : goal.loop-run-preserved-in_ok-push_blocks
+loop-run-preserved-in_ok-push_blocks g c =
+    let w = width_of c.args.family in
+    let run = c.in-Some.run'.now in
+    let later = c.in-Some.later.now in
+    let rising : IsRising (2 ^ w) (run ∷ later) = subst (IsRising (2 ^ w)) c.in-Some.ensures.cases.0 c.loop-run.invariant.rising in
+    let top_is : c.last_address-top.result + 1 ≡ 2 ^ w = omega (arith, c.last_address-top.ensures, ap (λ (n : ℕ). 2 ^ n) c.width.ensures) in
+    let same : start_or (c.last_address-top.result + 1) later ≡ start_or (2 ^ w) later = ap (λ (e : ℕ). start_or e later) top_is in
+    let each = subst (λ (xs : List (Change NodeNumber)). (x : Change NodeNumber) → Listed xs x → HasTrie w c.args.self.now.nodes.items x.sources.0) c.in-Some.ensures.cases.0 c.loop-run.invariant.each in
+    let sources = c.args.self.now.nodes.items in
+    let all = map row_of c.args.out.now.items ++ run_rows w sources c.args.runs.now in
+    let rows = subst (λ (xs : List (Change NodeNumber)). map row_of c.loop-run.out.items ++ span_rows w sources (spans (2 ^ w) xs) ≡ all) c.in-Some.ensures.cases.0 c.loop-run.invariant.rows in
+    record {
+      rising = rising.1;
+      each = λ x t. each x (inr t);
+      entries = λ old. c.in_ok-push_blocks.ensures.entries (c.loop-run.invariant.entries old);
+      rows = rows_more w sources (2 ^ w) c.run_last.result run later (map row_of c.loop-run.out.items) (map row_of c.push_blocks.new.out.items) all (omega (arith, c.run_last.ensures)) c.in_ok-push_blocks.ensures.rows rows;
+    }
+
+pub loop-run-preserved : goal.loop-run-preserved
+loop-run-preserved g c =
+    let w = width_of c.args.family in
+    let run = c.in-Some.run'.now in
+    let later = c.in-Some.later.now in
+    let each = subst (λ (xs : List (Change NodeNumber)). (x : Change NodeNumber) → Listed xs x → HasTrie w c.args.self.now.nodes.items x.sources.0) c.in-Some.ensures.cases.0 c.loop-run.invariant.each in
+    let sources = c.args.self.now.nodes.items in
+    let all = map row_of c.args.out.now.items ++ run_rows w sources c.args.runs.now in
+    let rows = subst (λ (xs : List (Change NodeNumber)). map row_of c.loop-run.out.items ++ span_rows w sources (spans (2 ^ w) xs) ≡ all) c.in-Some.ensures.cases.0 c.loop-run.invariant.rows in
+    let rising : IsRising (2 ^ w) (run ∷ later) = subst (IsRising (2 ^ w)) c.in-Some.ensures.cases.0 c.loop-run.invariant.rising in
+    let nothing : c.answers_nothing.result ≡ true = search rules in
+    record {
+      rising = rising.1;
+      each = λ x t. each x (inr t);
+      entries = c.loop-run.invariant.entries;
+      rows = rows_none w sources (2 ^ w) run later (map row_of c.loop-run.out.items) all (each run (inl refl)) (c.answers_nothing.ensures nothing) rows;
+    }

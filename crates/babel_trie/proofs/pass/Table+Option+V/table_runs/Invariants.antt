@@ -1,0 +1,23 @@
+-- The rows that are gone and the rest are the rows, and the pass has come to the answers of those that are gone.
+use Rattle.std.proofs.Common.{◌≡◌, ◌+◌, ◌*◌, ◌≤◌, ◌++◌, List, length}
+use Rattle.std.specs.Option.{option_cmp}
+use Rattle.babel_prefix.specs.Entries.{Entry}
+use Rattle.babel_trie.specs.Pass.{IsOpen, ahead_of}
+use Rattle.babel_trie.specs.Sound.{IsSound, KeepsNodes}
+use Rattle.babel_trie.proofs.NodeLaws.{node_cmp}
+use Rattle.babel_trie.proofs.PassLaws.{AreSoFar}
+use Rattle.babel_trie.proofs.pass.Table+Option+V.table_runs.Given as goal
+
+abbrev pub invariant-loop-next : goal.invariant-loop-next
+invariant-loop-next g l = record {
+  gone : List (Entry g.row.V.Denot);
+  parts : l.rows ≡ gone ++ l.rest;
+  sound : IsSound (node_cmp (option_cmp g.V.Ord.cmp)) l.self.nodes.items l.self.numbers;
+  keeps : KeepsNodes l.fn.self.nodes.items l.self.nodes.items;
+  is_open : IsOpen l.pass;
+  so_far : AreSoFar l.width gone l.rest l.self.nodes.items l.pass.list.items l.pass.now (ahead_of l.pass);
+  few : length l.pass.list.items + length l.pass.ahead.items ≤ 2 * length gone;
+}
+
+abbrev pub decreases-loop-next : goal.decreases-loop-next
+decreases-loop-next g l = length l.rest

@@ -1,0 +1,56 @@
+-- What is answered from an address on, as a list of the addresses at which that changes: this project's own, over the best
+-- match of RFC 9079, 4.
+use Rattle.std.specs.Prelude.{◌≡◌, ◌≢◌, ℕ, ◌^◌, ◌<◌, ◌≤◌, cond, nat_le, List, [], ◌∷◌, Option}
+use Rattle.babel_prefix.specs.Members.{Listed}
+use Rattle.babel_trie.specs.Boxes.{Answers, SameAnswers}
+use Rattle.babel_trie.specs.Held.{sources_at}
+use Rattle.babel_trie.specs.Shape.{value_at}
+use Rattle.babel_trie.specs.Interned.{HasTrie}
+use Rattle.babel_trie.specs.declared.runs.Change.{Change}
+use Rattle.babel_trie.specs.declared.table.Node.{Node}
+use Rattle.babel_trie.specs.declared.table.NodeNumber.{NodeNumber}
+
+module _ {F : Type 0} where
+  -- what the last change that is not above the address says, or `none` where there is none
+  abbrev pub said_at : F → List (Change F) → ℕ → F
+  said_at none [] d = none
+  said_at none (x ∷ xs) d = said_at (cond (nat_le x.start d) x.sources none) xs d
+
+  -- starts rise, and neighbours differ
+  abbrev pub AreRuns : List (Change F) → Type 0
+  AreRuns [] = Unit {0}
+  AreRuns (x ∷ []) = Unit {0}
+  AreRuns (x ∷ y ∷ ys) = (x.start < y.start) × (x.sources ≢ y.sources) × AreRuns (y ∷ ys)
+
+  -- each starts below the address
+  abbrev pub StartBelow : ℕ → List (Change F) → Type 0
+  StartBelow at list = (x : Change F) → Listed list x → x.start < at
+
+  -- each starts behind the address
+  abbrev pub StartBehind : ℕ → List (Change F) → Type 0
+  StartBehind at list = (x : Change F) → Listed list x → at < x.start
+
+  -- each starts there or behind
+  abbrev pub StartFrom : ℕ → List (Change F) → Type 0
+  StartFrom at list = (x : Change F) → Listed list x → at ≤ x.start
+
+  -- the lists say these two different things at this address, and the same below it
+  pub record AreFirstApart (none : F) (left right : List (Change F)) (last at : ℕ) (here there : F) : Type 0 where
+    pub in_range : at ≤ last
+    pub here_is : here ≡ said_at none left at
+    pub there_is : there ≡ said_at none right at
+    pub apart : here ≢ there
+    pub same_below : (d : ℕ) → d < at → said_at none left d ≡ said_at none right d
+
+module _ {V : Type 0} where
+  -- the answers of a list of changes
+  abbrev pub run_answers : ℕ → List (Node (Option V)) → NodeNumber → List (Change NodeNumber) → Answers V
+  run_answers w sources none list d = value_at (sources_at w sources (said_at none list d)) w
+
+  -- the list says at each address the number of a trie, and all together have these answers
+  pub record HasRuns (w : ℕ) (sources : List (Node (Option V))) (list : List (Change NodeNumber))
+      (f : Answers V) : Type 0 where
+    pub runs : AreRuns list
+    pub below : StartBelow (2 ^ w) list
+    pub each : (none : NodeNumber) (d : ℕ) → d < 2 ^ w → HasTrie w sources (said_at none list d).0
+    pub answers : (none : NodeNumber) → SameAnswers w (run_answers w sources none list) f

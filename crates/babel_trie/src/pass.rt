@@ -1,0 +1,195 @@
+//! The addresses at which the answers change from one destination to the next, found in one pass over sorted rows.
+ghost use Rattle.std.specs.Prelude.{◌≡◌, ◌≢◌, ◌⊎◌, ℕ, ◌+◌, ◌-◌, ◌*◌, ◌^◌, ◌<◌, ◌≤◌, ◌++◌, List, [], map, length, slice_get, Option, Some, true, false, IfOk, IfSome, IfNone, OnOk};
+ghost use Rattle.babel_prefix.specs.Address.{block_of};
+ghost use Rattle.babel_prefix.specs.Best.{IsTable, answer};
+ghost use Rattle.babel_prefix.specs.Entries.{row_of};
+ghost use Rattle.babel_prefix.specs.Members.{Listed};
+ghost use Rattle.babel_trie.specs.Held.{RowOrder};
+ghost use Rattle.babel_trie.specs.Pass.{IsFilled, IsOpen, ahead_of, coming, all_changes};
+ghost use Rattle.babel_trie.specs.Rows.{InOrder};
+ghost use Rattle.babel_trie.specs.Runs.{said_at, AreRuns, StartBelow, StartBehind, HasRuns};
+ghost use Rattle.babel_trie.specs.Sound.{IsSound, KeepsNodes};
+ghost use Rattle.babel_trie.specs.declared.runs.Change.{Change};
+ghost use Rattle.babel_trie.specs.declared.table.NodeNumber.{NodeNumber};
+
+use crate::fit::last_address;
+use crate::lawful::LawfulOrd;
+use crate::rows::Row;
+use crate::runs::Change;
+use crate::table::{Node, NodeNumber, Table};
+use babel_prefix::Prefix;
+use std::alloc::{AllocError, Global};
+
+/// Whether the last change is to these answers.
+fn ends_with(list: &[Change<NodeNumber>], sources: NodeNumber) -> bool
+    ensures same { result ≡ true → (x : Change NodeNumber) × (slice_get list.now (length list.now - 1) ≡ Some x) × (x.sources ≡ sources) }
+    ensures other { result ≡ false → (x : Change NodeNumber) → slice_get list.now (length list.now - 1) ≡ Some x → x.sources ≢ sources }
+{
+    let Some(last) = list.last() else {
+        return false;
+    };
+    last.sources == sources
+}
+
+/// Says what is answered from an address on, behind all that was said.
+fn say(out: &mut Vec<Change<NodeNumber>>, change: Change<NodeNumber>) -> Result<(), AllocError>
+    requires runs { AreRuns out.old.items }
+    requires below { StartBelow change.start out.old.items }
+    ensures filled { OnOk result ((to : ℕ) → change.start < to → IsFilled change.start to change.sources out.old.items out.new.items) }
+    ensures one { OnOk result (length out.new.items ≤ length out.old.items + 1) }
+{
+    if ends_with(out, change.sources) {
+        return Ok(());
+    }
+    out.push(change)?;
+    Ok(())
+}
+
+/// The destination of the first row, the rows of this destination, which come first, and the others.
+#[derive(Clone, Copy)]
+struct Leading<'a, V> {
+    destination: Prefix,
+    rows: &'a [Row<V>],
+    others: &'a [Row<V>],
+}
+
+/// The rows that lead, if there are any.
+fn first_destination<V>(rows: &[Row<V>]) -> Option<Leading<'_, V>>
+    ensures none { IfNone result (rows.now ≡ []) }
+    ensures parts { IfSome result (λ r. rows.now ≡ r.rows.now ++ r.others.now) }
+    ensures some { IfSome result (λ r. 0 < length r.rows.now) }
+    ensures one { IfSome result (λ r. (x : _) → Listed r.rows.now x → block_of x.0 ≡ block_of r.destination) }
+{
+    let destination = rows.first()?.0;
+    let mut count = 1usize;
+    while count < rows.len() && rows[count].0 == destination {
+        count += 1;
+    }
+    let (rows, others) = rows.split_at(count);
+    Some(Leading {
+        destination,
+        rows,
+        others,
+    })
+}
+
+/// A pass over rows in order: the changes said, the change come to, which is said once the next one is, and the changes
+/// back behind the blocks that are open, of which the last comes next.
+#[derive(Drop)]
+struct Pass {
+    list: Vec<Change<NodeNumber>>,
+    now: Change<NodeNumber>,
+    ahead: Vec<Change<NodeNumber>>,
+}
+
+impl Pass {
+    /// Comes to a change, and says what is answered up to it.
+    fn come_to(&mut self, next: Change<NodeNumber>) -> Result<(), AllocError>
+        requires runs { AreRuns self.old.list.items }
+        requires below { StartBelow self.old.now.start self.old.list.items }
+        requires order { self.old.now.start ≤ next.start }
+        ensures now { OnOk result (self.new.now ≡ next) }
+        ensures ahead { OnOk result (self.new.ahead.items ≡ self.old.ahead.items) }
+        ensures filled { OnOk result (IsFilled self.old.now.start next.start self.old.now.sources self.old.list.items self.new.list.items) }
+        ensures one { OnOk result (length self.new.list.items ≤ length self.old.list.items + 1) }
+    {
+        if self.now.start < next.start {
+            say(&mut self.list, self.now)?;
+        }
+        self.now = next;
+        Ok(())
+    }
+
+    /// Comes to each change ahead up to an address.
+    fn reach(&mut self, start: u128) -> Result<(), AllocError>
+        requires is_open { IsOpen self.old }
+        requires order { self.old.now.start ≤ start }
+        ensures is_open { OnOk result (IsOpen self.new) }
+        ensures reached { OnOk result (self.new.now.start ≤ start) }
+        ensures behind { OnOk result (StartBehind start (ahead_of self.new)) }
+        ensures same { OnOk result ((none : NodeNumber) (d : ℕ) → said_at none (all_changes self.new) d ≡ said_at none (all_changes self.old) d) }
+        ensures left { OnOk result ((x : Change NodeNumber) → Listed (coming self.new) x → Listed (coming self.old) x) }
+        ensures few { OnOk result (length self.new.list.items + length self.new.ahead.items ≤ length self.old.list.items + length self.old.ahead.items) }
+    {
+        while let Some(next) = self.ahead.last() {
+            let next = *next;
+            if start < next.start {
+                break;
+            }
+            let _ = self.ahead.pop();
+            self.come_to(next)?;
+        }
+        Ok(())
+    }
+
+    /// Comes to the sources of a block, which ends at an address; behind it, if it is not the end of all, come those
+    /// of now again.
+    fn enter(
+        &mut self,
+        start: u128,
+        end: u128,
+        last: u128,
+        sources: NodeNumber,
+    ) -> Result<(), AllocError>
+        requires is_open { IsOpen self.old }
+        requires order { self.old.now.start ≤ start }
+        requires some { start ≤ end }
+        requires behind { StartBehind end (ahead_of self.old) }
+        ensures is_open { OnOk result (IsOpen self.new) }
+        ensures now { OnOk result (self.new.now.start ≡ start) }
+        ensures inside { OnOk result ((none : NodeNumber) (d : ℕ) → start ≤ d → d ≤ end → said_at none (all_changes self.new) d ≡ sources) }
+        ensures outside { OnOk result ((none : NodeNumber) (d : ℕ) → (d < start) ⊎ (end < d) → d ≤ last → said_at none (all_changes self.new) d ≡ said_at none (all_changes self.old) d) }
+        ensures ahead { OnOk result ((x : Change NodeNumber) → Listed (ahead_of self.new) x → ((x.start ≡ end + 1) × (end < last)) ⊎ Listed (ahead_of self.old) x) }
+        ensures few { OnOk result (length self.new.list.items + length self.new.ahead.items ≤ length self.old.list.items + length self.old.ahead.items + 2) }
+    {
+        if end < last {
+            self.ahead.push(Change {
+                start: end + 1,
+                sources: self.now.sources,
+            })?;
+        }
+        self.come_to(Change { start, sources })?;
+        Ok(())
+    }
+}
+
+impl<V: LawfulOrd> Table<Option<V>> {
+    /// The changes of the answers of rows in order that are a table of this width.
+    pub fn table_runs(
+        &mut self,
+        alloc: Global,
+        width: u8,
+        rows: &[Row<V>],
+    ) -> Result<Vec<Change<NodeNumber>>, AllocError>
+        requires sound { IsSound ⟦<Node<Option<V>> as Ord>⟧.cmp self.old.nodes.items self.old.numbers }
+        requires order { InOrder RowOrder rows.now }
+        requires table { IsTable width (map row_of rows.now) }
+        requires width { width ≤ 128 }
+        ensures sound { OnOk result (IsSound ⟦<Node<Option<V>> as Ord>⟧.cmp self.new.nodes.items self.new.numbers) }
+        ensures keeps { OnOk result (KeepsNodes self.old.nodes.items self.new.nodes.items) }
+        ensures runs { IfOk result (λ list. HasRuns width self.new.nodes.items list.items (answer width (map row_of rows.now))) }
+        ensures few { IfOk result (λ list. length list.items ≤ 2 * length rows.now + 1) }
+    {
+        let last = last_address(0, width);
+        let mut pass = Pass {
+            list: Vec::new(alloc),
+            now: Change {
+                start: 0,
+                sources: self.leaf(None)?,
+            },
+            ahead: Vec::new(alloc),
+        };
+        let mut rest = rows;
+        while let Some(next) = first_destination(rest) {
+            let start = next.destination.addr().bits();
+            let end = last_address(start, width - next.destination.len());
+            pass.reach(start)?;
+            let here = self.overlaid(next.rows, width, width, 0, pass.now.sources)?;
+            pass.enter(start, end, last, here)?;
+            rest = next.others;
+        }
+        pass.reach(last)?;
+        say(&mut pass.list, pass.now)?;
+        Ok(pass.list)
+    }
+}

@@ -1,0 +1,53 @@
+//! The addresses at which the answers change from one destination to the next.
+ghost use Rattle.std.specs.Prelude.{◌≡◌, ℕ, ◌+◌, ◌*◌, ◌≤◌, length, Option, All, IfOk, OnOk};
+ghost use Rattle.babel_prefix.specs.Entries.{AreOfFamily, HasDistinctPrefixes, answers_in};
+ghost use Rattle.babel_prefix.specs.Width.{width_of};
+ghost use Rattle.babel_trie.specs.Runs.{said_at, AreRuns, HasRuns};
+ghost use Rattle.babel_trie.specs.Sound.{IsSound, KeepsNodes};
+ghost use Rattle.babel_trie.specs.Spans.{start_or};
+ghost use Rattle.babel_trie.specs.declared.table.NodeNumber.{NodeNumber};
+
+use crate::lawful::LawfulOrd;
+use crate::rows::{Row, sorted_rows};
+use crate::table::{Node, NodeNumber, Table};
+use babel_prefix::Family;
+use std::alloc::{AllocError, Global};
+
+/// What is answered for each source from this destination on.
+#[derive(Clone, Copy)]
+pub struct Change<F> {
+    pub start: u128,
+    pub sources: F,
+}
+
+/// What is answered for a destination.
+pub fn sources_of(list: &[Change<NodeNumber>], dst: u128) -> NodeNumber
+    requires runs { AreRuns list.now }
+    requires from_zero { start_or 1 list.now ≡ 0 }
+    ensures { (none : NodeNumber) → result ≡ said_at none list.now dst }
+{
+    let behind = list.partition_point(|change| change.start <= dst);
+    list[behind - 1].sources
+}
+
+impl<V: LawfulOrd> Table<Option<V>> {
+    /// The changes of the answers of these rows, in whatever order they stand.
+    pub fn runs(
+        &mut self,
+        alloc: Global,
+        family: Family,
+        rows: &[Row<V>],
+    ) -> Result<Vec<Change<NodeNumber>>, AllocError>
+        requires sound { IsSound ⟦<Node<Option<V>> as Ord>⟧.cmp self.old.nodes.items self.old.numbers }
+        requires family { All (AreOfFamily family) rows.now }
+        requires prefixes { HasDistinctPrefixes rows.now }
+        ensures sound { OnOk result (IsSound ⟦<Node<Option<V>> as Ord>⟧.cmp self.new.nodes.items self.new.numbers) }
+        ensures keeps { OnOk result (KeepsNodes self.old.nodes.items self.new.nodes.items) }
+        ensures runs { IfOk result (λ list. HasRuns (width_of family) self.new.nodes.items list.items (answers_in family rows.now)) }
+        ensures few { IfOk result (λ list. length list.items ≤ 2 * length rows.now + 1) }
+    {
+        let sorted = sorted_rows(alloc, rows)?;
+        let list = self.table_runs(alloc, family.width(), &sorted)?;
+        Ok(list)
+    }
+}
