@@ -1,28 +1,20 @@
 -- Rows laid over the sources inherited from outside, destination by destination.
-use Rattle.std.proofs.Common.{◌≡◌, append-nil, inl, inr, ℕ, ◌+◌, ◌-◌, ◌*◌, ◌^◌, ◌<◌, ◌≤◌, List, [], ◌∷◌, ◌++◌, Option, map, cond, refl, sym, ◌∙◌, ap, subst, arith}
-use Rattle.std.proofs.lemmas.List.{map-append}
-use Rattle.std.proofs.lemmas.Bool.{cases_lt, cases_Bool}
+use Rattle.std.proofs.Common.{◌≡◌, inl, inr, ℕ, ◌+◌, ◌-◌, ◌^◌, ◌<◌, List, [], ◌∷◌, ◌++◌, Option, map, refl, sym, ◌∙◌, subst, arith}
 use Rattle.std.proofs.lemmas.Nat.{pow_pos}
 use Rattle.babel_prefix.specs.Block.{BlockCovers}
 use Rattle.babel_prefix.specs.Address.{block_of}
-use Rattle.babel_prefix.specs.Best.{Row, IsNoLonger}
+use Rattle.babel_prefix.specs.Best.{Row}
 use Rattle.babel_prefix.specs.Entries.{Entry, row_of}
-use Rattle.babel_trie.specs.Shape.{Shape, leaf, height, value_at, is_low, IsReduced}
-use Rattle.babel_trie.specs.Interned.{Represents, HasTrie, IsJoined}
-use Rattle.babel_trie.specs.Sound.{KeepsNodes}
+use Rattle.babel_trie.specs.Shape.{Shape, value_at}
 use Rattle.babel_prefix.proofs.Members.{Listed}
-use Rattle.babel_trie.specs.Rows.{InOrder, IsNoLater, IsPlace, InBlock, Overlays, side_block, AreParted}
+use Rattle.babel_trie.specs.Rows.{InOrder, IsNoLater, IsPlace, InBlock, Overlays, side_block}
 use Rattle.babel_trie.specs.Laid.{HasOneDestination, IsOverlaid, IsSorted}
 use Rattle.babel_trie.specs.declared.table.Node.{Node}
-use Rattle.babel_trie.specs.declared.table.NodeNumber.{NodeNumber}
 use Rattle.babel_trie.specs.declared.rows.Side.TheVariants.{Source, Destination}
-use Rattle.babel_trie.proofs.BitLaws.{pow_twice}
-use Rattle.babel_trie.proofs.Reduced.{value_at-low, value_at-high}
 use Rattle.babel_prefix.proofs.Members.{Listed-append_left, Listed-append_right}
 use Rattle.babel_prefix.proofs.BlockLaws.{same_block}
-use Rattle.babel_trie.proofs.NumberLaws.{one_trie, Represents-grows, HasTrie-grows}
 use Rattle.babel_trie.proofs.PlaceLaws.{whole_covers, InOrder-left, InOrder-right}
-use Rattle.babel_trie.proofs.PartLaws.{from_map, high_is_apart, low_is_apart, mapped_parts, overlays_low, overlays_high}
+use Rattle.babel_trie.proofs.PartLaws.{from_map}
 
 module _ {V : Type 0} where
   sorted_left : (w : ℕ) (xs ys : List (Entry V)) → IsSorted w (xs ++ ys) → IsSorted w xs

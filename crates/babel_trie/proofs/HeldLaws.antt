@@ -1,5 +1,5 @@
 -- What a number stands for, and sorted rows of a table.
-use Rattle.std.proofs.Common.{◌≡◌, ℕ, zero, suc, ◌<◌, ◌≤◌, List, Option, None, map, ◌∙◌, ap, arith}
+use Rattle.std.proofs.Common.{◌≡◌, ℕ, zero, suc, ◌<◌, List, Option, None, map, ◌∙◌, ap, arith}
 use Rattle.babel_prefix.specs.Address.{block_of}
 use Rattle.babel_prefix.specs.Best.{IsTable}
 use Rattle.babel_prefix.specs.Entries.{Entry, row_of}

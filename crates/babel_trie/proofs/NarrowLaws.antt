@@ -1,25 +1,13 @@
 -- Rows within a block that lie in a lesser block, and what they make of the block.
-use Rattle.std.proofs.Common.{◌≡◌, ◌⊎◌, append-nil, inl, inr, ℕ, zero, suc, ◌+◌, ◌-◌, ◌*◌, ◌/◌, ◌%◌, ◌^◌, ◌<◌, ◌≤◌, true, List, [], ◌∷◌, ◌++◌, length, Option, Some, None, map, refl, sym, ◌∙◌, ap, subst, arith}
+use Rattle.std.proofs.Common.{◌≡◌, ◌⊎◌, inl, inr, ℕ, zero, suc, ◌+◌, ◌-◌, ◌*◌, ◌/◌, ◌%◌, ◌^◌, ◌<◌, ◌≤◌, List, [], ◌∷◌, length, Some, refl, sym, ◌∙◌, ap, subst, arith}
 use Rattle.std.specs.List.{slice_get}
 use Rattle.std.proofs.lemmas.Bool.{cases_lt}
-use Rattle.std.proofs.lemmas.Nat.{pow_pos, pow-add, shl-shr, mod_below, mod-pow-add}
+use Rattle.std.proofs.lemmas.Nat.{pow_pos, pow-add, mod_below, mod-pow-add}
 use Rattle.std.proofs.Math.Nat.{div-lt_iff_lt-mul, le-div_iff_mul-le, div-add-mod', mod-eq_of_lt}
 use Rattle.std.proofs.Math.Pow.{shr_mono, pow_mono}
-use Rattle.babel_prefix.specs.Block.{Block, BlockCovers, IsBlock}
-use Rattle.babel_prefix.specs.Address.{block_of}
-use Rattle.babel_prefix.specs.Entries.{Entry, row_of}
+use Rattle.babel_prefix.specs.Block.{Block, IsBlock}
 use Rattle.babel_prefix.proofs.Members.{Listed}
-use Rattle.babel_trie.specs.Interned.{Represents}
-use Rattle.babel_trie.specs.Laid.{IsOverlaid, IsSorted}
-use Rattle.babel_trie.specs.Rows.{InOrder, IsNoLater, IsPlace, InBlock, AreParted, side_block}
-use Rattle.babel_trie.specs.Shape.{Shape, leaf, fork, height, value_at}
-use Rattle.babel_trie.specs.declared.rows.Side.TheVariants.{Destination}
-use Rattle.babel_trie.specs.declared.table.Node.{Node}
-use Rattle.babel_trie.specs.declared.table.NodeNumber.{NodeNumber}
-use Rattle.babel_trie.proofs.BitLaws.{pow_twice}
-use Rattle.babel_trie.proofs.NumberLaws.{one_trie}
-use Rattle.babel_trie.proofs.PlaceLaws.{place_low, place_high}
-use Rattle.babel_trie.proofs.Reduced.{halves_of_fork}
+use Rattle.babel_trie.specs.Rows.{InOrder, IsNoLater, IsPlace, InBlock}
 
 module _ {X : Type 0} (R : X → X → Type 0) where
   from_first : (rows : List X) (f : X) → InOrder R rows → slice_get rows 0 ≡ Some f → (z : X) → Listed rows z → (f ≡ z) ⊎ R f z
