@@ -1,10 +1,10 @@
 -- The first difference of two tries, from those of their halves.
-use Rattle.std.proofs.Common.{◌≡◌, ◌≢◌, inl, inr, ℕ, ◌+◌, ◌-◌, ◌*◌, ◌^◌, ◌<◌, ◌≤◌, List, Option, Some, sym, ◌∙◌, ap, subst, arith}
+use Rattle.std.proofs.Common.{◌≡◌, ◌≢◌, inl, inr, ℕ, ◌+◌, ◌-◌, ◌*◌, ◌^◌, ◌<◌, ◌≤◌, List, Some, sym, ◌∙◌, ap, subst, arith}
 use Rattle.std.proofs.lemmas.Bool.{cases_lt}
 use Rattle.std.proofs.Math.Pow.{pow_mono}
 use Rattle.std.proofs.lemmas.Nat.{pow_pos}
 use Rattle.babel_trie.specs.Boxes.{Answers, IsLeastDifference}
-use Rattle.babel_trie.specs.Differs.{AgreeBelow, DifferFirst, AgreeBelowBoth, DifferFirstAt}
+use Rattle.babel_trie.specs.Differs.{AgreeBelow, DifferFirst, DifferFirstAt}
 use Rattle.std.specs.List.{slice_get}
 use Rattle.babel_trie.specs.declared.table.Node.TheVariants.{Leaf}
 use Rattle.babel_trie.specs.Shape.{Shape, leaf, fork, height, value_at}

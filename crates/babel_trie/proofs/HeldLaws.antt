@@ -1,6 +1,10 @@
 -- What a number stands for, and sorted rows of a table.
-use Rattle.std.proofs.Common.{◌≡◌, ℕ, zero, suc, ◌<◌, List, Option, None, ◌∙◌, ap, arith}
-use Rattle.babel_trie.specs.Held.{trie_at, node_trie, sources_at}
+use Rattle.std.proofs.Common.{◌≡◌, ℕ, zero, suc, ◌<◌, List, Option, None, map, ◌∙◌, ap, arith}
+use Rattle.babel_prefix.specs.Address.{block_of}
+use Rattle.babel_prefix.specs.Best.{IsTable}
+use Rattle.babel_prefix.specs.Entries.{Entry, row_of}
+use Rattle.babel_prefix.proofs.Members.{Listed, Contains-from_Listed}
+use Rattle.babel_trie.specs.Held.{trie_at, node_trie, sources_at, RowOrder}
 use Rattle.babel_trie.specs.Interned.{Represents, HasTrie}
 use Rattle.babel_trie.specs.Shape.{Shape, leaf, fork, height}
 use Rattle.babel_trie.specs.declared.table.Node.{Node}

@@ -1,18 +1,18 @@
 -- The list of the largest blocks in a range, half by half.
-use Rattle.std.proofs.Common.{◌≡◌, inl, inr, ℕ, zero, suc, ◌+◌, ◌-◌, ◌*◌, ◌%◌, ◌^◌, ◌<◌, ◌≤◌, ◌&&◌, nat_le, Bool, true, false, cond, List, [], ◌∷◌, ◌++◌, refl, sym, ◌∙◌, ap, subst, arith}
+use Rattle.std.proofs.Common.{◌≡◌, inl, inr, ℕ, zero, suc, ◌+◌, ◌-◌, ◌*◌, ◌%◌, ◌^◌, ◌<◌, ◌≤◌, ◌&&◌, nat_le, Bool, cond, List, [], ◌∷◌, ◌++◌, refl, sym, ◌∙◌, ap, subst, arith}
 use Rattle.std.proofs.lemmas.Bool.{cases_lt, cases_Bool, false≢true, and_parts, and_from, leb-true, le-leb}
 use Rattle.std.proofs.lemmas.Nat.{pow_pos}
 use Rattle.std.proofs.Math.Nat.{mul-mod_left, pow-suc}
 use Rattle.babel_prefix.specs.Block.{Block, BlockCovers, IsBlock, parent}
 use Rattle.babel_prefix.proofs.BlockLaws.{parent_wider, same_block}
 use Rattle.babel_prefix.proofs.Members.{Listed, Listed-append_left, Listed-append_right, Listed-append_cases}
-use Rattle.babel_trie.specs.Cut.{block_from, IsInside, IsLargestIn, StartsBefore, AreLargestIn, block_or, blocks_in, largest_in}
+use Rattle.babel_trie.specs.Cut.{block_from, IsInside, StartsBefore, AreLargestIn, block_or, blocks_in, largest_in}
 use Rattle.babel_trie.specs.Rows.{IsPlace}
 use Rattle.babel_trie.proofs.Cuts.{largest_from_cover}
 use Rattle.babel_trie.proofs.Lists.{InOrder, InOrder-append}
 use Rattle.babel_trie.proofs.OneList.{largest_are_one_list}
 use Rattle.babel_trie.proofs.PlaceLaws.{place_low, place_high}
-use Rattle.babel_trie.proofs.Ranges.{size, covers_range, range_covers, inside_range, range_inside, parent_is, start_covered}
+use Rattle.babel_trie.proofs.Ranges.{size, range_covers, inside_range, range_inside, parent_is, start_covered}
 
 -- a place is a prefix
 pub place_is_block : (w bits start : ℕ) → IsPlace w bits start → IsBlock w (block_from w start bits)

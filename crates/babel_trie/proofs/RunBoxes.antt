@@ -1,16 +1,16 @@
 -- The rows of a list of changes are the boxes of what it answers.
-use Rattle.std.proofs.Common.{◌≡◌, inl, inr, ℕ, ◌-◌, ◌^◌, ◌<◌, ◌≤◌, List, [], ◌∷◌, length, Option, refl, sym, ◌∙◌, ap, subst, arith}
+use Rattle.std.proofs.Common.{◌≡◌, inl, inr, ℕ, ◌^◌, ◌<◌, ◌≤◌, List, [], ◌∷◌, length, Option, sym, ◌∙◌, ap, subst, arith}
 use Rattle.std.proofs.lemmas.Bool.{cases_lt}
 use Rattle.std.proofs.lemmas.Nat.{pow_pos}
-use Rattle.babel_prefix.specs.Block.{Block, BlockCovers, IsBlock, parent}
+use Rattle.babel_prefix.specs.Block.{Block, parent}
 use Rattle.babel_prefix.specs.Best.{answer}
 use Rattle.babel_prefix.proofs.Members.{Listed, Listed-from_Contains}
 use Rattle.babel_trie.specs.Boxes.{Answers, SameAnswers, IsUniform, IsBoxList}
 use Rattle.babel_trie.specs.Cut.{largest_in}
 use Rattle.babel_trie.specs.Held.{sources_at}
 use Rattle.babel_trie.specs.Interned.{Represents, HasTrie, HasDistinctNodes}
-use Rattle.babel_trie.specs.Runs.{said_at, run_answers, HasRuns}
-use Rattle.babel_trie.specs.Shape.{Shape, height, value_at, IsReduced}
+use Rattle.babel_trie.specs.Runs.{said_at, HasRuns}
+use Rattle.babel_trie.specs.Shape.{height, value_at, IsReduced}
 use Rattle.babel_trie.specs.Spans.{Span, start_or, spans, span_blocks, run_rows}
 use Rattle.babel_trie.specs.declared.runs.Change.{Change}
 use Rattle.babel_trie.specs.declared.table.Node.{Node}
@@ -22,7 +22,7 @@ use Rattle.babel_trie.proofs.Largest.{largest_are_in, largest_cover}
 use Rattle.babel_trie.proofs.NumberLaws.{one_number, number_is, Represents-in}
 use Rattle.babel_trie.proofs.Pairs.{AreBlocksOf, rows_are_boxes}
 use Rattle.babel_trie.proofs.Reduced.{reduced_same}
-use Rattle.babel_trie.proofs.SpanLaws.{IsRising, IsRunList, Says, HasOneValue, IsLargestUniform, rising_runs, neighbours_differ, span_of, largest_uniform_in_runs, in_runs_largest_uniform}
+use Rattle.babel_trie.proofs.SpanLaws.{IsRising, IsRunList, Says, HasOneValue, rising_runs, neighbours_differ, span_of, largest_uniform_in_runs, in_runs_largest_uniform}
 use Rattle.babel_trie.proofs.SpanBlocks.{starts_from, change_span, span_range, said_span, from_span, in_span, largest_of, blocks_in_order}
 
 module _ {V : Type 0} (w : ℕ) (sources : List (Node (Option V))) (list : List (Change NodeNumber)) (f : Answers V) (p : HasRuns w sources list f) where

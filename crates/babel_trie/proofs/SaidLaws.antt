@@ -34,7 +34,7 @@ module _ {F : Type 0} where
   starts_rise (x ∷ xs) runs (suc i) zero d le j_in = absurd (omega arith)
   starts_rise (x ∷ xs) runs (suc i) (suc j) d le j_in = starts_rise xs (runs-rest x xs runs) i j d (omega arith) (omega arith)
 
-  module _ (list : List (Change F)) (n d : ℕ) (other : Change F) (from_zero : start_or 1 list ≡ 0) 
+  module _ (list : List (Change F)) (n d : ℕ) (other : Change F) (from_zero : start_or 1 list ≡ 0)
       (point : IsPartitionPoint (λ (x : Change F). nat_le x.start d ≡ true) (λ (x : Change F). nat_le x.start d ≡ false) list n) where
     -- the first change is not past the address
     pub point_some : 0 < n

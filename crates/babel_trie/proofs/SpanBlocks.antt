@@ -1,5 +1,5 @@
 -- The largest blocks of each span of a list of changes.
-use Rattle.std.proofs.Common.{◌≡◌, inl, inr, ℕ, ◌-◌, ◌^◌, ◌<◌, ◌≤◌, cond, nat_le, List, [], ◌∷◌, ◌++◌, length, refl, sym, ◌∙◌, ap, subst, arith}
+use Rattle.std.proofs.Common.{◌≡◌, inl, inr, ℕ, ◌-◌, ◌^◌, ◌<◌, ◌≤◌, cond, nat_le, List, [], ◌∷◌, ◌++◌, length, refl, ◌∙◌, ap, subst, arith}
 use Rattle.babel_prefix.specs.Block.{Block}
 use Rattle.babel_prefix.proofs.Members.{Listed, Contains-from_Listed, Listed-append_left, Listed-append_right, Listed-append_cases}
 use Rattle.babel_trie.specs.Cut.{IsLargestIn, StartsBefore, largest_in}

@@ -1,9 +1,9 @@
 -- What the counts of zeros say of the blocks that fit.
-use Rattle.std.proofs.Common.{◌≡◌, inl, inr, ℕ, suc, ◌+◌, ◌-◌, ◌*◌, ◌/◌, ◌%◌, ◌^◌, ◌<◌, ◌≤◌, ◌∙◌, ap, subst, arith}
+use Rattle.std.proofs.Common.{◌≡◌, inl, inr, ℕ, suc, ◌+◌, ◌-◌, ◌%◌, ◌^◌, ◌<◌, ◌≤◌, ◌∙◌, ap, subst, arith}
 use Rattle.std.specs.Int.{w128}
 use Rattle.std.specs.Int.Count.{count_leading_zeros, count_trailing_zeros, trailing_of_zero}
 use Rattle.std.proofs.lemmas.Bool.{cases_lt}
-use Rattle.std.proofs.lemmas.Nat.{pow_pos, pow-add, leading_top, shr_high}
+use Rattle.std.proofs.lemmas.Nat.{pow_pos, leading_top}
 use Rattle.std.proofs.lemmas.Nat.Bits.{bit_at-trailing_zeros}
 use Rattle.std.proofs.Math.Nat.{pow-le-pow_right}
 use Rattle.babel_trie.specs.Cut.{IsLargestFit}
@@ -57,17 +57,3 @@ room_fits at last room at_in last_in fits most le =
       room = omega arith;
       most = λ more past e. let up : 2 ^ (room + 1) ≤ 2 ^ more = pow-le-pow_right {n = 2} (omega arith) {i = room + 1} {j = more} (omega arith) in omega arith;
     }
-
--- ones shifted down
-pub ones_shr : (w bits : ℕ) → bits ≤ w → (2 ^ w - 1) / 2 ^ (w - bits) + 1 ≡ 2 ^ bits
-ones_shr w bits le =
-    let n : ℕ = 2 ^ (w - bits) in
-    let q : ℕ = 2 ^ bits - 1 in
-    let some : 0 < 2 ^ (w - bits) = pow_pos (w - bits) in
-    let any : 0 < 2 ^ bits = pow_pos bits in
-    let whole : 2 ^ w ≡ 2 ^ bits * n = ap (λ (k : ℕ). 2 ^ k) {x = w} {y = bits + (w - bits)} (omega arith) ∙ pow-add 2 bits (w - bits) in
-    let next : 2 ^ bits ≡ q + 1 = omega arith in
-    let more : 2 ^ bits * n ≡ (q + 1) * n = ap (λ k. k * n) next in
-    let parts : 2 ^ w - 1 ≡ q * n + (n - 1) = omega arith in
-    let high : (2 ^ w - 1) / n ≡ q = ap (λ k. k / n) parts ∙ shr_high q (w - bits) (n - 1) (omega arith) in
-    omega arith

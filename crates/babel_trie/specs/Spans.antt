@@ -8,7 +8,6 @@ use Rattle.babel_trie.specs.Cut.{largest_in}
 use Rattle.babel_trie.specs.Held.{sources_at}
 use Rattle.babel_trie.specs.Nested.{rows_of}
 use Rattle.babel_trie.specs.Runs.{HasRuns}
-use Rattle.babel_trie.specs.Shape.{Shape}
 use Rattle.babel_trie.specs.declared.runs.Change.{Change}
 use Rattle.babel_trie.specs.declared.table.Node.{Node}
 use Rattle.babel_trie.specs.declared.table.NodeNumber.{NodeNumber}

@@ -1,7 +1,6 @@
 -- From one change of either list to the next both say one thing each.
 use Rattle.std.proofs.Common.{◌≡◌, ℕ, ◌+◌, ◌^◌, ◌<◌, ◌≤◌, Some, None, ◌∙◌, subst, arith}
 use Rattle.std.proofs.Math.Pow.{pow_mono}
-use Rattle.std.proofs.lemmas.Nat.{pow_pos}
 use Rattle.babel_trie.specs.Interned.{HasTrie}
 use Rattle.babel_trie.specs.Runs.{said_at, StartBehind, run_answers}
 use Rattle.babel_trie.specs.declared.runs.Change.{Change}

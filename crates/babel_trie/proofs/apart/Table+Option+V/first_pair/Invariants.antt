@@ -2,7 +2,6 @@
 use Rattle.std.proofs.Common.{◌≡◌, ℕ, ◌-◌, ◌^◌, ◌≤◌}
 use Rattle.babel_trie.specs.Differs.{AgreeBelowBoth}
 use Rattle.babel_trie.specs.Runs.{said_at, AreRuns, StartFrom, run_answers}
-use Rattle.babel_trie.specs.declared.table.NodeNumber.{NodeNumber}
 use Rattle.babel_trie.proofs.ApartLaws.{no_number}
 use Rattle.babel_trie.proofs.apart.Table+Option+V.first_pair.Given as goal
 

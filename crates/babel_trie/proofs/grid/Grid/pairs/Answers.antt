@@ -1,10 +1,8 @@
 -- The rows are those of the changes.
-use Rattle.std.proofs.Common.{List, ◌++◌, map, ◌∙◌, ap, subst}
+use Rattle.std.proofs.Common.{List, subst}
 use Rattle.babel_prefix.specs.Best.{answer}
-use Rattle.babel_prefix.specs.Entries.{Entry, row_of}
 use Rattle.babel_prefix.specs.Width.{width_of}
 use Rattle.babel_prefix.proofs.Members.{Listed}
-use Rattle.babel_trie.specs.Nested.{BoxTable}
 use Rattle.babel_trie.specs.Spans.{run_rows}
 use Rattle.babel_trie.specs.declared.runs.Change.{Change}
 use Rattle.babel_trie.specs.declared.table.NodeNumber.{NodeNumber}

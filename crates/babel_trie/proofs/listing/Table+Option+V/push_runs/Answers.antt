@@ -1,5 +1,5 @@
 -- One change's rows after another's.
-use Rattle.std.proofs.Common.{◌≡◌, inl, inr, ℕ, ◌+◌, ◌-◌, ◌^◌, true, List, ◌∷◌, ◌++◌, map, refl, sym, ◌∙◌, ap, subst, arith, rules}
+use Rattle.std.proofs.Common.{◌≡◌, inl, inr, ℕ, ◌+◌, ◌^◌, true, List, ◌∷◌, ◌++◌, map, refl, ap, subst, arith, rules}
 use Rattle.babel_prefix.specs.Entries.{row_of}
 use Rattle.babel_prefix.specs.Width.{width_of}
 use Rattle.babel_prefix.proofs.Members.{Listed}
@@ -7,9 +7,8 @@ use Rattle.babel_trie.specs.Interned.{HasTrie}
 use Rattle.babel_trie.specs.Spans.{start_or, spans, span_rows, run_rows}
 use Rattle.babel_trie.specs.declared.runs.Change.{Change}
 use Rattle.babel_trie.specs.declared.table.NodeNumber.{NodeNumber}
-use Rattle.babel_trie.proofs.ListLaws.{append_none}
 use Rattle.babel_trie.proofs.NumberLaws.{Represents-in}
-use Rattle.babel_trie.proofs.SpanBlocks.{none_left, start_within}
+use Rattle.babel_trie.proofs.SpanBlocks.{start_within}
 use Rattle.babel_trie.proofs.SpanLaws.{IsRising, rising_runs}
 use Rattle.babel_trie.proofs.SpanRows.{rows_more, rows_none}
 use Rattle.babel_trie.proofs.listing.Table+Option+V.push_runs.Goals as goal
