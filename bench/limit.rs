@@ -406,7 +406,7 @@ impl Index {
 
     /// Whether one more of so many needs a larger index.
     fn is_full(&self, count: usize) -> bool {
-        count + 1 > self.slots.len() / 8 * 7
+        count + 1 > self.slots.len() / 5 * 4
     }
 
     /// Makes the index anew for these numbers and as many more.
@@ -500,13 +500,13 @@ impl<A: Address> Hashed for Prefix<A> {
 
 // ---- the rows of one family
 
-/// The least metric of no route, for what is unreachable.
+/// What is said of an unreachable key: no owner and no sequence number, and the metric that no route has.
 const UNREACHABLE: u64 = INFINITY as u64;
 
 /// Where there is no row. No owner has so great a number.
 const NOTHING: u64 = FORK - 1;
 
-/// A route's destination, and its source by its number: the length above, the number below.
+/// A route's destination and source. The tag has the destination's length above, the number of the source below.
 #[derive(Clone, Copy, PartialEq, Eq)]
 struct Key<A> {
     bits: A,

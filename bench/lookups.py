@@ -16,6 +16,8 @@ import subprocess
 import sys
 import tempfile
 
+from run import PLAIN
+
 HERE = pathlib.Path(__file__).resolve().parent
 TOP = HERE.parent
 CRATES = ("babel_prefix", "babel_tlv", "babel_table")
@@ -66,7 +68,7 @@ def run(words):
 def measure(options, scratch):
     dump, rows, pairs = options.loads.resolve() / options.load, scratch / "rows", scratch / "pairs"
     text = subprocess.run(
-        [build_plain(HERE / "limit.rs", scratch), "show", "--from", "192.0.2.1", dump],
+        [build_plain(PLAIN, scratch), "show", "--from", "192.0.2.1", dump],
         capture_output=True, text=True, check=True).stdout
     rows.write_text(text)
     write_pairs(text, pairs, options.lookups)
