@@ -1,6 +1,6 @@
 //! Each allocation refused in turn, by `./check memory`, which runs each test here once for each of its allocations.
 //! A test here passes where nothing was refused, and fails with `REFUSED` where a refusal was answered with `Memory`.
-use super::changes::COMPRESSED;
+use super::changes::{COMPRESSED, SPELLED_OUT};
 use super::rows::{ID_BY_FLAG, RETRACTIONS, TWO_SOURCES, key_v6, route_v6};
 use super::{are, key, octets, route, router, router_v6};
 use crate::{Feeder, Limits, Table, read_dump};
@@ -128,10 +128,13 @@ fn refused_memory_of_held_retractions(rt: HostRuntime) -> Result<(), Fail> {
 
 #[test]
 fn refused_memory_octet_by_octet(rt: HostRuntime) -> Result<(), Fail> {
-    match octets(rt.alloc(), COMPRESSED) {
-        Ok(dump) => read_by_octet(rt.alloc(), router(), &dump, &compressed()),
-        Err(_) => Err(Fail::from(REFUSED)),
+    for text in [SPELLED_OUT, COMPRESSED] {
+        match octets(rt.alloc(), text) {
+            Ok(dump) => read_by_octet(rt.alloc(), router(), &dump, &compressed())?,
+            Err(_) => return Err(Fail::from(REFUSED)),
+        }
     }
+    Ok(())
 }
 
 #[test]
