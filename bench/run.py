@@ -11,6 +11,7 @@ whether both ratios are at most 3; of two times below 2 ms and of two memories b
 
 import argparse
 import pathlib
+import re
 import statistics
 import subprocess
 import sys
@@ -65,9 +66,9 @@ def build(source, folder):
 
 
 def outcome(words):
-    """What a run writes and answers."""
+    """What a run writes and answers, but for its hints and notes, which only one of two programs gives."""
     run = subprocess.run(words, capture_output=True)
-    return run.returncode, run.stdout, run.stderr
+    return run.returncode, run.stdout, re.sub(rb"(?m)^(hint|note): .*\n", b"", run.stderr)
 
 
 def measure(measurer, words):

@@ -77,10 +77,10 @@ def files():
 
 
 def play(folder, tally):
-    """Holds the babel-dump of a folder to the golden files."""
+    """Holds the babel-dump of a folder to the golden files. The plain program writes no notes."""
     put_captures(folder)
     for file, _ in files():
-        transcript.play(GOLDEN / file, folder, tally)
+        transcript.play(GOLDEN / file, folder, tally, transcript.without_notes)
 
 
 def main():

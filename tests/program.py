@@ -2,7 +2,9 @@
 
 import os
 import pathlib
+import re
 import resource
+import shutil
 import signal
 import subprocess
 import tempfile
@@ -20,6 +22,7 @@ IN_A_PACKET = 2_048
 # Room for the program and its libraries, and not for the rows of most-routes.dump.
 LITTLE_MEMORY = 8 << 20
 SHOW = ["show", "--from", "192.0.2.1"]
+COMMANDS = "show", "lookup", "pairs", "normalise", "compare"
 ONE_ROUTE = TOP / "examples/one-route.dump"
 
 
@@ -61,14 +64,14 @@ def expect(tally, what, found, wanted):
 
 
 def check_closed_pipe(program, tally):
-    """Nobody reads what is written, and the program was started with the signal of a closed pipe on or off."""
+    """Nobody reads what is written: it ends in silence, started with the signal of a closed pipe on or off."""
     for disposition in signal.SIG_DFL, signal.SIG_IGN:
         reader, writer = os.pipe()
         os.close(reader)
         ready = lambda: signal.signal(signal.SIGPIPE, disposition)
         found = run(program, [*SHOW, ONE_ROUTE], stdout=writer, preexec_fn=ready, restore_signals=False)
         os.close(writer)
-        expect(tally, f"a closed pipe, the signal {disposition.name}", found, (4, b"write failed\n"))
+        expect(tally, f"a closed pipe, the signal {disposition.name}", found, (141, b""))
 
 
 def check_failed_read(program, tally):
@@ -79,7 +82,8 @@ def check_failed_read(program, tally):
     found = run(program, SHOW, stdin=reader)
     os.close(reader)
     os.close(writer)
-    expect(tally, "a read that fails after 20 octets", found, (4, b"read failed\n"))
+    text = b"read failed\nhint: Resource temporarily unavailable (os error 11)\n"
+    expect(tally, "a read that fails after 20 octets", found, (4, text))
 
 
 def check_failed_write(program, tally):
@@ -93,7 +97,8 @@ def check_failed_write(program, tally):
     with open(reader, "rb") as pipe:
         taken = pipe.read()
     is_start = 0 < len(taken) < len(text) and text.startswith(taken)
-    expect(tally, "a write that fails after what a pipe holds", (*found, is_start), (4, b"write failed\n", True))
+    text = b"write failed\nhint: Resource temporarily unavailable (os error 11)\n"
+    expect(tally, "a write that fails after what a pipe holds", (*found, is_start), (4, text, True))
 
 
 def check_little_memory(program, folder, tally):
@@ -116,6 +121,38 @@ def check_little_memory(program, folder, tally):
         expect(tally, f"{' '.join(map(str, words))} in little memory", (*found, written), (5, other + b"out of memory\n", 0))
 
 
+def words_of(text):
+    """The long options in a text."""
+    return set(re.findall(r"--[a-z][a-z-]*", text))
+
+
+def check_manual(program, tally):
+    """The manual page and the completions have each command and each option, and no other."""
+    help_of = lambda *words: subprocess.run([program, *words, "--help"], check=True, capture_output=True, text=True).stdout
+    manual = (TOP / "docs/babel-dump.1").read_text().replace("\\-", "-")
+    completions = (TOP / "docs/babel-dump.bash").read_text()
+    options = words_of(help_of()) | {"--version"}
+    for command in COMMANDS:
+        options |= words_of(help_of(command))
+        expect(tally, f"{command} in the manual page", f"\n.B {command}\n" in manual, True)
+    expect(tally, "the options in the manual page", words_of(manual), options)
+    expect(tally, "the options in the completions", words_of(completions), options)
+    if shutil.which("groff"):
+        page = subprocess.run(["groff", "-ww", "-man", "-Tutf8", TOP / "docs/babel-dump.1"], capture_output=True)
+        expect(tally, "what groff says of the manual page", page.stderr, b"")
+
+
+def check_install(folder, tally):
+    """What is installed runs without the repository."""
+    subprocess.run([TOP / "install", folder / "usr"], check=True, stdout=subprocess.DEVNULL)
+    words = [*SHOW, ONE_ROUTE]
+    found = subprocess.run([folder / "usr/bin/babel-dump", *words], env={"PATH": ""}, capture_output=True)
+    wanted = b"10.0.0.0/8 from 0.0.0.0/0 via 192.0.2.1 id 0200000000000001 seqno 1 metric 256\ntlvs 2\n"
+    expect(tally, "the installed program", found.stdout, wanted)
+    for name in "man/man1/babel-dump.1", "bash-completion/completions/babel-dump":
+        expect(tally, f"{name} is installed", (folder / "usr/share" / name).is_file(), True)
+
+
 def check(tally, _long):
     program = built_program()
     with tempfile.TemporaryDirectory() as folder:
@@ -128,3 +165,5 @@ def check(tally, _long):
         check_failed_read(program, tally)
         check_failed_write(program, tally)
         check_little_memory(program, folder, tally)
+        check_manual(program, tally)
+        check_install(folder, tally)

@@ -101,9 +101,15 @@ def put(dumps, folder):
         (folder / f"{name}.dump").write_bytes(dump)
 
 
-def play(file, folder, tally):
-    """Puts the dumps of a transcript into a folder, and checks each of its steps there, in turn."""
+def without_notes(text):
+    """What a command prints, but for the notes on what was ignored, and their hints."""
+    return re.sub(r"^! (note|hint): .*\n", "", text, flags=re.MULTILINE)
+
+
+def play(file, folder, tally, of_output=str):
+    """Puts the dumps of a transcript into a folder, and checks of each of its steps there, in turn, this part of what it prints."""
     dumps, steps = read(file)
     put(dumps, folder)
     for each in steps:
-        tally.check(f"{each.place}: {each.command}", difference(each.expected, found(each.command, folder)))
+        printed = of_output(found(each.command, folder))
+        tally.check(f"{each.place}: {each.command}", difference(each.expected, printed))

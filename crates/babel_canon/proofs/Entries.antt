@@ -1,9 +1,9 @@
 -- The rows of one family as entries.
-use Rattle.std.proofs.Common.{◌≡◌, ℕ, ◌+◌, ◌<◌, Bool, true, false, cond, ◌&&◌, List, [], ◌∷◌, ◌++◌, length, take, get_or, refl, sym, ap, ◌∙◌}
+use Rattle.std.proofs.Common.{◌≡◌, Bool, true, false, cond, ◌&&◌, List, [], ◌∷◌, ◌++◌, refl, sym, ap, ◌∙◌}
 use Rattle.std.specs.Prelude.{◌≢◌}
 use Rattle.std.specs.List.{filter}
 use Rattle.std.proofs.lemmas.Bool.{and_from}
-use Rattle.std.proofs.lemmas.List.{map-append, append-nil, take_more}
+use Rattle.std.proofs.lemmas.List.{map-append, append-nil}
 use Rattle.std.proofs.lemmas.List.Elements.{filter-append}
 use Rattle.std.proofs.lemmas.List.Kept.{AllPairs-filter}
 use Rattle.babel_prefix.specs.declared.family.Family.{Family}
@@ -16,26 +16,25 @@ use Rattle.babel_table.specs.Rows.{IsRising, entries_of}
 use Rattle.babel_table.proofs.EntryLaws.{distinct-from_rising}
 use Rattle.babel_canon.proofs.Boxes.{entry_of}
 
-one_more : (family : Family) (rows : List Pair) (i : ℕ) (row : Pair) → row ≡ get_or rows i row → i < length rows
-    → filter (are_of_family family) (entries_of (take (i + 1) rows)) ≡ filter (are_of_family family) (entries_of (take i rows)) ++ cond (are_of_family family (entry_of row)) (entry_of row ∷ []) []
-one_more family rows i row is lt =
-    ap (λ (l : List Pair). filter (are_of_family family) (entries_of l)) (take_more rows i row lt ∙ ap (λ (r : Pair). take i rows ++ r ∷ []) (sym is))
-    ∙ ap (filter (are_of_family family)) (map-append entry_of (take i rows) (row ∷ []))
-    ∙ filter-append (are_of_family family) (entries_of (take i rows)) (entry_of row ∷ [])
+one_more : (family : Family) (rows : List Pair) (row : Pair)
+    → filter (are_of_family family) (entries_of (rows ++ row ∷ [])) ≡ filter (are_of_family family) (entries_of rows) ++ cond (are_of_family family (entry_of row)) (entry_of row ∷ []) []
+one_more family rows row =
+    ap (filter (are_of_family family)) (map-append entry_of rows (row ∷ []))
+    ∙ filter-append (are_of_family family) (entries_of rows) (entry_of row ∷ [])
 
-pub kept : (family : Family) (rows : List Pair) (i : ℕ) (row : Pair) → row ≡ get_or rows i row → i < length rows → row.0.dst.address.family ≡ family → row.0.src.address.family ≡ family
-    → filter (are_of_family family) (entries_of (take (i + 1) rows)) ≡ filter (are_of_family family) (entries_of (take i rows)) ++ entry_of row ∷ []
-kept family rows i row is lt here there =
+pub kept : (family : Family) (rows : List Pair) (row : Pair) → row.0.dst.address.family ≡ family → row.0.src.address.family ≡ family
+    → filter (are_of_family family) (entries_of (rows ++ row ∷ [])) ≡ filter (are_of_family family) (entries_of rows) ++ entry_of row ∷ []
+kept family rows row here there =
     let passes : are_of_family family (entry_of row) ≡ true =
     and_from _ _ (ap (same_family row.0.dst.address.family) (sym here) ∙ same_family-refl row.0.dst.address.family) (ap (same_family row.0.src.address.family) (sym there) ∙ same_family-refl row.0.src.address.family) in
-    one_more family rows i row is lt ∙ ap (λ (b : Bool). filter (are_of_family family) (entries_of (take i rows)) ++ cond b (entry_of row ∷ []) []) passes
+    one_more family rows row ∙ ap (λ (b : Bool). filter (are_of_family family) (entries_of rows) ++ cond b (entry_of row ∷ []) []) passes
 
-pub passed : (family : Family) (rows : List Pair) (i : ℕ) (row : Pair) → row ≡ get_or rows i row → i < length rows → row.0.dst.address.family ≢ family
-    → filter (are_of_family family) (entries_of (take (i + 1) rows)) ≡ filter (are_of_family family) (entries_of (take i rows))
-passed family rows i row is lt apart =
-    one_more family rows i row is lt
-    ∙ ap (λ (b : Bool). filter (are_of_family family) (entries_of (take i rows)) ++ cond b (entry_of row ∷ []) []) (misses (same_family row.0.dst.address.family family) refl)
-    ∙ append-nil (filter (are_of_family family) (entries_of (take i rows)))
+pub passed : (family : Family) (rows : List Pair) (row : Pair) → row.0.dst.address.family ≢ family
+    → filter (are_of_family family) (entries_of (rows ++ row ∷ [])) ≡ filter (are_of_family family) (entries_of rows)
+passed family rows row apart =
+    one_more family rows row
+    ∙ ap (λ (b : Bool). filter (are_of_family family) (entries_of rows) ++ cond b (entry_of row ∷ []) []) (misses (same_family row.0.dst.address.family family) refl)
+    ∙ append-nil (filter (are_of_family family) (entries_of rows))
   where
     misses : (b : Bool) → same_family row.0.dst.address.family family ≡ b → are_of_family family (entry_of row) ≡ false
     misses true e = absurd (apart (same_family-is row.0.dst.address.family family e))

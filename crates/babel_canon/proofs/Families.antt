@@ -33,7 +33,7 @@ use Rattle.babel_table.specs.Rows.{AreRows, entries_of}
 use Rattle.babel_tlv.proofs.OrderLaws.{key_total}
 use Rattle.babel_canon.specs.Boxes.{AreBoxes}
 use Rattle.babel_canon.specs.Grids.{pair_at, pair_of, both_families, AreFamilyBoxes}
-use Rattle.babel_canon.proofs.Boxes.{entry_of, pair-is, pair_of_row, all_in}
+use Rattle.babel_canon.proofs.Boxes.{entry_of, pair_of_row, all_in}
 
 abbrev key_of : Entry Held → RouteKey
 key_of entry = record { dst = entry.0; src = entry.1 }
@@ -249,12 +249,3 @@ both_are_boxes rows v4 v6 are v4_boxes v6_boxes =
 
 pub both-length : (v4 v6 : List (Row Held)) → length (both_families v4 v6) ≡ length v4 + length v6
 both-length v4 v6 = omega (arith, length-append (map (pair_at V4) v4) (map (pair_at V6) v6), length-map v4 (pair_at V4), length-map v6 (pair_at V6))
-
--- entries of a family as pairs
-pub pairs_at : (family : Family) (entries : List (Entry Held)) → All (AreOfFamily family) entries → map pair_of entries ≡ map (pair_at family) (map row_of entries)
-pairs_at family [] of_family = refl
-pairs_at family (entry ∷ entries) of_family =
-    let here = All-head (AreOfFamily family) entry entries of_family in
-    let one : pair_of entry ≡ pair_at family (row_of entry) = pair-is family (row_of entry) (pair_of entry) here refl in
-    ap (λ (p : Pair). p ∷ map pair_of entries) one
-    ∙ ap (λ (l : List Pair). pair_at family (row_of entry) ∷ l) (pairs_at family entries (All-tail (AreOfFamily family) entry entries of_family))

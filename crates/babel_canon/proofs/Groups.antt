@@ -3,11 +3,7 @@ use Rattle.std.proofs.Common.{◌≡◌, ℕ, List, [], ◌∷◌, ◌++◌, ref
 use Rattle.std.proofs.lemmas.List.{append-nil}
 use Rattle.babel_tlv.specs.Pair.{Pair}
 use Rattle.babel_tlv.specs.Group.{group, groups_behind, body_of}
-
--- the earlier pairs, the latest first, behind further ones
-abbrev pub latest_first : List Pair → List Pair → List Pair
-latest_first earlier [] = earlier
-latest_first earlier (pair ∷ pairs) = latest_first (pair ∷ earlier) pairs
+use Rattle.babel_canon.specs.Writing.{latest_first}
 
 pub latest_first-snoc : (earlier front : List Pair) (pair : Pair) → latest_first earlier (front ++ pair ∷ []) ≡ pair ∷ latest_first earlier front
 latest_first-snoc earlier [] pair = refl

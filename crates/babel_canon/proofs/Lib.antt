@@ -16,3 +16,4 @@ pub mod OneVerdict
 mod Normal
 mod Numbered
 mod ValueLists
+mod SinkLaws

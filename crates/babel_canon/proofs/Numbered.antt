@@ -3,17 +3,15 @@ use Rattle.std.proofs.Common.{◌≡◌, ℕ, zero, suc, ◌<◌, Bool, true, fa
 use Rattle.std.specs.List.{All, AllPairs, find, list_all, slice_get}
 use Rattle.std.specs.Option.{option_map}
 use Rattle.std.proofs.lemmas.List.{length-map}
-use Rattle.std.proofs.lemmas.List.Elements.{All-head, All-tail}
-use Rattle.std.proofs.lemmas.Option.{slice_get-get_or, get_or_from_slice_get, slice_get_within}
 use Rattle.babel_prefix.specs.Block.{Block}
 use Rattle.babel_prefix.specs.Best.{Row, matches, is_no_longer, is_best, answer}
 use Rattle.babel_prefix.proofs.EntryLaws.{Listed-map, map-Listed}
-use Rattle.babel_prefix.proofs.Members.{Listed-from_Contains, Contains-from_Listed, find-same}
+use Rattle.babel_prefix.proofs.Members.{Listed-from_Contains, Contains-from_Listed, find-Some, find-same}
 use Rattle.babel_trie.specs.Boxes.{Answers, IsUniform, IsConstant, IsBox, IsBefore, IsBoxList, SameAnswers, IsLeastDifference}
 use Rattle.babel_tlv.specs.declared.held.Held.{Held}
-use Rattle.babel_tlv.specs.declared.held.Held.TheVariants as helds
-use Rattle.babel_canon.specs.declared.values.ValueNumber.{ValueNumber}
-use Rattle.babel_canon.specs.Values.{HasValue, value_of, valued}
+use Rattle.babel_canon.specs.declared.values.PackedValue.{PackedValue}
+use Rattle.babel_canon.specs.Values.{HasValue, IsPacked, origin_of, value_of, valued}
+use Rattle.babel_canon.specs.NumberOrder.{same_packed}
 
 -- ---- the best row depends on prefixes alone
 
@@ -49,66 +47,61 @@ module _ {A B : Type 0} (h : A → B) where
 
 -- ---- a number says its value
 
--- no value has two numbers
+-- no origin has two numbers
 abbrev pub AreDistinct : List Held → Type 0
-AreDistinct values = (i j : ℕ) (held : Held) → slice_get values i ≡ Some held → slice_get values j ≡ Some held → i ≡ j
+AreDistinct origins = (i j : ℕ) (held : Held) → slice_get origins i ≡ Some held → slice_get origins j ≡ Some held → i ≡ j
 
 module _ (values : List Held) where
-  abbrev look : ValueNumber → Option Held
-  look number = slice_get values number.0
+  -- what is answered in eight octets is this by value
+  abbrev pub Says : Option PackedValue → Option Held → Type 0
+  Says None None = Unit {0}
+  Says None (Some h) = ⊥
+  Says (Some n) None = ⊥
+  Says (Some n) (Some h) = IsPacked values h n
 
-  -- what is answered by number is this by value
-  abbrev pub Says : Option ValueNumber → Option Held → Type 0
-  Says number held = option_map look number ≡ option_map Some held
+  says_one : (n : Option PackedValue) (h k : Option Held) → Says n h → Says n k → h ≡ k
+  says_one None None None a b = refl
+  says_one None None (Some k) a b = absurd b
+  says_one None (Some h) k a b = absurd a
+  says_one (Some n) None k a b = absurd a
+  says_one (Some n) (Some h) None a b = absurd b
+  says_one (Some n) (Some h) (Some k) a b = ap Some (sym a.restores ∙ b.restores)
 
-  says_one : (n : Option ValueNumber) (h k : Option Held) → Says n h → Says n k → h ≡ k
-  says_one n None None a b = refl
-  says_one n None (Some k) a b = absurd cc
-  says_one n (Some h) None a b = absurd cc
-  says_one n (Some h) (Some k) a b = let same : Some h ≡ Some k = cc in same
-
-  said_once : AreDistinct values → (n m : Option ValueNumber) (h : Option Held) → Says n h → Says m h → n ≡ m
+  said_once : AreDistinct values → (n m : Option PackedValue) (h : Option Held) → Says n h → Says m h → n ≡ m
   said_once distinct None None h a b = refl
-  said_once distinct None (Some m) None a b = absurd cc
-  said_once distinct None (Some m) (Some h) a b = absurd cc
-  said_once distinct (Some n) None None a b = absurd cc
-  said_once distinct (Some n) None (Some h) a b = absurd cc
-  said_once distinct (Some n) (Some m) None a b = absurd cc
+  said_once distinct None (Some m) None a b = absurd b
+  said_once distinct None (Some m) (Some h) a b = absurd a
+  said_once distinct (Some n) None None a b = absurd a
+  said_once distinct (Some n) None (Some h) a b = absurd b
+  said_once distinct (Some n) (Some m) None a b = absurd a
   said_once distinct (Some n) (Some m) (Some h) a b =
-      let n_is : slice_get values n.0 ≡ Some h = cc in
-      let m_is : slice_get values m.0 ≡ Some h = cc in
-      ap (λ (k : ℕ). let x : ValueNumber = record { 0 = k } in Some x) (distinct n.0 m.0 h n_is m_is)
+      ap Some (same_packed n m (distinct n.origin m.origin (origin_of h) a.origin b.origin) (a.seqno ∙ sym b.seqno) (a.metric ∙ sym b.metric))
 
-  says_value : (n : ValueNumber) (h : Option Held) → Says (Some n) h → (h ≡ Some (value_of values n)) × HasValue values n
-  says_value n None e = absurd cc
-  says_value n (Some h) e =
-      let at : slice_get values n.0 ≡ Some h = cc in
-      (ap Some (sym (get_or_from_slice_get values n.0 h helds.Unreachable at)), slice_get_within values n.0 h at)
+  says_value : (n : PackedValue) (h : Option Held) → Says (Some n) h → (h ≡ Some (value_of values n)) × HasValue values n
+  says_value n None e = absurd e
+  says_value n (Some h) e = (ap Some (sym e.restores), subst (λ (k : Held). IsPacked values k n) (sym e.restores) e)
 
-  some_number : (n : Option ValueNumber) (h : Held) → Says n (Some h) → (m : ValueNumber) × (n ≡ Some m) × (value_of values m ≡ h)
-  some_number None h e = absurd cc
-  some_number (Some n) h e =
-      let at : slice_get values n.0 ≡ Some h = cc in
-      (n, refl, get_or_from_slice_get values n.0 h helds.Unreachable at)
+  some_number : (n : Option PackedValue) (h : Held) → Says n (Some h) → (m : PackedValue) × (n ≡ Some m) × (value_of values m ≡ h)
+  some_number None h e = absurd e
+  some_number (Some n) h e = (n, refl, e.restores)
 
   -- ---- rows by number answer what they answer by value
 
-  looked_up : (rows : List (Row ValueNumber)) → All (λ row. HasValue values row.value) rows → map (revalued look) rows ≡ map (revalued Some) (map (valued values) rows)
-  looked_up [] all = refl
-  looked_up (row ∷ rows) all =
-      ap (λ (o : Option Held). let r : Row (Option Held) = record { dst = row.dst; src = row.src; value = o } in r ∷ map (revalued look) rows)
-      (slice_get-get_or values row.value.0 helds.Unreachable (All-head (λ (r : Row ValueNumber). HasValue values r.value) row rows all))
-      ∙ ap (λ (rs : List (Row (Option Held))). revalued Some (valued values row) ∷ rs) (looked_up rows (All-tail (λ (r : Row ValueNumber). HasValue values r.value) row rows all))
-
-  pub rows_say : (w : ℕ) (rows : List (Row ValueNumber)) → All (λ row. HasValue values row.value) rows → (d s : ℕ) → Says (answer w rows d s) (answer w (map (valued values) rows) d s)
-  rows_say w rows all d s =
-      sym (answer-map look w rows d s) ∙ ap (λ (rs : List (Row (Option Held))). answer w rs d s) (looked_up rows all) ∙ answer-map Some w (map (valued values) rows) d s
+  pub rows_say : (w : ℕ) (rows : List (Row PackedValue)) → All (λ row. HasValue values row.value) rows → (d s : ℕ) → Says (answer w rows d s) (answer w (map (valued values) rows) d s)
+  rows_say w rows all d s = subst (λ (o : Option Held). Says (answer w rows d s) o) (sym (answer-map (value_of values) w rows d s)) (by (find (is_best w rows d s) rows) refl)
+    where
+      by : (found : Option (Row PackedValue)) → find (is_best w rows d s) rows ≡ found
+          → Says (option_map (λ (row : Row PackedValue). row.value) found) (option_map (value_of values) (option_map (λ (row : Row PackedValue). row.value) found))
+      by None is = tt
+      by (Some row) is =
+          let c = Contains-from_Listed rows row (find-Some (is_best w rows d s) rows row is).0 in
+          subst (λ (r : Row PackedValue). HasValue values r.value) c.2 (all c.0 row c.1)
 
   -- ---- boxes by number are the boxes by value
 
-  module _ (distinct : AreDistinct values) (w : ℕ) (g : Answers ValueNumber) (f : Answers Held) (says : (d s : ℕ) → Says (g d s) (f d s)) where
+  module _ (distinct : AreDistinct values) (w : ℕ) (g : Answers PackedValue) (f : Answers Held) (says : (d s : ℕ) → Says (g d s) (f d s)) where
     to_value : (d s e t : ℕ) → g d s ≡ g e t → f d s ≡ f e t
-    to_value d s e t same = says_one (g e t) (f d s) (f e t) (subst (λ (n : Option ValueNumber). Says n (f d s)) same (says d s)) (says e t)
+    to_value d s e t same = says_one (g e t) (f d s) (f e t) (subst (λ (n : Option PackedValue). Says n (f d s)) same (says d s)) (says e t)
 
     to_number : (d s e t : ℕ) → f d s ≡ f e t → g d s ≡ g e t
     to_number d s e t same = said_once distinct (g d s) (g e t) (f e t) (subst (λ (h : Option Held). Says (g d s) h) same (says d s)) (says e t)
@@ -125,7 +118,7 @@ module _ (values : List Held) where
     constant_by_number : (dst : ℕ) (block : Block) → IsConstant w f dst block → IsConstant w g dst block
     constant_by_number dst block c s t s_in t_in in_s in_t = to_number dst s dst t (c s t s_in t_in in_s in_t)
 
-    box_by_value : (box : Row ValueNumber) → IsBox w g box → IsBox w f (valued values box)
+    box_by_value : (box : Row PackedValue) → IsBox w g box → IsBox w f (valued values box)
     box_by_value box b = record {
       dst_is_prefix = b.dst_is_prefix;
       src_is_prefix = b.src_is_prefix;
@@ -133,17 +126,17 @@ module _ (values : List Held) where
       dst_is_longest = λ some u. b.dst_is_longest some (uniform_by_number _ u);
       constant = λ d d_in in_d. constant_by_value d box.src (b.constant d d_in in_d);
       src_is_longest = λ d d_in in_d some c. b.src_is_longest d d_in in_d some (constant_by_number d _ c);
-      answered = λ d s d_in s_in in_d in_s. (says_value box.value (f d s) (subst (λ (n : Option ValueNumber). Says n (f d s)) (b.answered d s d_in s_in in_d in_s) (says d s))).0;
+      answered = λ d s d_in s_in in_d in_s. (says_value box.value (f d s) (subst (λ (n : Option PackedValue). Says n (f d s)) (b.answered d s d_in s_in in_d in_s) (says d s))).0;
     }
 
     -- the box by number of a box by value
-    box_by_number : (box : Row Held) → IsBox w f box → (numbered : Row ValueNumber) × IsBox w g numbered × (valued values numbered ≡ box)
+    box_by_number : (box : Row Held) → IsBox w f box → (numbered : Row PackedValue) × IsBox w g numbered × (valued values numbered ≡ box)
     box_by_number box b =
         let d = box.dst.start in
         let s = box.src.start in
         let here : f d s ≡ Some box.value = b.answered d s b.dst_is_prefix.start_in_range b.src_is_prefix.start_in_range refl refl in
         let number = some_number (g d s) box.value (subst (λ (h : Option Held). Says (g d s) h) here (says d s)) in
-        let numbered : Row ValueNumber = record { dst = box.dst; src = box.src; value = number.0 } in (
+        let numbered : Row PackedValue = record { dst = box.dst; src = box.src; value = number.0 } in (
           numbered,
           record {
             dst_is_prefix = b.dst_is_prefix;
@@ -157,19 +150,19 @@ module _ (values : List Held) where
           ap (λ (h : Held). let r : Row Held = record { dst = box.dst; src = box.src; value = h } in r) number.2,
         )
 
-    numbers_in : (boxes : List (Row ValueNumber)) → IsBoxList w g boxes → All (λ row. HasValue values row.value) boxes
+    numbers_in : (boxes : List (Row PackedValue)) → IsBoxList w g boxes → All (λ row. HasValue values row.value) boxes
     numbers_in boxes are i d i_in =
         let box = get_or boxes i d in
         let b = (are.exact box).0 (i, i_in, same_default boxes i d i_in) in
         let at = b.answered box.dst.start box.src.start b.dst_is_prefix.start_in_range b.src_is_prefix.start_in_range refl refl in
-        (says_value box.value (f box.dst.start box.src.start) (subst (λ (n : Option ValueNumber). Says n (f box.dst.start box.src.start)) at (says box.dst.start box.src.start))).1
+        (says_value box.value (f box.dst.start box.src.start) (subst (λ (n : Option PackedValue). Says n (f box.dst.start box.src.start)) at (says box.dst.start box.src.start))).1
       where
-        same_default : (xs : List (Row ValueNumber)) (i : ℕ) (d : Row ValueNumber) → i < length xs → get_or xs i (get_or xs i d) ≡ get_or xs i d
+        same_default : (xs : List (Row PackedValue)) (i : ℕ) (d : Row PackedValue) → i < length xs → get_or xs i (get_or xs i d) ≡ get_or xs i d
         same_default [] i d i_in = absurd (omega arith)
         same_default (x ∷ xs) zero d i_in = refl
         same_default (x ∷ xs) (suc i) d i_in = same_default xs i d (omega arith)
 
-    in_order : (boxes : List (Row ValueNumber)) → AllPairs IsBefore boxes → AllPairs IsBefore (map (valued values) boxes)
+    in_order : (boxes : List (Row PackedValue)) → AllPairs IsBefore boxes → AllPairs IsBefore (map (valued values) boxes)
     in_order [] order i j d lt j_in = absurd (omega arith)
     in_order (first ∷ rest) order i j d lt j_in =
         let boxes = first ∷ rest in
@@ -179,12 +172,12 @@ module _ (values : List Held) where
         subst (λ (r : Row Held). IsBefore r (get_or (map (valued values) boxes) j d)) (sym i_at)
         (subst (λ (r : Row Held). IsBefore (valued values (get_or boxes i first)) r) (sym j_at) (order i j first lt j_is))
       where
-        at_place : (xs : List (Row ValueNumber)) (i : ℕ) (d : Row Held) (e : Row ValueNumber) → i < length xs → get_or (map (valued values) xs) i d ≡ valued values (get_or xs i e)
+        at_place : (xs : List (Row PackedValue)) (i : ℕ) (d : Row Held) (e : Row PackedValue) → i < length xs → get_or (map (valued values) xs) i d ≡ valued values (get_or xs i e)
         at_place [] i d e i_in = absurd (omega arith)
         at_place (x ∷ xs) zero d e i_in = refl
         at_place (x ∷ xs) (suc i) d e i_in = at_place xs i d e (omega arith)
 
-    pub boxes_by_value : (boxes : List (Row ValueNumber)) → IsBoxList w g boxes → IsBoxList w f (map (valued values) boxes)
+    pub boxes_by_value : (boxes : List (Row PackedValue)) → IsBoxList w g boxes → IsBoxList w f (map (valued values) boxes)
     boxes_by_value boxes are = record {
       in_order = in_order boxes are.in_order;
       exact = λ box. (
@@ -197,14 +190,14 @@ module _ (values : List Held) where
       );
     }
 
-    pub numbers_of_boxes : (boxes : List (Row ValueNumber)) → IsBoxList w g boxes → All (λ row. HasValue values row.value) boxes
+    pub numbers_of_boxes : (boxes : List (Row PackedValue)) → IsBoxList w g boxes → All (λ row. HasValue values row.value) boxes
     numbers_of_boxes boxes are = numbers_in boxes are
 
   -- ---- where answers by number differ, they differ by value
 
-  module _ (w : ℕ) (g h : Answers ValueNumber) (f k : Answers Held) (left : (d s : ℕ) → Says (g d s) (f d s)) (right : (d s : ℕ) → Says (h d s) (k d s)) where
+  module _ (w : ℕ) (g h : Answers PackedValue) (f k : Answers Held) (left : (d s : ℕ) → Says (g d s) (f d s)) (right : (d s : ℕ) → Says (h d s) (k d s)) where
     same_at : (d s : ℕ) → g d s ≡ h d s → f d s ≡ k d s
-    same_at d s same = says_one (h d s) (f d s) (k d s) (subst (λ (n : Option ValueNumber). Says n (f d s)) same (left d s)) (right d s)
+    same_at d s same = says_one (h d s) (f d s) (k d s) (subst (λ (n : Option PackedValue). Says n (f d s)) same (left d s)) (right d s)
 
     pub same_by_value : SameAnswers w g h → SameAnswers w f k
     same_by_value same d s d_in s_in = same_at d s (same d s d_in s_in)

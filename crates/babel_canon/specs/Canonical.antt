@@ -10,6 +10,7 @@ use Rattle.babel_table.specs.Bounds.{Bounds}
 use Rattle.babel_table.specs.Rows.{Routes}
 use Rattle.babel_table.specs.DumpFault.{DumpFault, HasNoFault, IsTableOf}
 use Rattle.babel_canon.specs.Boxes.{AreBoxes}
+use Rattle.babel_canon.specs.Fewest.{AreFewest}
 
 -- pairs, and their canonical octets
 pub record Canonical : Type 0 where
@@ -21,6 +22,24 @@ pub record IsCanonical (limits : Bounds) (body : ℕ) (rows : List Pair) (canon 
   pub boxes : AreBoxes rows canon.pairs
   pub few : length canon.pairs ≤ limits.entries
   pub text : IsText body canon.pairs canon.octets
+
+-- the boxes of the rows' answers, no more than the limit, and the fewest pairs with these answers
+pub record AreCanonical (limits : Bounds) (rows pairs : List Pair) : Type 0 where
+  pub boxes : AreBoxes rows pairs
+  pub few : length pairs ≤ limits.entries
+  pub fewest : AreFewest rows pairs
+
+-- the octets are the text of these
+pub record SaysCanonical (limits : Bounds) (body : ℕ) (rows : List Pair) (octets : List ℕ) : Type 0 where
+  pub pairs : List Pair
+  pub are_canonical : AreCanonical limits rows pairs
+  pub text : IsText body pairs octets
+
+-- they are so many
+pub record CountsCanonical (limits : Bounds) (rows : List Pair) (count : ℕ) : Type 0 where
+  pub pairs : List Pair
+  pub are_canonical : AreCanonical limits rows pairs
+  pub count_is : count ≡ length pairs
 
 -- the boxes of the rows' answers are more than the limit
 abbrev pub HasManyBoxes : Bounds → List Pair → Type 0

@@ -1,6 +1,7 @@
 pub mod RoundTrip
 pub mod Sizes
 pub mod Packing
+pub mod Writing
 pub mod Boxes
 pub mod Fewest
 pub mod Headline
@@ -9,4 +10,5 @@ pub mod Canonical
 pub mod Verdict
 pub mod NumberOrder
 pub mod Values
+pub mod Sinks
 pub mod OneOutcome

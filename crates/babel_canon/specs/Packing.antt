@@ -1,27 +1,19 @@
 -- A packet that is put behind others (RFC 8966, 4.2), and the laws of the text, which is this project's own.
-use Rattle.std.specs.Prelude.{◌≡◌, ℕ, ◌<◌, ◌≤◌, List, ◌∷◌, ◌++◌, length, take, drop}
+use Rattle.std.specs.Prelude.{◌≡◌, ℕ, List, ◌∷◌, ◌++◌, length}
 use Rattle.std.specs.Int.{w16, to_be_bytes}
 use Rattle.std.specs.List.{AllByRecursion}
-use Rattle.babel_tlv.specs.Framing.{framed}
 use Rattle.babel_tlv.specs.Pair.{Pair, IsPair}
-use Rattle.babel_tlv.specs.Group.{body_of, IsFull, IsText}
+use Rattle.babel_tlv.specs.Group.{IsText}
 use Rattle.babel_canon.specs.Sizes.{IsBodySize}
-
--- behind the old octets stands a packet of the first pairs, so many: at least one, and as many as its body can take
-pub record PutsPacket (body : ℕ) (pairs : List Pair) (old new : List ℕ) (count : ℕ) : Type 0 where
-  pub octets : new ≡ old ++ framed (body_of (take count pairs))
-  pub some : 0 < count
-  pub within : count ≤ length pairs
-  pub fits : length (body_of (take count pairs)) ≤ body
-  pub full : IsFull body (take count pairs) (drop count pairs)
 
 -- a header that says this length, and a body
 abbrev pub headed : ℕ → List ℕ → List ℕ
 headed len body = 42 ∷ 2 ∷ to_be_bytes w16 len ++ body
 
--- a header at this offset that says 0, with a body behind it, now says this length
+-- a header at this offset that says some length, with a body behind it, now says this length
 abbrev pub HasLength : ℕ → ℕ → List ℕ → List ℕ → Type 0
-HasLength at len old new = (front body : List ℕ) → length front ≡ at → old ≡ front ++ headed 0 body → new ≡ front ++ headed len body
+HasLength at len old new =
+    (front body : List ℕ) (before : ℕ) → length front ≡ at → old ≡ front ++ headed before body → new ≡ front ++ headed len body
 
 -- pairs have exactly one text
 pub record HaveOneText (body : ℕ) (pairs : List Pair) : Type 0 where

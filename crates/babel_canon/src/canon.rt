@@ -1,11 +1,15 @@
-ghost use Rattle.std.specs.Prelude.{◌≡◌, ◌≤◌, IfOk, IfErr, length};
+ghost use Rattle.std.specs.Prelude.{◌≡◌, ◌+◌, ◌≤◌, IfOk, IfErr, length, map};
+ghost use Rattle.babel_prefix.specs.declared.family.Family.TheVariants.{V4, V6};
 ghost use Rattle.babel_canon.specs.Boxes.{AreBoxes};
-ghost use Rattle.babel_canon.specs.Canonical.{IsCanonical, CanonicalFault};
+ghost use Rattle.babel_canon.specs.Canonical.{AreCanonical, CanonicalFault, CountsCanonical, IsCanonical, SaysCanonical};
 ghost use Rattle.babel_canon.specs.Fewest.{AreFewest};
+ghost use Rattle.babel_canon.specs.Grids.{both_families};
+ghost use Rattle.babel_canon.specs.Values.{AreNumbered, valued};
 
 use crate::body::Body;
 use crate::grids::Grids;
-use crate::text::write_text;
+use crate::packing::write_text;
+use crate::sinks::{listed, written};
 use crate::values::Values;
 use babel_table::{Limits, Table};
 use babel_tlv::{Fault, Held, Key};
@@ -50,20 +54,72 @@ impl Canon {
     }
 }
 
-/// The canonical pairs of a table, which are known to be no more than the limit before any of them is made. The grids that
-/// they are made from are gone behind it.
-fn canonical_pairs(alloc: Global, limits: Limits, table: &Table) -> Result<Vec<(Key, Held)>, Fault>
-    ensures ok { IfOk result (λ pairs. AreBoxes table.now.rows pairs.items) }
-    ensures few { IfOk result (λ pairs. length pairs.items ≤ limits.entries) }
+/// The grids that the canonical pairs of a table are made from, with these values. The pairs are known to be
+/// no more than the limit before any of them is made.
+fn counted_grids(
+    alloc: Global,
+    limits: Limits,
+    table: &Table,
+    values: &mut Values,
+) -> Result<Grids, Fault>
+    requires { AreNumbered values.old.list.items values.old.numbers }
+    ensures v4 { IfOk result (λ grids. grids.v4.family ≡ V4) }
+    ensures v6 { IfOk result (λ grids. grids.v6.family ≡ V6) }
+    ensures few { IfOk result (λ grids. length grids.v4.boxes + length grids.v6.boxes ≤ limits.entries) }
+    ensures boxes { IfOk result (λ grids. AreBoxes table.now.rows (both_families (map (valued values.new.list.items) grids.v4.boxes) (map (valued values.new.list.items) grids.v6.boxes))) }
     ensures err { IfErr result (CanonicalFault limits table.now.rows) }
 {
-    let mut values = Values::new(alloc);
-    let grids = Grids::of(alloc, table, &mut values)?;
+    let grids = Grids::of(alloc, table, values)?;
     if grids.count() > limits.entries() as u64 {
         return Err(Fault::TooManyPairs);
     }
-    let pairs = grids.into_pairs(alloc, &values)?;
+    Ok(grids)
+}
+
+/// The canonical pairs of a table: by family, IPv4 first, then by destination, then by source. `TooManyPairs` if they are
+/// more than the entries of the limits, which is known before any of them is made; else `Memory`, if there is too little.
+///
+/// The pairs do not overlap and have the answers of the table, and no such list has fewer.
+pub fn canonical_pairs(
+    alloc: Global,
+    limits: Limits,
+    table: &Table,
+) -> Result<Vec<(Key, Held)>, Fault>
+    ensures ok { IfOk result (λ pairs. AreCanonical limits table.now.rows pairs.items) }
+    ensures err { IfErr result (CanonicalFault limits table.now.rows) }
+{
+    let mut values = Values::new(alloc);
+    let grids = counted_grids(alloc, limits, table, &mut values)?;
+    let pairs = listed(alloc, grids, &values)?;
     Ok(pairs)
+}
+
+/// The octets of the canonical pairs of a table, in packets with bodies of at most this many octets. No list of the pairs is
+/// made. `Err` as of `canonical_pairs`.
+pub fn canonical_octets(
+    alloc: Global,
+    limits: Limits,
+    body: Body,
+    table: &Table,
+) -> Result<Vec<u8>, Fault>
+    ensures ok { IfOk result (λ octets. SaysCanonical limits body table.now.rows octets.items) }
+    ensures err { IfErr result (CanonicalFault limits table.now.rows) }
+{
+    let mut values = Values::new(alloc);
+    let grids = counted_grids(alloc, limits, table, &mut values)?;
+    let octets = written(alloc, body, grids, &values)?;
+    Ok(octets)
+}
+
+/// How many canonical pairs a table has. None of them is made. `Err` as of `canonical_pairs`.
+pub fn pair_count(alloc: Global, limits: Limits, table: &Table) -> Result<usize, Fault>
+    ensures ok { IfOk result (CountsCanonical limits table.now.rows) }
+    ensures err { IfErr result (CanonicalFault limits table.now.rows) }
+{
+    let mut values = Values::new(alloc);
+    let grids = counted_grids(alloc, limits, table, &mut values)?;
+    let _valid = limits.entries();
+    Ok(grids.count() as usize)
 }
 
 /// The canonical form of a table, in packets with bodies of at most this many octets. `TooManyPairs` if its canonical pairs

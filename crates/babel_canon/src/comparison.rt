@@ -52,7 +52,7 @@ pub fn compare(alloc: Global, left: &Table, right: &Table) -> Result<Verdict, Fa
     Ok(Verdict::Differ {
         dst,
         src,
-        left: left.lookup(&dst, &src).copied(),
-        right: right.lookup(&dst, &src).copied(),
+        left: left.lookup(&dst, &src),
+        right: right.lookup(&dst, &src),
     })
 }

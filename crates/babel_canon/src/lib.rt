@@ -8,6 +8,8 @@ mod comparison;
 mod grids;
 pub mod laws;
 mod normal_form;
+mod packing;
+mod sinks;
 #[cfg(test)]
 mod tests;
 mod text;
@@ -15,7 +17,7 @@ mod values;
 mod verdict;
 
 pub use body::Body;
-pub use canon::{Canon, canonical};
+pub use canon::{Canon, canonical, canonical_octets, canonical_pairs, pair_count};
 pub use comparison::compare;
 pub use normal_form::normalise;
 pub use verdict::Verdict;

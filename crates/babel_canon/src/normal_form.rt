@@ -5,7 +5,7 @@ ghost use Rattle.babel_canon.specs.Fewest.{SaysFewest};
 ghost use Rattle.babel_canon.specs.Headline.{Normalises, TellsApart, ReadsAgain};
 
 use crate::body::Body;
-use crate::canon::canonical;
+use crate::canon::canonical_octets;
 use babel_prefix::Addr;
 use babel_table::{Limits, read_dump};
 use babel_tlv::{Fault, Mode};
@@ -35,6 +35,6 @@ pub fn normalise(
 {
     let _valid = (limits.entries(), body.octets());
     let table = read_dump(alloc, limits, mode, sender, dump)?;
-    let canon = canonical(alloc, limits, body, &table)?;
-    Ok(canon.into_bytes())
+    let octets = canonical_octets(alloc, limits, body, &table)?;
+    Ok(octets)
 }

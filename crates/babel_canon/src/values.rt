@@ -1,27 +1,59 @@
-//! Values by number: the grids keep numbers, and one list has the values.
-ghost use Rattle.std.specs.Prelude.{◌≡◌, IfOk, OnOk, Some, slice_get};
-ghost use Rattle.babel_canon.specs.Values.{AreNumbered, HasValue, KeepsValues, value_of};
+//! Values in eight octets: where routes come from has a number, and stands once in a list.
+ghost use Rattle.std.specs.Prelude.{◌≡◌, IfOk, OnOk, Some, slice_get, true};
+ghost use Rattle.babel_tlv.specs.Group.{held_metric, held_seqno};
+ghost use Rattle.babel_canon.specs.Values.{AreNumbered, HasFiniteMetric, IsPacked, KeepsValues, origin_of, value_of};
 
-use babel_tlv::Held;
+use babel_tlv::{Ann, Held};
 use babel_trie::LawfulOrd;
 use std::alloc::{AllocError, Global};
+use std::cmp::Ordering;
 use std::collections::BTreeMap;
 
-/// The number of a value.
+/// A value: the number of its origin, and its seqno and metric, which are 0 and infinite where it is unreachable.
 #[derive(Clone, Copy, PartialEq, Eq, PartialOrd, Ord)]
-pub(crate) struct ValueNumber(usize);
-
-impl LawfulOrd for ValueNumber {
-    ghost use Rattle.babel_canon.specs.NumberOrder.{numbers_exact};
-
-    ghost exact = { numbers_exact };
+pub(crate) struct PackedValue {
+    origin: u32,
+    seqno: u16,
+    metric: u16,
 }
 
-/// Each value once, and the number of each.
+impl LawfulOrd for PackedValue {
+    ghost use Rattle.babel_canon.specs.NumberOrder.{packed_exact};
+
+    ghost exact = { packed_exact };
+}
+
+/// Each origin once, the number of each, and the number that was asked for last.
 #[derive(Drop)]
 pub(crate) struct Values {
     list: Vec<Held>,
-    numbers: BTreeMap<Held, ValueNumber>,
+    numbers: BTreeMap<Held, u32>,
+    last: u32,
+}
+
+/// The origin of a value: the route of its router and next hop that has seqno and metric 0.
+fn origin_of(held: &Held) -> Held
+    ensures { result ≡ origin_of held.now }
+{
+    match held {
+        Held::Route(ann) => {
+            let origin = Ann::new(ann.router_id(), 0, 0, ann.next_hop());
+            Held::Route(origin.unwrap())
+        }
+        Held::Unreachable => Held::Unreachable,
+    }
+}
+
+/// The seqno and the metric of a value: RFC 8966, 4.6.9.
+fn seqno_and_metric(held: &Held) -> (u16, u16)
+    ensures seqno { result.0 ≡ held_seqno held.now }
+    ensures metric { result.1 ≡ held_metric held.now }
+    ensures finite { HasFiniteMetric held.now }
+{
+    match held {
+        Held::Route(ann) => (ann.seqno(), ann.metric()),
+        Held::Unreachable => (0, u16::MAX),
+    }
 }
 
 impl Values {
@@ -32,30 +64,79 @@ impl Values {
         Values {
             list: Vec::new(alloc),
             numbers: BTreeMap::new(alloc),
+            last: 0,
         }
     }
 
-    /// The number of a value, which is added if it is not there.
-    pub(crate) fn number_of(&mut self, held: Held) -> Result<ValueNumber, AllocError>
+    /// Whether this origin was asked for last.
+    fn is_last(&self, origin: &Held) -> bool
+        ensures { result ≡ true → slice_get self.now.list.items self.now.last ≡ Some origin.now }
+    {
+        let last = self.last as usize;
+        last < self.list.len() && self.list[last].cmp(origin) == Ordering::Equal
+    }
+
+    /// The number of an origin, which is added if it is not there.
+    fn number_in_map(&mut self, origin: Held) -> Result<u32, AllocError>
         requires { AreNumbered self.old.list.items self.old.numbers }
         ensures numbered { OnOk result (AreNumbered self.new.list.items self.new.numbers) }
-        ensures found { IfOk result (λ number. slice_get self.new.list.items number.0 ≡ Some held) }
+        ensures found { IfOk result (λ number. slice_get self.new.list.items number ≡ Some origin) }
         ensures keeps { OnOk result (KeepsValues self.old.list.items self.new.list.items) }
     {
-        if let Some(number) = self.numbers.get(&held).copied() {
+        if let Some(number) = self.numbers.get(&origin).copied() {
             return Ok(number);
         }
-        let number = ValueNumber(self.list.len());
-        self.list.push(held)?;
-        self.numbers.insert(held, number)?;
+        let Ok(number) = u32::try_from(self.list.len()) else {
+            return Err(AllocError);
+        };
+        self.list.push(origin)?;
+        self.numbers.insert(origin, number)?;
         Ok(number)
     }
 
-    /// The value of a number.
-    pub(crate) fn value(&self, number: ValueNumber) -> Held
-        requires { HasValue self.now.list.items number }
-        ensures { result ≡ value_of self.now.list.items number }
+    /// The number of a value's origin; the map is asked only where the origin is not the one that was asked for last.
+    fn number_of(&mut self, held: &Held) -> Result<u32, AllocError>
+        requires { AreNumbered self.old.list.items self.old.numbers }
+        ensures numbered { OnOk result (AreNumbered self.new.list.items self.new.numbers) }
+        ensures found { IfOk result (λ number. slice_get self.new.list.items number ≡ Some (origin_of held.now)) }
+        ensures keeps { OnOk result (KeepsValues self.old.list.items self.new.list.items) }
     {
-        self.list[number.0]
+        let origin = origin_of(held);
+        if self.is_last(&origin) {
+            return Ok(self.last);
+        }
+        let number = self.number_in_map(origin)?;
+        self.last = number;
+        Ok(number)
+    }
+
+    /// A value in eight octets.
+    pub(crate) fn packed(&mut self, held: &Held) -> Result<PackedValue, AllocError>
+        requires { AreNumbered self.old.list.items self.old.numbers }
+        ensures numbered { OnOk result (AreNumbered self.new.list.items self.new.numbers) }
+        ensures found { IfOk result (λ value. IsPacked self.new.list.items held.now value) }
+        ensures keeps { OnOk result (KeepsValues self.old.list.items self.new.list.items) }
+    {
+        let origin = self.number_of(held)?;
+        let (seqno, metric) = seqno_and_metric(held);
+        Ok(PackedValue {
+            origin,
+            seqno,
+            metric,
+        })
+    }
+
+    /// The value that is packed so; `Unreachable` where none is.
+    pub(crate) fn value(&self, value: PackedValue) -> Held
+        ensures { result ≡ value_of self.now.list.items value }
+    {
+        let Some(Held::Route(origin)) = self.list.get(value.origin as usize) else {
+            return Held::Unreachable;
+        };
+        let id = origin.router_id();
+        match Ann::new(id, value.seqno, value.metric, origin.next_hop()) {
+            Some(ann) => Held::Route(ann),
+            None => Held::Unreachable,
+        }
     }
 }

@@ -1,29 +1,46 @@
--- What the canonical form of a reader's dump is.
-use Rattle.std.proofs.Common.{ℕ}
-use Rattle.babel_table.specs.Bounds.{AreBounds}
+-- What the canonical octets, and the canonical pairs, of a reader's dump are.
+use Rattle.std.proofs.Common.{◌≡◌, ℕ, Bool, List, arith}
+use Rattle.babel_tlv.specs.Pair.{Pair}
+use Rattle.babel_table.specs.Bounds.{Bounds, AreBounds}
 use Rattle.babel_table.specs.Rows.{Routes}
 use Rattle.babel_canon.specs.Sizes.{IsBodySize}
-use Rattle.babel_canon.specs.Canonical.{Canonical, IsCanonical}
-use Rattle.babel_canon.specs.Fewest.{AreFewest, SaysFewest}
+use Rattle.babel_canon.specs.Canonical.{AreCanonical, SaysCanonical}
+use Rattle.babel_canon.specs.Fewest.{SaysFewest}
 use Rattle.babel_canon.specs.Headline.{Headline, Normalises}
+use Rattle.babel_canon.specs.Packing.{TextIsOne}
 use Rattle.babel_dump.specs.Given.{GaveNormal, GaveTable, Input}
+use Rattle.babel_dump.specs.Parts.{SaysPairs}
+use Rattle.babel_dump.specs.RunText.{pairs_or_counts}
 
--- the canonical form of the table is that of the dump
-pub gave_normal : Headline → (reader : Input) (body : ℕ) (table : Routes) (canon : Canonical) → AreBounds reader.reading.limits
-    → IsBodySize body → GaveTable reader table → IsCanonical reader.reading.limits body table.rows canon → AreFewest table.rows canon.pairs
-    → GaveNormal reader body canon.octets
-gave_normal headline reader body table canon bounds size given is_canon fewest =
+-- the canonical octets of the table are those of the dump
+pub gave_normal : Headline → (reader : Input) (body : ℕ) (table : Routes) (octets : List ℕ) → AreBounds reader.reading.limits
+    → IsBodySize body → GaveTable reader table → SaysCanonical reader.reading.limits body table.rows octets → GaveNormal reader body octets
+gave_normal headline reader body table octets bounds size given says =
     let reading = reader.reading in
-    let normal : Normalises reading.limits reading.mode body reading.sender given.dump canon.octets = record {
-      no_fault = given.accepted;
+    let gave = given.given in
+    let normal : Normalises reading.limits reading.mode body reading.sender gave.dump octets = record {
+      no_fault = gave.accepted;
       table = table;
-      is_table = given.is_table;
-      boxes = canon.pairs;
-      are_boxes = is_canon.boxes;
-      few = is_canon.few;
-      text = is_canon.text;
+      is_table = gave.is_table;
+      boxes = says.pairs;
+      are_boxes = says.are_canonical.boxes;
+      few = says.are_canonical.few;
+      text = says.text;
     } in
-    let says : SaysFewest reading.limits reading.mode body reading.sender given.dump canon.octets =
-    record { table = table; is_table = given.is_table; pairs = canon.pairs; fewest = fewest; text = is_canon.text } in
-    let told = headline reading.limits reading.mode body bounds size (record { sender = reading.sender; dump = given.dump }) canon.octets normal in
-    record { dump = given.dump; gave = given.gave; normalises = normal; fewest = says; tells_apart = told.0; reads_again = told.1 }
+    let fewest : SaysFewest reading.limits reading.mode body reading.sender gave.dump octets =
+    record { table = table; is_table = gave.is_table; pairs = says.pairs; fewest = says.are_canonical.fewest; text = says.text } in
+    let told = headline reading.limits reading.mode body bounds size (record { sender = reading.sender; dump = gave.dump }) octets normal in
+    record { table = table; gave = given; normalises = normal; fewest = fewest; tells_apart = told.0; reads_again = told.1 }
+
+-- the canonical pairs have a text
+pub says_pairs : TextIsOne → (limits : Bounds) (count : Bool) (rows pairs : List Pair) (text : List ℕ) → AreCanonical limits rows pairs
+    → text ≡ pairs_or_counts count rows pairs → SaysPairs limits count rows text
+says_pairs one limits count rows pairs text are text_is =
+    let size : IsBodySize 1024 = record { room = omega arith; said = omega arith } in
+    let whole = one 1024 pairs size are.boxes.are_rows.each in
+    record {
+      canon = record { pairs = pairs; octets = whole.text };
+      is_canon = record { boxes = are.boxes; few = are.few; text = whole.is_text };
+      fewest = are.fewest;
+      text_is = text_is;
+    }

@@ -1,35 +1,38 @@
 -- What a job's run answers and writes is settled by the octets of its readers.
-use Rattle.std.proofs.Common.{◌≡◌, ◌≢◌, refl, ℕ, ◌≤◌, Bool, List, [], ◌++◌, length, take, Option, None, Some, Result, Ok, Err, inl, inr, ◌⊎◌, arith, append-nil, subst, ap, sym, ◌∙◌}
+use Rattle.std.proofs.Common.{◌≡◌, ◌≢◌, refl, ℕ, ◌≤◌, Bool, true, List, [], ◌++◌, length, take, Option, None, Some, Result, Ok, Err, inl, inr, ◌⊎◌, arith, append-nil, subst, ap, sym, ◌∙◌}
 use Rattle.std.specs.Prelude.{IfOk, IfErr}
 use Rattle.std.specs.Io.KnownBytes.{Appends, Consumes, IsAtEnd, Keeps}
 use Rattle.babel_prefix.specs.Address.{Address}
 use Rattle.babel_tlv.specs.declared.fault.Fault.{Fault}
 use Rattle.babel_tlv.specs.declared.fault.Fault.TheVariants as faults
-use Rattle.babel_tlv.specs.declared.mode.Mode.{Mode}
 use Rattle.babel_tlv.specs.Pair.{Pair}
 use Rattle.babel_table.specs.Bounds.{Bounds}
 use Rattle.babel_table.specs.DumpFault.{DumpFault, HasNoFault, IsTableOf, IsTruncated}
 use Rattle.babel_table.specs.Rows.{Routes}
 use Rattle.babel_table.proofs.OutcomeLaws.{fault_is_one, fault_stays, table_is_one}
 use Rattle.babel_canon.specs.Boxes.{AreBoxes}
-use Rattle.babel_canon.specs.Canonical.{HasManyBoxes, NormaliseFault}
+use Rattle.babel_canon.specs.Canonical.{HasManyBoxes}
 use Rattle.babel_canon.specs.Headline.{Normalises}
 use Rattle.babel_canon.specs.Verdict.{IsVerdict}
 use Rattle.babel_canon.specs.declared.verdict.Verdict.{Verdict}
-use Rattle.babel_canon.proofs.OneOutcome.{boxes_same, normal_form_is_one, normal_form_has_no_fault, normalise_fault_is_one}
+use Rattle.babel_canon.proofs.OneOutcome.{boxes_same, normal_form_is_one}
 use Rattle.babel_canon.proofs.OneVerdict.{verdict_is_one}
 use Rattle.babel_dump.specs.Command.{Compares, InTurn, ListsPairs, LooksUp, Shows, WritesNormal}
 use Rattle.babel_dump.specs.Device.{AppendsPrefix}
-use Rattle.babel_dump.specs.Given.{GaveAll, GaveTable, Input, IsFaultOfForm, IsFaultOfGiven, IsOfWhole, read_from}
-use Rattle.babel_dump.specs.JobRun.{reading_of}
+use Rattle.babel_dump.specs.Given.{GaveAll, GaveDump, GaveIgnored, GaveTable, Input, IsFaultOfForm, IsFaultOfGiven, IsOfWhole, read_from}
+use Rattle.babel_dump.specs.JobRun.{left_reading, reading_of, right_reading}
 use Rattle.babel_dump.specs.OneOutcome.{FaultIsOfAll, FaultIsOne, IsOfOctets, NothingWritten, OtherFaultIsOfAll, RanOver, StatusIsOne, StatusOrFault, WrittenIsPrefix}
-use Rattle.babel_dump.specs.Run.{HasCause, Output, Ran, UnlessWrite}
+use Rattle.babel_dump.specs.Run.{HasCause, Output, Ran, UnlessWrite, run_status}
 use Rattle.babel_dump.specs.RunText.{answer_in, form_text, lookup_status, lookup_text, pairs_or_counts, show_text, verdict_status, verdict_text}
+use Rattle.babel_dump.specs.Ignored.{IgnoresNone, first_ignored}
+use Rattle.babel_dump.specs.declared.ignored.IgnoredTlv.{IgnoredTlv}
 use Rattle.babel_dump.specs.declared.job.Job.{Job}
 use Rattle.babel_dump.specs.declared.job.Job.TheVariants as jobs
+use Rattle.babel_dump.specs.declared.outcome.Outcome.{Outcome}
 use Rattle.babel_dump.specs.declared.reading.Reading.{Reading}
 use Rattle.babel_dump.specs.declared.run_fault.RunFault.{RunFault}
 use Rattle.babel_dump.specs.declared.run_fault.RunFault.TheVariants as run_faults
+use Rattle.babel_dump.proofs.IgnoredLaws.{none_is_first}
 
 -- the octets that a reader gave are the first of those that it had
 begins : (old new : Option (List ℕ)) (dump given : List ℕ) → old ≡ Some dump → Consumes old new given → (rest : List ℕ) × (dump ≡ given ++ rest)
@@ -49,20 +52,56 @@ all_of (Some xs) (Some ys) dump given has gave end =
 gave_all : (reader : Input) (dump given : List ℕ) → reader.old.left ≡ Some dump → GaveAll reader given → given ≡ dump
 gave_all reader dump given has gave = all_of reader.old.left reader.new.left dump given has gave.gave gave.all
 
--- the dump has no fault, and this table
-pub record IsSound (reading : Reading) (dump : List ℕ) (table : Routes) : Type 0 where
+-- the dump has no fault of its own, and this table
+pub record IsDump (reading : Reading) (dump : List ℕ) (table : Routes) : Type 0 where
   pub accepted : HasNoFault reading.limits reading.mode reading.sender dump
   pub is_table : IsTableOf reading.limits reading.mode reading.sender dump table
 
-sound : (reader : Input) (dump : List ℕ) (table : Routes) → reader.old.left ≡ Some dump → GaveTable reader table → IsSound reader.reading dump table
-sound reader dump table has given =
+-- and no TLV of it was ignored if it is read strictly
+pub record IsSound (reading : Reading) (dump : List ℕ) (table : Routes) : Type 0 where
+  pub whole : IsDump reading dump table
+  pub strict : reading.strict ≡ true → IgnoresNone table.report
+
+-- it is read strictly, and this TLV of it is the first that was ignored
+pub record IsIgnored (reading : Reading) (dump : List ℕ) (tlv : IgnoredTlv) : Type 0 where
+  pub table : Routes
+  pub whole : IsDump reading dump table
+  pub strict : reading.strict ≡ true
+  pub first : first_ignored table.report ≡ Some tlv
+
+is_dump : (reader : Input) (dump : List ℕ) (table : Routes) → reader.old.left ≡ Some dump → GaveDump reader table → IsDump reader.reading dump table
+is_dump reader dump table has given =
     let same = gave_all reader dump given.dump has given.gave in record {
       accepted = subst (λ (d : List ℕ). HasNoFault reader.reading.limits reader.reading.mode reader.reading.sender d) same given.accepted;
       is_table = subst (λ (d : List ℕ). IsTableOf reader.reading.limits reader.reading.mode reader.reading.sender d table) same given.is_table;
     }
 
+sound : (reader : Input) (dump : List ℕ) (table : Routes) → reader.old.left ≡ Some dump → GaveTable reader table → IsSound reader.reading dump table
+sound reader dump table has gave = record { whole = is_dump reader dump table has gave.given; strict = gave.strict }
+
+is_ignored : (reader : Input) (dump : List ℕ) (tlv : IgnoredTlv) → reader.old.left ≡ Some dump → GaveIgnored reader tlv → IsIgnored reader.reading dump tlv
+is_ignored reader dump tlv has gave =
+    record { table = gave.table; whole = is_dump reader dump gave.table has gave.given; strict = gave.strict; first = gave.first }
+
+dump_one : (reading : Reading) (dump : List ℕ) (table other : Routes) → IsDump reading dump table → IsDump reading dump other → table ≡ other
+dump_one reading dump table other one two = table_is_one _ _ _ dump table other one.is_table two.is_table
+
 sound_one : (reading : Reading) (dump : List ℕ) (table other : Routes) → IsSound reading dump table → IsSound reading dump other → table ≡ other
-sound_one reading dump table other one two = table_is_one _ _ _ dump table other one.is_table two.is_table
+sound_one reading dump table other one two = dump_one reading dump table other one.whole two.whole
+
+-- one TLV is the first that was ignored, and none of a sound dump
+ignored_one : (reading : Reading) (dump : List ℕ) (tlv other : IgnoredTlv) → IsIgnored reading dump tlv → IsIgnored reading dump other → tlv ≡ other
+ignored_one reading dump tlv other one two =
+    let same = ap (λ (t : Routes). first_ignored t.report) (dump_one reading dump one.table two.table one.whole two.whole) in
+    let tlvs : Some tlv ≡ Some other = sym one.first ∙ same ∙ two.first in
+    cc
+
+sound_ignores_none : (reading : Reading) (dump : List ℕ) (table : Routes) (tlv : IgnoredTlv) → IsSound reading dump table → IsIgnored reading dump tlv → ⊥
+sound_ignores_none reading dump table tlv is ignored =
+    let same = ap (λ (t : Routes). first_ignored t.report) (dump_one reading dump table ignored.table is.whole ignored.whole) in
+    let none = none_is_first table.report (is.strict ignored.strict) in
+    let tlvs : None ≡ Some tlv = sym none ∙ same ∙ ignored.first in
+    absurd cc
 
 -- the fault of what a reader gave is that of all that it had
 lasts : (fault : Fault) → (IsTruncated fault → IsOfWhole fault)
@@ -107,6 +146,8 @@ pub record TableSays (reading : Reading) (dump : List ℕ) (text_of : Routes →
 
 pub record NormalSays (reading : Reading) (body : ℕ) (hex : Bool) (dump : List ℕ) (text : List ℕ) (status : ℕ) : Type 0 where
   pub octets : List ℕ
+  pub table : Routes
+  pub sound : IsSound reading dump table
   pub normal : Normalises reading.limits reading.mode body reading.sender dump octets
   pub text_is : text ≡ form_text hex octets
   pub status_is : status ≡ 0
@@ -139,27 +180,34 @@ SaysOf limits (jobs.Lookup dump pair) octets other text status =
 SaysOf limits (jobs.Normalise dump body hex) octets other text status = NormalSays (reading_of limits dump) body hex octets text status
 SaysOf limits (jobs.Pairs dump count) octets other text status = PairsSay (reading_of limits dump) count octets text status
 SaysOf limits (jobs.Compare dumps) octets other text status =
-    TablesSay (record { limits = limits; mode = dumps.mode; sender = dumps.from })
-    (record { limits = limits; mode = dumps.mode; sender = dumps.other_from }) octets other text status
+    TablesSay (left_reading limits dumps) (right_reading limits dumps) octets other text status
+
+-- the fault is a dump's own, or that a TLV of it was ignored, and is answered as one of these
+abbrev pub FaultAs : (Fault → RunFault) → (IgnoredTlv → RunFault) → Reading → List ℕ → RunFault → Type 0
+FaultAs own ignored reading dump fault =
+    ((of_dump : Fault) × (fault ≡ own of_dump) × DumpFault reading.limits reading.mode reading.sender dump of_dump)
+    ⊎ ((tlv : IgnoredTlv) × (fault ≡ ignored tlv) × IsIgnored reading dump tlv)
 
 -- the fault is that of a dump
 abbrev pub FaultOfTable : Reading → List ℕ → RunFault → Type 0
-FaultOfTable reading dump fault =
-    (of_dump : Fault) × (fault ≡ run_faults.Dump of_dump) × DumpFault reading.limits reading.mode reading.sender dump of_dump
+FaultOfTable reading dump fault = FaultAs run_faults.Dump run_faults.Ignored reading dump fault
+
+-- the fault is that of another dump
+abbrev pub FaultOfOther : Reading → List ℕ → RunFault → Type 0
+FaultOfOther reading dump fault = FaultAs run_faults.OtherDump run_faults.OtherIgnored reading dump fault
 
 -- the fault keeps a dump from its canonical octets
 abbrev pub FaultOfNormal : Reading → List ℕ → RunFault → Type 0
 FaultOfNormal reading dump fault =
-    (of_form : Fault) × (fault ≡ run_faults.Dump of_form) × (of_form ≢ faults.Memory)
-    × NormaliseFault reading.limits reading.mode reading.sender dump of_form
+    FaultOfTable reading dump fault
+    ⊎ ((fault ≡ run_faults.Dump faults.TooManyPairs)
+    × ((table : Routes) × IsSound reading dump table × HasManyBoxes reading.limits table.rows))
 
 -- the fault is that of the first dump, or, where that has none, of the other
 abbrev pub FaultOfTables : Reading → Reading → List ℕ → List ℕ → RunFault → Type 0
 FaultOfTables reading other_reading dump other fault =
     FaultOfTable reading dump fault
-    ⊎ (HasNoFault reading.limits reading.mode reading.sender dump
-    × ((of_other : Fault) × (fault ≡ run_faults.OtherDump of_other)
-    × DumpFault other_reading.limits other_reading.mode other_reading.sender other of_other))
+    ⊎ (((table : Routes) × IsSound reading dump table) × FaultOfOther other_reading other fault)
 
 -- the fault that a job has of the octets of its readers
 abbrev pub FaultOf : Bounds → Job → List ℕ → List ℕ → RunFault → Type 0
@@ -168,8 +216,7 @@ FaultOf limits (jobs.Lookup dump pair) octets other fault = FaultOfTable (readin
 FaultOf limits (jobs.Normalise dump body hex) octets other fault = FaultOfNormal (reading_of limits dump) octets fault
 FaultOf limits (jobs.Pairs dump count) octets other fault = FaultOfNormal (reading_of limits dump) octets fault
 FaultOf limits (jobs.Compare dumps) octets other fault =
-    FaultOfTables (record { limits = limits; mode = dumps.mode; sender = dumps.from })
-    (record { limits = limits; mode = dumps.mode; sender = dumps.other_from }) octets other fault
+    FaultOfTables (left_reading limits dumps) (right_reading limits dumps) octets other fault
 
 -- each is one
 table_says_one : (reading : Reading) (dump : List ℕ) (text_of : Routes → List ℕ) (status_of : Routes → ℕ) (text text_too : List ℕ) (status status_too : ℕ)
@@ -218,47 +265,57 @@ not_many limits rows others pairs same boxes few (more, are_boxes, many) =
     let e = ap (λ (l : List Pair). length l) (boxes_same rows others pairs more same boxes are_boxes) in
     absurd (omega (arith, e, few, many))
 
+-- a sound dump has no fault
+sound_no_fault : (own : Fault → RunFault) (ignored : IgnoredTlv → RunFault) (reading : Reading) (dump : List ℕ) (table : Routes) (fault : RunFault)
+    → IsSound reading dump table → FaultAs own ignored reading dump fault → ⊥
+sound_no_fault own ignored reading dump table fault is (inl (of_dump, same, has)) = is.whole.accepted of_dump has
+sound_no_fault own ignored reading dump table fault is (inr (tlv, same, first)) = sound_ignores_none reading dump table tlv is first
+
 -- where a job says something of octets it has no fault of them
 says_no_fault : (limits : Bounds) (job : Job) (dump other text : List ℕ) (status : ℕ) (fault : RunFault) → SaysOf limits job dump other text status
     → FaultOf limits job dump other fault → ⊥
-says_no_fault limits (jobs.Show given) dump other text status fault says (of_dump, is, has) = says.sound.accepted of_dump has
-says_no_fault limits (jobs.Lookup given pair) dump other text status fault says (of_dump, is, has) = says.sound.accepted of_dump has
-says_no_fault limits (jobs.Normalise given body hex) dump other text status fault says (of_form, is, not_memory, has) =
-    not_memory (normal_form_has_no_fault _ _ body _ dump says.octets of_form says.normal has)
-says_no_fault limits (jobs.Pairs given count) dump other text status fault says (of_form, is, not_memory, inl has) = says.sound.accepted of_form has
-says_no_fault limits (jobs.Pairs given count) dump other text status fault says (of_form, is, not_memory, inr (inl (many, none, (table, is_table, boxes)))) =
-    let same = table_is_one limits given.mode given.from dump says.table table says.sound.is_table is_table in
+says_no_fault limits (jobs.Show given) dump other text status fault says has = sound_no_fault _ _ _ dump says.table fault says.sound has
+says_no_fault limits (jobs.Lookup given pair) dump other text status fault says has = sound_no_fault _ _ _ dump says.table fault says.sound has
+says_no_fault limits (jobs.Normalise given body hex) dump other text status fault says (inl has) = sound_no_fault _ _ _ dump says.table fault says.sound has
+says_no_fault limits (jobs.Normalise given body hex) dump other text status fault says (inr (many, (table, is, boxes))) =
+    let same = table_is_one limits given.mode given.from dump says.normal.table table says.normal.is_table is.whole.is_table in
+    not_many limits says.normal.table.rows table.rows says.normal.boxes (ap (λ (t : Routes). t.rows) same) says.normal.are_boxes says.normal.few boxes
+says_no_fault limits (jobs.Pairs given count) dump other text status fault says (inl has) = sound_no_fault _ _ _ dump says.table fault says.sound has
+says_no_fault limits (jobs.Pairs given count) dump other text status fault says (inr (many, (table, is, boxes))) =
+    let same = sound_one (reading_of limits given) dump says.table table says.sound is in
     not_many limits says.table.rows table.rows says.pairs (ap (λ (t : Routes). t.rows) same) says.boxes says.few boxes
-says_no_fault limits (jobs.Pairs given count) dump other text status fault says (of_form, is, not_memory, inr (inr memory)) = not_memory memory
-says_no_fault limits (jobs.Compare dumps) dump other text status fault says (inl (of_dump, is, has)) = says.sound.accepted of_dump has
-says_no_fault limits (jobs.Compare dumps) dump other text status fault says (inr (none, (of_other, is, has))) = says.other_sound.accepted of_other has
+says_no_fault limits (jobs.Compare dumps) dump other text status fault says (inl has) = sound_no_fault _ _ _ dump says.table fault says.sound has
+says_no_fault limits (jobs.Compare dumps) dump other text status fault says (inr (first, has)) = sound_no_fault _ _ _ other says.other_table fault says.other_sound has
 
 -- octets have one fault
-table_fault_one : (reading : Reading) (dump : List ℕ) (fault fault_too : RunFault) → FaultOfTable reading dump fault
-    → FaultOfTable reading dump fault_too → fault ≡ fault_too
-table_fault_one reading dump fault fault_too (one, is_one, has_one) (two, is_two, has_two) =
+as_one : (own : Fault → RunFault) (ignored : IgnoredTlv → RunFault) (reading : Reading) (dump : List ℕ) (fault fault_too : RunFault)
+    → FaultAs own ignored reading dump fault → FaultAs own ignored reading dump fault_too → fault ≡ fault_too
+as_one own ignored reading dump fault fault_too (inl (one, is_one, has_one)) (inl (two, is_two, has_two)) =
     let same = fault_is_one reading.limits reading.mode reading.sender dump one two has_one has_two in
-    is_one ∙ ap (λ (f : Fault). run_faults.Dump f) same ∙ sym is_two
+    is_one ∙ ap own same ∙ sym is_two
+as_one own ignored reading dump fault fault_too (inl (one, is_one, has_one)) (inr (two, is_two, has_two)) = absurd (has_two.whole.accepted one has_one)
+as_one own ignored reading dump fault fault_too (inr (one, is_one, has_one)) (inl (two, is_two, has_two)) = absurd (has_one.whole.accepted two has_two)
+as_one own ignored reading dump fault fault_too (inr (one, is_one, has_one)) (inr (two, is_two, has_two)) =
+    is_one ∙ ap ignored (ignored_one reading dump one two has_one has_two) ∙ sym is_two
 
 normal_fault_one : (reading : Reading) (dump : List ℕ) (fault fault_too : RunFault) → FaultOfNormal reading dump fault
     → FaultOfNormal reading dump fault_too → fault ≡ fault_too
-normal_fault_one reading dump fault fault_too (one, is_one, not_memory, has_one) (two, is_two, not_memory_too, has_two) =
-    let same = normalise_fault_is_one reading.limits reading.mode reading.sender dump one two has_one has_two not_memory not_memory_too in
-    is_one ∙ ap (λ (f : Fault). run_faults.Dump f) same ∙ sym is_two
+normal_fault_one reading dump fault fault_too (inl one) (inl two) = as_one _ _ reading dump fault fault_too one two
+normal_fault_one reading dump fault fault_too (inl one) (inr (is_two, (table, is, boxes))) = absurd (sound_no_fault _ _ reading dump table fault is one)
+normal_fault_one reading dump fault fault_too (inr (is_one, (table, is, boxes))) (inl two) = absurd (sound_no_fault _ _ reading dump table fault_too is two)
+normal_fault_one reading dump fault fault_too (inr one) (inr two) = one.0 ∙ sym two.0
 
 tables_fault_one : (reading other_reading : Reading) (dump other : List ℕ) (fault fault_too : RunFault)
     → FaultOfTables reading other_reading dump other fault → FaultOfTables reading other_reading dump other fault_too → fault ≡ fault_too
-tables_fault_one reading other_reading dump other fault fault_too (inl one) (inl two) = table_fault_one reading dump fault fault_too one two
-tables_fault_one reading other_reading dump other fault fault_too (inl (one, is_one, has_one)) (inr (none, two)) = absurd (none one has_one)
-tables_fault_one reading other_reading dump other fault fault_too (inr (none, one)) (inl (two, is_two, has_two)) = absurd (none two has_two)
-tables_fault_one reading other_reading dump other fault fault_too (inr (none, (one, is_one, has_one))) (inr (none_too, (two, is_two, has_two))) =
-    let same = fault_is_one other_reading.limits other_reading.mode other_reading.sender other one two has_one has_two in
-    is_one ∙ ap (λ (f : Fault). run_faults.OtherDump f) same ∙ sym is_two
+tables_fault_one reading other_reading dump other fault fault_too (inl one) (inl two) = as_one _ _ reading dump fault fault_too one two
+tables_fault_one reading other_reading dump other fault fault_too (inl one) (inr (first, two)) = absurd (sound_no_fault _ _ reading dump first.0 fault first.1 one)
+tables_fault_one reading other_reading dump other fault fault_too (inr (first, one)) (inl two) = absurd (sound_no_fault _ _ reading dump first.0 fault_too first.1 two)
+tables_fault_one reading other_reading dump other fault fault_too (inr (first, one)) (inr (first_too, two)) = as_one _ _ other_reading other fault fault_too one two
 
 fault_one : (limits : Bounds) (job : Job) (dump other : List ℕ) (fault fault_too : RunFault) → FaultOf limits job dump other fault
     → FaultOf limits job dump other fault_too → fault ≡ fault_too
-fault_one limits (jobs.Show given) dump other fault fault_too one two = table_fault_one _ dump fault fault_too one two
-fault_one limits (jobs.Lookup given pair) dump other fault fault_too one two = table_fault_one _ dump fault fault_too one two
+fault_one limits (jobs.Show given) dump other fault fault_too one two = as_one _ _ _ dump fault fault_too one two
+fault_one limits (jobs.Lookup given pair) dump other fault fault_too one two = as_one _ _ _ dump fault fault_too one two
 fault_one limits (jobs.Normalise given body hex) dump other fault fault_too one two = normal_fault_one _ dump fault fault_too one two
 fault_one limits (jobs.Pairs given count) dump other fault fault_too one two = normal_fault_one _ dump fault fault_too one two
 fault_one limits (jobs.Compare dumps) dump other fault fault_too one two = tables_fault_one _ _ dump other fault fault_too one two
@@ -275,8 +332,10 @@ looks_up reader dst src dump text status has says = record { table = says.table;
 normalises : (reader : Input) (body : ℕ) (hex : Bool) (dump text : List ℕ) (status : ℕ) → reader.old.left ≡ Some dump
     → WritesNormal reader body hex text status → NormalSays reader.reading body hex dump text status
 normalises reader body hex dump text status has says =
-    let same = gave_all reader dump says.gave.dump has says.gave.gave in record {
+    let same = gave_all reader dump says.gave.gave.given.dump has says.gave.gave.given.gave in record {
       octets = says.octets;
+      table = says.gave.table;
+      sound = sound reader dump says.gave.table has says.gave.gave;
       normal = subst (λ (d : List ℕ). Normalises reader.reading.limits reader.reading.mode body reader.reading.sender d says.octets) same says.gave.normalises;
       text_is = says.text_is;
       status_is = says.status_is;
@@ -311,23 +370,27 @@ compares reader second dump other text status has other_has says = record {
 of_table : (reader : Input) (dump : List ℕ) (fault : RunFault) → reader.old.left ≡ Some dump → IsOfOctets fault
     → HasCause reader None (IsFaultOfGiven reader) fault → FaultOfTable reader.reading dump fault
 of_table reader dump run_faults.Read has is cause = absurd is
-of_table reader dump (run_faults.Dump fault) has is cause = (fault, refl, fault_of_all reader dump fault has (cause is))
+of_table reader dump (run_faults.Dump fault) has is cause = inl (fault, refl, fault_of_all reader dump fault has (cause is))
+of_table reader dump (run_faults.Ignored tlv) has is cause = inr (tlv, refl, is_ignored reader dump tlv has cause)
 of_table reader dump run_faults.OtherRead has is cause = absurd is
 of_table reader dump (run_faults.OtherDump fault) has is cause = absurd cause
+of_table reader dump (run_faults.OtherIgnored tlv) has is cause = absurd cause
 of_table reader dump run_faults.Write has is cause = absurd is
 
 form_of_all : (reader : Input) (dump : List ℕ) (fault : Fault) → reader.old.left ≡ Some dump → IsFaultOfForm reader fault
-    → NormaliseFault reader.reading.limits reader.reading.mode reader.reading.sender dump fault
-form_of_all reader dump fault has (inl given) = inl (fault_of_all reader dump fault has given)
+    → FaultOfNormal reader.reading dump (run_faults.Dump fault)
+form_of_all reader dump fault has (inl given) = inl (inl (fault, refl, fault_of_all reader dump fault has given))
 form_of_all reader dump fault has (inr (is, (table, gave, many))) =
-    let is_sound = sound reader dump table has gave in inr (inl (is, is_sound.accepted, (table, is_sound.is_table, many)))
+    inr (ap (λ (f : Fault). run_faults.Dump f) is, (table, sound reader dump table has gave, many))
 
 of_normal : (reader : Input) (dump : List ℕ) (fault : RunFault) → reader.old.left ≡ Some dump → IsOfOctets fault
     → HasCause reader None (IsFaultOfForm reader) fault → FaultOfNormal reader.reading dump fault
 of_normal reader dump run_faults.Read has is cause = absurd is
-of_normal reader dump (run_faults.Dump fault) has is cause = (fault, refl, is, form_of_all reader dump fault has (cause is))
+of_normal reader dump (run_faults.Dump fault) has is cause = form_of_all reader dump fault has (cause is)
+of_normal reader dump (run_faults.Ignored tlv) has is cause = inl (inr (tlv, refl, is_ignored reader dump tlv has cause))
 of_normal reader dump run_faults.OtherRead has is cause = absurd is
 of_normal reader dump (run_faults.OtherDump fault) has is cause = absurd cause
+of_normal reader dump (run_faults.OtherIgnored tlv) has is cause = absurd cause
 of_normal reader dump run_faults.Write has is cause = absurd is
 
 of_tables : (reader second : Input) (dump other : List ℕ) (untouched : Type 0) (fault : RunFault) → reader.old.left ≡ Some dump
@@ -335,10 +398,14 @@ of_tables : (reader second : Input) (dump other : List ℕ) (untouched : Type 0)
     → InTurn reader second untouched fault → FaultOfTables reader.reading second.reading dump other fault
 of_tables reader second dump other untouched run_faults.Read has other_has is cause in_turn = absurd is
 of_tables reader second dump other untouched (run_faults.Dump fault) has other_has is cause in_turn =
-    inl (fault, refl, fault_of_all reader dump fault has (cause is))
+    inl (inl (fault, refl, fault_of_all reader dump fault has (cause is)))
+of_tables reader second dump other untouched (run_faults.Ignored tlv) has other_has is cause in_turn =
+    inl (inr (tlv, refl, is_ignored reader dump tlv has cause))
 of_tables reader second dump other untouched run_faults.OtherRead has other_has is cause in_turn = absurd is
 of_tables reader second dump other untouched (run_faults.OtherDump fault) has other_has is cause (table, gave) =
-    inr ((sound reader dump table has gave).accepted, (fault, refl, fault_of_all second other fault other_has (cause is)))
+    inr ((table, sound reader dump table has gave), inl (fault, refl, fault_of_all second other fault other_has (cause is)))
+of_tables reader second dump other untouched (run_faults.OtherIgnored tlv) has other_has is cause (table, gave) =
+    inr ((table, sound reader dump table has gave), inr (tlv, refl, is_ignored second other tlv other_has cause))
 of_tables reader second dump other untouched run_faults.Write has other_has is cause in_turn = absurd is
 
 -- what a run of a job says of the octets of its readers
@@ -352,15 +419,19 @@ pub record Told (limits : Bounds) (job : Job) (dump other : List ℕ) (writer : 
 unwritten : (fault : RunFault) (P Q : Type 0) → UnlessWrite fault P Q → IsOfOctets fault → P
 unwritten run_faults.Read P Q known is = known
 unwritten (run_faults.Dump fault) P Q known is = known
+unwritten (run_faults.Ignored tlv) P Q known is = known
 unwritten run_faults.OtherRead P Q known is = known
 unwritten (run_faults.OtherDump fault) P Q known is = known
+unwritten (run_faults.OtherIgnored tlv) P Q known is = known
 unwritten run_faults.Write P Q known is = absurd is
 
 at_write : (fault : RunFault) (P Q R : Type 0) → (Q → R) → UnlessWrite fault P Q → UnlessWrite fault P R
 at_write run_faults.Read P Q R f known = known
 at_write (run_faults.Dump fault) P Q R f known = known
+at_write (run_faults.Ignored tlv) P Q R f known = known
 at_write run_faults.OtherRead P Q R f known = known
 at_write (run_faults.OtherDump fault) P Q R f known = known
+at_write (run_faults.OtherIgnored tlv) P Q R f known = known
 at_write run_faults.Write P Q R f known = f known
 
 told_of : (limits : Bounds) (job : Job) (dump other : List ℕ) (reader : Input) (second : Option Input) (writer : Output) (Refuses : Fault → Type 0)
@@ -389,33 +460,33 @@ both_of dump other reader second untouched (Ok status) has other_has in_turn = t
 both_of dump other reader second untouched (Err fault) has other_has in_turn =
     λ is cause. of_tables reader second dump other untouched fault has other_has is cause in_turn
 
-tell : (limits : Bounds) (job : Job) (dump other before after : List ℕ) (result : Result ℕ RunFault) (run : RanOver limits job dump other before after result)
-    → Told limits job dump other run.writer result
+tell : (limits : Bounds) (job : Job) (dump other before after : List ℕ) (result : Result Outcome RunFault) (run : RanOver limits job dump other before after result)
+    → Told limits job dump other run.writer (run_status result)
 tell limits (jobs.Show given) dump other before after result run =
     let reader = read_from run.old run.new (reading_of limits given) in
-    told_of limits (jobs.Show given) dump other reader None run.writer _ _ result run.ran.1 (λ text status says. shows reader dump text status run.has says)
-    (of_each _ result (λ fault is cause. of_table reader dump fault run.has is cause))
+    told_of limits (jobs.Show given) dump other reader None run.writer _ _ (run_status result) run.ran.ran.1 (λ text status says. shows reader dump text status run.has says)
+    (of_each _ (run_status result) (λ fault is cause. of_table reader dump fault run.has is cause))
 tell limits (jobs.Lookup given pair) dump other before after result run =
     let reader = read_from run.old run.new (reading_of limits given) in
-    told_of limits (jobs.Lookup given pair) dump other reader None run.writer _ _ result run.ran.1
+    told_of limits (jobs.Lookup given pair) dump other reader None run.writer _ _ (run_status result) run.ran.ran.1
     (λ text status says. looks_up reader pair.dst pair.src dump text status run.has says)
-    (of_each _ result (λ fault is cause. of_table reader dump fault run.has is cause))
+    (of_each _ (run_status result) (λ fault is cause. of_table reader dump fault run.has is cause))
 tell limits (jobs.Normalise given body hex) dump other before after result run =
     let reader = read_from run.old run.new (reading_of limits given) in
-    told_of limits (jobs.Normalise given body hex) dump other reader None run.writer _ _ result run.ran.1
+    told_of limits (jobs.Normalise given body hex) dump other reader None run.writer _ _ (run_status result) run.ran.ran.1
     (λ text status says. normalises reader body hex dump text status run.has says)
-    (of_each _ result (λ fault is cause. of_normal reader dump fault run.has is cause))
+    (of_each _ (run_status result) (λ fault is cause. of_normal reader dump fault run.has is cause))
 tell limits (jobs.Pairs given count) dump other before after result run =
     let reader = read_from run.old run.new (reading_of limits given) in
-    told_of limits (jobs.Pairs given count) dump other reader None run.writer _ _ result run.ran.1
+    told_of limits (jobs.Pairs given count) dump other reader None run.writer _ _ (run_status result) run.ran.ran.1
     (λ text status says. lists_pairs reader count dump text status run.has says)
-    (of_each _ result (λ fault is cause. of_normal reader dump fault run.has is cause))
+    (of_each _ (run_status result) (λ fault is cause. of_normal reader dump fault run.has is cause))
 tell limits (jobs.Compare dumps) dump other before after result run =
-    let reader = read_from run.old run.new (record { limits = limits; mode = dumps.mode; sender = dumps.from }) in
-    let second = read_from run.other_old run.other_new (record { limits = limits; mode = dumps.mode; sender = dumps.other_from }) in
-    told_of limits (jobs.Compare dumps) dump other reader (Some second) run.writer _ _ result run.ran.ran
+    let reader = read_from run.old run.new (left_reading limits dumps) in
+    let second = read_from run.other_old run.other_new (right_reading limits dumps) in
+    told_of limits (jobs.Compare dumps) dump other reader (Some second) run.writer _ _ (run_status result) run.ran.ran.ran
     (λ text status says. compares reader second dump other text status run.has run.other_has says)
-    (both_of dump other reader second _ result run.has run.other_has run.ran.in_turn)
+    (both_of dump other reader second _ (run_status result) run.has run.other_has run.ran.ran.in_turn)
 
 -- what a writer took, in octets
 appended : (old new : Option (List ℕ)) (before after text : List ℕ) → old ≡ Some before → new ≡ Some after → Appends old new text → after ≡ before ++ text
@@ -429,17 +500,17 @@ kept (Some xs) None before after took takes keeps = absurd cc
 kept (Some xs) (Some ys) before after took takes keeps = cc
 
 pub status_is_one : StatusIsOne
-status_is_one limits job dump other before after before_too after_too status status_too one two =
-    let first = (tell limits job dump other before after (Ok status) one).wrote in
-    let second = (tell limits job dump other before_too after_too (Ok status_too) two).wrote in
-    let same = says_one limits job dump other first.0 second.0 status status_too first.1 second.1 in
+status_is_one limits job dump other before after before_too after_too outcome outcome_too one two =
+    let first = (tell limits job dump other before after (Ok outcome) one).wrote in
+    let second = (tell limits job dump other before_too after_too (Ok outcome_too) two).wrote in
+    let same = says_one limits job dump other first.0 second.0 outcome.status outcome_too.status first.1 second.1 in
     let wrote = appended _ _ before_too after_too second.0 two.took two.takes second.2 in
     (same.1, (first.0, appended _ _ before after first.0 one.took one.takes first.2, wrote ∙ ap (λ (t : List ℕ). before_too ++ t) (sym same.0)))
 
 pub status_or_fault : StatusOrFault
-status_or_fault limits job dump other before after before_too after_too status fault one two = λ is.
-    let first = (tell limits job dump other before after (Ok status) one).wrote in
-    says_no_fault limits job dump other first.0 status fault first.1 ((tell limits job dump other before_too after_too (Err fault) two).cause is)
+status_or_fault limits job dump other before after before_too after_too outcome fault one two = λ is.
+    let first = (tell limits job dump other before after (Ok outcome) one).wrote in
+    says_no_fault limits job dump other first.0 outcome.status fault first.1 ((tell limits job dump other before_too after_too (Err fault) two).cause is)
 
 pub fault_is_one_too : FaultIsOne
 fault_is_one_too limits job dump other before after before_too after_too fault fault_too one two is is_too =
@@ -447,53 +518,54 @@ fault_is_one_too limits job dump other before after before_too after_too fault f
     ((tell limits job dump other before_too after_too (Err fault_too) two).cause is_too)
 
 pub written_is_prefix : WrittenIsPrefix
-written_is_prefix limits job dump other before after before_too after_too status one two =
+written_is_prefix limits job dump other before after before_too after_too outcome one two =
     let left = (tell limits job dump other before after (Err run_faults.Write) one).prefix in
-    let whole = (tell limits job dump other before_too after_too (Ok status) two).wrote in
-    let same = says_one limits job dump other left.0 whole.0 left.1 status left.2 whole.1 in
+    let whole = (tell limits job dump other before_too after_too (Ok outcome) two).wrote in
+    let same = says_one limits job dump other left.0 whole.0 left.1 outcome.status left.2 whole.1 in
     let part = appended _ _ before after (take left.3.0 left.0) one.took one.takes left.3.1 in
     (whole.0, left.3.0, appended _ _ before_too after_too whole.0 two.took two.takes whole.2, part ∙ ap (λ (t : List ℕ). before ++ take left.3.0 t) same.0)
 
 not_at_write : (fault : RunFault) (P Q : Type 0) → fault ≢ run_faults.Write → UnlessWrite fault P Q → P
 not_at_write run_faults.Read P Q not_write known = known
 not_at_write (run_faults.Dump fault) P Q not_write known = known
+not_at_write (run_faults.Ignored tlv) P Q not_write known = known
 not_at_write run_faults.OtherRead P Q not_write known = known
 not_at_write (run_faults.OtherDump fault) P Q not_write known = known
+not_at_write (run_faults.OtherIgnored tlv) P Q not_write known = known
 not_at_write run_faults.Write P Q not_write known = absurd (not_write refl)
 
 pub nothing_written : NothingWritten
 nothing_written limits job dump other before after fault one not_write =
     kept _ _ before after one.took one.takes (not_at_write fault _ _ not_write (tell limits job dump other before after (Err fault) one).prefix)
 
--- a fault of octets that is no fault of a form is that of the dump
-of_octets : (limits : Bounds) (mode : Mode) (sender : Address) (dump : List ℕ) (fault : Fault) → NormaliseFault limits mode sender dump fault
-    → fault ≢ faults.Memory → fault ≢ faults.TooManyPairs → DumpFault limits mode sender dump fault
-of_octets limits mode sender dump fault (inl has) not_memory not_pairs = has
-of_octets limits mode sender dump fault (inr (inl many)) not_memory not_pairs = absurd (not_pairs many.0)
-of_octets limits mode sender dump fault (inr (inr memory)) not_memory not_pairs = absurd (not_memory memory)
-
+-- a fault of octets that is answered as a dump's own is that of the dump
 of_table_fault : (reading : Reading) (dump : List ℕ) (fault : Fault) → FaultOfTable reading dump (run_faults.Dump fault)
     → DumpFault reading.limits reading.mode reading.sender dump fault
-of_table_fault reading dump fault (of_dump, is, has) =
+of_table_fault reading dump fault (inl (of_dump, is, has)) =
     let same : of_dump ≡ fault = cc in subst (λ (f : Fault). DumpFault reading.limits reading.mode reading.sender dump f) same has
+of_table_fault reading dump fault (inr (tlv, is, ignored)) = absurd cc
 
 of_normal_fault : (reading : Reading) (dump : List ℕ) (fault : Fault) → FaultOfNormal reading dump (run_faults.Dump fault)
-    → NormaliseFault reading.limits reading.mode reading.sender dump fault
-of_normal_fault reading dump fault (of_form, is, not_memory, has) =
-    let same : of_form ≡ fault = cc in subst (λ (f : Fault). NormaliseFault reading.limits reading.mode reading.sender dump f) same has
+    → fault ≢ faults.TooManyPairs → DumpFault reading.limits reading.mode reading.sender dump fault
+of_normal_fault reading dump fault (inl has) not_pairs = of_table_fault reading dump fault has
+of_normal_fault reading dump fault (inr (is, many)) not_pairs =
+    let same : fault ≡ faults.TooManyPairs = cc in absurd (not_pairs same)
 
 of_first : (reading other_reading : Reading) (dump other : List ℕ) (fault : Fault)
     → FaultOfTables reading other_reading dump other (run_faults.Dump fault) → DumpFault reading.limits reading.mode reading.sender dump fault
 of_first reading other_reading dump other fault (inl has) = of_table_fault reading dump fault has
-of_first reading other_reading dump other fault (inr (none, (of_other, is, has))) = absurd cc
+of_first reading other_reading dump other fault (inr (first, inl (of_other, is, has))) = absurd cc
+of_first reading other_reading dump other fault (inr (first, inr (tlv, is, has))) = absurd cc
 
 of_second : (reading other_reading : Reading) (dump other : List ℕ) (fault : Fault)
     → FaultOfTables reading other_reading dump other (run_faults.OtherDump fault)
     → DumpFault other_reading.limits other_reading.mode other_reading.sender other fault
-of_second reading other_reading dump other fault (inl (of_dump, is, has)) = absurd cc
-of_second reading other_reading dump other fault (inr (none, (of_other, is, has))) =
+of_second reading other_reading dump other fault (inl (inl (of_dump, is, has))) = absurd cc
+of_second reading other_reading dump other fault (inl (inr (tlv, is, has))) = absurd cc
+of_second reading other_reading dump other fault (inr (first, inl (of_other, is, has))) =
     let same : of_other ≡ fault = cc in
     subst (λ (f : Fault). DumpFault other_reading.limits other_reading.mode other_reading.sender other f) same has
+of_second reading other_reading dump other fault (inr (first, inr (tlv, is, has))) = absurd cc
 
 pub fault_is_of_all : FaultIsOfAll
 fault_is_of_all limits (jobs.Show given) dump other before after fault one not_memory not_pairs =
@@ -501,9 +573,9 @@ fault_is_of_all limits (jobs.Show given) dump other before after fault one not_m
 fault_is_of_all limits (jobs.Lookup given pair) dump other before after fault one not_memory not_pairs =
     of_table_fault _ dump fault ((tell limits (jobs.Lookup given pair) dump other before after _ one).cause not_memory)
 fault_is_of_all limits (jobs.Normalise given body hex) dump other before after fault one not_memory not_pairs =
-    of_octets _ _ _ dump fault (of_normal_fault _ dump fault ((tell limits (jobs.Normalise given body hex) dump other before after _ one).cause not_memory)) not_memory not_pairs
+    of_normal_fault _ dump fault ((tell limits (jobs.Normalise given body hex) dump other before after _ one).cause not_memory) not_pairs
 fault_is_of_all limits (jobs.Pairs given count) dump other before after fault one not_memory not_pairs =
-    of_octets _ _ _ dump fault (of_normal_fault _ dump fault ((tell limits (jobs.Pairs given count) dump other before after _ one).cause not_memory)) not_memory not_pairs
+    of_normal_fault _ dump fault ((tell limits (jobs.Pairs given count) dump other before after _ one).cause not_memory) not_pairs
 fault_is_of_all limits (jobs.Compare dumps) dump other before after fault one not_memory not_pairs =
     of_first _ _ dump other fault ((tell limits (jobs.Compare dumps) dump other before after _ one).cause not_memory)
 

@@ -59,7 +59,7 @@ RanNormalise reader body hex writer result = Ran reader None writer (IsFaultOfFo
 abbrev pub RanPairs : Input → Bool → Output → Result ℕ RunFault → Type 0
 RanPairs reader count writer result = Ran reader None writer (IsFaultOfForm reader) (ListsPairs reader count) result
 
--- the reader gave a dump without a fault
+-- the reader gave a dump without a fault, and without an ignored TLV if it is read strictly
 abbrev pub GaveSound : Input → Type 0
 GaveSound reader = (table : Routes) × GaveTable reader table
 
@@ -68,7 +68,9 @@ GaveSound reader = (table : Routes) × GaveTable reader table
 abbrev pub InTurn : Input → Input → (untouched : Type 0) → RunFault → Type 0
 InTurn reader other untouched run_faults.Read = untouched
 InTurn reader other untouched (run_faults.Dump fault) = untouched ⊎ ((fault ≡ faults.Memory) × GaveSound reader × GaveSound other)
+InTurn reader other untouched (run_faults.Ignored tlv) = untouched
 InTurn reader other untouched run_faults.OtherRead = GaveSound reader
+InTurn reader other untouched (run_faults.OtherIgnored tlv) = GaveSound reader
 InTurn reader other untouched (run_faults.OtherDump fault) = GaveSound reader
 InTurn reader other untouched run_faults.Write = GaveSound reader × GaveSound other
 

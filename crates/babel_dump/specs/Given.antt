@@ -1,5 +1,5 @@
 -- What readers gave, as dumps. No RFC speaks of readers: these are this project's own.
-use Rattle.std.specs.Prelude.{ℕ, ◌≡◌, ◌≢◌, ◌<◌, ◌⊎◌, List}
+use Rattle.std.specs.Prelude.{ℕ, ◌≡◌, ◌≢◌, ◌<◌, ◌⊎◌, false, true, List, Some}
 use Rattle.std.specs.Io.KnownBytes.{Consumes, IsAtEnd}
 use Rattle.babel_prefix.specs.Address.{Address}
 use Rattle.babel_tlv.specs.declared.fault.Fault.{Fault}
@@ -14,6 +14,8 @@ use Rattle.babel_canon.specs.Headline.{Normalises, TellsApart, ReadsAgain}
 use Rattle.babel_canon.specs.Verdict.{IsVerdict}
 use Rattle.babel_canon.specs.declared.verdict.Verdict.{Verdict}
 use Rattle.babel_dump.specs.Device.{InputState}
+use Rattle.babel_dump.specs.Ignored.{IgnoresNone, first_ignored}
+use Rattle.babel_dump.specs.declared.ignored.IgnoredTlv.{IgnoredTlv}
 use Rattle.babel_dump.specs.declared.reading.Reading.{Reading}
 
 -- a reader that is read so, before a run and after it
@@ -25,8 +27,9 @@ pub record Input : Type 0 where
 abbrev pub read_from : InputState → InputState → Reading → Input
 read_from old new reading = record { reading = reading; old = old; new = new }
 
+-- a reader whose dump may have ignored TLVs
 abbrev pub input : Bounds → Mode → Address → InputState → InputState → Input
-input limits mode sender old new = read_from old new (record { limits = limits; mode = mode; sender = sender })
+input limits mode sender old new = read_from old new (record { limits = limits; mode = mode; sender = sender; strict = false })
 
 -- the reader gave these octets, all that it had, and met its end
 pub record GaveAll (reader : Input) (dump : List ℕ) : Type 0 where
@@ -35,11 +38,23 @@ pub record GaveAll (reader : Input) (dump : List ℕ) : Type 0 where
   pub met_end : reader.old.ends < reader.new.ends
 
 -- the reader gave a dump, all that it had, which has no fault, and this is the table of that dump
-pub record GaveTable (reader : Input) (table : Routes) : Type 0 where
+pub record GaveDump (reader : Input) (table : Routes) : Type 0 where
   pub dump : List ℕ
   pub gave : GaveAll reader dump
   pub accepted : HasNoFault reader.reading.limits reader.reading.mode reader.reading.sender dump
   pub is_table : IsTableOf reader.reading.limits reader.reading.mode reader.reading.sender dump table
+
+-- the reader gave such a dump, of which no TLV was ignored if it is read strictly
+pub record GaveTable (reader : Input) (table : Routes) : Type 0 where
+  pub given : GaveDump reader table
+  pub strict : reader.reading.strict ≡ true → IgnoresNone table.report
+
+-- the reader gave such a dump, which is read strictly, and this TLV of it is the first that was ignored
+pub record GaveIgnored (reader : Input) (tlv : IgnoredTlv) : Type 0 where
+  pub table : Routes
+  pub given : GaveDump reader table
+  pub strict : reader.reading.strict ≡ true
+  pub first : first_ignored table.report ≡ Some tlv
 
 -- only a whole dump has the fault: octets may mend it, or it is about what all octets say
 abbrev pub IsOfWhole : Fault → Type 0
@@ -72,13 +87,13 @@ IsFaultOfForm reader fault =
 -- The reader gave a dump, all that it had, and these are its canonical octets: they tell the dump apart from each that
 -- answers otherwise, and, read with any sender, answer as it does; and no list of pairs that says as much is shorter.
 pub record GaveNormal (reader : Input) (body : ℕ) (octets : List ℕ) : Type 0 where
-  pub dump : List ℕ
-  pub gave : GaveAll reader dump
-  pub normalises : Normalises reader.reading.limits reader.reading.mode body reader.reading.sender dump octets
-  pub fewest : SaysFewest reader.reading.limits reader.reading.mode body reader.reading.sender dump octets
-  pub tells_apart : TellsApart reader.reading.limits reader.reading.mode body (record { sender = reader.reading.sender; dump = dump }) octets
+  pub table : Routes
+  pub gave : GaveTable reader table
+  pub normalises : Normalises reader.reading.limits reader.reading.mode body reader.reading.sender gave.given.dump octets
+  pub fewest : SaysFewest reader.reading.limits reader.reading.mode body reader.reading.sender gave.given.dump octets
+  pub tells_apart : TellsApart reader.reading.limits reader.reading.mode body (record { sender = reader.reading.sender; dump = gave.given.dump }) octets
   pub reads_again : (any : Address)
-      → ReadsAgain reader.reading.limits reader.reading.mode body (record { sender = reader.reading.sender; dump = dump }) octets any
+      → ReadsAgain reader.reading.limits reader.reading.mode body (record { sender = reader.reading.sender; dump = gave.given.dump }) octets any
 
 -- the reader gave a dump, all that it had, and these are its table and the canonical form of that, with the fewest pairs
 pub record GavePairs (reader : Input) (table : Routes) (canon : Canonical) : Type 0 where

@@ -7,18 +7,18 @@ use Rattle.babel_table.specs.Bounds.{Bounds}
 use Rattle.babel_table.specs.DumpFault.{DumpFault}
 use Rattle.babel_dump.specs.Device.{InputState}
 use Rattle.babel_dump.specs.Given.{read_from}
-use Rattle.babel_dump.specs.JobRun.{RanJob, reading_of}
+use Rattle.babel_dump.specs.JobRun.{RanJob, first_reading}
 use Rattle.babel_dump.specs.Run.{Output}
 use Rattle.babel_dump.specs.declared.job.Job.{Job}
 use Rattle.babel_dump.specs.declared.job.Job.TheVariants as jobs
 use Rattle.babel_dump.specs.declared.job.TwoDumps.{TwoDumps}
-use Rattle.babel_dump.specs.declared.reading.Reading.{Reading}
+use Rattle.babel_dump.specs.declared.outcome.Outcome.{Outcome}
 use Rattle.babel_dump.specs.declared.run_fault.RunFault.{RunFault}
 use Rattle.babel_dump.specs.declared.run_fault.RunFault.TheVariants as run_faults
 
 -- A run of the job over devices that say their octets: the readers have `dump` and `other` left, and the writer took
 -- `before` until then, and `after` at last.
-pub record RanOver (limits : Bounds) (job : Job) (dump other before after : List ℕ) (result : Result ℕ RunFault) : Type 0 where
+pub record RanOver (limits : Bounds) (job : Job) (dump other before after : List ℕ) (result : Result Outcome RunFault) : Type 0 where
   pub old : InputState
   pub new : InputState
   pub other_old : InputState
@@ -30,34 +30,28 @@ pub record RanOver (limits : Bounds) (job : Job) (dump other before after : List
   pub took : writer.old.taken ≡ Some before
   pub takes : writer.new.taken ≡ Some after
 
--- how the first dump of a job is read
-abbrev pub first_reading : Bounds → Job → Reading
-first_reading limits (jobs.Show dump) = reading_of limits dump
-first_reading limits (jobs.Lookup dump pair) = reading_of limits dump
-first_reading limits (jobs.Normalise dump body hex) = reading_of limits dump
-first_reading limits (jobs.Pairs dump count) = reading_of limits dump
-first_reading limits (jobs.Compare dumps) = record { limits = limits; mode = dumps.mode; sender = dumps.from }
-
 -- the fault is that of octets: no call failed, and no memory was wanting
 abbrev pub IsOfOctets : RunFault → Type 0
 IsOfOctets run_faults.Read = ⊥
 IsOfOctets (run_faults.Dump fault) = fault ≢ faults.Memory
 IsOfOctets run_faults.OtherRead = ⊥
 IsOfOctets (run_faults.OtherDump fault) = fault ≢ faults.Memory
+IsOfOctets (run_faults.Ignored tlv) = Unit {0}
+IsOfOctets (run_faults.OtherIgnored tlv) = Unit {0}
 IsOfOctets run_faults.Write = ⊥
 
 -- two runs of a job over the same octets that answer a status answer the same, and write the same text
 abbrev pub StatusIsOne : Type 0
 StatusIsOne =
-    (limits : Bounds) (job : Job) (dump other before after before_too after_too : List ℕ) (status status_too : ℕ)
-    → RanOver limits job dump other before after (Ok status) → RanOver limits job dump other before_too after_too (Ok status_too)
-    → (status ≡ status_too) × ((text : List ℕ) × (after ≡ before ++ text) × (after_too ≡ before_too ++ text))
+    (limits : Bounds) (job : Job) (dump other before after before_too after_too : List ℕ) (outcome outcome_too : Outcome)
+    → RanOver limits job dump other before after (Ok outcome) → RanOver limits job dump other before_too after_too (Ok outcome_too)
+    → (outcome.status ≡ outcome_too.status) × ((text : List ℕ) × (after ≡ before ++ text) × (after_too ≡ before_too ++ text))
 
 -- where one answers a status, no other answers a fault of the octets
 abbrev pub StatusOrFault : Type 0
 StatusOrFault =
-    (limits : Bounds) (job : Job) (dump other before after before_too after_too : List ℕ) (status : ℕ) (fault : RunFault)
-    → RanOver limits job dump other before after (Ok status) → RanOver limits job dump other before_too after_too (Err fault)
+    (limits : Bounds) (job : Job) (dump other before after before_too after_too : List ℕ) (outcome : Outcome) (fault : RunFault)
+    → RanOver limits job dump other before after (Ok outcome) → RanOver limits job dump other before_too after_too (Err fault)
     → ¬ IsOfOctets fault
 
 -- where two answer a fault of the octets, it is the same
@@ -85,8 +79,8 @@ OtherFaultIsOfAll =
 -- a failed write leaves the first octets of the text that any run over the same octets writes that answers a status
 abbrev pub WrittenIsPrefix : Type 0
 WrittenIsPrefix =
-    (limits : Bounds) (job : Job) (dump other before after before_too after_too : List ℕ) (status : ℕ)
-    → RanOver limits job dump other before after (Err run_faults.Write) → RanOver limits job dump other before_too after_too (Ok status)
+    (limits : Bounds) (job : Job) (dump other before after before_too after_too : List ℕ) (outcome : Outcome)
+    → RanOver limits job dump other before after (Err run_faults.Write) → RanOver limits job dump other before_too after_too (Ok outcome)
     → (text : List ℕ) × (n : ℕ) × (after_too ≡ before_too ++ text) × (after ≡ before ++ take n text)
 
 -- any other fault leaves nothing

@@ -1,13 +1,19 @@
 -- What the two parts of a run promise, reading and writing. These are this project's own.
-use Rattle.std.specs.Prelude.{ℕ, ◌≡◌, ◌≢◌, ◌+◌, ◌<◌, ◌≤◌, List, Option, Result, Ok, Err, IfOk, IfErr, OnOk, OnErr}
+use Rattle.std.specs.Prelude.{ℕ, Bool, ◌≡◌, ◌≢◌, ◌+◌, ◌<◌, ◌≤◌, List, Option, Result, Ok, Err, IfOk, IfErr, OnOk, OnErr}
 use Rattle.std.specs.Io.KnownBytes.{Appends}
 use Rattle.babel_tlv.specs.declared.fault.Fault.{Fault}
 use Rattle.babel_tlv.specs.declared.fault.Fault.TheVariants as faults
+use Rattle.babel_tlv.specs.Pair.{Pair}
+use Rattle.babel_table.specs.Bounds.{Bounds}
 use Rattle.babel_table.specs.Feeding.{Progress, HasRead}
+use Rattle.babel_canon.specs.Canonical.{Canonical, IsCanonical}
+use Rattle.babel_canon.specs.Fewest.{AreFewest}
 use Rattle.babel_dump.specs.Device.{AppendsPrefix}
-use Rattle.babel_dump.specs.Given.{GaveAll, Input, IsFaultOfGiven}
-use Rattle.babel_dump.specs.Run.{FewCalls, HasCause, HasFailed, IfOther, NoFailure, Output}
+use Rattle.babel_dump.specs.Given.{GaveAll, GaveIgnored, Input, IsFaultOfGiven}
+use Rattle.babel_dump.specs.Run.{FewCalls, HasCause, HasFailed, IfOther, NoFailure, Output, Reports}
+use Rattle.babel_dump.specs.RunText.{pairs_or_counts}
 use Rattle.babel_dump.specs.declared.finish.Found.{Found}
+use Rattle.babel_dump.specs.declared.outcome.Outcome.{Outcome}
 use Rattle.babel_dump.specs.declared.run_fault.RunFault.{RunFault}
 use Rattle.babel_dump.specs.declared.run_fault.RunFault.TheVariants as run_faults
 
@@ -31,6 +37,8 @@ HasOtherCause other run_faults.Read = ⊥
 HasOtherCause other (run_faults.Dump fault) = ⊥
 HasOtherCause other run_faults.OtherRead = HasFailed other
 HasOtherCause other (run_faults.OtherDump fault) = fault ≢ faults.Memory → IsFaultOfGiven other fault
+HasOtherCause other (run_faults.Ignored tlv) = ⊥
+HasOtherCause other (run_faults.OtherIgnored tlv) = GaveIgnored other tlv
 HasOtherCause other run_faults.Write = ⊥
 
 -- what reading the other dump alone promises
@@ -50,14 +58,21 @@ pub record WroteText {T E : Type 0} (writer : Output) (text : List ℕ) (result 
   pub one_failure : writer.new.failures ≤ writer.old.failures + 1
   pub one_flush : writer.new.flushes ≤ writer.old.flushes + 1
 
--- what was found says this
-abbrev pub SaysSo : (List ℕ → ℕ → Type 0) → Found → Type 0
-SaysSo Says found = Says found.text.items found.status
+-- the text is that of the canonical pairs of rows, or of their count
+pub record SaysPairs (limits : Bounds) (count : Bool) (rows : List Pair) (text : List ℕ) : Type 0 where
+  pub canon : Canonical
+  pub is_canon : IsCanonical limits 1024 rows canon
+  pub fewest : AreFewest rows canon.pairs
+  pub text_is : text ≡ pairs_or_counts count rows canon.pairs
 
--- What was found was written, and its status is answered, or that a write failed. Where nothing was found the fault is
+-- what was found says this, and has the reports of the dumps
+abbrev pub SaysSo : Input → Option Input → (List ℕ → ℕ → Type 0) → Found → Type 0
+SaysSo reader other Says found = Says found.text.items found.outcome.status × Reports reader other found.outcome
+
+-- What was found was written, and its outcome is answered, or that a write failed. Where nothing was found the fault is
 -- answered, and the writer is as it was.
-abbrev pub Finished : Output → Result Found RunFault → Result ℕ RunFault → Type 0
+abbrev pub Finished : Output → Result Found RunFault → Result Outcome RunFault → Type 0
 Finished writer (Ok found) result =
     WroteText writer found.text.items result
-    × IfOk result (λ status. status ≡ found.status) × IfErr result (λ fault. fault ≡ run_faults.Write)
+    × IfOk result (λ outcome. outcome ≡ found.outcome) × IfErr result (λ fault. fault ≡ run_faults.Write)
 Finished writer (Err fault) result = (result ≡ Err fault) × (writer.new ≡ writer.old)

@@ -2,6 +2,9 @@
 use clap::{Arg, ArgAction, Command, value_parser};
 use std::alloc::{AllocError, Global};
 
+/// The most routes for which the least limit on octets, 83 for each, is a number of 32 bits.
+const MOST_ROUTES: i64 = 51_746_593;
+
 /// The end of a help text: an example, and the exit statuses, of which only 0 and 1 differ from command to command.
 macro_rules! after_help {
     ($example:literal, $($status:literal),+) => {
@@ -11,7 +14,8 @@ macro_rules! after_help {
             "\n  2  the command line is wrong",
             "\n  3  a dump is refused",
             "\n  4  a file can't be opened, or a read or a write failed",
-            "\n  5  out of memory"
+            "\n  5  out of memory",
+            "\n  141  nobody reads the output any more"
         )
     };
 }
@@ -46,6 +50,7 @@ const AFTER_COMPARE: &str = after_help!(
 /// The program's command line.
 pub(crate) fn command<'a>(alloc: Global) -> Result<Command<'a>, AllocError> {
     let command = Command::new(alloc, "babel-dump")
+        .version("1.0.0")
         .about("Reads dumps of Babel packets (RFC 8966, RFC 9079), each from one sender")
         .after_help(AFTER_HELP)
         .no_binary_name(true)
@@ -79,6 +84,7 @@ fn lookup<'a>(alloc: Global) -> Result<Command<'a>, AllocError> {
         .about(about)
         .after_help(AFTER_LOOKUP);
     of_one_dump(alloc, command)?
+        .arg(strict(alloc))?
         .arg(address(alloc, "to", "The destination to look up"))?
         .arg(address(
             alloc,
@@ -102,11 +108,14 @@ fn normalise<'a>(alloc: Global) -> Result<Command<'a>, AllocError> {
         .help(
             "How long the body of a packet may be, from 128 to 65535 octets; 1024 if it is left out",
         );
-    of_one_dump(alloc, command)?.arg(body)?.arg(flag(
-        alloc,
-        "hex",
-        "Write the octets as lower-case hexadecimal digits on a line",
-    ))
+    of_one_dump(alloc, command)?
+        .arg(strict(alloc))?
+        .arg(body)?
+        .arg(flag(
+            alloc,
+            "hex",
+            "Write the octets as lower-case hexadecimal digits on a line",
+        ))
 }
 
 /// The command for the canonical pairs.
@@ -116,7 +125,7 @@ fn pairs<'a>(alloc: Global) -> Result<Command<'a>, AllocError> {
     let command = Command::new(alloc, "pairs")
         .about(about)
         .after_help(AFTER_PAIRS);
-    of_one_dump(alloc, command)?.arg(flag(
+    of_one_dump(alloc, command)?.arg(strict(alloc))?.arg(flag(
         alloc,
         "count",
         "Write only how many rows and how many canonical pairs there are",
@@ -136,14 +145,20 @@ fn compare<'a>(alloc: Global) -> Result<Command<'a>, AllocError> {
         "other-from",
         "The address that the packets of OTHER were sent from",
     );
-    Command::new(alloc, "compare")
+    let command = Command::new(alloc, "compare")
         .about(about)
         .after_help(AFTER_COMPARE)
         .arg(from)?
-        .arg(other_from)?
-        .arg(hold(alloc))?
-        .arg(dump(alloc, "file", "FILE", "The first dump"))?
-        .arg(dump(alloc, "other", "OTHER", "The other dump"))
+        .arg(other_from)?;
+    with_settings(alloc, command)?
+        .arg(strict(alloc))?
+        .arg(dump(alloc, "file", "FILE", "The first dump; - is standard input"))?
+        .arg(dump(
+            alloc,
+            "other",
+            "OTHER",
+            "The other dump; - is standard input",
+        ))
 }
 
 /// A required dump.
@@ -158,15 +173,44 @@ fn dump<'a>(alloc: Global, id: &'a str, name: &'a str, help: &'a str) -> Arg<'a>
 fn of_one_dump<'a>(alloc: Global, command: Command<'a>) -> Result<Command<'a>, AllocError> {
     let file = Arg::new(alloc, "file")
         .value_name("FILE")
-        .help("The dump; standard input if it is left out");
+        .help("The dump; standard input if it is left out, or is -");
+    let from = address(
+        alloc,
+        "from",
+        "The address that the dump's packets were sent from",
+    );
+    with_settings(alloc, command.arg(from)?)?.arg(file)
+}
+
+/// The command with what each command has that reads a dump: how retractions are read, whether there are notes, and the limits.
+fn with_settings<'a>(alloc: Global, command: Command<'a>) -> Result<Command<'a>, AllocError> {
     command
-        .arg(address(
-            alloc,
-            "from",
-            "The address that the dump's packets were sent from",
-        ))?
         .arg(hold(alloc))?
-        .arg(file)
+        .arg(quiet(alloc))?
+        .arg(number(
+            alloc,
+            "max-routes",
+            "ROUTES",
+            MOST_ROUTES,
+            "How many routes, and how many canonical pairs, there may be; 262144 if it is left out",
+        ))?
+        .arg(number(
+            alloc,
+            "max-octets",
+            "OCTETS",
+            i64::from(u32::MAX),
+            "How many octets a dump may have; if it is left out, 33554432, or 83 for each of the routes if that is more",
+        ))
+}
+
+/// An option whose value is a number from 1 to this one.
+fn number<'a>(alloc: Global, id: &'a str, name: &'a str, most: i64, help: &'a str) -> Arg<'a> {
+    Arg::new(alloc, id)
+        .long(id)
+        .value_name(name)
+        .value_parser(value_parser!(u32).range(1..=most))
+        .action(ArgAction::Set)
+        .help(help)
 }
 
 /// A required option whose value is an address.
@@ -185,6 +229,18 @@ fn flag<'a>(alloc: Global, id: &'a str, help: &'a str) -> Arg<'a> {
         .long(id)
         .action(ArgAction::SetTrue)
         .help(help)
+}
+
+/// The option that refuses what is not read whole.
+fn strict<'a>(alloc: Global) -> Arg<'a> {
+    let help = "Refuse a dump of which a TLV is ignored";
+    flag(alloc, "strict", help)
+}
+
+/// The option that leaves notes out.
+fn quiet<'a>(alloc: Global) -> Arg<'a> {
+    let help = "Leave out the note on standard error that says how many TLVs were ignored, and why";
+    flag(alloc, "quiet", help)
 }
 
 /// The option for the mode that keeps retracted routes.

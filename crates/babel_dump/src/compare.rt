@@ -1,18 +1,19 @@
-ghost use Rattle.std.specs.Prelude.{◌≡◌, ◌^◌, ◌<◌, Some, IfErr};
+ghost use Rattle.std.specs.Prelude.{◌≡◌, ◌^◌, ◌<◌, Some, IfErr, IfOk};
 ghost use Rattle.babel_dump.specs.Command.{Compares, InTurn, RanCompare};
 ghost use Rattle.babel_dump.specs.Given.{GaveTable, GaveVerdict, IsFaultOfGiven, input, read_from};
 ghost use Rattle.babel_dump.specs.Parts.{Gathered, GatheredOther, SaysSo};
-ghost use Rattle.babel_dump.specs.Run.{output};
+ghost use Rattle.babel_dump.specs.Run.{Reports, output, run_status};
 ghost use Rattle.babel_dump.specs.RunText.{verdict_status};
 
 use crate::byte_in::ByteIn;
 use crate::byte_out::ByteOut;
 use crate::finish::{Found, finish};
 use crate::input::read_table;
+use crate::outcome::Outcome;
 use crate::reading::Reading;
 use crate::run_fault::RunFault;
 use crate::text::verdict_text;
-use babel_canon::{Verdict, compare};
+use babel_canon::Verdict;
 use babel_prefix::Addr;
 use babel_table::{Limits, Table};
 use babel_tlv::Mode;
@@ -52,11 +53,39 @@ pub fn run_compare<R: ByteIn, S: ByteIn, W: ByteOut>(
         limits,
         mode,
         sender,
+        strict: false,
     };
     let other_reading = Reading {
         sender: other_sender,
         ..reading
     };
+    let outcome = compare(alloc, reading, other_reading, reader, other, writer)?;
+    Ok(outcome.status)
+}
+
+/// `run_compare`, of two dumps that are read so.
+pub(crate) fn compare<R: ByteIn, S: ByteIn, W: ByteOut>(
+    alloc: Global,
+    reading: Reading,
+    other_reading: Reading,
+    reader: &mut R,
+    other: &mut S,
+    writer: &mut W,
+) -> Result<Outcome, RunFault>
+    requires reader_failures { (R.state reader.old).failures < 2 ^ 63 }
+    requires reader_reads { (R.state reader.old).reads < 2 ^ 63 }
+    requires reader_ends { (R.state reader.old).ends < 2 ^ 63 }
+    requires other_failures { (S.state other.old).failures < 2 ^ 63 }
+    requires other_reads { (S.state other.old).reads < 2 ^ 63 }
+    requires other_ends { (S.state other.old).ends < 2 ^ 63 }
+    requires writer_failures { (W.state writer.old).failures < 2 ^ 63 }
+    requires writer_flushes { (W.state writer.old).flushes < 2 ^ 63 }
+    ensures ran { RanCompare (read_from (R.state reader.old) (R.state reader.new) reading)
+        (read_from (S.state other.old) (S.state other.new) other_reading)
+        (output (W.state writer.old) (W.state writer.new)) (other.new ≡ other.old) (run_status result) }
+    ensures reports { IfOk result (Reports (read_from (R.state reader.old) (R.state reader.new) reading)
+        (Some (read_from (S.state other.old) (S.state other.new) other_reading))) }
+{
     let found = read_verdict(alloc, reading, other_reading, reader, other);
     finish(writer, found)
 }
@@ -77,18 +106,20 @@ fn read_verdict<R: ByteIn, S: ByteIn>(
     requires other_ends { (S.state other.old).ends < 2 ^ 63 }
     ensures gathered { let dump = read_from (R.state reader.old) (R.state reader.new) reading in
         let other_dump = read_from (S.state other.old) (S.state other.new) other_reading in
-        Gathered dump (Some other_dump) (IsFaultOfGiven dump) (SaysSo (Compares dump other_dump)) result }
+        Gathered dump (Some other_dump) (IsFaultOfGiven dump) (SaysSo dump (Some other_dump) (Compares dump other_dump)) result }
     ensures in_turn { IfErr result (InTurn (read_from (R.state reader.old) (R.state reader.new) reading)
         (read_from (S.state other.old) (S.state other.new) other_reading) (other.new ≡ other.old)) }
 {
     let left = read_table(alloc, reading, reader)?;
     let right = read_other(alloc, other_reading, other)?;
-    let verdict = compare(alloc, &left, &right)?;
+    let verdict = babel_canon::compare(alloc, &left, &right)?;
     let text = verdict_text(alloc, &verdict)?.into_bytes();
-    Ok(Found {
-        text,
+    let outcome = Outcome {
         status: verdict_status(&verdict),
-    })
+        report: *left.report(),
+        other: Some(*right.report()),
+    };
+    Ok(Found { text, outcome })
 }
 
 /// Reads the other dump of a comparison to its end, or to its first fault, which is then the other's.
@@ -100,6 +131,7 @@ fn read_other<S: ByteIn>(alloc: Global, reading: Reading, other: &mut S) -> Resu
 {
     match read_table(alloc, reading, other) {
         Err(RunFault::Dump(fault)) => Err(RunFault::OtherDump(fault)),
+        Err(RunFault::Ignored(tlv)) => Err(RunFault::OtherIgnored(tlv)),
         Err(RunFault::Read) => Err(RunFault::OtherRead),
         outcome => outcome,
     }

@@ -5,10 +5,20 @@ ghost use Rattle.babel_dump.specs.Files.{first_file, other_file};
 use crate::addr_pair::AddrPair;
 use babel_canon::Body;
 use babel_prefix::Addr;
+use babel_table::Limits;
 use babel_tlv::Mode;
 use std::alloc::AllocError;
 
-/// What the program's words ask for.
+/// What the program's words ask for: a job, the limits that it is done within, and whether notes come after its output.
+#[derive(Debug, Drop)]
+pub struct Order {
+    pub job: Job,
+    pub limits: Limits,
+    /// Whether nothing is said of ignored TLVs: `--quiet`, and where `show` says it all.
+    pub quiet: bool,
+}
+
+/// What one of the program's commands is to do.
 #[derive(Debug, Drop)]
 pub enum Job {
     /// `show`: the rows of a dump's table and its report.
@@ -47,8 +57,10 @@ pub struct OneDump {
     pub from: Addr,
     /// Whether retracted keys stay as unreachable rows: `--hold`.
     pub mode: Mode,
-    /// The name of the dump's file; standard input where it is left out.
-    pub file: Option<String>,
+    /// Whether the dump is refused if a TLV of it is ignored: `--strict`.
+    pub strict: bool,
+    /// Where the dump is read from: FILE.
+    pub file: DumpFile,
 }
 
 /// The dumps of a comparison.
@@ -60,28 +72,39 @@ pub struct TwoDumps {
     pub other_from: Addr,
     /// Whether retracted keys stay as unreachable rows, in both: `--hold`.
     pub mode: Mode,
-    /// The name of the first dump's file.
-    pub file: String,
-    /// The name of the other dump's file.
-    pub other: String,
+    /// Whether a dump is refused if a TLV of it is ignored, either: `--strict`.
+    pub strict: bool,
+    /// Where the first dump is read from: FILE.
+    pub file: DumpFile,
+    /// Where the other dump is read from: OTHER.
+    pub other: DumpFile,
+}
+
+/// Where a dump is read from.
+#[derive(Debug, Drop)]
+pub enum DumpFile {
+    /// Standard input: `-`, or a name that is left out.
+    StandardInput,
+    /// The file of this name.
+    Named(String),
 }
 
 impl Job {
-    /// The name of the file of the dump that is read first; standard input where there is none.
-    pub fn file(&self) -> Option<&String>
-        ensures { option_copied result ≡ first_file self.now }
+    /// Where the dump is read from that is read first.
+    pub fn file(&self) -> &DumpFile
+        ensures { result.now ≡ first_file self.now }
     {
         match self {
             Job::Show { dump }
             | Job::Lookup { dump, .. }
             | Job::Normalise { dump, .. }
-            | Job::Pairs { dump, .. } => dump.file.as_ref(),
-            Job::Compare { dumps } => Some(&dumps.file),
+            | Job::Pairs { dump, .. } => &dump.file,
+            Job::Compare { dumps } => &dumps.file,
         }
     }
 
-    /// The name of the other dump's file, of a comparison.
-    pub fn other(&self) -> Option<&String>
+    /// Where the other dump of a comparison is read from.
+    pub fn other(&self) -> Option<&DumpFile>
         ensures { option_copied result ≡ other_file self.now }
     {
         match self {

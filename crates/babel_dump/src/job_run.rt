@@ -1,17 +1,19 @@
 ghost use Rattle.std.specs.Prelude.{◌≡◌, ◌^◌, ◌<◌};
 ghost use Rattle.babel_dump.specs.Given.{read_from};
-ghost use Rattle.babel_dump.specs.JobRun.{RanJob};
+ghost use Rattle.babel_dump.specs.JobRun.{RanJob, left_reading, reading_of, right_reading};
 ghost use Rattle.babel_dump.specs.Run.{output};
 
 use crate::byte_in::ByteIn;
 use crate::byte_out::ByteOut;
-use crate::compare::run_compare;
-use crate::job::Job;
-use crate::lookup::run_lookup;
-use crate::normalise::run_normalise;
-use crate::pairs::run_pairs;
+use crate::compare::compare;
+use crate::job::{Job, OneDump, TwoDumps};
+use crate::lookup::lookup;
+use crate::normalise::normalise;
+use crate::outcome::Outcome;
+use crate::pairs::pairs;
+use crate::reading::Reading;
 use crate::run_fault::RunFault;
-use crate::show::run_show;
+use crate::show::show;
 use babel_table::Limits;
 use std::alloc::Global;
 
@@ -19,7 +21,8 @@ use std::alloc::Global;
 ///
 /// # Errors
 ///
-/// Those of the command's run.
+/// Those of the command's run; of a job that reads strictly also `Ignored` with the first TLV that was ignored, where the
+/// dump has no fault, and `OtherIgnored` for the other dump of a comparison.
 pub fn run_job<R: ByteIn, S: ByteIn, W: ByteOut>(
     alloc: Global,
     limits: Limits,
@@ -27,7 +30,7 @@ pub fn run_job<R: ByteIn, S: ByteIn, W: ByteOut>(
     reader: &mut R,
     other: &mut S,
     writer: &mut W,
-) -> Result<u8, RunFault>
+) -> Result<Outcome, RunFault>
     requires reader_failures { (R.state reader.old).failures < 2 ^ 63 }
     requires reader_reads { (R.state reader.old).reads < 2 ^ 63 }
     requires reader_ends { (R.state reader.old).ends < 2 ^ 63 }
@@ -40,26 +43,54 @@ pub fn run_job<R: ByteIn, S: ByteIn, W: ByteOut>(
         (output (W.state writer.old) (W.state writer.new)) (other.new ≡ other.old) result }
 {
     match job {
-        Job::Show { dump } => run_show(alloc, limits, dump.mode, dump.from, reader, writer),
+        Job::Show { dump } => show(alloc, reading_of(limits, dump), reader, writer),
         Job::Lookup { dump, pair } => {
-            let (dst, src) = (pair.dst, pair.src);
-            run_lookup(
-                alloc, limits, dump.mode, dump.from, dst, src, reader, writer,
-            )
+            lookup(alloc, reading_of(limits, dump), *pair, reader, writer)
         }
         Job::Normalise { dump, body, hex } => {
-            run_normalise(
-                alloc, limits, dump.mode, *body, dump.from, *hex, reader, writer,
-            )
+            let reading = reading_of(limits, dump);
+            normalise(alloc, reading, *body, *hex, reader, writer)
         }
         Job::Pairs { dump, count } => {
-            run_pairs(alloc, limits, dump.mode, dump.from, *count, reader, writer)
+            pairs(alloc, reading_of(limits, dump), *count, reader, writer)
         }
         Job::Compare { dumps } => {
-            let (from, other_from) = (dumps.from, dumps.other_from);
-            run_compare(
-                alloc, limits, dumps.mode, from, other_from, reader, other, writer,
-            )
+            let (left, right) = (left_reading(limits, dumps), right_reading(limits, dumps));
+            compare(alloc, left, right, reader, other, writer)
         }
+    }
+}
+
+/// How the dump of a command that reads one is read.
+fn reading_of(limits: Limits, dump: &OneDump) -> Reading
+    ensures { result ≡ reading_of limits dump.now }
+{
+    Reading {
+        limits,
+        mode: dump.mode,
+        sender: dump.from,
+        strict: dump.strict,
+    }
+}
+
+/// How the first dump of a comparison is read.
+fn left_reading(limits: Limits, dumps: &TwoDumps) -> Reading
+    ensures { result ≡ left_reading limits dumps.now }
+{
+    Reading {
+        limits,
+        mode: dumps.mode,
+        sender: dumps.from,
+        strict: dumps.strict,
+    }
+}
+
+/// How the other dump of a comparison is read.
+fn right_reading(limits: Limits, dumps: &TwoDumps) -> Reading
+    ensures { result ≡ right_reading limits dumps.now }
+{
+    Reading {
+        sender: dumps.other_from,
+        ..left_reading(limits, dumps)
     }
 }

@@ -1,15 +1,17 @@
-ghost use Rattle.std.specs.Prelude.{◌≡◌, ◌^◌, ◌<◌, None};
+ghost use Rattle.std.specs.Prelude.{◌≡◌, ◌^◌, ◌<◌, None, IfOk};
 ghost use Rattle.std.specs.Option.{option_copied};
 ghost use Rattle.babel_dump.specs.Command.{LooksUp, RanLookup};
 ghost use Rattle.babel_dump.specs.Given.{IsFaultOfGiven, input, read_from};
 ghost use Rattle.babel_dump.specs.Parts.{Gathered, SaysSo};
-ghost use Rattle.babel_dump.specs.Run.{output};
+ghost use Rattle.babel_dump.specs.Run.{Reports, output, run_status};
 ghost use Rattle.babel_dump.specs.RunText.{lookup_status};
 
+use crate::addr_pair::AddrPair;
 use crate::byte_in::ByteIn;
 use crate::byte_out::ByteOut;
 use crate::finish::{Found, finish};
 use crate::input::read_table;
+use crate::outcome::Outcome;
 use crate::reading::Reading;
 use crate::run_fault::RunFault;
 use crate::text::lookup_text;
@@ -47,8 +49,30 @@ pub fn run_lookup<R: ByteIn, W: ByteOut>(
         limits,
         mode,
         sender,
+        strict: false,
     };
-    let found = read_answer(alloc, reading, dst, src, reader);
+    let outcome = lookup(alloc, reading, AddrPair { dst, src }, reader, writer)?;
+    Ok(outcome.status)
+}
+
+/// `run_lookup`, of a dump that is read so.
+pub(crate) fn lookup<R: ByteIn, W: ByteOut>(
+    alloc: Global,
+    reading: Reading,
+    pair: AddrPair,
+    reader: &mut R,
+    writer: &mut W,
+) -> Result<Outcome, RunFault>
+    requires reader_failures { (R.state reader.old).failures < 2 ^ 63 }
+    requires reader_reads { (R.state reader.old).reads < 2 ^ 63 }
+    requires reader_ends { (R.state reader.old).ends < 2 ^ 63 }
+    requires writer_failures { (W.state writer.old).failures < 2 ^ 63 }
+    requires writer_flushes { (W.state writer.old).flushes < 2 ^ 63 }
+    ensures ran { RanLookup (read_from (R.state reader.old) (R.state reader.new) reading) pair.dst pair.src
+        (output (W.state writer.old) (W.state writer.new)) (run_status result) }
+    ensures reports { IfOk result (Reports (read_from (R.state reader.old) (R.state reader.new) reading) None) }
+{
+    let found = read_answer(alloc, reading, pair, reader);
     finish(writer, found)
 }
 
@@ -56,22 +80,24 @@ pub fn run_lookup<R: ByteIn, W: ByteOut>(
 fn read_answer<R: ByteIn>(
     alloc: Global,
     reading: Reading,
-    dst: Addr,
-    src: Addr,
+    pair: AddrPair,
     reader: &mut R,
 ) -> Result<Found, RunFault>
-    requires one_family { dst.family ≡ src.family }
     requires failures { (R.state reader.old).failures < 2 ^ 63 }
     requires reads { (R.state reader.old).reads < 2 ^ 63 }
     requires ends { (R.state reader.old).ends < 2 ^ 63 }
     ensures { let dump = read_from (R.state reader.old) (R.state reader.new) reading in
-        Gathered dump None (IsFaultOfGiven dump) (SaysSo (LooksUp dump dst src)) result }
+        Gathered dump None (IsFaultOfGiven dump) (SaysSo dump None (LooksUp dump pair.dst pair.src)) result }
 {
     let table = read_table(alloc, reading, reader)?;
-    let answer = table.lookup(&dst, &src);
-    let status = lookup_status(answer);
-    let text = lookup_text(alloc, answer)?.into_bytes();
-    Ok(Found { text, status })
+    let answer = table.lookup(&pair.dst, &pair.src);
+    let outcome = Outcome {
+        status: lookup_status(answer.as_ref()),
+        report: *table.report(),
+        other: None,
+    };
+    let text = lookup_text(alloc, answer.as_ref())?.into_bytes();
+    Ok(Found { text, outcome })
 }
 
 /// The status of an answer.

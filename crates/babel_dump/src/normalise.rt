@@ -1,13 +1,14 @@
-ghost use Rattle.std.specs.Prelude.{◌^◌, ◌<◌, None};
+ghost use Rattle.std.specs.Prelude.{◌^◌, ◌<◌, None, IfOk};
 ghost use Rattle.babel_dump.specs.Command.{RanNormalise, WritesNormal};
 ghost use Rattle.babel_dump.specs.Given.{IsFaultOfForm, input, read_from};
 ghost use Rattle.babel_dump.specs.Parts.{Gathered, SaysSo};
-ghost use Rattle.babel_dump.specs.Run.{output};
+ghost use Rattle.babel_dump.specs.Run.{Reports, output, run_status};
 
 use crate::byte_in::ByteIn;
 use crate::byte_out::ByteOut;
 use crate::finish::{Found, finish};
-use crate::input::read_canon;
+use crate::input::read_octets;
+use crate::outcome::Outcome;
 use crate::reading::Reading;
 use crate::run_fault::RunFault;
 use crate::text::hex_text;
@@ -49,7 +50,30 @@ pub fn run_normalise<R: ByteIn, W: ByteOut>(
         limits,
         mode,
         sender,
+        strict: false,
     };
+    let outcome = normalise(alloc, reading, body, hex, reader, writer)?;
+    Ok(outcome.status)
+}
+
+/// `run_normalise`, of a dump that is read so.
+pub(crate) fn normalise<R: ByteIn, W: ByteOut>(
+    alloc: Global,
+    reading: Reading,
+    body: Body,
+    hex: bool,
+    reader: &mut R,
+    writer: &mut W,
+) -> Result<Outcome, RunFault>
+    requires reader_failures { (R.state reader.old).failures < 2 ^ 63 }
+    requires reader_reads { (R.state reader.old).reads < 2 ^ 63 }
+    requires reader_ends { (R.state reader.old).ends < 2 ^ 63 }
+    requires writer_failures { (W.state writer.old).failures < 2 ^ 63 }
+    requires writer_flushes { (W.state writer.old).flushes < 2 ^ 63 }
+    ensures ran { RanNormalise (read_from (R.state reader.old) (R.state reader.new) reading) body hex
+        (output (W.state writer.old) (W.state writer.new)) (run_status result) }
+    ensures reports { IfOk result (Reports (read_from (R.state reader.old) (R.state reader.new) reading) None) }
+{
     let found = read_normal(alloc, reading, body, hex, reader);
     finish(writer, found)
 }
@@ -66,13 +90,18 @@ fn read_normal<R: ByteIn>(
     requires reads { (R.state reader.old).reads < 2 ^ 63 }
     requires ends { (R.state reader.old).ends < 2 ^ 63 }
     ensures { let dump = read_from (R.state reader.old) (R.state reader.new) reading in
-        Gathered dump None (IsFaultOfForm dump) (SaysSo (WritesNormal dump body hex)) result }
+        Gathered dump None (IsFaultOfForm dump) (SaysSo dump None (WritesNormal dump body hex)) result }
 {
-    let (_table, canon) = read_canon(alloc, reading, body, reader)?;
+    let (report, octets) = read_octets(alloc, reading, body, reader)?;
     let text = if hex {
-        hex_text(alloc, canon.bytes())?.into_bytes()
+        hex_text(alloc, &octets)?.into_bytes()
     } else {
-        canon.into_bytes()
+        octets
     };
-    Ok(Found { text, status: 0 })
+    let outcome = Outcome {
+        status: 0,
+        report,
+        other: None,
+    };
+    Ok(Found { text, outcome })
 }

@@ -1,22 +1,24 @@
-ghost use Rattle.std.specs.Prelude.{◌≡◌, ◌^◌, ◌<◌, None, IfOk, string_bytes};
+ghost use Rattle.std.specs.Prelude.{◌^◌, ◌<◌, None, IfOk, IfErr, string_bytes};
+ghost use Rattle.babel_canon.specs.Canonical.{CanonicalFault};
 ghost use Rattle.babel_dump.specs.Command.{ListsPairs, RanPairs};
 ghost use Rattle.babel_dump.specs.Given.{IsFaultOfForm, input, read_from};
-ghost use Rattle.babel_dump.specs.Parts.{Gathered, SaysSo};
-ghost use Rattle.babel_dump.specs.Run.{output};
-ghost use Rattle.babel_dump.specs.RunText.{pairs_or_counts};
+ghost use Rattle.babel_dump.specs.Parts.{Gathered, SaysPairs, SaysSo};
+ghost use Rattle.babel_dump.specs.Run.{Reports, output, run_status};
 
 use crate::byte_in::ByteIn;
 use crate::byte_out::ByteOut;
 use crate::finish::{Found, finish};
-use crate::input::read_canon;
+use crate::input::read_table;
+use crate::outcome::Outcome;
 use crate::reading::Reading;
 use crate::run_fault::RunFault;
 use crate::text::{counts_text, pairs_text};
-use babel_canon::Body;
+use babel_canon::laws::text_is_one;
+use babel_canon::{canonical_pairs, pair_count};
 use babel_prefix::Addr;
-use babel_table::Limits;
-use babel_tlv::{Held, Key, Mode};
-use std::alloc::{AllocError, Global};
+use babel_table::{Limits, Table};
+use babel_tlv::{Fault, Mode};
+use std::alloc::Global;
 
 /// Reads a dump that this sender sent, and writes a line for each of its canonical pairs, or, with `count`, how many
 /// rows its table has and how many canonical pairs. The status is 0.
@@ -46,7 +48,29 @@ pub fn run_pairs<R: ByteIn, W: ByteOut>(
         limits,
         mode,
         sender,
+        strict: false,
     };
+    let outcome = pairs(alloc, reading, count, reader, writer)?;
+    Ok(outcome.status)
+}
+
+/// `run_pairs`, of a dump that is read so.
+pub(crate) fn pairs<R: ByteIn, W: ByteOut>(
+    alloc: Global,
+    reading: Reading,
+    count: bool,
+    reader: &mut R,
+    writer: &mut W,
+) -> Result<Outcome, RunFault>
+    requires reader_failures { (R.state reader.old).failures < 2 ^ 63 }
+    requires reader_reads { (R.state reader.old).reads < 2 ^ 63 }
+    requires reader_ends { (R.state reader.old).ends < 2 ^ 63 }
+    requires writer_failures { (W.state writer.old).failures < 2 ^ 63 }
+    requires writer_flushes { (W.state writer.old).flushes < 2 ^ 63 }
+    ensures ran { RanPairs (read_from (R.state reader.old) (R.state reader.new) reading) count
+        (output (W.state writer.old) (W.state writer.new)) (run_status result) }
+    ensures reports { IfOk result (Reports (read_from (R.state reader.old) (R.state reader.new) reading) None) }
+{
     let found = read_pairs(alloc, reading, count, reader);
     finish(writer, found)
 }
@@ -62,25 +86,33 @@ fn read_pairs<R: ByteIn>(
     requires reads { (R.state reader.old).reads < 2 ^ 63 }
     requires ends { (R.state reader.old).ends < 2 ^ 63 }
     ensures { let dump = read_from (R.state reader.old) (R.state reader.new) reading in
-        Gathered dump None (IsFaultOfForm dump) (SaysSo (ListsPairs dump count)) result }
+        Gathered dump None (IsFaultOfForm dump) (SaysSo dump None (ListsPairs dump count)) result }
 {
-    let (table, canon) = read_canon(alloc, reading, Body::usual(), reader)?;
-    let text = lines(alloc, count, table.rows(), canon.pairs())?.into_bytes();
-    Ok(Found { text, status: 0 })
+    let table = read_table(alloc, reading, reader)?;
+    let report = *table.report();
+    let text = lines(alloc, reading.limits, count, table)?.into_bytes();
+    let outcome = Outcome {
+        status: 0,
+        report,
+        other: None,
+    };
+    Ok(Found { text, outcome })
 }
 
-/// The lines of the pairs, or of how many rows and pairs there are.
-fn lines(
-    alloc: Global,
-    count: bool,
-    rows: &[(Key, Held)],
-    pairs: &[(Key, Held)],
-) -> Result<String, AllocError>
-    ensures { IfOk result (λ text. string_bytes text ≡ pairs_or_counts count rows.now pairs.now) }
+/// The lines of a table's canonical pairs, or of how many rows and pairs there are, for which no pair is made. The table is
+/// gone before the lines of pairs are made.
+fn lines(alloc: Global, limits: Limits, count: bool, table: Table) -> Result<String, Fault>
+    ensures ok { IfOk result (λ text. SaysPairs limits count table.rows (string_bytes text)) }
+    ensures err { IfErr result (CanonicalFault limits table.rows) }
 {
+    text_is_one();
     if count {
-        counts_text(alloc, rows.len(), pairs.len())
-    } else {
-        pairs_text(alloc, pairs)
+        let pairs = pair_count(alloc, limits, &table)?;
+        let text = counts_text(alloc, table.rows().len(), pairs)?;
+        return Ok(text);
     }
+    let pairs = canonical_pairs(alloc, limits, &table)?;
+    drop(table);
+    let text = pairs_text(alloc, &pairs)?;
+    Ok(text)
 }

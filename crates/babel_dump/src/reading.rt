@@ -11,4 +11,6 @@ pub(crate) struct Reading {
     pub mode: Mode,
     /// The address that the dump's packets were sent from.
     pub sender: Addr,
+    /// Whether a dump is refused of which a TLV is ignored.
+    pub strict: bool,
 }

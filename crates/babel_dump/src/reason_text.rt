@@ -7,6 +7,23 @@ use babel_tlv::Reason;
 use std::alloc::AllocError;
 use std::fmt;
 
+/// How many TLVs were ignored for a reason, and where the first lies.
+#[derive(Clone, Copy)]
+pub(crate) struct Counted(pub Reason, pub u64, pub u64);
+
+impl fmt::Display for Counted {
+    ghost use Rattle.std.specs.Prelude.{Some};
+    ghost use Rattle.babel_dump.specs.RunText.{counted_text};
+
+    ghost output = { λ counted. Some (counted_text counted.0 (counted.1, counted.2)) };
+
+    fn fmt<W: fmt::Write>(&self, f: &mut fmt::Formatter<W>) -> fmt::Result {
+        let Counted(reason, count, first) = *self;
+        let name = name(reason);
+        write!(f, "{name} {count} first {first}")
+    }
+}
+
 /// How many TLVs were ignored for a reason, and where the first lies: a line, or nothing if none was.
 #[derive(Clone, Copy)]
 struct IgnoredLine(Reason, Option<(u64, u64)>);
@@ -20,8 +37,8 @@ impl fmt::Display for IgnoredLine {
     fn fmt<W: fmt::Write>(&self, f: &mut fmt::Formatter<W>) -> fmt::Result {
         match self.1 {
             Some((count, first)) => {
-                let name = name(self.0);
-                write!(f, "ignored {name} {count} first {first}\n")
+                let counted = Counted(self.0, count, first);
+                write!(f, "ignored {counted}\n")
             }
             None => Ok(()),
         }
@@ -64,7 +81,7 @@ pub(crate) const REASONS: [Reason; 16] = [
 ];
 
 /// The name of a reason.
-fn name(reason: Reason) -> &'static str
+pub(crate) fn name(reason: Reason) -> &'static str
     ensures { result.now ≡ reason_name reason }
 {
     match reason {

@@ -1,6 +1,7 @@
 ghost use Rattle.std.specs.Prelude.{◌≡◌};
 ghost use Rattle.babel_dump.specs.Run.{exit_status};
 
+use crate::ignored::IgnoredTlv;
 use crate::write::WriteFailed;
 use babel_tlv::Fault;
 use std::alloc::AllocError;
@@ -15,6 +16,12 @@ pub enum RunFault {
     /// The second dump of a comparison is refused, or an allocation was while it was read.
     #[error("other: {0}")]
     OtherDump(Fault),
+    /// A TLV of the dump was ignored, and the dump is read strictly.
+    #[error("{0}")]
+    Ignored(IgnoredTlv),
+    /// A TLV of the second dump of a comparison was ignored, and the dump is read strictly.
+    #[error("other: {0}")]
+    OtherIgnored(IgnoredTlv),
     /// A read failed.
     #[error("read failed")]
     Read,
@@ -69,6 +76,7 @@ pub fn status_of(outcome: &Result<u8, RunFault>) -> u8
         Ok(status) => *status,
         Err(RunFault::Dump(Fault::Memory) | RunFault::OtherDump(Fault::Memory)) => 5,
         Err(RunFault::Dump(_) | RunFault::OtherDump(_)) => 3,
+        Err(RunFault::Ignored(_) | RunFault::OtherIgnored(_)) => 3,
         Err(RunFault::Read | RunFault::OtherRead | RunFault::Write) => 4,
     }
 }

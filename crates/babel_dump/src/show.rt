@@ -1,13 +1,14 @@
-ghost use Rattle.std.specs.Prelude.{◌^◌, ◌<◌, None};
+ghost use Rattle.std.specs.Prelude.{◌^◌, ◌<◌, None, IfOk};
 ghost use Rattle.babel_dump.specs.Command.{RanShow, Shows};
 ghost use Rattle.babel_dump.specs.Given.{IsFaultOfGiven, input, read_from};
 ghost use Rattle.babel_dump.specs.Parts.{Gathered, SaysSo};
-ghost use Rattle.babel_dump.specs.Run.{output};
+ghost use Rattle.babel_dump.specs.Run.{Reports, output, run_status};
 
 use crate::byte_in::ByteIn;
 use crate::byte_out::ByteOut;
 use crate::finish::{Found, finish};
 use crate::input::read_table;
+use crate::outcome::Outcome;
 use crate::reading::Reading;
 use crate::run_fault::RunFault;
 use crate::text::show_text;
@@ -41,7 +42,27 @@ pub fn run_show<R: ByteIn, W: ByteOut>(
         limits,
         mode,
         sender,
+        strict: false,
     };
+    let outcome = show(alloc, reading, reader, writer)?;
+    Ok(outcome.status)
+}
+
+/// `run_show`, of a dump that is read so.
+pub(crate) fn show<R: ByteIn, W: ByteOut>(
+    alloc: Global,
+    reading: Reading,
+    reader: &mut R,
+    writer: &mut W,
+) -> Result<Outcome, RunFault>
+    requires reader_failures { (R.state reader.old).failures < 2 ^ 63 }
+    requires reader_reads { (R.state reader.old).reads < 2 ^ 63 }
+    requires reader_ends { (R.state reader.old).ends < 2 ^ 63 }
+    requires writer_failures { (W.state writer.old).failures < 2 ^ 63 }
+    requires writer_flushes { (W.state writer.old).flushes < 2 ^ 63 }
+    ensures ran { RanShow (read_from (R.state reader.old) (R.state reader.new) reading) (output (W.state writer.old) (W.state writer.new)) (run_status result) }
+    ensures reports { IfOk result (Reports (read_from (R.state reader.old) (R.state reader.new) reading) None) }
+{
     let found = read_rows(alloc, reading, reader);
     finish(writer, found)
 }
@@ -52,9 +73,14 @@ fn read_rows<R: ByteIn>(alloc: Global, reading: Reading, reader: &mut R) -> Resu
     requires reads { (R.state reader.old).reads < 2 ^ 63 }
     requires ends { (R.state reader.old).ends < 2 ^ 63 }
     ensures { let dump = read_from (R.state reader.old) (R.state reader.new) reading in
-        Gathered dump None (IsFaultOfGiven dump) (SaysSo (Shows dump)) result }
+        Gathered dump None (IsFaultOfGiven dump) (SaysSo dump None (Shows dump)) result }
 {
     let table = read_table(alloc, reading, reader)?;
     let text = show_text(alloc, &table)?.into_bytes();
-    Ok(Found { text, status: 0 })
+    let outcome = Outcome {
+        status: 0,
+        report: *table.report(),
+        other: None,
+    };
+    Ok(Found { text, outcome })
 }

@@ -129,6 +129,19 @@ pub(crate) fn pairs_text(alloc: Global, pairs: &[(Key, Held)]) -> Result<String,
     Ok(text)
 }
 
+/// The lines of the rows.
+fn rows_text(alloc: Global, table: &Table) -> Result<String, AllocError>
+    ensures { IfOk result (λ text. string_bytes text ≡ pairs_text table.now.rows) }
+{
+    let rows = table.rows();
+    let mut text = String::with_capacity(alloc, rows.len().saturating_mul(LINE))?;
+    for (key, held) in rows {
+        let line = PairLine(key, held);
+        write!(text, "{line}")?;
+    }
+    Ok(text)
+}
+
 /// How many rows and pairs there are.
 pub(crate) fn counts_text(alloc: Global, rows: usize, pairs: usize) -> Result<String, AllocError>
     ensures { IfOk result (λ text. string_bytes text ≡ counts_text rows pairs) }
@@ -142,7 +155,7 @@ pub(crate) fn counts_text(alloc: Global, rows: usize, pairs: usize) -> Result<St
 pub(crate) fn show_text(alloc: Global, table: &Table) -> Result<String, AllocError>
     ensures { IfOk result (λ text. string_bytes text ≡ show_text table.now) }
 {
-    let mut text = pairs_text(alloc, table.rows())?;
+    let mut text = rows_text(alloc, table)?;
     let report = table.report();
     let tlvs = report.tlvs();
     write!(text, "tlvs {tlvs}\n")?;

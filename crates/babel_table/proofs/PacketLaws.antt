@@ -1,5 +1,6 @@
 -- Packets, taken one by one.
-use Rattle.std.proofs.Common.{◌≡◌, ℕ, ◌+◌, ◌≤◌, List, [], ◌∷◌, ◌++◌, length, take, drop, ◌-◌, length-drop, refl, sym, ap, subst, ◌∙◌, append_assoc, arith}
+use Rattle.std.proofs.Common.{◌≡◌, ℕ, ◌+◌, ◌≤◌, List, [], ◌∷◌, ◌++◌, length, take, drop, ◌-◌, length-drop, refl, sym, ap, subst, ◌∙◌, append_assoc, arith, inl, inr}
+use Rattle.std.specs.Prelude.{◌⊎◌}
 use Rattle.std.specs.List.{flat_map}
 use Rattle.std.proofs.lemmas.List.{append-nil, length-append, drop_at, take_all}
 use Rattle.std.proofs.lemmas.List.Concat.{flat_map-append}
@@ -59,8 +60,13 @@ used-fits rest body used (fits, behind, is) is_used = omega (arith, is_used, ap 
 pub takes-at : (m mode : Mode) (e entries : ℕ) → m ≡ mode → e ≡ entries → (said : List Saying) (now next : Routes) → Takes m e said now next → Takes mode entries said now next
 takes-at m mode e entries is_m is_e said now next takes = subst (λ (n : ℕ). Takes mode n said now next) is_e (subst (λ (o : Mode). Takes o e said now next) is_m takes)
 
-pub fails-at : (m mode : Mode) (e entries : ℕ) → m ≡ mode → e ≡ entries → (said : List Saying) (now : Routes) (fault : Fault) → Fails m e said now fault → Fails mode entries said now fault
+fails-at : (m mode : Mode) (e entries : ℕ) → m ≡ mode → e ≡ entries → (said : List Saying) (now : Routes) (fault : Fault) → Fails m e said now fault → Fails mode entries said now fault
 fails-at m mode e entries is_m is_e said now fault fails = subst (λ (n : ℕ). Fails mode n said now fault) is_e (subst (λ (o : Mode). Fails o e said now fault) is_m fails)
+
+pub body-stops : (m mode : Mode) (e entries : ℕ) → m ≡ mode → e ≡ entries → {Past Whole : Type 0} (said : List Saying) (now : Routes) (fault : Fault)
+    → Past ⊎ (Whole × Fails m e said now fault) → Past ⊎ (Whole × Fails mode entries said now fault)
+body-stops m mode e entries is_m is_e said now fault (inl past) = inl past
+body-stops m mode e entries is_m is_e said now fault (inr (whole, fails)) = inr (whole, fails-at m mode e entries is_m is_e said now fault fails)
 
 pub packets-next_used : (mode : Mode) (entries : ℕ) (sender : Address) (at : ℕ) (octets : List ℕ) (old now next : Routes) (rest body : List ℕ) (place used : ℕ) → used ≡ 4 + length body → TookPackets mode entries sender at octets old now rest place
     → BeginsPacket rest body → Parts (place + 4) body (tlvs_of (place + 4) body) → Takes mode entries (sayings_behind sender [] (tlvs_of (place + 4) body)) now next

@@ -36,11 +36,11 @@ first_not_greater Less b e g = cc
 first_not_greater Equal b e g = cc
 first_not_greater Greater b e g = cc
 
-less_not_greater : (a : Ordering) → a ≡ Less → a ≡ Greater → ⊥
+pub less_not_greater : (a : Ordering) → a ≡ Less → a ≡ Greater → ⊥
 less_not_greater a e g = cc
 
 -- a search that ends between the lesser and the greater passes no equal one
-missed : {X : Type 0} (ord : X → Ordering) (xs : List X) (i : ℕ) → IsPartitionPoint (λ y. ord y ≡ Less) (λ y. ord y ≡ Greater) xs i →
+pub missed : {X : Type 0} (ord : X → Ordering) (xs : List X) (i : ℕ) → IsPartitionPoint (λ y. ord y ≡ Less) (λ y. ord y ≡ Greater) xs i →
     (x : X) → Contains xs x → ord x ≡ Equal → ⊥
 missed ord xs i point x (k, k_in, at) e =
     elim (cases_lt k i) [
@@ -49,10 +49,10 @@ missed ord xs i point x (k, k_in, at) e =
     ]
 
 -- rows can be searched by a part of their keys whose order the keys follow
-searchable : {K : Type 0} {R : K → K → Ordering} → IsTotalOrder R → (part : RouteKey → K) → ((k l : RouteKey) → key_cmp k l ≡ Less → R (part k) (part l) ≡ Greater → ⊥) →
-    (rows : List Pair) (x : K) → IsRising rows → IsNonDecreasingBy (λ row. ordering_index (R (part row.0) x)) rows
-searchable {K} {R} total part follows rows x rising =
-    searchable_from_sorted total (λ (row : Pair). part row.0) rows x (λ k d low k_in.
+pub searchable : {K V : Type 0} {R : K → K → Ordering} → IsTotalOrder R → (part : RouteKey → K) → ((k l : RouteKey) → key_cmp k l ≡ Less → R (part k) (part l) ≡ Greater → ⊥) →
+    (rows : List (RouteKey × V)) (x : K) → IsRising rows → IsNonDecreasingBy (λ row. ordering_index (R (part row.0) x)) rows
+searchable {K} {V} {R} total part follows rows x rising =
+    searchable_from_sorted total (λ (row : RouteKey × V). part row.0) rows x (λ k d low k_in.
     let k_below : k < k + 1 = omega arith in
     let less = rising_rows rows k (k + 1) d rising k_below k_in in
     not_less-reverse _ _ (total.antisymm (part (get_or rows (k + 1) d).0) (part (get_or rows k d).0)) (follows _ _ less))

@@ -1,6 +1,6 @@
 -- TLVs of a packet, taken one by one.
 use Rattle.std.proofs.Common.{◌≡◌, ℕ, zero, suc, ◌+◌, ◌≤◌, ltb, Bool, true, false, cond, take, List, [], ◌∷◌, ◌++◌, length, refl, sym, ap, subst, ◌∙◌, append_assoc, inl, inr, arith}
-use Rattle.std.specs.Prelude.{Result, Ok, Err, IfErr, ◌==◌, nat_lt, nat_le}
+use Rattle.std.specs.Prelude.{Result, Ok, Err, IfErr, OnOk, ◌==◌, nat_lt, nat_le}
 use Rattle.std.specs.List.{Contains}
 use Rattle.std.proofs.lemmas.List.{append-nil}
 use Rattle.std.proofs.lemmas.List.Elements.{Contains-append_right}
@@ -128,28 +128,32 @@ length-tlvs_past zero at (suc kind ∷ len ∷ octets) = by (ltb (length octets)
 pub length-tlvs_of : (at : ℕ) (octets : List ℕ) → length (tlvs_of at octets) ≤ length octets
 length-tlvs_of at octets = length-tlvs_past 0 at octets
 
--- ---- the same as a loop meets them
+-- ---- the same as the code meets them
 
-module _ (mode : Mode) (entries : ℕ) (sender : Address) (old : Routes) (all : List TlvAt) (m : Mode) (e : ℕ) (is_m : m ≡ mode) (is_e : e ≡ entries) where
-  pub body-next : (now next : Routes) (context after : Context) (tlv : TlvAt) (all_left left : List TlvAt) (event : Event) → all_left ≡ tlv ∷ left → TookSome mode entries sender old all now context all_left
-      → Ok event ≡ said context tlv → ((earlier : List TlvAt) → context ≡ context_after sender earlier → after ≡ context_after sender (tlv ∷ earlier))
-      → ((before : List Saying) → StandsBehind m e now before → StandsBehind m e next (before ++ event_at tlv.at event ∷ []))
-      → TookSome mode entries sender old all next after left
-  body-next now next context after tlv all_left left event is_left some is_said goes takes =
-      took-next mode entries sender old all now next context after tlv left event (subst (λ (l : List TlvAt). TookSome mode entries sender old all now context l) is_left some) (sym is_said) goes
-      (subst (λ (n : ℕ). (before : List Saying) → StandsBehind mode n now before → StandsBehind mode n next (before ++ event_at tlv.at event ∷ [])) is_e
-      (subst (λ (o : Mode). (before : List Saying) → StandsBehind o e now before → StandsBehind o e next (before ++ event_at tlv.at event ∷ [])) is_m takes))
+module _ (mode : Mode) (entries : ℕ) (now next : Routes) (context after : Context) (tlv : TlvAt) where
+  pub tlv-taken : {T : Type 0} (event : Event) (taken : Result T Fault) → Ok event ≡ said context tlv
+      → ((sender : Address) (earlier : List TlvAt) → context ≡ context_after sender earlier → after ≡ context_after sender (tlv ∷ earlier))
+      → OnOk taken ((before : List Saying) → StandsBehind mode entries now before → StandsBehind mode entries next (before ++ event_at tlv.at event ∷ []))
+      → OnOk taken ((sender : Address) (old : Routes) (all left : List TlvAt) → TookSome mode entries sender old all now context (tlv ∷ left) → TookSome mode entries sender old all next after left)
+  tlv-taken event (Ok x) is_said goes takes = λ sender old all left some. took-next mode entries sender old all now next context after tlv left event some (sym is_said) (goes sender) takes
+  tlv-taken event (Err fault) is_said goes takes = tt
 
-  pub body-refused : (now : Routes) (context : Context) (tlv : TlvAt) (all_left left : List TlvAt) (fault : Fault) → all_left ≡ tlv ∷ left → TookSome mode entries sender old all now context all_left
-      → Err fault ≡ said context tlv → Fails mode entries (sayings_behind sender [] all) old fault
-  body-refused now context tlv all_left left fault is_left some is_said =
-      took-refused mode entries sender old all now context tlv left fault (subst (λ (l : List TlvAt). TookSome mode entries sender old all now context l) is_left some) (sym is_said)
+  pub tlv-failed : {T : Type 0} (event : Event) (taken : Result T Fault) → Ok event ≡ said context tlv → IfErr taken (IsRefused mode entries tlv.at event now.rows)
+      → IfErr taken (λ fault. (sender : Address) (old : Routes) (all left : List TlvAt) → TookSome mode entries sender old all now context (tlv ∷ left) → Fails mode entries (sayings_behind sender [] all) old fault)
+  tlv-failed event (Ok x) is_said refused = tt
+  tlv-failed event (Err fault) is_said refused = λ sender old all left some. took-failed mode entries sender old all now context tlv left event fault some (sym is_said) refused
 
-  pub body-failed : (now : Routes) (context : Context) (tlv : TlvAt) (all_left left : List TlvAt) (event : Event) (fault : Fault) → all_left ≡ tlv ∷ left → TookSome mode entries sender old all now context all_left
-      → Ok event ≡ said context tlv → IsRefused m e tlv.at event now.rows fault → Fails mode entries (sayings_behind sender [] all) old fault
-  body-failed now context tlv all_left left event fault is_left some is_said refused =
-      took-failed mode entries sender old all now context tlv left event fault (subst (λ (l : List TlvAt). TookSome mode entries sender old all now context l) is_left some) (sym is_said)
-      (subst (λ (n : ℕ). IsRefused mode n tlv.at event now.rows fault) is_e (subst (λ (o : Mode). IsRefused o e tlv.at event now.rows fault) is_m refused))
+-- a TLV is the next of its packet, at the mode and the limit of the packet's start
+module _ (mode m : Mode) (entries e : ℕ) (is_m : m ≡ mode) (is_e : e ≡ entries) (sender : Address) (old : Routes) (all : List TlvAt) (now : Routes) (context : Context) (tlv : TlvAt) (all_left left : List TlvAt) (is_left : all_left ≡ tlv ∷ left) where
+  here : TookSome mode entries sender old all now context all_left → TookSome m e sender old all now context (tlv ∷ left)
+  here some = subst (λ (o : Mode). TookSome o e sender old all now context (tlv ∷ left)) (sym is_m)
+      (subst (λ (n : ℕ). TookSome mode n sender old all now context (tlv ∷ left)) (sym is_e) (subst (λ (l : List TlvAt). TookSome mode entries sender old all now context l) is_left some))
+
+  pub body-failed : (fault : Fault) → TookSome mode entries sender old all now context all_left
+      → (TookSome m e sender old all now context (tlv ∷ left) → Fails m e (sayings_behind sender [] all) old fault)
+      → Fails mode entries (sayings_behind sender [] all) old fault
+  body-failed fault some fails =
+      subst (λ (o : Mode). Fails o entries (sayings_behind sender [] all) old fault) is_m (subst (λ (n : ℕ). Fails m n (sayings_behind sender [] all) old fault) is_e (fails (here some)))
 
 pub took-start : (mode : Mode) (entries : ℕ) (sender : Address) (old : Routes) (all : List TlvAt) (context : Context) (left : List TlvAt) → context ≡ context_after sender [] → left ≡ all
     → TookSome mode entries sender old all old context left

@@ -8,3 +8,6 @@ pub mod Feeding
 pub mod BestMatch
 pub mod Lookup
 pub mod OneOutcome
+pub mod Compact
+pub mod Left
+pub mod Said

@@ -4,15 +4,16 @@ ghost use Rattle.std.specs.Map.{remove_entry};
 ghost use Rattle.babel_tlv.specs.declared.held.Held.TheVariants as helds;
 ghost use Rattle.babel_tlv.specs.Pair.{EventFits, IsPair};
 ghost use Rattle.babel_tlv.specs.Route.{key_cmp};
-ghost use Rattle.babel_table.specs.Live.{unreachable, current};
+ghost use Rattle.babel_tlv.specs.Verdicts.{event_of};
+ghost use Rattle.babel_tlv.specs.declared.event.Event.TheVariants as events;
+ghost use Rattle.babel_table.specs.Live.{unreachable};
 ghost use Rattle.babel_table.specs.Rows.{AreRows};
 ghost use Rattle.babel_table.specs.Feeding.{Follows, IsRefused};
 
-use crate::stored::Stored;
-use babel_tlv::laws::key_order;
-use babel_tlv::{Ann, Event, Fault, Held, Key, Mode};
+use crate::kept_rows::KeptRows;
+use crate::sorted_rows::SortedRows;
+use babel_tlv::{Ann, Fault, Held, Key, Mode, Route, Verdict};
 use std::alloc::{AllocError, Global};
-use std::collections::BTreeMap;
 use std::marker::Model;
 
 /// The rows so far, at most `entries`.
@@ -21,7 +22,7 @@ pub struct LiveRows {
     mode: Mode,
     entries: u32,
     wipes: u64,
-    map: BTreeMap<Key, Stored>,
+    kept: KeptRows,
 }
 
 impl Model for LiveRows {
@@ -30,9 +31,9 @@ impl Model for LiveRows {
 
     ghost Value = { Live };
 
-    ghost view = { λ r. record { mode = r.mode; entries = r.entries; wipes = r.wipes; rows = live_rows r.wipes r.map.entries } };
+    ghost view = { λ r. record { mode = r.mode; entries = r.entries; wipes = r.wipes; rows = live_rows r.wipes r.kept } };
 
-    ghost invariant = { λ r. AreKept r.wipes r.map.entries × (length r.map.entries ≤ r.entries) };
+    ghost invariant = { λ r. AreKept r.wipes r.kept × (length r.kept ≤ r.entries) };
 }
 
 impl LiveRows {
@@ -44,35 +45,32 @@ impl LiveRows {
             mode,
             entries,
             wipes: 0,
-            map: BTreeMap::new(alloc),
+            kept: KeptRows::new(alloc),
         }
     }
 
     /// Holds this for the key, if a row may be added for it.
-    fn put(&mut self, key: Key, held: Held, at: u64) -> Result<(), Fault>
-        requires { IsPair (key, held) }
+    fn put(&mut self, key: &Key, held: Held, at: u64) -> Result<(), Fault>
+        requires { IsPair (key.now, held) }
         ensures settings { (self.new.mode ≡ self.old.mode) × (self.new.entries ≡ self.old.entries) × (self.new.wipes ≡ self.old.wipes) }
-        ensures ok { OnOk result (self.new.rows ≡ insert_entry key_cmp self.old.rows key held) }
-        ensures refused { IfErr result (λ fault. ((fault ≡ Fault.TooManyRoutes at) × (self.old.entries < length (insert_entry key_cmp self.old.rows key held))) ⊎ (fault ≡ Fault.Memory)) }
+        ensures ok { OnOk result (self.new.rows ≡ insert_entry key_cmp self.old.rows key.now held) }
+        ensures refused { IfErr result (λ fault. ((fault ≡ Fault.TooManyRoutes at) × (self.old.entries < length (insert_entry key_cmp self.old.rows key.now held))) ⊎ (fault ≡ Fault.Memory)) }
     {
-        key_order();
-        if self.map.len() >= self.entries as usize && !self.map.contains_key(&key) {
+        if self.kept.len() >= self.entries as usize && !self.kept.has(key) {
             return Err(Fault::TooManyRoutes { at });
         }
-        let wipes = self.wipes;
-        match self.map.insert(key, Stored { held, wipes }) {
-            Ok(_) => Ok(()),
+        match self.kept.put(key, held, self.wipes) {
+            Ok(()) => Ok(()),
             Err(_) => Err(Fault::Memory),
         }
     }
 
     /// Holds nothing for the key.
-    fn forget(&mut self, key: Key)
+    fn forget(&mut self, key: &Key)
         ensures settings { (self.new.mode ≡ self.old.mode) × (self.new.entries ≡ self.old.entries) × (self.new.wipes ≡ self.old.wipes) }
-        ensures rows { self.new.rows ≡ remove_entry (is_at (key_cmp key)) self.old.rows }
+        ensures rows { self.new.rows ≡ remove_entry (is_at (key_cmp key.now)) self.old.rows }
     {
-        key_order();
-        self.map.remove(&key);
+        self.kept.forget(key);
     }
 
     /// Holds nothing for any key.
@@ -80,7 +78,7 @@ impl LiveRows {
         ensures settings { (self.new.mode ≡ self.old.mode) × (self.new.entries ≡ self.old.entries) × (self.new.wipes ≡ self.old.wipes) }
         ensures rows { self.new.rows ≡ [] }
     {
-        self.map.clear();
+        self.kept.clear();
     }
 
     /// Makes each row unreachable.
@@ -96,8 +94,7 @@ impl LiveRows {
     pub fn are_rows(&self)
         ensures { AreRows self.now.rows }
     {
-        key_order();
-        let _ = self.map.len();
+        let _ = self.kept.len();
     }
 
     /// There are at most as many rows as may be.
@@ -108,21 +105,21 @@ impl LiveRows {
     }
 
     /// Takes an announcement, said at this offset, into the rows.
-    fn announce(&mut self, key: Key, ann: Ann, at: u64) -> Result<(), Fault>
-        requires { EventFits (Event.Announce key ann) }
+    fn announce(&mut self, key: &Key, ann: &Ann, at: u64) -> Result<(), Fault>
+        requires { EventFits (events.Announce key.now ann.now) }
         ensures settings { (self.new.mode ≡ self.old.mode) × (self.new.entries ≡ self.old.entries) × (self.new.wipes ≡ self.old.wipes) }
-        ensures ok { OnOk result (Follows self.old.mode (Event.Announce key ann) self.old.rows self.new.rows) }
-        ensures refused { IfErr result (IsRefused self.old.mode self.old.entries at (Event.Announce key ann) self.old.rows) }
+        ensures ok { OnOk result (Follows self.old.mode (events.Announce key.now ann.now) self.old.rows self.new.rows) }
+        ensures refused { IfErr result (IsRefused self.old.mode self.old.entries at (events.Announce key.now ann.now) self.old.rows) }
     {
-        self.put(key, Held::Route(ann), at)
+        self.put(key, Held::Route(*ann), at)
     }
 
     /// Takes a retraction of one key into the rows.
-    fn retract(&mut self, key: Key, at: u64) -> Result<(), Fault>
-        requires { EventFits (Event.Retract key) }
+    fn retract(&mut self, key: &Key, at: u64) -> Result<(), Fault>
+        requires { EventFits (events.Retract key.now) }
         ensures settings { (self.new.mode ≡ self.old.mode) × (self.new.entries ≡ self.old.entries) × (self.new.wipes ≡ self.old.wipes) }
-        ensures ok { OnOk result (Follows self.old.mode (Event.Retract key) self.old.rows self.new.rows) }
-        ensures refused { IfErr result (IsRefused self.old.mode self.old.entries at (Event.Retract key) self.old.rows) }
+        ensures ok { OnOk result (Follows self.old.mode (events.Retract key.now) self.old.rows self.new.rows) }
+        ensures refused { IfErr result (IsRefused self.old.mode self.old.entries at (events.Retract key.now) self.old.rows) }
     {
         match self.mode {
             Mode::Plain => {
@@ -137,7 +134,7 @@ impl LiveRows {
     fn retract_all(&mut self)
         requires { self.old.wipes + 1 < 2 ^ 64 }
         ensures settings { (self.new.mode ≡ self.old.mode) × (self.new.entries ≡ self.old.entries) × (self.new.wipes ≤ self.old.wipes + 1) }
-        ensures rows { Follows self.old.mode Event.RetractAll self.old.rows self.new.rows }
+        ensures rows { Follows self.old.mode events.RetractAll self.old.rows self.new.rows }
     {
         match self.mode {
             Mode::Plain => self.clear(),
@@ -145,49 +142,35 @@ impl LiveRows {
         }
     }
 
-    /// Takes an event, said at this offset, into the rows.
-    pub fn take(&mut self, event: Event, at: u64) -> Result<(), Fault>
-        requires fits { EventFits event }
+    /// Takes what is said of a route at this offset into the rows.
+    pub fn take(&mut self, verdict: Verdict, route: &Route, at: u64) -> Result<(), Fault>
+        requires fits { EventFits (event_of verdict route.now) }
         requires room { self.old.wipes + 1 < 2 ^ 64 }
         ensures settings { (self.new.mode ≡ self.old.mode) × (self.new.entries ≡ self.old.entries) × (self.new.wipes ≤ self.old.wipes + 1) }
 
         // The rows of events are then those of these events and this one.
-        ensures ok { OnOk result (Follows self.old.mode event self.old.rows self.new.rows) }
+        ensures ok { OnOk result (Follows self.old.mode (event_of verdict route.now) self.old.rows self.new.rows) }
 
         // It is refused where there would be more rows than may be, or for want of memory.
-        ensures refused { IfErr result (IsRefused self.old.mode self.old.entries at event self.old.rows) }
+        ensures refused { IfErr result (IsRefused self.old.mode self.old.entries at (event_of verdict route.now) self.old.rows) }
     {
-        match event {
-            Event::Announce(key, ann) => self.announce(key, ann, at),
-            Event::Retract(key) => self.retract(key, at),
-            Event::RetractAll => {
+        match verdict {
+            Verdict::Announce => self.announce(&route.key, &route.ann, at),
+            Verdict::Retract => self.retract(&route.key, at),
+            Verdict::RetractAll => {
                 self.retract_all();
                 Ok(())
             }
-            Event::Nothing => Ok(()),
-            Event::Ignored(_) => Ok(()),
+            Verdict::Nothing => Ok(()),
+            Verdict::Ignored(_) => Ok(()),
         }
     }
 
     /// The rows in order.
-    pub fn listed(&self, alloc: Global) -> Result<Vec<(Key, Held)>, AllocError>
-        ensures { IfOk result (λ rows. rows.items ≡ self.now.rows) }
+    pub fn listed(self, alloc: Global) -> Result<SortedRows, AllocError>
+        ensures { IfOk result (λ rows. rows ≡ self.rows) }
     {
-        let mut rows = Vec::with_capacity(alloc, self.map.len())?;
-        for (key, stored) in &self.map {
-            rows.push((*key, current_of(self.wipes, *stored)))?;
-        }
-        Ok(rows)
-    }
-}
-
-/// What a stored word stands for behind so many wipes.
-fn current_of(wipes: u64, stored: Stored) -> Held
-    ensures { result ≡ current wipes stored }
-{
-    if stored.wipes == wipes {
-        stored.held
-    } else {
-        Held::Unreachable
+        self.are_rows();
+        self.kept.listed(alloc, self.wipes)
     }
 }

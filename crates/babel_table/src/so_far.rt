@@ -1,13 +1,17 @@
-ghost use Rattle.std.specs.Prelude.{◌≡◌, ◌≤◌, ◌<◌, ◌+◌, ◌^◌, ◌++◌, ◌∷◌, [], List, length, drop, OnOk, IfOk, IfErr};
-ghost use Rattle.babel_table.specs.Feeding.{IsRefused, StandsBehind, Takes, Fails, TookPackets, StopsBehind, IsPartial, routes, event_at};
+ghost use Rattle.std.specs.Prelude.{◌≡◌, ◌⊎◌, ◌≤◌, ◌<◌, ◌+◌, ◌^◌, ◌++◌, ◌∷◌, [], List, length, drop, OnOk, IfOk, IfErr};
+ghost use Rattle.babel_table.specs.Feeding.{IsRefused, StandsBehind, Takes, Fails, TookPackets, TookSome, StopsBehind, IsPartial, routes, event_at};
 ghost use Rattle.babel_tlv.specs.Pair.{EventFits};
+ghost use Rattle.babel_tlv.specs.Verdicts.{event_of};
 ghost use Rattle.babel_tlv.specs.Says.{Saying, sayings_behind};
-ghost use Rattle.babel_tlv.specs.Framing.{Parts, tlvs_of};
+ghost use Rattle.babel_tlv.specs.Framing.{Parts, TlvAt, TlvPastEndAt, tlvs_of};
+ghost use Rattle.babel_tlv.specs.Frames.{tlv_value};
+ghost use Rattle.babel_prefix.specs.Address.{Address};
+ghost use Rattle.babel_table.specs.Rows.{Routes};
 
 use crate::live::LiveRows;
 use crate::report::Report;
 use babel_prefix::Addr;
-use babel_tlv::{Event, Fault, Frame, State, Tlvs, check_body, frame};
+use babel_tlv::{Fault, Frame, Route, State, Tlv, Tlvs, Verdict, frame};
 
 /// The table so far. All was retracted at most as often as TLVs were seen.
 #[derive(Drop)]
@@ -20,9 +24,9 @@ pub struct SoFar {
 }
 
 impl SoFar {
-    /// Takes what a TLV says, at this offset.
-    pub fn take(&mut self, event: Event, at: u64) -> Result<(), Fault>
-        requires fits { EventFits event }
+    /// Takes what a TLV says of a route, at this offset.
+    pub fn take(&mut self, verdict: Verdict, route: &Route, at: u64) -> Result<(), Fault>
+        requires fits { EventFits (event_of verdict route.now) }
         requires room { self.old.report.tlvs + 1 < 2 ^ 64 }
         ensures mode { self.new.rows.mode ≡ self.old.rows.mode }
         ensures entries { self.new.rows.entries ≡ self.old.rows.entries }
@@ -30,35 +34,60 @@ impl SoFar {
 
         // The table behind some TLVs is then that behind these and this one.
         ensures ok { OnOk result ((said : List Saying) → StandsBehind self.old.rows.mode self.old.rows.entries (routes self.old.rows.rows self.old.report) said
-            → StandsBehind self.old.rows.mode self.old.rows.entries (routes self.new.rows.rows self.new.report) (said ++ event_at at event ∷ [])) }
-        ensures refused { IfErr result (IsRefused self.old.rows.mode self.old.rows.entries at event self.old.rows.rows) }
+            → StandsBehind self.old.rows.mode self.old.rows.entries (routes self.new.rows.rows self.new.report) (said ++ event_at at (event_of verdict route.now) ∷ [])) }
+        ensures refused { IfErr result (IsRefused self.old.rows.mode self.old.rows.entries at (event_of verdict route.now) self.old.rows.rows) }
     {
-        self.report.count(&event, at);
-        let taken = self.rows.take(event, at);
+        self.report.count(verdict, at);
+        let taken = self.rows.take(verdict, route, at);
         self.rows.are_few();
         taken
     }
 
-    /// Takes the TLVs of a packet's body, whose first octet lies at this offset.
+    /// Takes a TLV of a packet, behind the TLVs that left this state.
+    fn take_tlv(&mut self, state: &mut State, tlv: &Tlv<'_>, route: &mut Route) -> Result<(), Fault>
+        requires { self.old.report.tlvs + 1 < 2 ^ 64 }
+        ensures mode { self.new.rows.mode ≡ self.old.rows.mode }
+        ensures entries { self.new.rows.entries ≡ self.old.rows.entries }
+        ensures tlvs { self.new.report.tlvs ≤ self.old.report.tlvs + 1 }
+
+        // Where it is the next TLV of its packet, it is then taken, or it fails.
+        ensures ok { OnOk result ((sender : Address) (old : Routes) (all left : List TlvAt)
+            → TookSome self.old.rows.mode self.old.rows.entries sender old all (routes self.old.rows.rows self.old.report) state.old (tlv_value tlv.now ∷ left)
+            → TookSome self.old.rows.mode self.old.rows.entries sender old all (routes self.new.rows.rows self.new.report) state.new left) }
+        ensures fails { IfErr result (λ fault. (sender : Address) (old : Routes) (all left : List TlvAt)
+            → TookSome self.old.rows.mode self.old.rows.entries sender old all (routes self.old.rows.rows self.old.report) state.old (tlv_value tlv.now ∷ left)
+            → Fails self.old.rows.mode self.old.rows.entries (sayings_behind sender [] all) old fault) }
+    {
+        let verdict = state.step(tlv, route)?;
+        self.take(verdict, route, tlv.at)
+    }
+
+    /// Takes the TLVs of a packet's body, whose first octet lies at this offset. If the body is not TLVs to its end, that is the fault,
+    /// whatever TLV fails before: RFC 8966, 4.3.
     pub fn take_body(&mut self, sender: Addr, body: &[u8], at: u64) -> Result<(), Fault>
         requires fits { at + length body.now < 2 ^ 64 }
-        requires whole { Parts at body.now (tlvs_of at body.now) }
         requires room { self.old.report.tlvs + length body.now < 2 ^ 64 }
         ensures mode { self.new.rows.mode ≡ self.old.rows.mode }
         ensures entries { self.new.rows.entries ≡ self.old.rows.entries }
         ensures tlvs { self.new.report.tlvs ≤ self.old.report.tlvs + length body.now }
 
         // The table behind some TLVs is then that behind these and those of the body.
+        ensures whole { OnOk result (Parts at body.now (tlvs_of at body.now)) }
         ensures ok { OnOk result (Takes self.old.rows.mode self.old.rows.entries (sayings_behind sender [] (tlvs_of at body.now))
             (routes self.old.rows.rows self.old.report) (routes self.new.rows.rows self.new.report)) }
-        ensures fails { IfErr result (Fails self.old.rows.mode self.old.rows.entries (sayings_behind sender [] (tlvs_of at body.now)) (routes self.old.rows.rows self.old.report)) }
+        ensures fails { IfErr result (λ fault. TlvPastEndAt at body.now fault ⊎ (Parts at body.now (tlvs_of at body.now)
+            × Fails self.old.rows.mode self.old.rows.entries (sayings_behind sender [] (tlvs_of at body.now)) (routes self.old.rows.rows self.old.report) fault)) }
     {
         let mut state = State::new(sender);
-        for tlv in Tlvs::new(body, at) {
-            let event = state.step(&tlv)?;
-            self.take(event, tlv.at)?;
+        let mut route = Route::unwritten();
+        let mut tlvs = Tlvs::new(body, at);
+        while let Some(tlv) = tlvs.advance() {
+            if let Err(fault) = self.take_tlv(&mut state, &tlv, &mut route) {
+                tlvs.check_rest()?;
+                return Err(fault);
+            }
         }
-        Ok(())
+        tlvs.check_rest()
     }
 
     /// Takes the whole packets that the octets begin with, the first at this offset: how many octets they are.
@@ -79,7 +108,6 @@ impl SoFar {
         loop {
             match frame(rest, place) {
                 Frame::Whole { body, used } => {
-                    check_body(body, place + 4)?;
                     self.take_body(sender, body, place + 4)?;
                     rest = &rest[used..];
                     place += used as u64;

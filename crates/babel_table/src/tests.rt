@@ -76,8 +76,15 @@ fn route(metric: u16) -> Option<Held> {
 
 fn are(table: &Table, want: &[(Option<Key>, Option<Held>)]) -> bool {
     let rows = table.rows();
-    rows.len() == want.len()
-        && rows.iter().zip(want).all(|(row, want)| Some(row.0) == want.0 && Some(row.1) == want.1)
+    if rows.len() != want.len() {
+        return false;
+    }
+    for ((key, held), (want_key, want_held)) in rows.zip(want) {
+        if *want_key != Some(key) || *want_held != Some(held) {
+            return false;
+        }
+    }
+    true
 }
 
 fn limits(bytes: u32, entries: u32) -> Limits {
@@ -123,10 +130,17 @@ fn fed_by_octet(
     feeder.finish()
 }
 
+/// The same rows in the same order.
+fn same_rows(left: &Table, right: &Table) -> bool {
+    let rows = left.rows();
+    let others = right.rows();
+    rows.len() == others.len() && rows.zip(others).all(|(row, other)| row == other)
+}
+
 /// Equal rows and reports, or equal faults at equal offsets.
 fn same(left: &Result<Table, Fault>, right: &Result<Table, Fault>) -> bool {
     match (left, right) {
-        (Ok(a), Ok(b)) => a.rows() == b.rows() && *a.report() == *b.report(),
+        (Ok(a), Ok(b)) => same_rows(a, b) && *a.report() == *b.report(),
         (Err(a), Err(b)) => *a == *b,
         _ => false,
     }

@@ -4,10 +4,13 @@ pub mod Framing
 pub mod Frames
 pub mod Left
 pub mod Forming
+pub mod Encodings
 pub mod Fields
 pub mod SubTlv
 pub mod Context
+pub mod Kept
 pub mod Says
 pub mod Group
 pub mod Writing
 pub mod News
+pub mod Verdicts

@@ -2,8 +2,8 @@ ghost use Rattle.std.specs.Prelude.{◌≡◌, ◌+◌, drop, slice_index, Match
 ghost use Rattle.babel_tlv.specs.Forming.{hop_len, next_hop_in};
 
 use crate::address::{address, link_local_address};
+use crate::encoding::Encoding;
 use crate::reason::Reason;
-use crate::wire::{AE_IPV4, AE_IPV6, AE_LINK_LOCAL};
 use babel_prefix::{Addr, Family};
 
 /// What a Next Hop says: RFC 8966, 4.6.8.
@@ -23,21 +23,21 @@ impl<'a> NextHop<'a> {
         let [encoding, _, octets @ ..] = body else {
             return Err(Reason::Short);
         };
-        match *encoding {
-            AE_IPV4 if octets.len() >= 4 => Ok(NextHop {
+        match Encoding::of(*encoding) {
+            Encoding::Ipv4 if octets.len() >= 4 => Ok(NextHop {
                 addr: address(Family::V4, &octets[..4]),
                 sub_tlvs: &octets[4..],
             }),
-            AE_IPV6 if octets.len() >= 16 => Ok(NextHop {
+            Encoding::Ipv6 if octets.len() >= 16 => Ok(NextHop {
                 addr: address(Family::V6, &octets[..16]),
                 sub_tlvs: &octets[16..],
             }),
-            AE_LINK_LOCAL if octets.len() >= 8 => Ok(NextHop {
+            Encoding::LinkLocal if octets.len() >= 8 => Ok(NextHop {
                 addr: link_local_address(&octets[..8]),
                 sub_tlvs: &octets[8..],
             }),
-            AE_IPV4 | AE_IPV6 | AE_LINK_LOCAL => Err(Reason::ShortPrefix),
-            _ => Err(Reason::UnknownEncoding),
+            Encoding::Ipv4 | Encoding::Ipv6 | Encoding::LinkLocal => Err(Reason::ShortPrefix),
+            Encoding::Wildcard | Encoding::Other(_) => Err(Reason::UnknownEncoding),
         }
     }
 }

@@ -1,5 +1,5 @@
 //! Worked dumps, by the public calls: what each of their TLVs says, and where a dump is refused.
-use crate::{Ann, Event, Fault, Frame, Key, Reason, State, Tlvs, check_body, frame};
+use crate::{Ann, Event, Fault, Frame, Key, Reason, Route, State, Tlvs, check_body, frame};
 use babel_prefix::{Prefix, parse_addr};
 use std::alloc::{AllocError, Global};
 use std::process::Abort;
@@ -71,8 +71,10 @@ pub(crate) fn said(rt: &impl Abort, alloc: Global, sender: &str, dump: &str) -> 
         assert!(rt; body.len() < 65536 && used < 65536);
         assert_eq!(rt; check_body(body, at + 4), Ok(()));
         let mut state = State::new(sender);
+        let mut route = Route::unwritten();
         for tlv in Tlvs::new(body, at + 4) {
-            let event = state.step(&tlv).expect(rt, "no fault");
+            let verdict = state.step(&tlv, &mut route).expect(rt, "no fault");
+            let event = verdict.event(&route);
             if event != Event::Nothing {
                 said.push((tlv.at, event)).expect(rt, "memory");
             }
@@ -330,9 +332,10 @@ fn router_id_flag_in_an_unread_encoding(rt: HostRuntime) {
         assert!(rt; body.len() < 65536);
         assert_eq!(rt; check_body(&body, 4), Ok(()));
         let mut state = State::new(parse_addr("192.0.2.1").expect(&rt, "an address"));
+        let mut route = Route::unwritten();
         for tlv in Tlvs::new(&body, 4) {
             assert_eq!(rt;
-                state.step(&tlv),
+                state.step(&tlv, &mut route),
                 Err(Fault::EncodingSetsRouterId { at: 4 })
             );
         }

@@ -1,16 +1,23 @@
-ghost use Rattle.std.specs.Prelude.{◌≡◌, ◌≢◌, ◌≤◌, ◌<◌, ◌+◌, length, drop, take, ◌++◌, IsSome, IfOk, OnOk, MatchOption};
+ghost use Rattle.std.specs.Prelude.{◌≡◌, ◌≢◌, ◌≤◌, ◌<◌, ◌+◌, length, drop, take, ◌++◌, IsSome, IfOk, OnOk, MatchOption, MatchResult, Some, None};
 ghost use Rattle.babel_prefix.specs.Width.{octet_count, width_of};
 ghost use Rattle.babel_tlv.specs.Context.{IsOfFamily};
-ghost use Rattle.babel_tlv.specs.Forming.{default_octets, field_len, formed, omitted, prefix_from, prefix_len, sets_default, sets_router_id};
+ghost use Rattle.babel_tlv.specs.Forming.{default_octets, field_len, formed, omitted, prefix_from, prefix_len, sets_default, sets_router_id, update_encoding};
 ghost use Rattle.babel_tlv.specs.Pair.{EventFits};
 ghost use Rattle.babel_tlv.specs.Says.{wildcard_event};
+ghost use Rattle.babel_tlv.specs.Encodings.{IsNamedBy};
 ghost use Rattle.babel_tlv.specs.Fields.{AreUpdateFields};
+ghost use Rattle.babel_tlv.specs.Framing.{tlvs_of};
+ghost use Rattle.babel_tlv.specs.SubTlv.{sub_fault, source_of};
+ghost use Rattle.babel_tlv.specs.Verdicts.{event_of};
+ghost use Rattle.babel_tlv.specs.declared.place.Place.TheVariants as places;
+ghost use Rattle.babel_tlv.specs.declared.route.Route.{Route};
 
 use crate::address::{completed, octet_count};
-use crate::event::Event;
+use crate::encoding::Encoding;
 use crate::place::Place;
 use crate::reason::Reason;
 use crate::sub_tlv::{octets_needed, read_sub_tlvs};
+use crate::verdict::Verdict;
 use crate::wire::{INFINITY, PREFIX_FLAG, ROUTER_ID_FLAG};
 use babel_prefix::{Addr, Family, Prefix};
 use byteorder::{ByteOrder, NetworkEndian};
@@ -21,14 +28,16 @@ const FIXED_LEN: usize = 10;
 /// An Update's fields: RFC 8966, 4.6.9.
 #[derive(Clone, Copy)]
 pub(crate) struct Update<'a> {
-    pub encoding: u8,
+    encoding: u8,
     flags: u8,
     pub plen: u8,
     pub omitted: u8,
     pub seqno: u16,
     pub metric: u16,
+    /// How many octets of the prefix the Update brings.
+    brought: usize,
     body: &'a [u8],
-    ghost fields: { AreUpdateFields body.now encoding flags plen omitted seqno metric },
+    ghost fields: { AreUpdateFields body.now encoding flags plen omitted seqno metric brought },
 }
 
 impl<'a> Update<'a> {
@@ -46,15 +55,16 @@ impl<'a> Update<'a> {
             omitted: *omitted,
             seqno: NetworkEndian::read_u16(&[*s0, *s1]),
             metric: NetworkEndian::read_u16(&[*m0, *m1]),
+            brought: octets_needed(*plen).saturating_sub(*omitted) as usize,
             body,
         })
     }
 
-    /// How many octets of the prefix the Update brings.
-    fn field_len(&self) -> usize
-        ensures { result ≡ field_len self.now.body.now }
+    /// The encoding of the prefix.
+    pub fn encoding(&self) -> Encoding
+        ensures { IsNamedBy result (update_encoding self.now.body.now) }
     {
-        octets_needed(self.plen).saturating_sub(self.omitted) as usize
+        Encoding::of(self.encoding)
     }
 
     /// The prefix that the Update forms with the default prefix of its encoding.
@@ -74,7 +84,7 @@ impl<'a> Update<'a> {
         if omitted > 0 && default.is_none() {
             return Err(Reason::NoDefault);
         }
-        if self.body.len() < FIXED_LEN + self.field_len() {
+        if self.body.len() < FIXED_LEN + self.brought {
             return Err(Reason::ShortPrefix);
         }
         Ok(self.whole_prefix(family, default))
@@ -91,17 +101,34 @@ impl<'a> Update<'a> {
             (take (omitted self.now.body.now) (default_octets default) ++ take (field_len self.now.body.now) (drop 10 self.now.body.now)) }
         ensures family { result.address.family ≡ family }
     {
-        let field = &self.body[FIXED_LEN..FIXED_LEN + self.field_len()];
+        let field = &self.body[FIXED_LEN..FIXED_LEN + self.brought];
         let addr = completed(family, default, self.omitted as usize, field);
         Prefix::new(addr, self.plen).unwrap()
     }
 
+    /// The source prefix of a route in this family, or what is wrong with the sub-TLVs: RFC 9079, 7.2.
+    pub fn source(&self, family: Family) -> Result<Prefix, Reason>
+        requires { 10 + field_len self.now.body.now ≤ length self.now.body.now }
+        ensures fault { MatchResult result
+            (λ _. sub_fault (places.InUpdate family) (drop (10 + field_len self.now.body.now) self.now.body.now) ≡ None)
+            (λ reason. sub_fault (places.InUpdate family) (drop (10 + field_len self.now.body.now) self.now.body.now) ≡ Some reason) }
+        ensures value { IfOk result (λ source. source ≡ source_of family (tlvs_of 0 (drop (10 + field_len self.now.body.now) self.now.body.now))) }
+        ensures family { IfOk result (λ source. source.address.family ≡ family) }
+    {
+        let sub_tlvs = self.sub_tlvs();
+        if sub_tlvs.is_empty() {
+            return Ok(Prefix::whole(family));
+        }
+        let source = read_sub_tlvs(Place::InUpdate(family), sub_tlvs)?;
+        Ok(source.unwrap_or(Prefix::whole(family)))
+    }
+
     /// The sub-TLVs, behind the prefix.
-    pub fn sub_tlvs(&self) -> &'a [u8]
+    fn sub_tlvs(&self) -> &'a [u8]
         requires { 10 + field_len self.now.body.now ≤ length self.now.body.now }
         ensures { result.now ≡ drop (10 + field_len self.now.body.now) self.now.body.now }
     {
-        &self.body[FIXED_LEN + self.field_len()..]
+        &self.body[FIXED_LEN + self.brought..]
     }
 
     /// Whether the Update sets the default prefix of its encoding.
@@ -120,19 +147,19 @@ impl<'a> Update<'a> {
     }
 
     /// What an Update of the wildcard encoding says: RFC 8966, 4.6.9; RFC 9079, 5.2.
-    pub fn wildcard(&self) -> Event
-        ensures said { result ≡ wildcard_event self.now.body.now }
-        ensures fits { EventFits result }
+    pub fn wildcard(&self) -> Verdict
+        ensures said { (route : Route) → event_of result route ≡ wildcard_event self.now.body.now }
+        ensures fits { (route : Route) → EventFits (event_of result route) }
     {
         if self.metric != INFINITY {
-            return Event::Ignored(Reason::WildcardFinite);
+            return Verdict::Ignored(Reason::WildcardFinite);
         }
         if self.plen > 0 || self.omitted > 0 {
-            return Event::Ignored(Reason::WildcardPrefix);
+            return Verdict::Ignored(Reason::WildcardPrefix);
         }
         match read_sub_tlvs(Place::InWildcard, self.sub_tlvs()) {
-            Ok(_) => Event::RetractAll,
-            Err(reason) => Event::Ignored(reason),
+            Ok(_) => Verdict::RetractAll,
+            Err(reason) => Verdict::Ignored(reason),
         }
     }
 }

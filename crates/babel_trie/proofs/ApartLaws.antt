@@ -11,7 +11,8 @@ use Rattle.babel_trie.specs.Held.{sources_at}
 use Rattle.babel_trie.specs.Interned.{HasTrie}
 use Rattle.babel_trie.specs.Shape.{value_at}
 use Rattle.babel_trie.specs.declared.table.Node.{Node}
-use Rattle.babel_trie.specs.declared.table.NodeNumber.{NodeNumber}
+use Rattle.babel_trie.specs.declared.table.Sources.{Sources}
+use Rattle.babel_trie.specs.declared.table.Sources.TheVariants.{Stored}
 use Rattle.babel_trie.proofs.HeldLaws.{sources_at-stands}
 use Rattle.babel_trie.specs.declared.runs.Change.{Change}
 use Rattle.babel_trie.proofs.RunLaws.{reached, above}
@@ -72,16 +73,16 @@ module _ {F : Type 0} where
       let at = reached x d (omega arith) in
       ap (λ b. said_at (cond b x.sources x.sources) xs d) at ∙ sym (ap (λ b. said_at (cond b x.sources none) xs d) at)
 
--- a number, where any will do
-abbrev pub no_number : NodeNumber
-no_number = record { 0 = 0 }
+-- sources, where any will do
+abbrev pub no_sources : {V : Type 0} → Sources V
+no_sources = Stored (record { 0 = 0 })
 
 -- what two lists of changes answer, by what they say
-module _ {V : Type 0} (w : ℕ) (none : NodeNumber) where
-  answers-at : (sources : List (Node (Option V))) (list : List (Change NodeNumber)) (d : ℕ) (says : NodeNumber) → said_at none list d ≡ says → (h : HasTrie w sources says.0) → run_answers w sources none list d ≡ value_at h.trie w
-  answers-at sources list d says is h = ap (λ (n : NodeNumber). value_at (sources_at w sources n) w) is ∙ ap (λ t. value_at t w) (sources_at-stands w sources says h)
+module _ {V : Type 0} (w : ℕ) (none : Sources (Option V)) where
+  answers-at : (sources : List (Node (Option V))) (list : List (Change (Sources (Option V)))) (d : ℕ) (says : Sources (Option V)) → said_at none list d ≡ says → (h : HasTrie w sources says) → run_answers w sources none list d ≡ value_at h.trie w
+  answers-at sources list d says is h = ap (λ (n : Sources (Option V)). value_at (sources_at w sources n) w) is ∙ ap (λ t. value_at t w) (sources_at-stands w sources says h)
 
-  module _ (sources others : List (Node (Option V))) (left right : List (Change NodeNumber)) (here there : NodeNumber) (h : HasTrie w sources here.0) (k : HasTrie w others there.0) (at : ℕ)
+  module _ (sources others : List (Node (Option V))) (left right : List (Change (Sources (Option V)))) (here there : Sources (Option V)) (h : HasTrie w sources here) (k : HasTrie w others there) (at : ℕ)
       (below : AgreeBelowBoth at (2 ^ w) (run_answers w sources none left) (run_answers w others none right)) where
     -- up to the next change of either they answer the same, where the tries do
     pub answers-agree : (end : ℕ) → ((d : ℕ) → at ≤ d → d ≤ end → said_at none left d ≡ here) → ((d : ℕ) → at ≤ d → d ≤ end → said_at none right d ≡ there) → AgreeBelow (2 ^ w) (value_at h.trie w) (value_at k.trie w) →

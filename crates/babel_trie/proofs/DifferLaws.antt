@@ -1,20 +1,20 @@
 -- The first difference of two tries, from those of their halves.
-use Rattle.std.proofs.Common.{◌≡◌, ◌≢◌, inl, inr, ℕ, ◌+◌, ◌-◌, ◌*◌, ◌^◌, ◌<◌, ◌≤◌, List, Some, sym, ◌∙◌, ap, subst, arith}
+use Rattle.std.proofs.Common.{◌≡◌, ◌≢◌, inl, inr, ℕ, ◌+◌, ◌-◌, ◌*◌, ◌^◌, ◌<◌, ◌≤◌, List, sym, ◌∙◌, ap, subst, arith}
 use Rattle.std.proofs.lemmas.Bool.{cases_lt}
 use Rattle.std.proofs.Math.Pow.{pow_mono}
 use Rattle.std.proofs.lemmas.Nat.{pow_pos}
 use Rattle.babel_trie.specs.Boxes.{Answers, IsLeastDifference}
 use Rattle.babel_trie.specs.Differs.{AgreeBelow, DifferFirst, DifferFirstAt}
-use Rattle.std.specs.List.{slice_get}
-use Rattle.babel_trie.specs.declared.table.Node.TheVariants.{Leaf}
+use Rattle.babel_trie.specs.declared.table.Loose.{Loose}
+use Rattle.babel_trie.specs.declared.table.Loose.TheVariants.{Same}
 use Rattle.babel_trie.specs.Shape.{Shape, leaf, fork, height, value_at}
-use Rattle.babel_trie.specs.Interned.{Represents, HasTrie, IsHalved}
+use Rattle.babel_trie.specs.Interned.{Stands, IsTrie, IsHalved}
 use Rattle.babel_trie.specs.declared.table.Node.{Node}
 use Rattle.babel_trie.proofs.BitLaws.{pow_twice}
-use Rattle.babel_trie.proofs.NumberLaws.{one_trie}
+use Rattle.babel_trie.proofs.NumberLaws.{one_shape}
 use Rattle.babel_trie.proofs.Reduced.{value_at-low, value_at-high}
 
--- two tries of a block of some bits with the numbers of their halves
+-- two tries of a block of some bits with their halves
 pub record SideBySide {V U : Type 0} (bits : ℕ) (t low high : Shape V) (u low' high' : Shape U) : Type 1 where
   pub some : 0 < bits
   pub at_low : (R : V → U → Type 0) (a : ℕ) → a < 2 ^ (bits - 1) → R (value_at low (bits - 1) a) (value_at low' (bits - 1) a) → R (value_at t bits a) (value_at u bits a)
@@ -22,7 +22,7 @@ pub record SideBySide {V U : Type 0} (bits : ℕ) (t low high : Shape V) (u low'
       R (value_at t bits (2 ^ (bits - 1) + a)) (value_at u bits (2 ^ (bits - 1) + a))
 
 module _ {V U : Type 0} where
-  pub side_by_side : (nodes : List (Node V)) (others : List (Node U)) (bits : ℕ) (t : Shape V) (u : Shape U) (l h l' h' : ℕ) → height t ≤ bits → height u ≤ bits → 0 < bits →
+  pub side_by_side : (nodes : List (Node V)) (others : List (Node U)) (bits : ℕ) (t : Shape V) (u : Shape U) (l h : Loose V) (l' h' : Loose U) → height t ≤ bits → height u ≤ bits → 0 < bits →
       (p : IsHalved nodes t l h) → (q : IsHalved others u l' h') → SideBySide bits t p.low_half p.high_half u q.low_half q.high_half
   side_by_side nodes others bits t u l h l' h' fits fits' some p q =
       let m : ℕ = 2 ^ (bits - 1) in
@@ -85,7 +85,7 @@ module _ {V : Type 0} {bits : ℕ} {t low high u low' high' : Shape V} (s : Side
 
 module _ {V : Type 0} where
   -- the halves of a reduced trie are reduced tries of one bit fewer
-  pub halves_are_tries : (bits : ℕ) (nodes : List (Node V)) (n l h : ℕ) → (t : HasTrie bits nodes n) → 0 < bits → IsHalved nodes t.trie l h → HasTrie (bits - 1) nodes l × HasTrie (bits - 1) nodes h
+  pub halves_are_tries : (bits : ℕ) (nodes : List (Node V)) (n l h : Loose V) → (t : IsTrie bits nodes n) → 0 < bits → IsHalved nodes t.trie l h → IsTrie (bits - 1) nodes l × IsTrie (bits - 1) nodes h
   halves_are_tries bits nodes n l h t some p =
       let fits : height t.trie ≤ bits = t.fits in
       let both = p.reduced t.reduced in (
@@ -93,21 +93,21 @@ module _ {V : Type 0} where
         record { trie = p.high_half; stands = p.high_stands; fits = omega (arith, p.high_lower); reduced = both.1 },
       )
 
-  -- the height of whatever trie the number stands for
-  pub fits_any : (bits : ℕ) (nodes : List (Node V)) (n : ℕ) → HasTrie bits nodes n → (u : Shape V) → Represents nodes n u → height u ≤ bits
-  fits_any bits nodes n t u p = subst (λ x. height x ≤ bits) (one_trie nodes n t.trie u t.stands p) t.fits
+  -- the height of whatever trie the sources stand for
+  pub fits_any : (bits : ℕ) (nodes : List (Node V)) (n : Loose V) → IsTrie bits nodes n → (u : Shape V) → Stands nodes n u → height u ≤ bits
+  fits_any bits nodes n t u p = subst (λ x. height x ≤ bits) (one_shape nodes n t.trie u t.stands p) t.fits
 
   -- the halves of two tries of which not both are leaves
-  pub sides : {bits : ℕ} {nodes others : List (Node V)} {n m l h l' h' : ℕ} {t u : Shape V} → HasTrie bits nodes n → HasTrie bits others m → ((b : ℕ) → HasTrie b nodes n → HasTrie b others m → 0 < b) →
-      Represents nodes n t → Represents others m u → (p : IsHalved nodes t l h) → (q : IsHalved others u l' h') → SideBySide bits t p.low_half p.high_half u q.low_half q.high_half
+  pub sides : {bits : ℕ} {nodes others : List (Node V)} {n m l h l' h' : Loose V} {t u : Shape V} → IsTrie bits nodes n → IsTrie bits others m → ((b : ℕ) → IsTrie b nodes n → IsTrie b others m → 0 < b) →
+      Stands nodes n t → Stands others m u → (p : IsHalved nodes t l h) → (q : IsHalved others u l' h') → SideBySide bits t p.low_half p.high_half u q.low_half q.high_half
   sides {bits} {nodes} {others} {n} {m} {l} {h} {l'} {h'} {t} {u} own theirs some stands stands' p q =
       side_by_side nodes others bits t u l h l' h' (fits_any bits nodes n own t stands) (fits_any bits others m theirs u stands') (some bits own theirs) p q
 
-  -- where no leaf stands some bit is left
-  pub some_without_leaf : (bits : ℕ) (nodes : List (Node V)) (n : ℕ) → ((v : V) → slice_get nodes n ≡ Some (Leaf v) → ⊥) → HasTrie bits nodes n → 0 < bits
+  -- where there is no constant some bit is left
+  pub some_without_leaf : (bits : ℕ) (nodes : List (Node V)) (n : Loose V) → ((v : V) → n ≡ Same v → ⊥) → IsTrie bits nodes n → 0 < bits
   some_without_leaf bits nodes n none h = by h.trie h.stands h.fits
     where
-      by : (t : Shape V) → Represents nodes n t → height t ≤ bits → 0 < bits
+      by : (t : Shape V) → Stands nodes n t → height t ≤ bits → 0 < bits
       by (leaf v) p fits = absurd (none v p)
       by (fork l k) p fits = omega arith
 
@@ -115,25 +115,25 @@ module _ {V : Type 0} where
 pub in_width : (bits at : ℕ) → 0 < bits → bits ≤ 128 → at < 2 ^ (bits - 1) → 2 ^ (bits - 1) + at < 2 ^ 128
 in_width bits at some width half = omega (arith, pow_twice bits some, pow_mono {i = bits} {j = 128} width)
 
-module _ {V : Type 0} (nodes others : List (Node V)) (n m bits : ℕ) (v w : V) (p : Represents nodes n (leaf v)) (q : Represents others m (leaf w)) (t u : Shape V)
-    (stands : Represents nodes n t) (stands' : Represents others m u) where
+module _ {V : Type 0} (nodes others : List (Node V)) (n m : Loose V) (bits : ℕ) (v w : V) (p : Stands nodes n (leaf v)) (q : Stands others m (leaf w)) (t u : Shape V)
+    (stands : Stands nodes n t) (stands' : Stands others m u) where
   pub agree_at_leaves : v ≡ w → AgreeBelow (2 ^ bits) (value_at t bits) (value_at u bits)
   agree_at_leaves e a a_in =
-      ap (λ x. value_at x bits a) (one_trie nodes n t (leaf v) stands p) ∙ e ∙ ap (λ x. value_at x bits a) (one_trie others m (leaf w) u q stands')
+      ap (λ x. value_at x bits a) (one_shape nodes n t (leaf v) stands p) ∙ e ∙ ap (λ x. value_at x bits a) (one_shape others m (leaf w) u q stands')
 
   pub differ_at_leaves : v ≢ w → DifferFirst (2 ^ bits) (value_at t bits) (value_at u bits) 0
   differ_at_leaves apart =
-      let left : value_at t bits 0 ≡ v = ap (λ x. value_at x bits 0) (one_trie nodes n t (leaf v) stands p) in
-      let right : value_at u bits 0 ≡ w = ap (λ x. value_at x bits 0) (one_trie others m u (leaf w) stands' q) in
+      let left : value_at t bits 0 ≡ v = ap (λ x. value_at x bits 0) (one_shape nodes n t (leaf v) stands p) in
+      let right : value_at u bits 0 ≡ w = ap (λ x. value_at x bits 0) (one_shape others m u (leaf w) stands' q) in
       record { in_range = pow_pos bits; differ = λ e. apart (sym left ∙ e ∙ right); agree_below = λ a none. absurd (omega arith) }
 
--- in one table one number stands for one trie
+-- in one table sources stand for one trie
 module _ {V : Type 0} where
-  pub same_trie : (nodes others : List (Node V)) (n m : ℕ) (t u : Shape V) → nodes ≡ others → n ≡ m → Represents nodes n t → Represents others m u → t ≡ u
+  pub same_trie : (nodes others : List (Node V)) (n m : Loose V) (t u : Shape V) → nodes ≡ others → n ≡ m → Stands nodes n t → Stands others m u → t ≡ u
   same_trie nodes others n m t u one same p q =
-      one_trie others m t u (subst (λ k. Represents others k t) same (subst (λ ns. Represents ns n t) one p)) q
+      one_shape others m t u (subst (λ k. Stands others k t) same (subst (λ ns. Stands ns n t) one p)) q
 
-  pub agree_in_one : (nodes others : List (Node V)) (n m bits : ℕ) (t u : Shape V) → nodes ≡ others → n ≡ m → Represents nodes n t → Represents others m u → AgreeBelow (2 ^ bits) (value_at t bits) (value_at u bits)
+  pub agree_in_one : (nodes others : List (Node V)) (n m : Loose V) (bits : ℕ) (t u : Shape V) → nodes ≡ others → n ≡ m → Stands nodes n t → Stands others m u → AgreeBelow (2 ^ bits) (value_at t bits) (value_at u bits)
   agree_in_one nodes others n m bits t u one same p q a a_in = ap (λ x. value_at x bits a) (same_trie nodes others n m t u one same p q)
 
 -- the first pair by destination, then source, is the least

@@ -9,7 +9,7 @@ use Rattle.std.proofs.lemmas.Map.Lookups.{exact_unsigned}
 use Rattle.babel_prefix.specs.Block.{Block}
 use Rattle.babel_prefix.specs.Address.{block_of}
 use Rattle.babel_trie.specs.Rows.{InOrder, IsNoLater}
-use Rattle.babel_trie.specs.Held.{RowOrder}
+use Rattle.babel_trie.specs.Held.{RowOrder, row_place}
 
 -- what a comparison says
 nat_cmp-less : (m n : ℕ) → m < n → nat_cmp m n ≡ Less
@@ -86,6 +86,14 @@ module _ {V : Type 0} where
       by Less is e = absurd (false≢true (sym e))
       by Greater is e = let g = greater_blocks (block_of x.0) (block_of y.0) is in record { destinations = g.0; sources = λ same. absurd (g.1 same) }
       by Equal is e = record { destinations = no_later_itself (block_of x.0) (block_of y.0) (equal_blocks (block_of x.0) (block_of y.0) is); sources = λ _. no_later (block_of x.1) (block_of y.1) e }
+
+  -- what a comparison of their places says of them
+  pub order_from_places : (x y : Entry V) (p q : (ℕ × ℕ) × (ℕ × ℕ)) → p ≡ row_place x → q ≡ row_place y
+      → is_lt (ordering_then (ordering_then (nat_cmp q.0.0 p.0.0) (nat_cmp q.0.1 p.0.1)) (ordering_then (nat_cmp q.1.0 p.1.0) (nat_cmp q.1.1 p.1.1))) ≡ false → RowOrder x y
+  order_from_places x y p q p_is q_is e =
+      let Less-is : (ℕ × ℕ) × (ℕ × ℕ) → (ℕ × ℕ) × (ℕ × ℕ) → Type 0 =
+      λ a b. is_lt (ordering_then (ordering_then (nat_cmp b.0.0 a.0.0) (nat_cmp b.0.1 a.0.1)) (ordering_then (nat_cmp b.1.0 a.1.0) (nat_cmp b.1.1 a.1.1))) ≡ false in
+      order_from_keys x y (subst (λ b. Less-is (row_place x) b) q_is (subst (λ a. Less-is a q) p_is e))
 
   pub RowOrder-trans : (x y z : Entry V) → RowOrder x y → RowOrder y z → RowOrder x z
   RowOrder-trans x y z p q =

@@ -20,7 +20,7 @@ use Rattle.babel_trie.specs.Shape.{Shape, leaf, value_at}
 use Rattle.babel_trie.specs.Sound.{KeepsNodes}
 use Rattle.babel_trie.specs.declared.runs.Change.{Change}
 use Rattle.babel_trie.specs.declared.table.Node.{Node}
-use Rattle.babel_trie.specs.declared.table.NodeNumber.{NodeNumber}
+use Rattle.babel_trie.specs.declared.table.Sources.{Sources}
 use Rattle.babel_trie.proofs.ApartLaws.{said-before}
 use Rattle.babel_trie.proofs.HeldLaws.{sources_at-stands}
 use Rattle.babel_trie.proofs.NumberLaws.{Represents-grows}
@@ -202,16 +202,16 @@ module _ (w : ℕ) (a b : Block) (a_block : IsBlock w a) (b_block : IsBlock w b)
 
 module _ {V : Type 0} where
   -- the number stands for what the rows answer at one destination
-  pub record IsLaidAt (w d : ℕ) (rows : List (Row V)) (sources : List (Node (Option V))) (n : ℕ) : Type 0 where
+  pub record IsLaidAt (w d : ℕ) (rows : List (Row V)) (sources : List (Node (Option V))) (n : Sources (Option V)) : Type 0 where
     pub held : HasTrie w sources n
     pub values : (s : ℕ) → s < 2 ^ w → Overlays w rows d s None (value_at held.trie w s)
 
-  laid-grows : (w d : ℕ) (rows : List (Row V)) (sources more : List (Node (Option V))) (n : ℕ) → KeepsNodes sources more → IsLaidAt w d rows sources n → IsLaidAt w d rows more n
+  laid-grows : (w d : ℕ) (rows : List (Row V)) (sources more : List (Node (Option V))) (n : Sources (Option V)) → KeepsNodes sources more → IsLaidAt w d rows sources n → IsLaidAt w d rows more n
   laid-grows w d rows sources more n keeps l =
       let h = l.held in
       record { held = record { trie = h.trie; stands = Represents-grows sources more keeps n h.trie h.stands; fits = h.fits; reduced = h.reduced }; values = l.values }
 
-  module _ (w d : ℕ) (gone own : List (Entry V)) (sources more : List (Node (Option V))) (n : ℕ) (l : IsLaidAt w d (map row_of gone) sources n) where
+  module _ (w d : ℕ) (gone own : List (Entry V)) (sources more : List (Node (Option V))) (n : Sources (Option V)) (l : IsLaidAt w d (map row_of gone) sources n) where
     both : map row_of (gone ++ own) ≡ map row_of gone ++ map row_of own
     both = map-append row_of gone own
 
@@ -226,7 +226,7 @@ module _ {V : Type 0} where
         }
 
     -- rows of one destination that has the address are laid over
-    laid-own : (x : ℕ) → ((t : Shape (Option V)) → Represents sources n t → IsOverlaid w w 0 (map row_of own) more x t) → ((x : Entry V) → Listed own x → BlockCovers w (block_of x.0) d) →
+    laid-own : (x : Sources (Option V)) → ((t : Shape (Option V)) → Represents sources n t → IsOverlaid w w 0 (map row_of own) more x t) → ((x : Entry V) → Listed own x → BlockCovers w (block_of x.0) d) →
         ((x y : Row V) → Listed (map row_of gone) x → Listed (map row_of own) y → (s : ℕ) → Matches w d s x → Matches w d s y → IsNoLonger x y) → IsLaidAt w d (map row_of (gone ++ own)) more x
     laid-own x overlaid covers shorter =
         let o = overlaid l.held.trie l.held.stands in
@@ -253,40 +253,40 @@ module _ {V : Type 0} where
       ]
 
   -- what was said and what is ahead are the answers of the rows that are gone, and no block ahead ends inside one of the rest
-  pub record AreSoFar (w : ℕ) (gone rest : List (Entry V)) (sources : List (Node (Option V))) (list : List (Change NodeNumber)) (now : Change NodeNumber) (ahead : List (Change NodeNumber)) : Type 0 where
+  pub record AreSoFar (w : ℕ) (gone rest : List (Entry V)) (sources : List (Node (Option V))) (list : List (Change (Sources (Option V)))) (now : Change (Sources (Option V))) (ahead : List (Change (Sources (Option V)))) : Type 0 where
     pub from : (y : Entry V) → Listed rest y → now.start ≤ (block_of y.0).start
-    pub nested : (x : Change NodeNumber) → Listed ahead x → (y : Entry V) → Listed rest y → (block_of y.0).start < x.start → (block_of y.0).start + size w (block_of y.0) ≤ x.start
-    pub below : (x : Change NodeNumber) → Listed (now ∷ ahead) x → x.start < 2 ^ w
-    pub laid : (none : NodeNumber) (d : ℕ) → d < 2 ^ w → IsLaidAt w d (map row_of gone) sources (said_at none (list ++ now ∷ ahead) d).0
+    pub nested : (x : Change (Sources (Option V))) → Listed ahead x → (y : Entry V) → Listed rest y → (block_of y.0).start < x.start → (block_of y.0).start + size w (block_of y.0) ≤ x.start
+    pub below : (x : Change (Sources (Option V))) → Listed (now ∷ ahead) x → x.start < 2 ^ w
+    pub laid : (none : Sources (Option V)) (d : ℕ) → d < 2 ^ w → IsLaidAt w d (map row_of gone) sources (said_at none (list ++ now ∷ ahead) d)
 
   -- nothing is gone yet
-  pub so_far-first : (w : ℕ) (rows : List (Entry V)) (sources : List (Node (Option V))) (list ahead : List (Change NodeNumber)) (now : Change NodeNumber) → list ≡ [] → ahead ≡ [] → now.start ≡ 0 → Represents sources now.sources.0 (leaf None) →
+  pub so_far-first : (w : ℕ) (rows : List (Entry V)) (sources : List (Node (Option V))) (list ahead : List (Change (Sources (Option V)))) (now : Change (Sources (Option V))) → list ≡ [] → ahead ≡ [] → now.start ≡ 0 → Represents sources now.sources (leaf None) →
       AreSoFar w [] rows sources list now (reverse ahead)
   so_far-first w rows sources [] [] now a b first stands =
       record {
         from = λ y t. omega arith;
         nested = λ x t. elim t [ ];
-        below = λ x t. elim t [ inl here ↦ let pos = pow_pos w in let e : now.start ≡ x.start = ap (λ (c : Change NodeNumber). c.start) here in omega arith | inr never ↦ elim never [ ] ];
-        laid = λ none d d_in. subst (λ (k : NodeNumber). IsLaidAt w d [] sources k.0) (sym (said-now [] [] now none d (omega arith) (λ x t. elim t [ ])))
+        below = λ x t. elim t [ inl here ↦ let pos = pow_pos w in let e : now.start ≡ x.start = ap (λ (c : Change (Sources (Option V))). c.start) here in omega arith | inr never ↦ elim never [ ] ];
+        laid = λ none d d_in. subst (λ (k : Sources (Option V)). IsLaidAt w d [] sources k) (sym (said-now [] [] now none d (omega arith) (λ x t. elim t [ ])))
             (record { held = record { trie = leaf None; stands = stands; fits = omega arith; reduced = tt }; values = λ s s_in. inr (λ row t m. elim t [ ], refl) });
       }
   so_far-first w rows sources (x ∷ list) ahead now a b first stands = cc
   so_far-first w rows sources [] (x ∷ ahead) now a b first stands = cc
 
   -- changes ahead are come to, none behind the rest
-  pub so_far-reached : (w : ℕ) (gone rest : List (Entry V)) (sources : List (Node (Option V))) (list ahead list' ahead' : List (Change NodeNumber)) (now now' : Change NodeNumber) →
-      ((y : Entry V) → Listed rest y → now'.start ≤ (block_of y.0).start) → ((x : Change NodeNumber) → Listed (now' ∷ ahead') x → Listed (now ∷ ahead) x) →
-      ((none : NodeNumber) (d : ℕ) → said_at none (list' ++ now' ∷ ahead') d ≡ said_at none (list ++ now ∷ ahead) d) →
+  pub so_far-reached : (w : ℕ) (gone rest : List (Entry V)) (sources : List (Node (Option V))) (list ahead list' ahead' : List (Change (Sources (Option V)))) (now now' : Change (Sources (Option V))) →
+      ((y : Entry V) → Listed rest y → now'.start ≤ (block_of y.0).start) → ((x : Change (Sources (Option V))) → Listed (now' ∷ ahead') x → Listed (now ∷ ahead) x) →
+      ((none : Sources (Option V)) (d : ℕ) → said_at none (list' ++ now' ∷ ahead') d ≡ said_at none (list ++ now ∷ ahead) d) →
       AreSoFar w gone rest sources list now ahead → AreSoFar w gone rest sources list' now' ahead'
   so_far-reached w gone rest sources list ahead list' ahead' now now' from left same p =
       record {
         from = from;
         nested = λ x t y u lt. elim (left x (inr t)) [
-          | inl here ↦ let e : now.start ≡ x.start = ap (λ (c : Change NodeNumber). c.start) here in absurd (omega (arith, p.from y u))
+          | inl here ↦ let e : now.start ≡ x.start = ap (λ (c : Change (Sources (Option V))). c.start) here in absurd (omega (arith, p.from y u))
           | inr there ↦ p.nested x there y u lt
         ];
         below = λ x t. p.below x (left x t);
-        laid = λ none d d_in. subst (λ (k : NodeNumber). IsLaidAt w d (map row_of gone) sources k.0) (sym (same none d)) (p.laid none d d_in);
+        laid = λ none d d_in. subst (λ (k : Sources (Option V)). IsLaidAt w d (map row_of gone) sources k) (sym (same none d)) (p.laid none d d_in);
       }
 
   -- behind the rows that are gone stand those of a next destination
@@ -349,30 +349,30 @@ module _ {V : Type 0} where
         ordered (x ∷ xs) same o = ((λ y t. (o.0 y t).sources (same x y (inl refl) (inr t))), ordered xs (λ p q t u. same p q (inr t) (inr u)) o.1)
 
     -- the pass has come no further than it
-    pub starts_before : (sources : List (Node (Option V))) (list ahead : List (Change NodeNumber)) (now : Change NodeNumber) → AreSoFar w gone (own ++ others) sources list now ahead → now.start ≤ b.start
+    pub starts_before : (sources : List (Node (Option V))) (list ahead : List (Change (Sources (Option V)))) (now : Change (Sources (Option V))) → AreSoFar w gone (own ++ others) sources list now ahead → now.start ≤ b.start
     starts_before sources list ahead now p =
         let f = first own n.some in subst (λ (a : Block). now.start ≤ a.start) (n.one f.0 f.1) (p.from f.0 (Listed-append_left own others f.0 f.1))
 
-    module _ (sources : List (Node (Option V))) (list ahead : List (Change NodeNumber)) (now : Change NodeNumber) (p : AreSoFar w gone (own ++ others) sources list now ahead) (reach : now.start ≤ b.start) (behind : StartBehind b.start ahead) where
+    module _ (sources : List (Node (Option V))) (list ahead : List (Change (Sources (Option V)))) (now : Change (Sources (Option V))) (p : AreSoFar w gone (own ++ others) sources list now ahead) (reach : now.start ≤ b.start) (behind : StartBehind b.start ahead) where
       -- the change come to is a trie of sources
-      pub now_held : (none : NodeNumber) → HasTrie w sources now.sources.0
+      pub now_held : (none : Sources (Option V)) → HasTrie w sources now.sources
       now_held none =
           let l = p.laid none b.start block.start_in_range in
-          subst (λ (k : NodeNumber). HasTrie w sources k.0) (said-now list ahead now none b.start reach behind) l.held
+          subst (λ (k : Sources (Option V)). HasTrie w sources k) (said-now list ahead now none b.start reach behind) l.held
 
       -- no block ahead ends before the destination does
-      pub ends_ahead : (x : Change NodeNumber) → Listed ahead x → b.start + size w b ≤ x.start
+      pub ends_ahead : (x : Change (Sources (Option V))) → Listed ahead x → b.start + size w b ≤ x.start
       ends_ahead x t =
           let f = first own n.some in
           let is : block_of f.0.0 ≡ b = n.one f.0 f.1 in
           subst (λ (a : Block). a.start + size w a ≤ x.start) is (p.nested x t f.0 (Listed-append_left own others f.0 f.1) (subst (λ (a : Block). a.start < x.start) (sym is) (behind x t)))
 
       -- the rows of the destination are gone too
-      pub so_far-entered : (more : List (Node (Option V))) (here : NodeNumber) → KeepsNodes sources more → ((t : Shape (Option V)) → Represents sources now.sources.0 t → IsOverlaid w w 0 (map row_of own) more here.0 t) →
-          (end last : ℕ) → end + 1 ≡ b.start + size w b → last + 1 ≡ 2 ^ w → (list' ahead' : List (Change NodeNumber)) (now' : Change NodeNumber) → now'.start ≡ b.start →
-          ((none : NodeNumber) (d : ℕ) → b.start ≤ d → d ≤ end → said_at none (list' ++ now' ∷ ahead') d ≡ here) →
-          ((none : NodeNumber) (d : ℕ) → (d < b.start) ⊎ (end < d) → d ≤ last → said_at none (list' ++ now' ∷ ahead') d ≡ said_at none (list ++ now ∷ ahead) d) →
-          ((x : Change NodeNumber) → Listed ahead' x → ((x.start ≡ end + 1) × (end < last)) ⊎ Listed ahead x) → AreSoFar w (gone ++ own) others more list' now' ahead'
+      pub so_far-entered : (more : List (Node (Option V))) (here : Sources (Option V)) → KeepsNodes sources more → ((t : Shape (Option V)) → Represents sources now.sources t → IsOverlaid w w 0 (map row_of own) more here t) →
+          (end last : ℕ) → end + 1 ≡ b.start + size w b → last + 1 ≡ 2 ^ w → (list' ahead' : List (Change (Sources (Option V)))) (now' : Change (Sources (Option V))) → now'.start ≡ b.start →
+          ((none : Sources (Option V)) (d : ℕ) → b.start ≤ d → d ≤ end → said_at none (list' ++ now' ∷ ahead') d ≡ here) →
+          ((none : Sources (Option V)) (d : ℕ) → (d < b.start) ⊎ (end < d) → d ≤ last → said_at none (list' ++ now' ∷ ahead') d ≡ said_at none (list ++ now ∷ ahead) d) →
+          ((x : Change (Sources (Option V))) → Listed ahead' x → ((x.start ≡ end + 1) × (end < last)) ⊎ Listed ahead x) → AreSoFar w (gone ++ own) others more list' now' ahead'
       so_far-entered more here keeps overlaid end last end_is last_is list' ahead' now' start_is inside outside left =
           record {
             from = λ y t. omega (arith, rest_from y (Listed-append_right own others y t));
@@ -384,7 +384,7 @@ module _ {V : Type 0} where
               | inr old ↦ p.nested x old y (Listed-append_right own others y u) lt
             ];
             below = λ x t. elim t [
-              | inl here ↦ let e : now'.start ≡ x.start = ap (λ (c : Change NodeNumber). c.start) here in omega (arith, block.start_in_range)
+              | inl here ↦ let e : now'.start ≡ x.start = ap (λ (c : Change (Sources (Option V))). c.start) here in omega (arith, block.start_in_range)
               | inr there ↦ elim (left x there) [ inl new ↦ let is : x.start ≡ end + 1 = new.0 in let lt : end < last = new.1 in omega arith | inr old ↦ p.below x (inr old) ]
             ];
             laid = λ none d d_in. elim (cases_lt d b.start) [
@@ -392,9 +392,9 @@ module _ {V : Type 0} where
               | inr ge ↦ elim (cases_lt end d) [
                 | inl past ↦ at_other none d d_in (inr past)
                 | inr le ↦
-                    let l = subst (λ (k : NodeNumber). IsLaidAt w d (map row_of gone) sources k.0) (said-now list ahead now none d (omega arith) (λ x t. omega (arith, ends_ahead x t))) (p.laid none d d_in) in
-                    subst (λ (k : NodeNumber). IsLaidAt w d (map row_of (gone ++ own)) more k.0) (sym (inside none d ge le))
-                    (laid-own w d gone own sources more now.sources.0 l here.0 overlaid
+                    let l = subst (λ (k : Sources (Option V)). IsLaidAt w d (map row_of gone) sources k) (said-now list ahead now none d (omega arith) (λ x t. omega (arith, ends_ahead x t))) (p.laid none d d_in) in
+                    subst (λ (k : Sources (Option V)). IsLaidAt w d (map row_of (gone ++ own)) more k) (sym (inside none d ge le))
+                    (laid-own w d gone own sources more now.sources l here overlaid
                     (λ x t. subst (λ a. BlockCovers w a d) (sym (n.one x t)) (range_covers w b d block ge (omega arith))) (shorter d))
               ]
             ];
@@ -407,10 +407,10 @@ module _ {V : Type 0} where
               let high : d < b.start + size w b = range.1 in
               elim out [ inl lt ↦ omega arith | inr gt ↦ omega arith ]
 
-          at_other : (none : NodeNumber) (d : ℕ) → d < 2 ^ w → (d < b.start) ⊎ (end < d) → IsLaidAt w d (map row_of (gone ++ own)) more (said_at none (list' ++ now' ∷ ahead') d).0
+          at_other : (none : Sources (Option V)) (d : ℕ) → d < 2 ^ w → (d < b.start) ⊎ (end < d) → IsLaidAt w d (map row_of (gone ++ own)) more (said_at none (list' ++ now' ∷ ahead') d)
           at_other none d d_in out =
-              subst (λ (k : NodeNumber). IsLaidAt w d (map row_of (gone ++ own)) more k.0) (sym (outside none d out (omega arith)))
-              (laid-other w d gone own sources more (said_at none (list ++ now ∷ ahead) d).0 (p.laid none d d_in) keeps (never d out))
+              subst (λ (k : Sources (Option V)). IsLaidAt w d (map row_of (gone ++ own)) more k) (sym (outside none d out (omega arith)))
+              (laid-other w d gone own sources more (said_at none (list ++ now ∷ ahead) d) (p.laid none d d_in) keeps (never d out))
 
           shorter : (d : ℕ) (x y : Row V) → Listed (map row_of gone) x → Listed (map row_of own) y → (s : ℕ) → Matches w d s x → Matches w d s y → IsNoLonger x y
           shorter d x y t u s at_x at_y =
@@ -422,11 +422,11 @@ module _ {V : Type 0} where
               subst (λ r. IsNoLonger r y) fx.2 (subst (IsNoLonger (row_of fx.0)) fy.2 here)
 
   -- where all rows are gone the list has their answers
-  pub so_far-all : (w : ℕ) (rows : List (Entry V)) (sources : List (Node (Option V))) (list after ahead : List (Change NodeNumber)) (now : Change NodeNumber) → IsTable w (map row_of rows) → AreSoFar w rows [] sources list now ahead →
-      ((x : Change NodeNumber) → Listed ahead x → 2 ^ w ≤ x.start) → IsFilled now.start (2 ^ w) now.sources list after → HasRuns w sources after (answer w (map row_of rows))
+  pub so_far-all : (w : ℕ) (rows : List (Entry V)) (sources : List (Node (Option V))) (list after ahead : List (Change (Sources (Option V)))) (now : Change (Sources (Option V))) → IsTable w (map row_of rows) → AreSoFar w rows [] sources list now ahead →
+      ((x : Change (Sources (Option V))) → Listed ahead x → 2 ^ w ≤ x.start) → IsFilled now.start (2 ^ w) now.sources list after → HasRuns w sources after (answer w (map row_of rows))
   so_far-all w rows sources list after ahead now table p past filled =
-      let at : (none : NodeNumber) (d : ℕ) → d < 2 ^ w → IsLaidAt w d (map row_of rows) sources (said_at none after d).0 = λ none d d_in.
-      subst (λ (k : NodeNumber). IsLaidAt w d (map row_of rows) sources k.0)
+      let at : (none : Sources (Option V)) (d : ℕ) → d < 2 ^ w → IsLaidAt w d (map row_of rows) sources (said_at none after d) = λ none d d_in.
+      subst (λ (k : Sources (Option V)). IsLaidAt w d (map row_of rows) sources k)
       (said-append none list (now ∷ ahead) d ∙ said-before (cond (nat_le now.start d) now.sources (said_at none list d)) ahead d (λ x t. omega (arith, past x t)) ∙ sym (filled-is now (2 ^ w) list after filled none d d_in))
       (p.laid none d d_in) in
       record {

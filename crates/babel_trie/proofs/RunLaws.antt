@@ -9,9 +9,10 @@ use Rattle.babel_trie.specs.Shape.{value_at}
 use Rattle.babel_trie.specs.Sound.{KeepsNodes}
 use Rattle.babel_trie.specs.declared.runs.Change.{Change}
 use Rattle.babel_trie.specs.declared.table.Node.{Node}
-use Rattle.babel_trie.specs.declared.table.NodeNumber.{NodeNumber}
+use Rattle.babel_trie.specs.declared.table.Sources.{Sources}
 use Rattle.babel_trie.proofs.HeldLaws.{sources_at-stands}
-use Rattle.babel_trie.proofs.NumberLaws.{Represents-grows, HasTrie-grows}
+use Rattle.babel_trie.proofs.NumberLaws.{Represents-grows}
+use Rattle.babel_trie.proofs.FormLaws.{HasTrie-grows}
 
 module _ {F : Type 0} where
   pub reached : (x : Change F) (d : ℕ) → x.start ≤ d → nat_le x.start d ≡ true
@@ -48,14 +49,14 @@ module _ {F : Type 0} where
 
 module _ {V : Type 0} where
   -- a list with the answers of one function has those of one that agrees
-  pub runs-same : (w : ℕ) (sources : List (Node (Option V))) (list : List (Change NodeNumber)) (f g : Answers V) → SameAnswers w f g → HasRuns w sources list f → HasRuns w sources list g
+  pub runs-same : (w : ℕ) (sources : List (Node (Option V))) (list : List (Change (Sources (Option V)))) (f g : Answers V) → SameAnswers w f g → HasRuns w sources list f → HasRuns w sources list g
   runs-same w sources list f g same p =
       record { runs = p.runs; below = p.below; each = p.each; answers = λ none d s d_in s_in. p.answers none d s d_in s_in ∙ same d s d_in s_in }
 
   -- a table that grows keeps the answers
-  pub runs-grow : (w : ℕ) (sources more : List (Node (Option V))) (list : List (Change NodeNumber)) (f : Answers V) → KeepsNodes sources more → HasRuns w sources list f → HasRuns w more list f
+  pub runs-grow : (w : ℕ) (sources more : List (Node (Option V))) (list : List (Change (Sources (Option V)))) (f : Answers V) → KeepsNodes sources more → HasRuns w sources list f → HasRuns w more list f
   runs-grow w sources more list f keeps p =
-      let each : (none : NodeNumber) (d : ℕ) → d < 2 ^ w → HasTrie w more (said_at none list d).0 = λ none d d_in. HasTrie-grows w sources more keeps (said_at none list d).0 (p.each none d d_in) in
+      let each : (none : Sources (Option V)) (d : ℕ) → d < 2 ^ w → HasTrie w more (said_at none list d) = λ none d d_in. HasTrie-grows sources more keeps w (said_at none list d) (p.each none d d_in) in
       record {
         runs = p.runs;
         below = p.below;
@@ -63,6 +64,6 @@ module _ {V : Type 0} where
         answers = λ none d s d_in s_in.
             let n = said_at none list d in
             let h = p.each none d d_in in
-            let h' : HasTrie w more n.0 = record { trie = h.trie; stands = Represents-grows sources more keeps n.0 h.trie h.stands; fits = h.fits; reduced = h.reduced } in
+            let h' : HasTrie w more n = record { trie = h.trie; stands = Represents-grows sources more keeps n h.trie h.stands; fits = h.fits; reduced = h.reduced } in
             ap (λ t. value_at t w s) (sources_at-stands w more n h' ∙ sym (sources_at-stands w sources n h)) ∙ p.answers none d s d_in s_in;
       }

@@ -7,11 +7,12 @@ use Rattle.babel_prefix.specs.Address.{block_of}
 use Rattle.babel_prefix.specs.Best.{Row, IsNoLonger}
 use Rattle.babel_prefix.specs.Entries.{Entry, row_of}
 use Rattle.babel_trie.specs.Shape.{Shape, leaf, height, value_at, IsReduced}
-use Rattle.babel_trie.specs.Interned.{HasTrie, IsHalved, IsJoined}
+use Rattle.babel_trie.specs.Interned.{IsTrie, IsHalved, IsJoined}
 use Rattle.babel_prefix.proofs.Members.{Listed}
 use Rattle.babel_trie.specs.Rows.{IsPlace, InBlock, Overlays, source_block, AreParted}
-use Rattle.babel_trie.specs.Laid.{HasOneDestination, IsSet, IsOverlaid}
+use Rattle.babel_trie.specs.Laid.{HasOneDestination, IsSet, IsLaid}
 use Rattle.babel_trie.specs.declared.table.Node.{Node}
+use Rattle.babel_trie.specs.declared.table.Loose.{Loose}
 use Rattle.babel_trie.proofs.BitLaws.{pow_twice}
 use Rattle.babel_trie.proofs.Reduced.{value_at-low, value_at-high}
 use Rattle.babel_prefix.proofs.Members.{Listed-append_left, Listed-append_right}
@@ -46,22 +47,22 @@ module _ {V : Type 0} where
       (ap (λ t. value_at t bits a) is)
 
   -- the height of what is set
-  set_fits : (rows : List (Entry V)) (old new : Shape (Option V)) (bits : ℕ) →
+  pub set_fits : (rows : List (Entry V)) (old new : Shape (Option V)) (bits : ℕ) →
       ((none : rows ≡ []) × (new ≡ old)) ⊎ ((row : Entry V) × Listed rows row × (new ≡ leaf (Some row.2))) → height old ≤ bits → height new ≤ bits
   set_fits rows old new bits (inl (none, same)) fits = subst (λ t. height t ≤ bits) (sym same) fits
   set_fits rows old new bits (inr (row, listed, is)) fits = subst (λ t. height t ≤ bits) (sym is) (omega arith)
 
-  set_reduced : (rows : List (Entry V)) (old new : Shape (Option V)) →
+  pub set_reduced : (rows : List (Entry V)) (old new : Shape (Option V)) →
       ((none : rows ≡ []) × (new ≡ old)) ⊎ ((row : Entry V) × Listed rows row × (new ≡ leaf (Some row.2))) → IsReduced old → IsReduced new
   set_reduced rows old new (inl (none, same)) r = subst IsReduced (sym same) r
   set_reduced rows old new (inr (row, listed, is)) r = subst IsReduced (sym is) tt
 
   -- where all rows are of the whole block, what is set is the whole
-  pub overlaid_set : (w bits start : ℕ) (rows own : List (Entry V)) (nodes : List (Node (Option V))) (n : ℕ) (old : Shape (Option V)) → IsPlace w bits start → InBlock source_block w bits start rows →
-      HasOneDestination rows → rows ≡ own → ((x : Entry V) → Listed own x → (block_of x.1).len ≡ w - bits) → IsSet own nodes n old → IsOverlaid w bits start (map row_of rows) nodes n old
+  pub overlaid_set : (w bits start : ℕ) (rows own : List (Entry V)) (nodes : List (Node (Option V))) (n : Loose (Option V)) (old : Shape (Option V)) → IsPlace w bits start → InBlock source_block w bits start rows →
+      HasOneDestination rows → rows ≡ own → ((x : Entry V) → Listed own x → (block_of x.1).len ≡ w - bits) → IsSet own nodes n old → IsLaid w bits start (map row_of rows) nodes n old
   overlaid_set w bits start rows own nodes n old place rows_in one all lens set =
       let own_in : InBlock source_block w bits start own = subst (InBlock source_block w bits start) all rows_in in
-      subst (λ (r : List (Entry V)). IsOverlaid w bits start (map row_of r) nodes n old) (sym all) (record {
+      subst (λ (r : List (Entry V)). IsLaid w bits start (map row_of r) nodes n old) (sym all) (record {
         new = set.new;
         stands = set.stands;
         fits = set_fits own old set.new bits set.is;
@@ -72,11 +73,11 @@ module _ {V : Type 0} where
 
   -- the halves, with their rows laid over them, are joined
   pub overlaid_joined : (w bits start : ℕ) (rows own low high : List (Entry V)) → AreParted source_block w bits start rows own low high → HasOneDestination rows →
-      (nodes1 nodes2 nodes3 nodes4 : List (Node (Option V))) (n1 l1 h1 l h n : ℕ) (old : Shape (Option V)) →
+      (nodes1 nodes2 nodes3 nodes4 : List (Node (Option V))) (n1 l1 h1 l h n : Loose (Option V)) (old : Shape (Option V)) →
       (set : IsSet own nodes1 n1 old) → (halved : IsHalved nodes1 set.new l1 h1) →
-      (in_low : IsOverlaid w (bits - 1) start (map row_of low) nodes2 l halved.low_half) →
-      (in_high : IsOverlaid w (bits - 1) (start + 2 ^ (bits - 1)) (map row_of high) nodes3 h halved.high_half) →
-      (joined : IsJoined nodes4 n in_low.new in_high.new) → height old ≤ bits → IsOverlaid w bits start (map row_of rows) nodes4 n old
+      (in_low : IsLaid w (bits - 1) start (map row_of low) nodes2 l halved.low_half) →
+      (in_high : IsLaid w (bits - 1) (start + 2 ^ (bits - 1)) (map row_of high) nodes3 h halved.high_half) →
+      (joined : IsJoined nodes4 n in_low.new in_high.new) → height old ≤ bits → IsLaid w bits start (map row_of rows) nodes4 n old
   overlaid_joined w bits start rows own low high p one nodes1 nodes2 nodes3 nodes4 n1 l1 h1 l h n old set halved in_low in_high joined old_fits =
       let some = p.some in
       let set_low : height set.new ≤ bits = set_fits own old set.new bits set.is old_fits in
@@ -140,8 +141,8 @@ module _ {V : Type 0} where
       }
 
   -- the halves of what is set
-  pub halved_tries : (bits : ℕ) (own : List (Entry V)) (nodes : List (Node (Option V))) (n l h : ℕ) (old : Shape (Option V)) → (set : IsSet own nodes n old) → height old ≤ bits → IsReduced old → 0 < bits →
-      IsHalved nodes set.new l h → HasTrie (bits - 1) nodes l × HasTrie (bits - 1) nodes h
+  pub halved_tries : (bits : ℕ) (own : List (Entry V)) (nodes : List (Node (Option V))) (n l h : Loose (Option V)) (old : Shape (Option V)) → (set : IsSet own nodes n old) → height old ≤ bits → IsReduced old → 0 < bits →
+      IsHalved nodes set.new l h → IsTrie (bits - 1) nodes l × IsTrie (bits - 1) nodes h
   halved_tries bits own nodes n l h old set fits reduced some halved =
       let set_low : height set.new ≤ bits = set_fits own old set.new bits set.is fits in
       let both = halved.reduced (set_reduced own old set.new set.is reduced) in (

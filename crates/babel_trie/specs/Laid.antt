@@ -5,28 +5,40 @@ use Rattle.babel_prefix.specs.Block.{BlockCovers}
 use Rattle.babel_prefix.specs.Address.{block_of}
 use Rattle.babel_prefix.specs.Best.{Row}
 use Rattle.babel_trie.specs.Shape.{Shape, leaf, height, value_at, IsReduced}
-use Rattle.babel_trie.specs.Interned.{Represents}
+use Rattle.babel_trie.specs.Interned.{Stands, Represents}
 use Rattle.babel_prefix.specs.Members.{Listed}
 use Rattle.babel_trie.specs.Rows.{Overlays}
+use Rattle.babel_trie.specs.declared.table.Loose.{Loose}
 use Rattle.babel_trie.specs.declared.table.Node.{Node}
+use Rattle.babel_trie.specs.declared.table.Sources.{Sources}
 
 module _ {V : Type 0} where
   -- the rows have one destination prefix
   abbrev pub HasOneDestination : List (Entry V) → Type 0
   HasOneDestination rows = (x y : Entry V) → Listed rows x → Listed rows y → (block_of x.0) ≡ (block_of y.0)
 
-  -- the number stands for a leaf with the value of one of the rows, or for the old trie where there are none
-  pub record IsSet (rows : List (Entry V)) (nodes : List (Node (Option V))) (n : ℕ)
+  -- it stands for a leaf with the value of one of the rows, or for the old trie where there are none
+  pub record IsSet (rows : List (Entry V)) (nodes : List (Node (Option V))) (x : Loose (Option V))
       (old : Shape (Option V)) : Type 0 where
     pub new : Shape (Option V)
-    pub stands : Represents nodes n new
+    pub stands : Stands nodes x new
     pub is : ((rows ≡ []) × (new ≡ old)) ⊎ ((row : Entry V) × Listed rows row × (new ≡ leaf (Some row.2)))
 
-  -- the number stands for the old trie with rows laid over it, for destinations that all rows cover
-  pub record IsOverlaid (w bits start : ℕ) (rows : List (Row V)) (nodes : List (Node (Option V))) (n : ℕ)
-      (old : Shape (Option V)) : Type 0 where
+  -- it stands for the old trie with rows laid over it, for destinations that all rows cover
+  pub record IsLaid (w bits start : ℕ) (rows : List (Row V)) (nodes : List (Node (Option V)))
+      (x : Loose (Option V)) (old : Shape (Option V)) : Type 0 where
     pub new : Shape (Option V)
-    pub stands : Represents nodes n new
+    pub stands : Stands nodes x new
+    pub fits : height old ≤ bits → height new ≤ bits
+    pub reduced : IsReduced old → IsReduced new
+    pub values : (d a : ℕ) → ((row : Row V) → Listed rows row → BlockCovers w row.dst d) → a < 2 ^ bits →
+        Overlays w rows d (start + a) (value_at old bits a) (value_at new bits a)
+
+  -- they stand for the old trie with rows laid over it, for destinations that all rows cover
+  pub record IsOverlaid (w bits start : ℕ) (rows : List (Row V)) (nodes : List (Node (Option V)))
+      (s : Sources (Option V)) (old : Shape (Option V)) : Type 0 where
+    pub new : Shape (Option V)
+    pub stands : Represents nodes s new
     pub fits : height old ≤ bits → height new ≤ bits
     pub reduced : IsReduced old → IsReduced new
     pub values : (d a : ℕ) → ((row : Row V) → Listed rows row → BlockCovers w row.dst d) → a < 2 ^ bits →

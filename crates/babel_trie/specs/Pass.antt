@@ -4,7 +4,6 @@ use Rattle.babel_trie.specs.Rows.{InOrder}
 use Rattle.babel_trie.specs.Runs.{said_at, AreRuns, StartBelow}
 use Rattle.babel_trie.specs.declared.pass.Pass.{Pass}
 use Rattle.babel_trie.specs.declared.runs.Change.{Change}
-use Rattle.babel_trie.specs.declared.table.NodeNumber.{NodeNumber}
 
 module _ {F : Type 0} where
   -- from one address up to another the list says this, and below them what it did
@@ -20,17 +19,18 @@ module _ {F : Type 0} where
     pub below : StartBelow now.start list
     pub in_order : InOrder (λ x y. x.start ≤ y.start) (now ∷ ahead)
 
--- the changes ahead, the nearest first
-abbrev pub ahead_of : Pass → List (Change NodeNumber)
-ahead_of pass = reverse pass.ahead.items
+module _ {F : Type 0} where
+  -- the changes ahead, the nearest first
+  abbrev pub ahead_of : Pass F → List (Change F)
+  ahead_of pass = reverse pass.ahead.items
 
--- the change come to, and those ahead
-abbrev pub coming : Pass → List (Change NodeNumber)
-coming pass = pass.now ∷ ahead_of pass
+  -- the change come to, and those ahead
+  abbrev pub coming : Pass F → List (Change F)
+  coming pass = pass.now ∷ ahead_of pass
 
--- all changes, if no others come
-abbrev pub all_changes : Pass → List (Change NodeNumber)
-all_changes pass = pass.list.items ++ coming pass
+  -- all changes, if no others come
+  abbrev pub all_changes : Pass F → List (Change F)
+  all_changes pass = pass.list.items ++ coming pass
 
-abbrev pub IsOpen : Pass → Type 0
-IsOpen pass = AreOpen pass.list.items pass.now (ahead_of pass)
+  abbrev pub IsOpen : Pass F → Type 0
+  IsOpen pass = AreOpen pass.list.items pass.now (ahead_of pass)

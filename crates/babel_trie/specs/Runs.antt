@@ -8,7 +8,7 @@ use Rattle.babel_trie.specs.Shape.{value_at}
 use Rattle.babel_trie.specs.Interned.{HasTrie}
 use Rattle.babel_trie.specs.declared.runs.Change.{Change}
 use Rattle.babel_trie.specs.declared.table.Node.{Node}
-use Rattle.babel_trie.specs.declared.table.NodeNumber.{NodeNumber}
+use Rattle.babel_trie.specs.declared.table.Sources.{Sources}
 
 module _ {F : Type 0} where
   -- what the last change that is not above the address says, or `none` where there is none
@@ -44,13 +44,13 @@ module _ {F : Type 0} where
 
 module _ {V : Type 0} where
   -- the answers of a list of changes
-  abbrev pub run_answers : ℕ → List (Node (Option V)) → NodeNumber → List (Change NodeNumber) → Answers V
-  run_answers w sources none list d = value_at (sources_at w sources (said_at none list d)) w
+  abbrev pub run_answers : ℕ → List (Node (Option V)) → Sources (Option V) → List (Change (Sources (Option V))) → Answers V
+  run_answers w nodes none list d = value_at (sources_at w nodes (said_at none list d)) w
 
-  -- the list says at each address the number of a trie, and all together have these answers
-  pub record HasRuns (w : ℕ) (sources : List (Node (Option V))) (list : List (Change NodeNumber))
+  -- the list says at each address sources that stand for a trie, and all together have these answers
+  pub record HasRuns (w : ℕ) (nodes : List (Node (Option V))) (list : List (Change (Sources (Option V))))
       (f : Answers V) : Type 0 where
     pub runs : AreRuns list
     pub below : StartBelow (2 ^ w) list
-    pub each : (none : NodeNumber) (d : ℕ) → d < 2 ^ w → HasTrie w sources (said_at none list d).0
-    pub answers : (none : NodeNumber) → SameAnswers w (run_answers w sources none list) f
+    pub each : (none : Sources (Option V)) (d : ℕ) → d < 2 ^ w → HasTrie w nodes (said_at none list d)
+    pub answers : (none : Sources (Option V)) → SameAnswers w (run_answers w nodes none list) f

@@ -1,22 +1,42 @@
 -- A table whose map has the number of each node: this project's own.
 use Rattle.std.specs.Prelude.{◌≡◌, ◌↔◌, ℕ, ◌<◌, List, Some, slice_get}
+use Rattle.std.specs.Ordering.{ordering_then, nat_cmp}
 use Rattle.std.specs.declared.cmp.Ordering.{Ordering}
 use Rattle.std.specs.BTreeMap.{BTreeMap, get}
+use Rattle.babel_trie.specs.Interned.{IsNormal}
+use Rattle.babel_trie.specs.declared.table.Loose.{Loose}
+use Rattle.babel_trie.specs.declared.table.Loose.TheVariants.{Same, Split}
 use Rattle.babel_trie.specs.declared.table.Node.{Node}
-use Rattle.babel_trie.specs.declared.table.Node.TheVariants.{Leaf, Fork}
 use Rattle.babel_trie.specs.declared.table.NodeNumber.{NodeNumber}
+use Rattle.babel_trie.specs.declared.table.Sources.{Sources}
+use Rattle.babel_trie.specs.declared.table.Sources.TheVariants.{Constant, Stored}
 
 module _ {V : Type 0} where
-  -- the halves of the node have lower numbers than this
-  abbrev pub HasHalvesBelow : ℕ → Node V → Type 0
-  HasHalvesBelow n (Leaf v) = Unit {0}
-  HasHalvesBelow n (Fork low high) = (low.0 < n) × (high.0 < n)
+  -- a constant, or a lower number than this
+  abbrev pub IsBelow : ℕ → Sources V → Type 0
+  IsBelow n (Constant v) = Unit {0}
+  IsBelow n (Stored number) = number.0 < n
 
-  -- the map has a node exactly under its number, and the halves of a node have lower numbers
-  pub record IsSound (cmp : Node V → Node V → Ordering) (nodes : List (Node V))
+  -- what the node names are constants or have lower numbers than this
+  abbrev pub HasHalvesBelow : ℕ → Node V → Type 0
+  HasHalvesBelow n node = IsBelow n node.outside × IsBelow n node.low × IsBelow n node.high
+
+  abbrev pub IsLooseBelow : ℕ → Loose V → Type 0
+  IsLooseBelow n (Same v) = Unit {0}
+  IsLooseBelow n (Split node) = HasHalvesBelow n node
+
+  -- nodes, by their fields in turn
+  abbrev pub node_cmp : (Sources V → Sources V → Ordering) → Node V → Node V → Ordering
+  node_cmp cmp a b =
+      ordering_then (nat_cmp a.skip b.skip) (ordering_then (nat_cmp a.path b.path)
+      (ordering_then (cmp a.outside b.outside) (ordering_then (cmp a.low b.low) (cmp a.high b.high))))
+
+  -- the map has a node exactly under its number, each node has its one form, and the halves of a node are constants or have lower numbers
+  pub record IsSound (cmp : Sources V → Sources V → Ordering) (nodes : List (Node V))
       (numbers : BTreeMap (Node V) NodeNumber) : Type 0 where
     pub lower : (i : ℕ) (node : Node V) → slice_get nodes i ≡ Some node → HasHalvesBelow i node
-    pub exact : (node : Node V) (number : NodeNumber) → (get cmp numbers node ≡ Some number)
+    pub normal : (i : ℕ) (node : Node V) → slice_get nodes i ≡ Some node → IsNormal nodes node
+    pub exact : (node : Node V) (number : NodeNumber) → (get (node_cmp cmp) numbers node ≡ Some number)
         ↔ (slice_get nodes number.0 ≡ Some node)
 
   -- each number keeps its node

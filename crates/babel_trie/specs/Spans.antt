@@ -1,16 +1,16 @@
 -- The rows of a list of changes: each largest block of destinations with one trie of sources, and each of its sources:
 -- this project's own.
-use Rattle.std.specs.Prelude.{◌≡◌, ℕ, ◌+◌, ◌-◌, ◌*◌, ◌^◌, List, [], ◌∷◌, ◌++◌, length, get_or, Option}
+use Rattle.std.specs.Prelude.{◌≡◌, ℕ, ◌+◌, ◌-◌, ◌*◌, ◌^◌, List, [], ◌∷◌, ◌++◌, length, Option}
 use Rattle.babel_prefix.specs.Block.{Block}
 use Rattle.babel_prefix.specs.Best.{Row, answer}
-use Rattle.babel_trie.specs.Counts.{capped}
+use Rattle.babel_trie.specs.Counts.{capped, sources_count}
 use Rattle.babel_trie.specs.Cut.{largest_in}
 use Rattle.babel_trie.specs.Held.{sources_at}
 use Rattle.babel_trie.specs.Nested.{rows_of}
 use Rattle.babel_trie.specs.Runs.{HasRuns}
 use Rattle.babel_trie.specs.declared.runs.Change.{Change}
 use Rattle.babel_trie.specs.declared.table.Node.{Node}
-use Rattle.babel_trie.specs.declared.table.NodeNumber.{NodeNumber}
+use Rattle.babel_trie.specs.declared.table.Sources.{Sources}
 
 -- addresses from one to another, and what is said there
 pub record Span (F : Type 0) : Type 0 where
@@ -36,28 +36,28 @@ module _ {X : Type 0} where
   each_with x (b ∷ bs) = (b, x) ∷ each_with x bs
 
 module _ {F X : Type 0} where
-  -- the largest blocks of each span, with what its number stands for
+  -- the largest blocks of each span, with what its sources stand for
   abbrev pub span_blocks : ℕ → (F → X) → List (Span F) → List (Block × X)
   span_blocks w value [] = []
   span_blocks w value (s ∷ ss) = each_with (value s.sources) (largest_in w s.from s.last) ++ span_blocks w value ss
 
--- how many rows the spans have, by the counts of their tries
-abbrev pub counted_rows : ℕ → List ℕ → List (Span NodeNumber) → ℕ
-counted_rows w counts [] = 0
-counted_rows w counts (s ∷ ss) =
-    length (largest_in w s.from s.last) * get_or counts s.sources.0 0 + counted_rows w counts ss
-
 module _ {V : Type 0} where
+  -- how many rows the spans have, by the counts of the nodes
+  abbrev pub counted_rows : ℕ → List ℕ → List (Span (Sources (Option V))) → ℕ
+  counted_rows w counts [] = 0
+  counted_rows w counts (s ∷ ss) =
+      length (largest_in w s.from s.last) * sources_count counts s.sources + counted_rows w counts ss
+
   -- the rows of spans
-  abbrev pub span_rows : ℕ → List (Node (Option V)) → List (Span NodeNumber) → List (Row V)
-  span_rows w sources ss = rows_of w (span_blocks w (sources_at w sources) ss)
+  abbrev pub span_rows : ℕ → List (Node (Option V)) → List (Span (Sources (Option V))) → List (Row V)
+  span_rows w nodes ss = rows_of w (span_blocks w (sources_at w nodes) ss)
 
   -- the rows of a list of changes
-  abbrev pub run_rows : ℕ → List (Node (Option V)) → List (Change NodeNumber) → List (Row V)
-  run_rows w sources list = span_rows w sources (spans (2 ^ w) list)
+  abbrev pub run_rows : ℕ → List (Node (Option V)) → List (Change (Sources (Option V))) → List (Row V)
+  run_rows w nodes list = span_rows w nodes (spans (2 ^ w) list)
 
   -- the list says what its rows answer, and the count is that of the rows
-  pub record HasGrid (w : ℕ) (sources : List (Node (Option V))) (list : List (Change NodeNumber))
+  pub record HasGrid (w : ℕ) (nodes : List (Node (Option V))) (list : List (Change (Sources (Option V))))
       (count : ℕ) : Type 0 where
-    pub runs : HasRuns w sources list (answer w (run_rows w sources list))
-    pub count_is : count ≡ capped (length (run_rows w sources list))
+    pub runs : HasRuns w nodes list (answer w (run_rows w nodes list))
+    pub count_is : count ≡ capped (length (run_rows w nodes list))

@@ -10,15 +10,15 @@ use crate::difference::Tables;
 use crate::fit::last_address;
 use crate::lawful::LawfulOrd;
 use crate::runs::Change;
-use crate::table::{NodeNumber, Table};
+use crate::table::{Sources, Table};
 use babel_prefix::{Addr, Family};
 
 /// The changes behind an address, and what is said there.
-fn behind(
-    list: &[Change<NodeNumber>],
+fn behind<V: Copy>(
+    list: &[Change<Sources<V>>],
     at: u128,
-    before: NodeNumber,
-) -> (&[Change<NodeNumber>], NodeNumber)
+    before: Sources<V>,
+) -> (&[Change<Sources<V>>], Sources<V>)
     requires runs { AreRuns list.now }
     requires from { StartFrom at list.now }
     ensures runs { AreRuns result.0.now }
@@ -36,7 +36,7 @@ fn behind(
 }
 
 /// The last address before the next change.
-fn last_before(list: &[Change<NodeNumber>], at: u128) -> u128
+fn last_before<V>(list: &[Change<Sources<V>>], at: u128) -> u128
     requires runs { AreRuns list.now }
     requires behind { StartBehind at list.now }
     ensures from { at ≤ result }
@@ -61,9 +61,9 @@ impl<V: LawfulOrd> Table<Option<V>> {
     /// The first destination that two lists of changes answer differently, and for it the first source.
     fn first_pair(
         &self,
-        left: &[Change<NodeNumber>],
+        left: &[Change<Sources<Option<V>>>],
         other: &Table<Option<V>>,
-        right: &[Change<NodeNumber>],
+        right: &[Change<Sources<Option<V>>>],
         tables: Tables,
         width: u8,
     ) -> Option<(u128, u128)>
@@ -97,9 +97,9 @@ impl<V: LawfulOrd> Table<Option<V>> {
     /// changes answer differently; `None` if there is none.
     pub fn least_difference(
         &self,
-        left: &[Change<NodeNumber>],
+        left: &[Change<Sources<Option<V>>>],
         other: &Table<Option<V>>,
-        right: &[Change<NodeNumber>],
+        right: &[Change<Sources<Option<V>>>],
         tables: Tables,
         family: Family,
     ) -> Option<(Addr, Addr)>

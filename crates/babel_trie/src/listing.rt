@@ -1,26 +1,28 @@
 //! The rows of a list of changes.
-ghost use Rattle.std.specs.Prelude.{◌≡◌, ◌+◌, ◌-◌, ◌*◌, ◌^◌, ◌<◌, ◌≤◌, ◌++◌, map, length, All, OnOk, Option, None, true, false};
+ghost use Rattle.std.specs.Prelude.{◌≡◌, ◌+◌, ◌-◌, ◌*◌, ◌^◌, ◌<◌, ◌≤◌, ◌++◌, List, map, length, OnOk, Option, None, true};
 ghost use Rattle.babel_prefix.specs.Address.{IsAddressPrefix, block_of};
 ghost use Rattle.babel_prefix.specs.Block.{IsBlock};
-ghost use Rattle.babel_prefix.specs.Entries.{row_of};
+ghost use Rattle.babel_prefix.specs.Entries.{Entry};
 ghost use Rattle.babel_prefix.specs.Members.{Listed};
 ghost use Rattle.babel_prefix.specs.Width.{width_of};
 ghost use Rattle.babel_trie.specs.Cut.{block_from, largest_in};
 ghost use Rattle.babel_trie.specs.Held.{sources_at};
-ghost use Rattle.babel_trie.specs.Interned.{Represents, HasTrie};
-ghost use Rattle.babel_trie.specs.Nested.{IsEntryIn, node_block, leaves, rows_at, rows_of};
+ghost use Rattle.babel_trie.specs.Interned.{Stands, IsTrie, HasTrie};
+ghost use Rattle.babel_trie.specs.Nested.{entry_at, node_block, leaves, rows_at, rows_of};
 ghost use Rattle.babel_trie.specs.Runs.{AreRuns, StartBelow};
-ghost use Rattle.babel_trie.specs.Shape.{Shape, leaf};
+ghost use Rattle.babel_trie.specs.Shape.{Shape};
 ghost use Rattle.babel_trie.specs.Spans.{each_with, run_rows};
 ghost use Rattle.babel_trie.specs.declared.runs.Change.{Change};
-ghost use Rattle.babel_trie.specs.declared.table.NodeNumber.{NodeNumber};
+ghost use Rattle.babel_trie.specs.declared.table.Sources.{Sources};
+ghost use Rattle.babel_trie.specs.declared.table.Sources.TheVariants.{Constant};
 
 use crate::cut::run_last;
 use crate::fit::{first_bits, last_address};
 use crate::lawful::LawfulOrd;
 use crate::rows::Row;
 use crate::runs::Change;
-use crate::table::{Node, NodeNumber, Table};
+use crate::sink::Sink;
+use crate::table::{Loose, Sources, Table};
 use babel_prefix::{Addr, Family, Prefix};
 use std::alloc::AllocError;
 
@@ -74,72 +76,67 @@ fn places(family: Family, bits: u8, place: u128) -> (u128, u128)
     (place * 2, place * 2 + 1)
 }
 
+/// Whether nothing is answered for any source.
+fn answers_nothing<V>(sources: &Sources<Option<V>>) -> bool
+    ensures { result ≡ true → sources.now ≡ Constant None }
+{
+    match sources {
+        Sources::Constant(None) => true,
+        _ => false,
+    }
+}
+
 impl<V: LawfulOrd> Table<Option<V>> {
-    /// Appends the rows of one destination prefix, in order.
-    pub fn push_rows(
+    /// Puts out the rows of one destination prefix, in order.
+    pub fn push_rows<S: Sink<V>>(
         &self,
-        number: NodeNumber,
+        whole: Loose<Option<V>>,
         family: Family,
         dst: Prefix,
         bits: u8,
         place: u128,
-        out: &mut Vec<Row<V>>,
+        out: &mut S,
     ) -> Result<(), AllocError>
-        requires trie { HasTrie bits self.now.nodes.items number.0 }
+        requires trie { IsTrie bits self.now.nodes.items whole }
         requires dst_family { dst.address.family ≡ family }
-        requires dst { IsAddressPrefix dst }
         requires bits { bits ≤ width_of family }
         requires place { place < 2 ^ (width_of family - bits) }
-        ensures entries { OnOk result (All (IsEntryIn family) out.old.items → All (IsEntryIn family) out.new.items) }
-        ensures rows { OnOk result ((t : Shape (Option V)) → Represents self.now.nodes.items number.0 t → map row_of out.new.items ≡ map row_of out.old.items ++ rows_at (block_of dst) (leaves (width_of family) bits place t)) }
+        ensures { OnOk result ((t : Shape (Option V)) (rows : List (Entry V)) → Stands self.now.nodes.items whole t → S.has out.old rows → S.has out.new (rows ++ map (entry_at family) (rows_at (block_of dst) (leaves (width_of family) bits place t)))) }
     {
-        match self.node(number) {
-            Node::Leaf(None) => Ok(()),
-            Node::Leaf(Some(value)) => {
-                out.push((dst, node_prefix(family, bits, place), value))?;
-                Ok(())
-            }
-            Node::Fork(low, high) => {
-                let (low_place, high_place) = places(family, bits, place);
-                self.push_rows(low, family, dst, bits - 1, low_place, out)?;
-                self.push_rows(high, family, dst, bits - 1, high_place, out)?;
-                Ok(())
-            }
+        let Loose::Same(constant) = whole else {
+            let (low_place, high_place) = places(family, bits, place);
+            let (low, high) = self.halves(whole);
+            self.push_rows(low, family, dst, bits - 1, low_place, out)?;
+            self.push_rows(high, family, dst, bits - 1, high_place, out)?;
+            return Ok(());
+        };
+        if let Some(value) = constant {
+            out.put((dst, node_prefix(family, bits, place), value))?;
         }
+        Ok(())
     }
 
-    /// Whether the trie of a number is a leaf that answers nothing.
-    fn answers_nothing(&self, number: NodeNumber) -> bool
-        requires { number.0 < length self.now.nodes.items }
-        ensures { result ≡ true → Represents self.now.nodes.items number.0 (leaf None) }
-    {
-        match self.node(number) {
-            Node::Leaf(None) => true,
-            _ => false,
-        }
-    }
-
-    /// Appends the rows of the largest blocks from one destination to another, in order, all with the same sources.
-    fn push_blocks(
+    /// Puts out the rows of the largest blocks from one destination to another, in order, all with the same sources.
+    fn push_blocks<S: Sink<V>>(
         &self,
-        sources: NodeNumber,
+        sources: Sources<Option<V>>,
         family: Family,
         from: u128,
         last: u128,
-        out: &mut Vec<Row<V>>,
+        out: &mut S,
     ) -> Result<(), AllocError>
-        requires trie { HasTrie (width_of family) self.now.nodes.items sources.0 }
+        requires trie { HasTrie (width_of family) self.now.nodes.items sources }
         requires some { from ≤ last }
         requires fits { last < 2 ^ width_of family }
-        ensures entries { OnOk result (All (IsEntryIn family) out.old.items → All (IsEntryIn family) out.new.items) }
-        ensures rows { OnOk result (map row_of out.new.items ≡ map row_of out.old.items ++ rows_of (width_of family) (each_with (sources_at (width_of family) self.now.nodes.items sources) (largest_in (width_of family) from last))) }
+        ensures { OnOk result ((rows : List (Entry V)) → S.has out.old rows → S.has out.new (rows ++ map (entry_at family) (rows_of (width_of family) (each_with (sources_at (width_of family) self.now.nodes.items sources) (largest_in (width_of family) from last))))) }
     {
         let width = family.width();
+        let whole = self.opened(sources);
         let mut at = from;
         loop {
             let bits = first_bits(at, last);
             let dst = block_prefix(family, at, bits);
-            self.push_rows(sources, family, dst, width, 0, out)?;
+            self.push_rows(whole, family, dst, width, 0, out)?;
             let end = last_address(at, bits);
             if end == last {
                 return Ok(());
@@ -148,23 +145,22 @@ impl<V: LawfulOrd> Table<Option<V>> {
         }
     }
 
-    /// Appends the rows of a list of changes, in order.
-    pub fn push_runs(
+    /// Puts out the rows of a list of changes, in order.
+    pub fn push_runs<S: Sink<V>>(
         &self,
-        runs: &[Change<NodeNumber>],
+        runs: &[Change<Sources<Option<V>>>],
         family: Family,
-        out: &mut Vec<Row<V>>,
+        out: &mut S,
     ) -> Result<(), AllocError>
         requires runs { AreRuns runs.now }
         requires below { StartBelow (2 ^ width_of family) runs.now }
-        requires each { (x : Change NodeNumber) → Listed runs.now x → HasTrie (width_of family) self.now.nodes.items x.sources.0 }
-        ensures entries { OnOk result (All (IsEntryIn family) out.old.items → All (IsEntryIn family) out.new.items) }
-        ensures rows { OnOk result (map row_of out.new.items ≡ map row_of out.old.items ++ run_rows (width_of family) self.now.nodes.items runs.now) }
+        requires each { (x : Change (Sources (Option V))) → Listed runs.now x → HasTrie (width_of family) self.now.nodes.items x.sources }
+        ensures { OnOk result ((rows : List (Entry V)) → S.has out.old rows → S.has out.new (rows ++ map (entry_at family) (run_rows (width_of family) self.now.nodes.items runs.now))) }
     {
         let top = last_address(0, family.width());
         let mut rest = runs;
         while let Some((run, later)) = rest.split_first() {
-            if !self.answers_nothing(run.sources) {
+            if !answers_nothing(&run.sources) {
                 self.push_blocks(run.sources, family, run.start, run_last(top, later), out)?;
             }
             rest = later;

@@ -1,32 +1,61 @@
 //! The rows of one destination, laid over a trie of sources.
-ghost use Rattle.std.specs.Prelude.{◌≡◌, ◌+◌, ◌-◌, ◌^◌, ◌<◌, ◌≤◌, map, length, IfOk, OnOk, Option};
+ghost use Rattle.std.specs.Prelude.{◌≡◌, ◌+◌, ◌-◌, ◌^◌, ◌<◌, ◌≤◌, List, map, length, IfOk, OnOk, Option};
 ghost use Rattle.babel_trie.specs.Shape.{Shape};
-ghost use Rattle.babel_trie.specs.Interned.{Represents, HasTrie};
-ghost use Rattle.babel_trie.specs.Laid.{HasOneDestination, IsSet, IsOverlaid};
+ghost use Rattle.babel_trie.specs.Interned.{Stands, IsNormalLoose, IsTrie, Represents, HasTrie};
+ghost use Rattle.babel_trie.specs.Laid.{HasOneDestination, IsSet, IsLaid, IsOverlaid};
 ghost use Rattle.babel_prefix.specs.Entries.{row_of};
 ghost use Rattle.babel_trie.specs.Rows.{source_block, InBlock, IsPlace};
 ghost use Rattle.babel_trie.specs.Sound.{IsSound, KeepsNodes};
+ghost use Rattle.babel_trie.specs.declared.table.Node.{Node};
 
 use crate::lawful::LawfulOrd;
 use crate::rows::{Row, parts};
-use crate::table::{Node, NodeNumber, Table};
+use crate::table::{Loose, Sources, Table};
 use std::alloc::AllocError;
 
+/// The value that the rows of a whole block set, or what was answered before where there are none.
+fn set<V: Copy>(rows: &[Row<V>], old: Loose<Option<V>>) -> Loose<Option<V>>
+    ensures is { (nodes : List (Node (Option V))) (t : Shape (Option V)) → Stands nodes old t → IsSet rows.now nodes result t }
+    ensures normal { (nodes : List (Node (Option V))) → IsNormalLoose nodes old → IsNormalLoose nodes result }
+{
+    match rows.first() {
+        None => old,
+        Some(row) => Loose::Same(Some(row.2)),
+    }
+}
+
 impl<V: LawfulOrd> Table<Option<V>> {
-    /// The leaf that the rows of a whole block set, or the old trie where there are none.
-    fn set(&mut self, rows: &[Row<V>], old: NodeNumber) -> Result<NodeNumber, AllocError>
-        requires sound { IsSound ⟦<Node<Option<V>> as Ord>⟧.cmp self.old.nodes.items self.old.numbers }
-        ensures sound { OnOk result (IsSound ⟦<Node<Option<V>> as Ord>⟧.cmp self.new.nodes.items self.new.numbers) }
+    /// The trie of a block with rows of one destination laid over it.
+    fn laid(
+        &mut self,
+        rows: &[Row<V>],
+        width: u8,
+        bits: u8,
+        start: u128,
+        old: Loose<Option<V>>,
+    ) -> Result<Loose<Option<V>>, AllocError>
+        requires sound { IsSound ⟦<Sources<Option<V>> as Ord>⟧.cmp self.old.nodes.items self.old.numbers }
+        requires trie { IsTrie bits self.old.nodes.items old }
+        requires normal { IsNormalLoose self.old.nodes.items old }
+        requires place { IsPlace width bits start }
+        requires rows { InBlock source_block width bits start rows.now }
+        requires one { HasOneDestination rows.now }
+        requires width { width ≤ 128 }
+        ensures sound { OnOk result (IsSound ⟦<Sources<Option<V>> as Ord>⟧.cmp self.new.nodes.items self.new.numbers) }
         ensures keeps { OnOk result (KeepsNodes self.old.nodes.items self.new.nodes.items) }
-        ensures is { IfOk result (λ n. (t : Shape (Option V)) → Represents self.old.nodes.items old.0 t → IsSet rows.now self.new.nodes.items n.0 t) }
+        ensures normal { IfOk result (IsNormalLoose self.new.nodes.items) }
+        ensures laid { IfOk result (λ new. (t : Shape (Option V)) → Stands self.old.nodes.items old t → IsLaid width bits start (map row_of rows.now) self.new.nodes.items new t) }
     {
-        match rows.first() {
-            None => Ok(old),
-            Some(row) => {
-                let leaf = self.leaf(Some(row.2))?;
-                Ok(leaf)
-            }
-        }
+        let (own, rest) = parts(rows, width, bits, start);
+        let old = set(own, old);
+        let Some(rest) = rest else {
+            return Ok(old);
+        };
+        let (low, high) = self.halves(old);
+        let low = self.laid(rest.low, width, bits - 1, start, low)?;
+        let high = self.laid(rest.high, width, bits - 1, rest.middle, high)?;
+        let whole = self.joined(low, high)?;
+        Ok(whole)
     }
 
     /// The trie with rows of one destination laid over it.
@@ -34,29 +63,20 @@ impl<V: LawfulOrd> Table<Option<V>> {
         &mut self,
         rows: &[Row<V>],
         width: u8,
-        bits: u8,
-        start: u128,
-        old: NodeNumber,
-    ) -> Result<NodeNumber, AllocError>
-        requires sound { IsSound ⟦<Node<Option<V>> as Ord>⟧.cmp self.old.nodes.items self.old.numbers }
-        requires trie { HasTrie bits self.old.nodes.items old.0 }
-        requires place { IsPlace width bits start }
-        requires rows { InBlock source_block width bits start rows.now }
+        old: Sources<Option<V>>,
+    ) -> Result<Sources<Option<V>>, AllocError>
+        requires sound { IsSound ⟦<Sources<Option<V>> as Ord>⟧.cmp self.old.nodes.items self.old.numbers }
+        requires trie { HasTrie width self.old.nodes.items old }
+        requires rows { InBlock source_block width width 0 rows.now }
         requires one { HasOneDestination rows.now }
         requires width { width ≤ 128 }
-        ensures sound { OnOk result (IsSound ⟦<Node<Option<V>> as Ord>⟧.cmp self.new.nodes.items self.new.numbers) }
+        ensures sound { OnOk result (IsSound ⟦<Sources<Option<V>> as Ord>⟧.cmp self.new.nodes.items self.new.numbers) }
         ensures keeps { OnOk result (KeepsNodes self.old.nodes.items self.new.nodes.items) }
-        ensures overlaid { IfOk result (λ n. (t : Shape (Option V)) → Represents self.old.nodes.items old.0 t → IsOverlaid width bits start (map row_of rows.now) self.new.nodes.items n.0 t) }
+        ensures overlaid { IfOk result (λ new. (t : Shape (Option V)) → Represents self.old.nodes.items old t → IsOverlaid width width 0 (map row_of rows.now) self.new.nodes.items new t) }
     {
-        let (own, rest) = parts(rows, width, bits, start);
-        let old = self.set(own, old)?;
-        let Some(rest) = rest else {
-            return Ok(old);
-        };
-        let (low, high) = self.halves(old);
-        let low = self.overlaid(rest.low, width, bits - 1, start, low)?;
-        let high = self.overlaid(rest.high, width, bits - 1, rest.middle, high)?;
-        let whole = self.joined(low, high)?;
-        Ok(whole)
+        let old = self.opened(old);
+        let new = self.laid(rows, width, width, 0, old)?;
+        let sources = self.stored(new)?;
+        Ok(sources)
     }
 }

@@ -10,29 +10,30 @@ ghost use Rattle.babel_trie.specs.Rows.{InOrder};
 ghost use Rattle.babel_trie.specs.Runs.{said_at, AreRuns, StartBelow, StartBehind, HasRuns};
 ghost use Rattle.babel_trie.specs.Sound.{IsSound, KeepsNodes};
 ghost use Rattle.babel_trie.specs.declared.runs.Change.{Change};
-ghost use Rattle.babel_trie.specs.declared.table.NodeNumber.{NodeNumber};
+ghost use Rattle.babel_trie.specs.declared.table.Sources.{Sources};
+ghost use Rattle.babel_trie.specs.declared.table.Sources.TheVariants.{Constant};
 
 use crate::fit::last_address;
-use crate::lawful::LawfulOrd;
+use crate::lawful::{LawfulOrd, are_same};
 use crate::rows::Row;
 use crate::runs::Change;
-use crate::table::{Node, NodeNumber, Table};
+use crate::table::{Node, Sources, Table};
 use babel_prefix::Prefix;
 use std::alloc::{AllocError, Global};
 
 /// Whether the last change is to these answers.
-fn ends_with(list: &[Change<NodeNumber>], sources: NodeNumber) -> bool
-    ensures same { result ≡ true → (x : Change NodeNumber) × (slice_get list.now (length list.now - 1) ≡ Some x) × (x.sources ≡ sources) }
-    ensures other { result ≡ false → (x : Change NodeNumber) → slice_get list.now (length list.now - 1) ≡ Some x → x.sources ≢ sources }
+fn ends_with<F: LawfulOrd>(list: &[Change<F>], sources: F) -> bool
+    ensures same { result ≡ true → (x : Change F) × (slice_get list.now (length list.now - 1) ≡ Some x) × (x.sources ≡ sources) }
+    ensures other { result ≡ false → (x : Change F) → slice_get list.now (length list.now - 1) ≡ Some x → x.sources ≢ sources }
 {
     let Some(last) = list.last() else {
         return false;
     };
-    last.sources == sources
+    are_same(last.sources, sources)
 }
 
 /// Says what is answered from an address on, behind all that was said.
-fn say(out: &mut Vec<Change<NodeNumber>>, change: Change<NodeNumber>) -> Result<(), AllocError>
+fn say<F: LawfulOrd>(out: &mut Vec<Change<F>>, change: Change<F>) -> Result<(), AllocError>
     requires runs { AreRuns out.old.items }
     requires below { StartBelow change.start out.old.items }
     ensures filled { OnOk result ((to : ℕ) → change.start < to → IsFilled change.start to change.sources out.old.items out.new.items) }
@@ -76,15 +77,22 @@ fn first_destination<V>(rows: &[Row<V>]) -> Option<Leading<'_, V>>
 /// A pass over rows in order: the changes said, the change come to, which is said once the next one is, and the changes
 /// back behind the blocks that are open, of which the last comes next.
 #[derive(Drop)]
-struct Pass {
-    list: Vec<Change<NodeNumber>>,
-    now: Change<NodeNumber>,
-    ahead: Vec<Change<NodeNumber>>,
+struct Pass<F> {
+    list: Vec<Change<F>>,
+    now: Change<F>,
+    ahead: Vec<Change<F>>,
 }
 
-impl Pass {
+impl<F: LawfulOrd> Pass<F> {
+    /// What is answered where the pass has come to.
+    fn sources(&self) -> F
+        ensures { result ≡ self.entry.now.now.sources }
+    {
+        self.now.sources
+    }
+
     /// Comes to a change, and says what is answered up to it.
-    fn come_to(&mut self, next: Change<NodeNumber>) -> Result<(), AllocError>
+    fn come_to(&mut self, next: Change<F>) -> Result<(), AllocError>
         requires runs { AreRuns self.old.list.items }
         requires below { StartBelow self.old.now.start self.old.list.items }
         requires order { self.old.now.start ≤ next.start }
@@ -107,8 +115,8 @@ impl Pass {
         ensures is_open { OnOk result (IsOpen self.new) }
         ensures reached { OnOk result (self.new.now.start ≤ start) }
         ensures behind { OnOk result (StartBehind start (ahead_of self.new)) }
-        ensures same { OnOk result ((none : NodeNumber) (d : ℕ) → said_at none (all_changes self.new) d ≡ said_at none (all_changes self.old) d) }
-        ensures left { OnOk result ((x : Change NodeNumber) → Listed (coming self.new) x → Listed (coming self.old) x) }
+        ensures same { OnOk result ((none : F) (d : ℕ) → said_at none (all_changes self.new) d ≡ said_at none (all_changes self.old) d) }
+        ensures left { OnOk result ((x : Change F) → Listed (coming self.new) x → Listed (coming self.old) x) }
         ensures few { OnOk result (length self.new.list.items + length self.new.ahead.items ≤ length self.old.list.items + length self.old.ahead.items) }
     {
         while let Some(next) = self.ahead.last() {
@@ -124,22 +132,16 @@ impl Pass {
 
     /// Comes to the sources of a block, which ends at an address; behind it, if it is not the end of all, come those
     /// of now again.
-    fn enter(
-        &mut self,
-        start: u128,
-        end: u128,
-        last: u128,
-        sources: NodeNumber,
-    ) -> Result<(), AllocError>
+    fn enter(&mut self, start: u128, end: u128, last: u128, sources: F) -> Result<(), AllocError>
         requires is_open { IsOpen self.old }
         requires order { self.old.now.start ≤ start }
         requires some { start ≤ end }
         requires behind { StartBehind end (ahead_of self.old) }
         ensures is_open { OnOk result (IsOpen self.new) }
         ensures now { OnOk result (self.new.now.start ≡ start) }
-        ensures inside { OnOk result ((none : NodeNumber) (d : ℕ) → start ≤ d → d ≤ end → said_at none (all_changes self.new) d ≡ sources) }
-        ensures outside { OnOk result ((none : NodeNumber) (d : ℕ) → (d < start) ⊎ (end < d) → d ≤ last → said_at none (all_changes self.new) d ≡ said_at none (all_changes self.old) d) }
-        ensures ahead { OnOk result ((x : Change NodeNumber) → Listed (ahead_of self.new) x → ((x.start ≡ end + 1) × (end < last)) ⊎ Listed (ahead_of self.old) x) }
+        ensures inside { OnOk result ((none : F) (d : ℕ) → start ≤ d → d ≤ end → said_at none (all_changes self.new) d ≡ sources) }
+        ensures outside { OnOk result ((none : F) (d : ℕ) → (d < start) ⊎ (end < d) → d ≤ last → said_at none (all_changes self.new) d ≡ said_at none (all_changes self.old) d) }
+        ensures ahead { OnOk result ((x : Change F) → Listed (ahead_of self.new) x → ((x.start ≡ end + 1) × (end < last)) ⊎ Listed (ahead_of self.old) x) }
         ensures few { OnOk result (length self.new.list.items + length self.new.ahead.items ≤ length self.old.list.items + length self.old.ahead.items + 2) }
     {
         if end < last {
@@ -160,12 +162,12 @@ impl<V: LawfulOrd> Table<Option<V>> {
         alloc: Global,
         width: u8,
         rows: &[Row<V>],
-    ) -> Result<Vec<Change<NodeNumber>>, AllocError>
-        requires sound { IsSound ⟦<Node<Option<V>> as Ord>⟧.cmp self.old.nodes.items self.old.numbers }
+    ) -> Result<Vec<Change<Sources<Option<V>>>>, AllocError>
+        requires sound { IsSound ⟦<Sources<Option<V>> as Ord>⟧.cmp self.old.nodes.items self.old.numbers }
         requires order { InOrder RowOrder rows.now }
         requires table { IsTable width (map row_of rows.now) }
         requires width { width ≤ 128 }
-        ensures sound { OnOk result (IsSound ⟦<Node<Option<V>> as Ord>⟧.cmp self.new.nodes.items self.new.numbers) }
+        ensures sound { OnOk result (IsSound ⟦<Sources<Option<V>> as Ord>⟧.cmp self.new.nodes.items self.new.numbers) }
         ensures keeps { OnOk result (KeepsNodes self.old.nodes.items self.new.nodes.items) }
         ensures runs { IfOk result (λ list. HasRuns width self.new.nodes.items list.items (answer width (map row_of rows.now))) }
         ensures few { IfOk result (λ list. length list.items ≤ 2 * length rows.now + 1) }
@@ -175,7 +177,7 @@ impl<V: LawfulOrd> Table<Option<V>> {
             list: Vec::new(alloc),
             now: Change {
                 start: 0,
-                sources: self.leaf(None)?,
+                sources: Sources::Constant(None),
             },
             ahead: Vec::new(alloc),
         };
@@ -184,7 +186,7 @@ impl<V: LawfulOrd> Table<Option<V>> {
             let start = next.destination.addr().bits();
             let end = last_address(start, width - next.destination.len());
             pass.reach(start)?;
-            let here = self.overlaid(next.rows, width, width, 0, pass.now.sources)?;
+            let here = self.overlaid(next.rows, width, pass.sources())?;
             pass.enter(start, end, last, here)?;
             rest = next.others;
         }

@@ -3,7 +3,7 @@ ghost use Rattle.std.specs.Prelude.{◌≡◌, ◌≢◌, ◌+◌, ◌-◌, ◌^
 ghost use Rattle.std.specs.List.Sorted.{IsPartitionedBy, IsPartitionPoint, IsPermutation};
 ghost use Rattle.babel_prefix.specs.Entries.{HasPrefixes};
 ghost use Rattle.babel_prefix.specs.Members.{Listed};
-ghost use Rattle.babel_trie.specs.Held.{RowOrder};
+ghost use Rattle.babel_trie.specs.Held.{RowOrder, row_place};
 ghost use Rattle.babel_trie.specs.Rows.{InOrder, InBlock, IsPlace, AreParted, source_block};
 
 use babel_prefix::Prefix;
@@ -11,6 +11,34 @@ use std::alloc::{AllocError, Global};
 
 /// A row: a destination, a source and what they are given.
 pub type Row<V> = (Prefix, Prefix, V);
+
+/// The place of a row in the order of rows: by destination, then by source; a prefix stands before those inside it.
+fn place<V>(row: &Row<V>) -> ((u128, u8), (u128, u8))
+    ensures place { result ≡ row_place row.now }
+    ensures prefixes { HasPrefixes row.now }
+{
+    let (dst, src) = (&row.0, &row.1);
+    (
+        (dst.addr().bits(), dst.len()),
+        (src.addr().bits(), src.len()),
+    )
+}
+
+/// Whether the rows stand in order.
+pub fn are_in_order<V>(rows: &[Row<V>]) -> bool
+    ensures in_order { result ≡ true → InOrder RowOrder rows.now }
+    ensures prefixes { result ≡ true → All HasPrefixes rows.now }
+{
+    let mut before = ((0, 0), (0, 0));
+    for row in rows {
+        let here = place(row);
+        if here.cmp(&before).is_lt() {
+            return false;
+        }
+        before = here;
+    }
+    true
+}
 
 /// The rows in order: a prefix stands before those inside it.
 pub fn sorted_rows<V: Copy>(alloc: Global, rows: &[Row<V>]) -> Result<Vec<Row<V>>, AllocError>

@@ -5,11 +5,11 @@ ghost use Rattle.babel_prefix.specs.Width.{width_of};
 ghost use Rattle.babel_trie.specs.Runs.{said_at, AreRuns, HasRuns};
 ghost use Rattle.babel_trie.specs.Sound.{IsSound, KeepsNodes};
 ghost use Rattle.babel_trie.specs.Spans.{start_or};
-ghost use Rattle.babel_trie.specs.declared.table.NodeNumber.{NodeNumber};
+ghost use Rattle.babel_trie.specs.declared.table.Sources.{Sources};
 
 use crate::lawful::LawfulOrd;
-use crate::rows::{Row, sorted_rows};
-use crate::table::{Node, NodeNumber, Table};
+use crate::rows::{Row, are_in_order, sorted_rows};
+use crate::table::{Node, Sources, Table};
 use babel_prefix::Family;
 use std::alloc::{AllocError, Global};
 
@@ -21,31 +21,35 @@ pub struct Change<F> {
 }
 
 /// What is answered for a destination.
-pub fn sources_of(list: &[Change<NodeNumber>], dst: u128) -> NodeNumber
+pub fn sources_of<V>(list: &[Change<Sources<V>>], dst: u128) -> &Sources<V>
     requires runs { AreRuns list.now }
     requires from_zero { start_or 1 list.now ≡ 0 }
-    ensures { (none : NodeNumber) → result ≡ said_at none list.now dst }
+    ensures { (none : Sources V) → result.now ≡ said_at none list.now dst }
 {
     let behind = list.partition_point(|change| change.start <= dst);
-    list[behind - 1].sources
+    &list[behind - 1].sources
 }
 
 impl<V: LawfulOrd> Table<Option<V>> {
-    /// The changes of the answers of these rows, in whatever order they stand.
+    /// The changes of the answers of these rows, in whatever order they stand. Rows in order are used as they are.
     pub fn runs(
         &mut self,
         alloc: Global,
         family: Family,
         rows: &[Row<V>],
-    ) -> Result<Vec<Change<NodeNumber>>, AllocError>
-        requires sound { IsSound ⟦<Node<Option<V>> as Ord>⟧.cmp self.old.nodes.items self.old.numbers }
+    ) -> Result<Vec<Change<Sources<Option<V>>>>, AllocError>
+        requires sound { IsSound ⟦<Sources<Option<V>> as Ord>⟧.cmp self.old.nodes.items self.old.numbers }
         requires family { All (AreOfFamily family) rows.now }
         requires prefixes { HasDistinctPrefixes rows.now }
-        ensures sound { OnOk result (IsSound ⟦<Node<Option<V>> as Ord>⟧.cmp self.new.nodes.items self.new.numbers) }
+        ensures sound { OnOk result (IsSound ⟦<Sources<Option<V>> as Ord>⟧.cmp self.new.nodes.items self.new.numbers) }
         ensures keeps { OnOk result (KeepsNodes self.old.nodes.items self.new.nodes.items) }
         ensures runs { IfOk result (λ list. HasRuns (width_of family) self.new.nodes.items list.items (answers_in family rows.now)) }
         ensures few { IfOk result (λ list. length list.items ≤ 2 * length rows.now + 1) }
     {
+        if are_in_order(rows) {
+            let list = self.table_runs(alloc, family.width(), rows)?;
+            return Ok(list);
+        }
         let sorted = sorted_rows(alloc, rows)?;
         let list = self.table_runs(alloc, family.width(), &sorted)?;
         Ok(list)

@@ -5,13 +5,13 @@ use babel_tlv::{Held, Mode};
 use std::process::Abort;
 use std::test::Fail;
 
-/// That the least difference is at 255.255.255.255 from 0.0.0.1, where these metrics are answered.
-fn differ(rt: &impl Abort, left: Option<u16>, right: Option<u16>) -> Verdict {
+/// That the least difference is at 255.255.255.255 from 0.0.0.1, where this is answered.
+fn differ(rt: &impl Abort, left: Option<Held>, right: Option<Held>) -> Verdict {
     Verdict::Differ {
         dst: addr(rt, "255.255.255.255"),
         src: addr(rt, "0.0.0.1"),
-        left: left.map(|metric| route(rt, metric)),
-        right: right.map(|metric| route(rt, metric)),
+        left,
+        right,
     }
 }
 
@@ -20,9 +20,9 @@ fn least_differences(rt: HostRuntime) -> Result<(), Fail> {
     let one = table(&rt, rt.alloc(), Mode::Plain, "fe80::1", BOTH_FAMILIES);
     let other = table(&rt, rt.alloc(), Mode::Plain, "fe80::1", IPV6_ALONE);
     let verdict = compare(rt.alloc(), &one, &other).expect(&rt, "memory");
-    assert!(rt; verdict == differ(&rt, Some(256), None));
+    assert!(rt; verdict == differ(&rt, Some(route(&rt, 256)), None));
     let verdict = compare(rt.alloc(), &other, &one).expect(&rt, "memory");
-    assert!(rt; verdict == differ(&rt, None, Some(256)));
+    assert!(rt; verdict == differ(&rt, None, Some(route(&rt, 256))));
     let verdict = compare(rt.alloc(), &one, &one).expect(&rt, "memory");
     assert!(rt; verdict == Verdict::Same);
     let one = table(&rt, rt.alloc(), Mode::Plain, "192.0.2.1", HALVES);

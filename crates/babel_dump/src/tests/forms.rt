@@ -244,7 +244,7 @@ static LINES: [(usize, &str); 5] = [
 fn lines_of_the_longest_path(rt: HostRuntime) -> Result<(), Fail> {
     let job = job(rt.alloc(), PLAIN, V6, PAIRS)?;
     let ran = answer(rt.alloc(), Limits::usual(), &job, (DEEPEST, ""), 100)?;
-    assert_eq!(rt; ran.outcome, Ok(0));
+    assert_eq!(rt; ran.status(), Ok(0));
     let text = str::from_utf8(&ran.taken)?;
     for (place, line) in &LINES {
         expect_line(&rt, text, *place, line)?;

@@ -5,11 +5,12 @@ use super::devices::{EndlessIn, ScriptedIn, ScriptedOut};
 use super::dumps::{ONE_ROUTE, V4};
 use super::{COMPARE_V4, all_asked, answer, expect_fault, expect_outcome, job, octets};
 use crate::byte_in::ByteIn;
+use crate::ignored::IgnoredTlv;
 use crate::job::Job;
 use crate::job_run::run_job;
 use crate::run_fault::{RunFault, status_of};
 use babel_table::Limits;
-use babel_tlv::{Fault, Mode};
+use babel_tlv::{Fault, Mode, Reason};
 use std::alloc::Global;
 use std::process::Abort;
 use std::test::Fail;
@@ -181,7 +182,7 @@ fn another_dump_without_end(rt: HostRuntime) -> Result<(), Fail> {
 }
 
 /// Each fault, its status and its text.
-static TEXTS: [(RunFault, u8, &str); 14] = [
+static TEXTS: [(RunFault, u8, &str); 16] = [
     (
         RunFault::Dump(Fault::Truncated { at: 29 }),
         3,
@@ -224,6 +225,22 @@ static TEXTS: [(RunFault, u8, &str); 14] = [
         RunFault::OtherDump(Fault::Memory),
         5,
         "other: out of memory",
+    ),
+    (
+        RunFault::Ignored(IgnoredTlv {
+            at: 198,
+            reason: Reason::Short,
+        }),
+        3,
+        "ignored TLV at 198: short",
+    ),
+    (
+        RunFault::OtherIgnored(IgnoredTlv {
+            at: 29,
+            reason: Reason::BadPlen,
+        }),
+        3,
+        "other: ignored TLV at 29: bad-plen",
     ),
     (RunFault::Read, 4, "read failed"),
     (RunFault::OtherRead, 4, "other: read failed"),

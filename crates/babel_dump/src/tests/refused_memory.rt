@@ -7,7 +7,7 @@ use super::devices::ScriptedIn;
 use super::dumps::{NESTED_SOURCES, ONE_FAMILY, TWO_FAMILIES, V4, V6};
 use crate::addr_pair::AddrPair;
 use crate::byte_out::ByteOut;
-use crate::job::{Job, OneDump, TwoDumps};
+use crate::job::{DumpFile, Job, OneDump, TwoDumps};
 use crate::job_run::run_job;
 use crate::run_fault::RunFault;
 use babel_canon::Body;
@@ -90,7 +90,9 @@ fn outcome(
     let limits = Limits::usual();
     let outcome = run_job(alloc, limits, job, &mut reader, &mut other, &mut writer);
     match outcome {
-        Ok(given) if given == status && writer.rest.is_empty() && writer.flushes == 1 => Ok(()),
+        Ok(given) if given.status == status && writer.rest.is_empty() && writer.flushes == 1 => Ok(
+            (),
+        ),
         Err(RunFault::Dump(Fault::Memory) | RunFault::OtherDump(Fault::Memory))
             if writer.rest == text.as_bytes() && writer.flushes == 0 => { Err(Fail::from(REFUSED)) }
         _ => Err(Fail::from(OTHER)),
@@ -114,7 +116,8 @@ fn dump_from(sender: &str) -> Result<OneDump, Fail> {
     Ok(OneDump {
         from: address(sender)?,
         mode: Mode::Plain,
-        file: None,
+        strict: false,
+        file: DumpFile::StandardInput,
     })
 }
 
@@ -166,8 +169,9 @@ fn refused_memory_of_compare(rt: HostRuntime) -> Result<(), Fail> {
         from,
         other_from: from,
         mode: Mode::Plain,
-        file: String::new(rt.alloc()),
-        other: String::new(rt.alloc()),
+        strict: false,
+        file: DumpFile::StandardInput,
+        other: DumpFile::StandardInput,
     };
     let job = Job::Compare { dumps };
     outcome(rt.alloc(), &job, TWO_FAMILIES, ONE_FAMILY, 1, DIFFERENCE)

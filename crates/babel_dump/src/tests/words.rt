@@ -1,7 +1,7 @@
 //! The program's words: jobs, refusals and help.
 use super::{address, split};
-use crate::job::{Job, OneDump, Refusal};
-use crate::words::read_words;
+use crate::job::{DumpFile, Job, OneDump, Refusal};
+use crate::words::{read_order, read_words};
 use babel_prefix::Addr;
 use babel_tlv::Mode;
 use std::alloc::Global;
@@ -17,6 +17,7 @@ struct Wanted<'a> {
     to: Option<&'a str>,
     src: Option<&'a str>,
     mode: Mode,
+    strict: bool,
     hex: bool,
     body: Option<u16>,
     count: bool,
@@ -32,6 +33,7 @@ const SHOW: Wanted<'static> = Wanted {
     to: None,
     src: None,
     mode: Mode::Plain,
+    strict: false,
     hex: false,
     body: None,
     count: false,
@@ -67,7 +69,7 @@ const COMPARE: Wanted<'static> = Wanted {
 
 /// Words, and the job that they ask for.
 #[rattlefmt::skip]
-static JOBS: [(&str, Wanted<'static>); 15] = [
+static JOBS: [(&str, Wanted<'static>); 22] = [
     (
         "lookup --from fe80::1 --to 10.1.2.3 --src=0.0.0.0 --hold x",
         Wanted {
@@ -95,11 +97,18 @@ static JOBS: [(&str, Wanted<'static>); 15] = [
     ("normalise --from :: --hold", Wanted { mode: Mode::Hold, ..NORMALISE }),
     ("pairs --from :: --hold", Wanted { mode: Mode::Hold, ..PAIRS }),
     ("compare --from :: --other-from :: --hold a b", Wanted { mode: Mode::Hold, ..COMPARE }),
+    ("lookup --from :: --to :: --src :: --strict", Wanted { strict: true, ..LOOKUP }),
+    ("normalise --from :: --strict", Wanted { strict: true, ..NORMALISE }),
+    ("pairs --from :: --strict", Wanted { strict: true, ..PAIRS }),
+    ("compare --from :: --other-from :: --strict a b", Wanted { strict: true, ..COMPARE }),
     ("normalise --from :: --hex", Wanted { hex: true, ..NORMALISE }),
     ("pairs --from :: --count", Wanted { count: true, ..PAIRS }),
     ("normalise --from :: --body 128", Wanted { body: Some(128), ..NORMALISE }),
     ("normalise --from :: --body 1024", Wanted { body: Some(1024), ..NORMALISE }),
     ("normalise --from :: --body 65535", Wanted { body: Some(65535), ..NORMALISE }),
+    ("show --from :: -", SHOW),
+    ("compare --from :: --other-from :: - b", Wanted { file: None, ..COMPARE }),
+    ("compare --from :: --other-from :: a -", Wanted { other: None, ..COMPARE }),
 ];
 
 #[test]
@@ -134,10 +143,11 @@ fn expect_job(rt: &impl Abort, line: &str, job: &Job, wanted: &Wanted<'_>) -> Re
         Job::Compare { dumps } => {
             assert_eq!(rt; "compare", wanted.command, "of {line}");
             assert_eq!(rt; dumps.mode, wanted.mode, "of {line}");
+            assert_eq!(rt; dumps.strict, wanted.strict, "of {line}");
             expect_address(rt, line, dumps.from, Some(wanted.from))?;
             expect_address(rt, line, dumps.other_from, wanted.other_from)?;
-            expect_name(rt, line, Some(dumps.file.as_str()), wanted.file);
-            expect_name(rt, line, Some(dumps.other.as_str()), wanted.other);
+            expect_file(rt, line, &dumps.file, wanted.file);
+            expect_file(rt, line, &dumps.other, wanted.other);
             Ok(())
         }
     }
@@ -153,8 +163,9 @@ fn expect_dump(
 ) -> Result<(), Fail> {
     assert_eq!(rt; command, wanted.command, "of {line}");
     assert_eq!(rt; dump.mode, wanted.mode, "of {line}");
+    assert_eq!(rt; dump.strict, wanted.strict, "of {line}");
     expect_address(rt, line, dump.from, Some(wanted.from))?;
-    expect_name(rt, line, dump.file.as_deref(), wanted.file);
+    expect_file(rt, line, &dump.file, wanted.file);
     Ok(())
 }
 
@@ -169,9 +180,13 @@ fn expect_address(
     Ok(())
 }
 
-/// The file's name of a job is the one that is wanted.
-fn expect_name(rt: &impl Abort, line: &str, given: Option<&str>, wanted: Option<&str>) {
-    assert!(rt; given == wanted, "{given:?} of {line}");
+/// The file of a job is the one that is wanted; standard input where none is.
+fn expect_file(rt: &impl Abort, line: &str, given: &DumpFile, wanted: Option<&str>) {
+    let name = match given {
+        DumpFile::StandardInput => None,
+        DumpFile::Named(name) => Some(name.as_str()),
+    };
+    assert!(rt; name == wanted, "{given:?} of {line}");
 }
 
 /// The text that the words of a line are refused with.
@@ -186,34 +201,28 @@ fn usage(rt: &impl Abort, alloc: Global, line: &str) -> Result<String, Fail> {
     }
 }
 
-/// Words that are no addresses, and addresses of two families, with the text that they are refused with. Of several
-/// that are no addresses the first is named, in the order `--from`, `--other-from`, `--to`, `--src`.
-static NO_ADDRESSES: [(&str, &str); 8] = [
-    ("lookup --src v --to w --from q", "not an address: q\n"),
-    ("lookup --src v --to w --from ::", "not an address: w\n"),
-    (
-        "lookup --src 01.2.3.4 --to :: --from ::",
-        "not an address: 01.2.3.4\n",
-    ),
-    ("lookup --src :: --to :: --from ''", "not an address: \n"),
-    ("compare --other-from w --from q a b", "not an address: q\n"),
-    (
-        "compare --other-from w --from :: a b",
-        "not an address: w\n",
-    ),
-    (
-        "lookup --from 192.0.2.1 --to 10.0.0.1 --src ::1 x",
-        "--to and --src are of different families\n",
-    ),
-    (
-        "lookup --from 192.0.2.1 --to ::1 --src 10.0.0.1 x",
-        "--to and --src are of different families\n",
-    ),
+/// Words that are no addresses, and others that go together with no other, with the text that they are refused with. Of
+/// several that are no addresses the first is named, in the order `--from`, `--other-from`, `--to`, `--src`.
+#[rattlefmt::skip]
+static NO_JOBS: [(&str, &str); 13] = [
+    ("lookup --src v --to w --from q", "not an address: q\nhint: --from takes an IPv4 or IPv6 address\n"),
+    ("lookup --src v --to w --from ::", "not an address: w\nhint: --to takes an IPv4 or IPv6 address\n"),
+    ("lookup --src 01.2.3.4 --to :: --from ::", "not an address: 01.2.3.4\nhint: --src takes an IPv4 or IPv6 address\n"),
+    ("lookup --src :: --to :: --from ''", "not an address: \nhint: --from takes an IPv4 or IPv6 address\n"),
+    ("compare --other-from w --from q a b", "not an address: q\nhint: --from takes an IPv4 or IPv6 address\n"),
+    ("compare --other-from w --from :: a b", "not an address: w\nhint: --other-from takes an IPv4 or IPv6 address\n"),
+    ("show --from fe80::1%eth0", "not an address: fe80::1%eth0\nhint: --from takes an address without a zone\n"),
+    ("lookup --from :: --to :: --src ::/0", "not an address: ::/0\nhint: --src takes an address without a prefix length\n"),
+    ("show --from \u{7}q", "not an address: \\u{7}q\nhint: --from takes an IPv4 or IPv6 address\n"),
+    ("lookup --from 192.0.2.1 --to 10.0.0.1 --src ::1 x", "--to and --src are of different families\n"),
+    ("lookup --from 192.0.2.1 --to ::1 --src 10.0.0.1 x", "--to and --src are of different families\n"),
+    ("compare --from :: --other-from :: - -", "both dumps are standard input\n"),
+    ("show --from :: --max-octets 82 --max-routes 1", "--max-octets 82 is less than 83 for each of 1 routes\n"),
 ];
 
 #[test]
-fn words_that_are_no_addresses(rt: HostRuntime) -> Result<(), Fail> {
-    for (line, text) in &NO_ADDRESSES {
+fn words_of_no_job(rt: HostRuntime) -> Result<(), Fail> {
+    for (line, text) in &NO_JOBS {
         let refusal = usage(&rt, rt.alloc(), line)?;
         assert_eq!(rt; refusal.as_str(), *text, "of {line}");
     }
@@ -225,7 +234,7 @@ const USAGE: &str = "Usage: babel-dump";
 const BODY: &str = "'--body <OCTETS>'";
 
 /// Words that are refused, and a part of the text.
-static REFUSED: [(&str, &str); 18] = [
+static REFUSED: [(&str, &str); 22] = [
     ("", USAGE),
     ("shows", USAGE),
     ("show x", USAGE),
@@ -238,13 +247,78 @@ static REFUSED: [(&str, &str); 18] = [
     ("show --from :: x y", USAGE),
     ("show --from :: --to ::", USAGE),
     ("show --from :: --hex", USAGE),
+    ("show --from :: --strict", USAGE),
     ("pairs --from :: --body 128", USAGE),
     ("normalise --from :: --count", USAGE),
     ("normalise --from :: --body 127", BODY),
     ("normalise --from :: --body 65536", BODY),
     ("normalise --from :: --body 0", BODY),
     ("normalise --from :: --body a", BODY),
+    ("show --from :: --max-routes 0", "'--max-routes <ROUTES>'"),
+    (
+        "show --from :: --max-routes 51746594",
+        "'--max-routes <ROUTES>'",
+    ),
+    (
+        "show --from :: --max-octets 4294967296",
+        "'--max-octets <OCTETS>'",
+    ),
 ];
+
+/// Words, and the octets and the routes that they limit a dump to.
+static LIMITS: [(&str, u32, u32); 6] = [
+    ("show --from ::", 33_554_432, 262_144),
+    ("pairs --from :: --max-routes 1", 33_554_432, 1),
+    (
+        "normalise --from :: --max-routes 404271",
+        33_554_493,
+        404_271,
+    ),
+    (
+        "show --from :: --max-routes 51746593",
+        4_294_967_219,
+        51_746_593,
+    ),
+    ("show --from :: --max-octets 83 --max-routes 1", 83, 1),
+    (
+        "compare --from :: --other-from :: --max-octets 4294967295 a b",
+        4_294_967_295,
+        262_144,
+    ),
+];
+
+/// Words, and whether nothing is said of ignored TLVs.
+static QUIET: [(&str, bool); 4] = [
+    ("show --from ::", true),
+    ("show --from :: --quiet", true),
+    ("pairs --from ::", false),
+    ("compare --from :: --other-from :: --quiet a b", true),
+];
+
+#[test]
+fn words_of_quiet(rt: HostRuntime) -> Result<(), Fail> {
+    for (line, quiet) in &QUIET {
+        match read_order(rt.alloc(), &split(rt.alloc(), line)?) {
+            Ok(order) => assert_eq!(rt; order.quiet, *quiet, "of {line}"),
+            Err(_refusal) => assert!(rt; false, "no job of {line}"),
+        }
+    }
+    Ok(())
+}
+
+#[test]
+fn words_of_limits(rt: HostRuntime) -> Result<(), Fail> {
+    for (line, octets, routes) in &LIMITS {
+        match read_order(rt.alloc(), &split(rt.alloc(), line)?) {
+            Ok(order) => {
+                assert_eq!(rt; order.limits.bytes(), *octets, "of {line}");
+                assert_eq!(rt; order.limits.entries(), *routes, "of {line}");
+            }
+            Err(_refusal) => assert!(rt; false, "no job of {line}"),
+        }
+    }
+    Ok(())
+}
 
 #[test]
 fn words_that_are_refused(rt: HostRuntime) -> Result<(), Fail> {
@@ -256,10 +330,13 @@ fn words_that_are_refused(rt: HostRuntime) -> Result<(), Fail> {
 }
 
 /// The words of the options that each command over one dump has.
-const OF_ONE_DUMP: [&str; 3] = [
-    "--from <ADDRESS>  The address that the dump's packets were sent from",
-    "--hold            Keep a retracted route as unreachable, so",
-    "[FILE]  The dump; standard input if it is left out",
+const OF_ONE_DUMP: [&str; 6] = [
+    "--from <ADDRESS>       The address that the dump's packets were sent from",
+    "--hold                 Keep a retracted route as unreachable, so",
+    "--quiet                Leave out the note on standard error",
+    "--max-routes <ROUTES>  How many routes, and how many canonical pairs, there may be",
+    "--max-octets <OCTETS>  How many octets a dump may have",
+    "[FILE]  The dump; standard input if it is left out, or is -",
 ];
 
 const COMMANDS: [&str; 5] = [
@@ -270,30 +347,34 @@ const COMMANDS: [&str; 5] = [
     "  compare  ",
 ];
 
-const OF_LOOKUP: [&str; 4] = [
-    "--to <ADDRESS>    The destination to look up",
-    "--src <ADDRESS>   The source to look up, of the destination's family",
+const OF_LOOKUP: [&str; 5] = [
+    "--strict               Refuse a dump of which a TLV is ignored",
+    "--to <ADDRESS>         The destination to look up",
+    "--src <ADDRESS>        The source to look up, of the destination's family",
     "babel-dump lookup --from",
     "  1  the answer is none or unreachable",
 ];
 
-const OF_NORMALISE: [&str; 3] = [
-    "--body <OCTETS>   How long the body of a packet may be, from 128 to 65535 octets; 1024 if it is left out",
-    "--hex             Write the octets as lower-case hexadecimal digits on a line",
+const OF_NORMALISE: [&str; 4] = [
+    "--strict               Refuse a dump of which a TLV is ignored",
+    "--body <OCTETS>        How long the body of a packet may be, from 128 to 65535 octets; 1024 if it is left out",
+    "--hex                  Write the octets as lower-case hexadecimal digits on a line",
     "babel-dump normalise --from",
 ];
 
-const OF_PAIRS: [&str; 2] = [
-    "--count           Write only how many rows and how many canonical pairs there are",
+const OF_PAIRS: [&str; 3] = [
+    "--strict               Refuse a dump of which a TLV is ignored",
+    "--count                Write only how many rows and how many canonical pairs there are",
     "babel-dump pairs --from",
 ];
 
-const OF_COMPARE: [&str; 7] = [
+const OF_COMPARE: [&str; 8] = [
+    "--strict                Refuse a dump of which a TLV is ignored",
     "--from <ADDRESS>        The address that the packets of FILE were sent from",
     "--other-from <ADDRESS>  The address that the packets of OTHER were sent from",
     "--hold                  Keep a retracted route as unreachable, so",
-    "<FILE>   The first dump",
-    "<OTHER>  The other dump",
+    "<FILE>   The first dump; - is standard input",
+    "<OTHER>  The other dump; - is standard input",
     "babel-dump compare --from",
     "  1  some destination and source has not",
 ];

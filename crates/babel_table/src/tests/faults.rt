@@ -22,7 +22,7 @@ pub const TOO_MANY: &str =
     "2a020026 RID 080b010008000640000101000a 080b0100080006400001020014 2b020000";
 
 /// Dumps with a fault other than that they end too early.
-pub const FAULTY: [(&str, Fault); 8] = [
+pub const FAULTY: [(&str, Fault); 9] = [
     (
         "2a020019 RID 080b010008000640000101000a 2b020000",
         Fault::BadMagic { at: 29 },
@@ -37,6 +37,10 @@ pub const FAULTY: [(&str, Fault); 8] = [
     (
         "2a02000d 080b034008000640000101000a",
         Fault::EncodingSetsRouterId { at: 4 },
+    ),
+    (
+        "2a020010 080b044008000640000101000a 040200",
+        Fault::TlvPastEnd { at: 17 },
     ),
     (
         "2a020018 RID 080b010008000640000101000a",
@@ -122,7 +126,7 @@ fn limits_on_octets(rt: HostRuntime) -> Result<(), Fail> {
         dump.resize(4 + padding, 0)?;
         match read_dump(alloc, limits(83, 1), Mode::Plain, router(), &dump) {
             Ok(table) => assert!(rt;
-                fault.is_none() && table.rows().is_empty() && table.report().tlvs() == 79
+                fault.is_none() && table.rows().len() == 0 && table.report().tlvs() == 79
             ),
             Err(f) => assert!(rt; fault == Some(f)),
         }

@@ -8,7 +8,7 @@ use Rattle.babel_trie.specs.Boxes.{SameAnswers, IsLeastDifference}
 use Rattle.babel_tlv.specs.declared.held.Held.{Held}
 use Rattle.babel_tlv.specs.Pair.{Pair}
 use Rattle.babel_table.specs.Rows.{entries_of}
-use Rattle.babel_canon.specs.declared.values.ValueNumber.{ValueNumber}
+use Rattle.babel_canon.specs.declared.values.PackedValue.{PackedValue}
 use Rattle.babel_canon.specs.Values.{AreNumberedEntries}
 use Rattle.babel_canon.specs.Verdict.{IsFirstInFamily}
 use Rattle.babel_canon.proofs.Numbered.{AreDistinct, same_by_value, difference_by_value}
@@ -16,7 +16,7 @@ use Rattle.babel_canon.proofs.ValueLists.{distinct, entries_still, entries_say}
 use Rattle.babel_canon.proofs.comparison.family_difference.Goals as goal
 
 -- where the entries of two tables differ by number, the tables do
-module _ (family : Family) (rows others : List Pair) (values : List Held) (once : AreDistinct values) (mine theirs : List (Entry ValueNumber))
+module _ (family : Family) (rows others : List Pair) (values : List Held) (once : AreDistinct values) (mine theirs : List (Entry PackedValue))
     (mine_are : AreNumberedEntries family rows values mine) (theirs_are : AreNumberedEntries family others values theirs) where
   by_value : {E : Type 0} (result : Result (Option (Address × Address)) E)
       → IfOk result (λ found. IfSome found (λ p. (p.0.family ≡ family) × (p.1.family ≡ family)))
@@ -43,6 +43,6 @@ returns c =
     let mine : AreNumberedEntries family rows values c.in_ok-entries.entries.items =
     entries_still old values c.in_ok-others.ensures.keeps family rows c.in_ok-entries.entries.items c.in_ok-entries.ensures.entries in
     by_value family rows others values (distinct values c.family_entries-2.new.values.numbers c.in_ok-others.ensures.numbered) c.deref.result.now c.deref-2.result.now
-    (subst (λ (es : List (Entry ValueNumber)). AreNumberedEntries family rows values es) (sym c.deref.ensures.value) mine)
-    (subst (λ (es : List (Entry ValueNumber)). AreNumberedEntries family others values es) (sym c.deref-2.ensures.value) c.in_ok-others.ensures.entries)
+    (subst (λ (es : List (Entry PackedValue)). AreNumberedEntries family rows values es) (sym c.deref.ensures.value) mine)
+    (subst (λ (es : List (Entry PackedValue)). AreNumberedEntries family others values es) (sym c.deref-2.ensures.value) c.in_ok-others.ensures.entries)
     c.least_difference.result c.least_difference.ensures.family c.least_difference.ensures.least

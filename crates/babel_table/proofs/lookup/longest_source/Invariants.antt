@@ -3,4 +3,4 @@ use Rattle.babel_table.proofs.LookupLaws.{SourcesEnd}
 use Rattle.babel_table.proofs.lookup.longest_source.Given as goal
 
 abbrev pub invariant-loop-len : goal.invariant-loop-len
-invariant-loop-len l = SourcesEnd l.rows l.dst l.src l.len
+invariant-loop-len g l = SourcesEnd l.rows l.dst l.src l.len

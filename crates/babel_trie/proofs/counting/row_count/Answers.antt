@@ -1,22 +1,23 @@
 -- One change's rows after another's.
-use Rattle.std.proofs.Common.{◌≡◌, inl, inr, refl, ℕ, ◌+◌, ◌-◌, ◌*◌, ◌^◌, ◌<◌, List, ◌∷◌, length, get_or, ◌∙◌, ap, subst, arith}
+use Rattle.std.proofs.Common.{◌≡◌, inl, inr, refl, ℕ, ◌+◌, ◌-◌, ◌*◌, ◌^◌, ◌<◌, List, ◌∷◌, length, ◌∙◌, ap, subst, arith, Option}
 use Rattle.std.proofs.Math.Pow.{pow_mono}
 use Rattle.babel_prefix.proofs.Members.{Listed}
-use Rattle.babel_trie.specs.Counts.{capped}
+use Rattle.babel_trie.specs.Counts.{capped, sources_count}
 use Rattle.babel_trie.specs.Cut.{largest_in}
+use Rattle.babel_trie.specs.Sound.{IsBelow}
 use Rattle.babel_trie.specs.Spans.{start_or, spans, counted_rows}
 use Rattle.babel_trie.specs.declared.runs.Change.{Change}
-use Rattle.babel_trie.specs.declared.table.NodeNumber.{NodeNumber}
+use Rattle.babel_trie.specs.declared.table.Sources.{Sources}
 use Rattle.babel_trie.proofs.Largest.{largest_is}
 use Rattle.babel_trie.proofs.SpanLaws.{IsRising, rising_runs}
 use Rattle.babel_trie.proofs.SpanBlocks.{none_left, start_within}
 use Rattle.babel_trie.proofs.counting.row_count.Goals as goal
 
 pub last_address-top-requires : goal.last_address-top-requires
-last_address-top-requires c = omega (arith, pow_mono {i = c.args.width} {j = 128} c.requires.width)
+last_address-top-requires g c = omega (arith, pow_mono {i = c.args.width} {j = 128} c.requires.width)
 
 pub loop-run-init : goal.loop-run-init
-loop-run-init c =
+loop-run-init g c =
     record {
       fits = omega arith;
       rising = rising_runs (2 ^ c.args.width) c.args.runs.now c.requires.runs c.requires.below;
@@ -25,11 +26,11 @@ loop-run-init c =
     }
 
 pub value_count-rows-requires : goal.value_count-rows-requires
-value_count-rows-requires c =
-    subst (λ (xs : List (Change NodeNumber)). (x : Change NodeNumber) → Listed xs x → x.sources.0 < length c.args.counts.now) c.in-Some.ensures.cases.0 c.loop-run.invariant.each c.in-Some.run'.now (inl refl)
+value_count-rows-requires g c =
+    subst (λ (xs : List (Change (Sources (Option g.row.V.Denot)))). (x : Change (Sources (Option g.row.V.Denot))) → Listed xs x → IsBelow (length c.args.counts.now) x.sources) c.in-Some.ensures.cases.0 c.loop-run.invariant.each c.in-Some.run'.now (inl refl)
 
 pub loop-run-preserved : goal.loop-run-preserved
-loop-run-preserved c =
+loop-run-preserved g c =
     let w = c.args.width in
     let counts = c.args.counts.now in
     let run = c.in-Some.run'.now in
@@ -37,9 +38,9 @@ loop-run-preserved c =
     let all : ℕ = capped (counted_rows w counts (spans (2 ^ w) c.args.runs.now)) in
     let rest_is = c.in-Some.ensures.cases.0 in
     let rising : IsRising (2 ^ w) (run ∷ later) = subst (IsRising (2 ^ w)) rest_is c.loop-run.invariant.rising in
-    let each = subst (λ (xs : List (Change NodeNumber)). (x : Change NodeNumber) → Listed xs x → x.sources.0 < length counts) rest_is c.loop-run.invariant.each in
+    let each = subst (λ (xs : List (Change (Sources (Option g.row.V.Denot)))). (x : Change (Sources (Option g.row.V.Denot))) → Listed xs x → IsBelow (length counts) x.sources) rest_is c.loop-run.invariant.each in
     let counted : capped (c.loop-run.total + counted_rows w counts (spans (2 ^ w) (run ∷ later))) ≡ all =
-    subst (λ (xs : List (Change NodeNumber)). capped (c.loop-run.total + counted_rows w counts (spans (2 ^ w) xs)) ≡ all) rest_is c.loop-run.invariant.counted in
+    subst (λ (xs : List (Change (Sources (Option g.row.V.Denot)))). capped (c.loop-run.total + counted_rows w counts (spans (2 ^ w) xs)) ≡ all) rest_is c.loop-run.invariant.counted in
     let top_is : c.last_address-top.result + 1 ≡ 2 ^ w = omega (arith, c.last_address-top.ensures) in
     let same : start_or (c.last_address-top.result + 1) later ≡ start_or (2 ^ w) later = ap (λ (e : ℕ). start_or e later) top_is in
     let last_is : c.run_last.result ≡ start_or (2 ^ w) later - 1 = omega (arith, c.run_last.ensures) in
@@ -47,7 +48,7 @@ loop-run-preserved c =
     let are = c.block_count.ensures w last_in in
     let blocks : c.block_count.result ≡ length (largest_in w run.start (start_or (2 ^ w) later - 1)) =
     are.2 ∙ ap length (largest_is w run.start c.run_last.result last_in are.0 are.1) ∙ ap (λ (n : ℕ). length (largest_in w run.start n)) last_is in
-    let product : c.from-blocks.result * c.value_count-rows.result ≡ length (largest_in w run.start (start_or (2 ^ w) later - 1)) * get_or counts run.sources.0 0 =
+    let product : c.from-blocks.result * c.value_count-rows.result ≡ length (largest_in w run.start (start_or (2 ^ w) later - 1)) * sources_count counts run.sources =
     ap (λ (n : ℕ). n * c.value_count-rows.result) (c.from-blocks.ensures ∙ blocks) ∙ ap (λ (n : ℕ). length (largest_in w run.start (start_or (2 ^ w) later - 1)) * n) c.value_count-rows.ensures in
     record {
       fits = omega (arith, c.saturating_add-total.ensures);
@@ -57,7 +58,7 @@ loop-run-preserved c =
     }
 
 pub returns : goal.returns
-returns c =
+returns g c =
     let w = c.args.width in
     let counts = c.args.counts.now in
     let all : ℕ = capped (counted_rows w counts (spans (2 ^ w) c.args.runs.now)) in

@@ -4,22 +4,15 @@ use Rattle.babel_tlv.specs.Forming.{formed}
 use Rattle.babel_tlv.proofs.Advance.{updated-no_prefix, updated-flags}
 use Rattle.babel_tlv.proofs.state.State.take_prefix.Goals as goal
 
-pub returns-in-Err-clause-state : goal.returns-in-Err-clause-state
-returns-in-Err-clause-state c =
+pub returns-in_err-prefix-clause-state : goal.returns-in_err-prefix-clause-state
+returns-in_err-prefix-clause-state c =
     let body = c.args.update.now.body.now in
-    let none = ap (λ (d : Option Address). formed c.args.family d body) (sym c.default_prefix.ensures.value) ∙ sym c.in-Err.ensures.value in
-    sym (updated-no_prefix c.args.self.now c.args.family body c.in-Err.reason c.args.update.now.fields.long c.requires none)
+    let none = ap (λ (d : Option Address). formed c.args.family d body) (sym c.default_prefix.ensures.value) ∙ sym c.in_err-prefix.ensures.value in
+    sym (updated-no_prefix c.args.self.now c.args.family body c.in_err-prefix.field-0.0 c.args.update.now.fields.long c.requires none)
 
-pub returns-in-Ok-route_event-clause-state : goal.returns-in-Ok-route_event-clause-state
-returns-in-Ok-route_event-clause-state c =
+pub returns-clause-state : goal.returns-clause-state
+returns-clause-state c =
     let body = c.args.update.now.body.now in
-    let formed_is = ap (λ (d : Option Address). formed c.args.family d body) (sym c.default_prefix.ensures.value) ∙ sym c.in-Ok.ensures.value in
-    updated-flags c.args.self.now c.take_flags.new.self c.args.family body c.in-Ok.prefix c.addr.result
-    c.args.update.now.fields.long c.requires formed_is c.addr.ensures.value c.in-Ok.ensures.family c.take_flags.ensures
-
-pub returns-in-Err-route_event-clause-state : goal.returns-in-Err-route_event-clause-state
-returns-in-Err-route_event-clause-state c =
-    let body = c.args.update.now.body.now in
-    let formed_is = ap (λ (d : Option Address). formed c.args.family d body) (sym c.default_prefix.ensures.value) ∙ sym c.in-Ok.ensures.value in
-    updated-flags c.args.self.now c.take_flags.new.self c.args.family body c.in-Ok.prefix c.addr.result
-    c.args.update.now.fields.long c.requires formed_is c.addr.ensures.value c.in-Ok.ensures.family c.take_flags.ensures
+    let formed_is = ap (λ (d : Option Address). formed c.args.family d body) (sym c.default_prefix.ensures.value) ∙ sym c.in_ok-prefix.ensures.value in
+    updated-flags c.args.self.now c.take_flags.new.self c.args.family body c.in_ok-prefix.prefix c.addr.result
+    c.args.update.now.fields.long c.requires formed_is c.addr.ensures.value c.in_ok-prefix.ensures.family c.take_flags.ensures

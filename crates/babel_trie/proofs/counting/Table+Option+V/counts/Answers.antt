@@ -2,9 +2,24 @@
 use Rattle.std.proofs.Common.{◌≡◌, ◌+◌, ◌<◌, [], ◌∷◌, ◌++◌, length, get_or, Some, sym, ◌∙◌, ap, subst, arith}
 use Rattle.std.specs.List.{slice_get}
 use Rattle.babel_trie.specs.Counts.{AreCounted, node_count}
-use Rattle.babel_trie.proofs.CountLaws.{counted_more}
+use Rattle.babel_trie.specs.Sound.{HasHalvesBelow}
+use Rattle.babel_trie.proofs.CountLaws.{counted_none, counted_more}
 use Rattle.babel_trie.proofs.NumberLaws.{slice_get_at}
 use Rattle.babel_trie.proofs.counting.Table+Option+V.counts.Goals as goal
+
+pub loop-node-init : goal.loop-node-init
+loop-node-init g c = subst (AreCounted c.args.self.now.nodes.items 0) (sym c.in_ok-counts.ensures.items) (counted_none c.args.self.now.nodes.items)
+
+pub value_count-count-requires : goal.value_count-count-requires
+value_count-count-requires g c =
+    let nodes = c.args.self.now.nodes.items in
+    let i = c.loop-node.node-index in
+    let node = c.node-item.result in
+    let same = c.nodes-node-items.ensures in
+    let i_in : i < length nodes = subst (λ xs. i < length xs) same c.loop-node-test.true in
+    let is : node ≡ get_or nodes i node = c.node-item.is ∙ ap (λ xs. get_or xs i node) same in
+    let at : slice_get nodes i ≡ Some node = slice_get_at nodes i node i_in is in
+    subst (λ n. HasHalvesBelow n node) (sym (ap length c.deref.ensures.value ∙ c.loop-node.invariant.len)) (c.requires.lower i node at)
 
 pub loop-node-preserved : goal.loop-node-preserved
 loop-node-preserved g c =

@@ -1,82 +1,80 @@
 -- The rows of the lower half come first, and then those of the upper.
-use Rattle.std.proofs.Common.{subst, ◌≡◌, ◌≤◌, ◌<◌, ◌-◌, [], ◌∷◌, ◌++◌, Some, None, map, sym, ◌∙◌, ap, arith, rules}
+use Rattle.std.proofs.Common.{◌≡◌, ℕ, ◌≤◌, ◌<◌, ◌-◌, List, [], ◌++◌, Option, Some, None, map, sym, ◌∙◌, ap, subst, arith, rules}
 use Rattle.babel_prefix.specs.Address.{block_of}
-use Rattle.std.proofs.lemmas.List.{map-append}
+use Rattle.babel_prefix.specs.Best.{Row}
 use Rattle.babel_prefix.specs.Width.{width_of}
-use Rattle.babel_trie.specs.Interned.{HasTrie}
-use Rattle.std.specs.List.{All}
-use Rattle.std.proofs.lemmas.List.Elements.{All-push}
-use Rattle.babel_trie.specs.Nested.{IsEntryIn, leaves, rows_at}
-use Rattle.babel_trie.specs.Shape.{leaf}
-use Rattle.babel_prefix.specs.Entries.{row_of}
-use Rattle.babel_trie.specs.declared.table.Node.TheVariants.{Leaf}
-use Rattle.babel_trie.proofs.ListLaws.{rows_of_halves, append_none}
-use Rattle.babel_trie.proofs.NumberLaws.{Represents-in, HasTrie-low, HasTrie-high, HasTrie-some, fork_of, leaf_of}
+use Rattle.babel_trie.specs.Interned.{IsTrie}
+use Rattle.babel_trie.specs.Nested.{entry_at, leaves, rows_at}
+use Rattle.babel_trie.specs.Shape.{Shape, leaf}
+use Rattle.babel_trie.specs.declared.table.Loose.{Loose}
+use Rattle.babel_trie.specs.declared.table.Loose.TheVariants.{Same}
+use Rattle.babel_trie.proofs.DifferLaws.{some_without_leaf}
+use Rattle.babel_trie.proofs.HalfLaws.{halved, half_tries, fork_halves, width_most}
+use Rattle.babel_trie.proofs.ListLaws.{rows_of_halves}
+use Rattle.babel_trie.proofs.NumberLaws.{one_shape}
+use Rattle.babel_trie.proofs.PutLaws.{put_none, put_one, put_both}
 use Rattle.babel_trie.proofs.listing.Table+Option+V.+push_rows.Goals as goal
 
-pub node-requires : goal.node-requires
-node-requires g t c = Represents-in c.args.self.now.nodes.items c.args.number.0 c.requires.trie.trie c.requires.trie.stands
-
 pub places-low_place-requires-clause-some : goal.places-low_place-requires-clause-some
-places-low_place-requires-clause-some g t c =
-    HasTrie-some c.args.bits c.args.self.now.nodes.items c.args.number.0 c.in-Fork.low c.in-Fork.high (c.node.ensures ∙ ap Some c.in-Fork.is) c.requires.trie
+places-low_place-requires-clause-some g t c = some_without_leaf c.args.bits c.args.self.now.nodes.items c.args.whole c.in_default.not-Same c.requires.trie
 
 pub overflow_sub-bits : goal.overflow_sub-bits
-overflow_sub-bits g t c =
-    HasTrie-some c.args.bits c.args.self.now.nodes.items c.args.number.0 c.in-Fork.low c.in-Fork.high (c.node.ensures ∙ ap Some c.in-Fork.is) c.requires.trie
+overflow_sub-bits g t c = some_without_leaf c.args.bits c.args.self.now.nodes.items c.args.whole c.in_default.not-Same c.requires.trie
+
+pub overflow_sub-bits-in_default : goal.overflow_sub-bits-in_default
+overflow_sub-bits-in_default g t c = some_without_leaf c.args.bits c.args.self.now.nodes.items c.args.whole c.in_default.not-Same c.requires.trie
+
+pub halves-low-requires : goal.halves-low-requires
+halves-low-requires g t c = (c.args.bits, omega (arith, c.requires.bits, width_most c.args.family), c.requires.trie)
 
 pub push_rows-requires : goal.push_rows-requires
 push_rows-requires g t c κs within =
-    let some : 0 < c.args.bits = HasTrie-some c.args.bits c.args.self.now.nodes.items c.args.number.0 c.in-Fork.low c.in-Fork.high (c.node.ensures ∙ ap Some c.in-Fork.is) c.requires.trie in
+    let nodes = c.args.self.now.nodes.items in
+    let some : 0 < c.args.bits = some_without_leaf c.args.bits nodes c.args.whole c.in_default.not-Same c.requires.trie in
     let falls : c.args.bits - 1 < t = omega (arith, c.decreases) in
-    let half : HasTrie (c.args.bits - 1) c.args.self.now.nodes.items c.in-Fork.low.0 =
-    HasTrie-low c.args.bits c.args.self.now.nodes.items c.args.number.0 c.in-Fork.low c.in-Fork.high (c.node.ensures ∙ ap Some c.in-Fork.is) c.requires.trie in
+    let tries = half_tries c.args.bits nodes c.args.whole c.halves-low.result.0 c.halves-low.result.1 some c.requires.trie
+    (halved nodes c.args.whole c.halves-low.result.0 c.halves-low.result.1 c.halves-low.ensures.one c.halves-low.ensures.node c.requires.trie.trie c.requires.trie.stands) in
+    let half : IsTrie (c.args.bits - 1) nodes c.halves-low.result.0 = tries.0 in
     let bits : c.args.bits - 1 ≤ width_of c.args.family = omega (arith, c.requires.bits) in
     search rules
 
-pub overflow_sub-bits-in-Fork : goal.overflow_sub-bits-in-Fork
-overflow_sub-bits-in-Fork g t c =
-    HasTrie-some c.args.bits c.args.self.now.nodes.items c.args.number.0 c.in-Fork.low c.in-Fork.high (c.node.ensures ∙ ap Some c.in-Fork.is) c.requires.trie
-
-pub push_rows-requires-in-Fork : goal.push_rows-requires-in-Fork
-push_rows-requires-in-Fork g t c κs within =
-    let some : 0 < c.args.bits = HasTrie-some c.args.bits c.args.self.now.nodes.items c.args.number.0 c.in-Fork.low c.in-Fork.high (c.node.ensures ∙ ap Some c.in-Fork.is) c.requires.trie in
+pub push_rows-requires-in_default : goal.push_rows-requires-in_default
+push_rows-requires-in_default g t c κs within =
+    let nodes = c.args.self.now.nodes.items in
+    let some : 0 < c.args.bits = some_without_leaf c.args.bits nodes c.args.whole c.in_default.not-Same c.requires.trie in
     let falls : c.args.bits - 1 < t = omega (arith, c.decreases) in
-    let half : HasTrie (c.args.bits - 1) c.args.self.now.nodes.items c.in-Fork.high.0 =
-    HasTrie-high c.args.bits c.args.self.now.nodes.items c.args.number.0 c.in-Fork.low c.in-Fork.high (c.node.ensures ∙ ap Some c.in-Fork.is) c.requires.trie in
+    let tries = half_tries c.args.bits nodes c.args.whole c.halves-low.result.0 c.halves-low.result.1 some c.requires.trie
+    (halved nodes c.args.whole c.halves-low.result.0 c.halves-low.result.1 c.halves-low.ensures.one c.halves-low.ensures.node c.requires.trie.trie c.requires.trie.stands) in
+    let half : IsTrie (c.args.bits - 1) nodes c.halves-low.result.1 = tries.1 in
     let bits : c.args.bits - 1 ≤ width_of c.args.family = omega (arith, c.requires.bits) in
     search rules
 
-pub returns-in-Leaf-None-clause-rows : goal.returns-in-Leaf-None-clause-rows
-returns-in-Leaf-None-clause-rows g t c u p =
-    let w = width_of c.args.family in
-    let is : leaf None ≡ u = leaf_of c.args.self.now.nodes.items c.args.number.0 None u (c.node.ensures ∙ ap Some (c.in-Leaf-None.is ∙ ap Leaf c.in-Leaf-None.field-0-is)) p in
-    sym (ap (λ x. map row_of c.args.out.now.items ++ rows_at (block_of c.args.dst) (leaves w c.args.bits c.args.place x)) (sym is) ∙ append_none (map row_of c.args.out.now.items))
+pub returns-in_default-constant : goal.returns-in_default-constant
+returns-in_default-constant g t c u given p has =
+    let all : Shape (Option g.row.V.Denot) → List (Row g.row.V.Denot) = λ x. rows_at (block_of c.args.dst) (leaves (width_of c.args.family) c.args.bits c.args.place x) in
+    let whole_is : c.args.whole ≡ Same None = c.in-Same.is ∙ ap (λ (v : Option g.row.V.Denot). let x : Loose (Option g.row.V.Denot) = Same v in x) c.in_default-constant.is in
+    let is : leaf None ≡ u = one_shape c.args.self.now.nodes.items c.args.whole (leaf None) u whole_is p in
+    put_none c.args.family (g.S.Sink.has c.args.out.now) given (all u) (ap all (sym is)) has
 
-pub returns-in_ok-push-in-Leaf-Some-clause-rows : goal.returns-in_ok-push-in-Leaf-Some-clause-rows
-returns-in_ok-push-in-Leaf-Some-clause-rows g t c u p =
-    let w = width_of c.args.family in
-    let v = c.in-Leaf-Some.value in
-    let is : leaf (Some v) ≡ u = leaf_of c.args.self.now.nodes.items c.args.number.0 (Some v) u (c.node.ensures ∙ ap Some (c.in-Leaf-Some.is ∙ ap Leaf c.in-Leaf-Some.field-0-is)) p in
-    ap (map row_of) c.in_ok-push-in-Leaf-Some.ensures.items ∙ map-append row_of c.args.out.now.items _
-    ∙ ap (λ b. map row_of c.args.out.now.items ++ record { dst = (block_of c.args.dst); src = b; value = v } ∷ []) c.node_prefix.ensures.block
-    ∙ ap (λ x. map row_of c.args.out.now.items ++ rows_at (block_of c.args.dst) (leaves w c.args.bits c.args.place x)) is
+pub returns-in_ok-put : goal.returns-in_ok-put
+returns-in_ok-put g t c u given p has =
+    let Has = g.S.Sink.has c.put.new.self in
+    let v = c.in-Some.value in
+    let whole_is : c.args.whole ≡ Same (Some v) = c.in-Same.is ∙ ap (λ (w : Option g.row.V.Denot). let x : Loose (Option g.row.V.Denot) = Same w in x) c.in-Some.is in
+    let is : leaf (Some v) ≡ u = one_shape c.args.self.now.nodes.items c.args.whole (leaf (Some v)) u whole_is p in
+    subst (λ x. Has (given ++ map (entry_at c.args.family) (rows_at (block_of c.args.dst) (leaves (width_of c.args.family) c.args.bits c.args.place x)))) is
+    (put_one c.args.family Has given c.args.dst c.node_prefix.result _ v c.requires.dst_family c.node_prefix.ensures.family c.node_prefix.ensures.block (c.in_ok-put.ensures given has))
 
-pub returns-in_ok-push_rows-in-Fork-2-clause-rows : goal.returns-in_ok-push_rows-in-Fork-2-clause-rows
-returns-in_ok-push_rows-in-Fork-2-clause-rows g t c u p =
-    let w = width_of c.args.family in
-    let dst = (block_of c.args.dst) in
-    let f = fork_of c.args.self.now.nodes.items c.args.number.0 c.in-Fork.low c.in-Fork.high u (c.node.ensures ∙ ap Some c.in-Fork.is) p in
-    let mid = map row_of c.push_rows.new.out.items in
-    let new = map row_of c.push_rows-in-Fork.new.out.items in
-    rows_of_halves dst w c.args.bits c.args.place u f.low_half f.high_half (map row_of c.args.out.now.items) mid new f.is
-    (c.in_ok-push_rows-in-Fork.ensures.rows f.low_half f.low_stands ∙ ap (λ k. map row_of c.args.out.now.items ++ rows_at dst (leaves w (c.args.bits - 1) k f.low_half)) c.places-low_place.ensures.low)
-    (c.in_ok-push_rows-in-Fork-2.ensures.rows f.high_half f.high_stands ∙ ap (λ k. mid ++ rows_at dst (leaves w (c.args.bits - 1) k f.high_half)) c.places-low_place.ensures.high)
-
-pub returns-in_ok-push-in-Leaf-Some-clause-entries : goal.returns-in_ok-push-in-Leaf-Some-clause-entries
-returns-in_ok-push-in-Leaf-Some-clause-entries g t c old =
-    subst (All (IsEntryIn c.args.family)) (sym c.in_ok-push-in-Leaf-Some.ensures.items)
-    (All-push (IsEntryIn c.args.family) c.args.out.now.items _ old ((c.requires.dst_family, c.node_prefix.ensures.family), (c.requires.dst, c.node_prefix.ensures.valid)))
-
-pub returns-in_ok-push_rows-in-Fork-2-clause-entries : goal.returns-in_ok-push_rows-in-Fork-2-clause-entries
-returns-in_ok-push_rows-in-Fork-2-clause-entries g t c old = c.in_ok-push_rows-in-Fork-2.ensures.entries (c.in_ok-push_rows-in-Fork.ensures.entries old)
+pub returns-in_default : goal.returns-in_default
+returns-in_default g t c u given p has =
+    let family = c.args.family in
+    let dst = block_of c.args.dst in
+    let Has = g.S.Sink.has c.push_rows-in_default.new.out in
+    let f = fork_halves c.args.self.now.nodes.items c.args.whole c.halves-low.result.0 c.halves-low.result.1 c.in_default.not-Same c.halves-low.ensures.node u p in
+    let rows : ℕ → Shape (Option g.row.V.Denot) → List (Row g.row.V.Denot) = λ k x. rows_at dst (leaves (width_of family) (c.args.bits - 1) k x) in
+    let low = rows c.places-low_place.result.0 f.low_half in
+    let high = rows c.places-low_place.result.1 f.high_half in
+    put_both family Has given low high (rows_at dst (leaves (width_of family) c.args.bits c.args.place u))
+    (sym (rows_of_halves dst (width_of family) c.args.bits c.args.place u f.low_half f.high_half [] low (low ++ high) f.is
+    (ap (λ k. rows k f.low_half) c.places-low_place.ensures.low) (ap (λ k. low ++ rows k f.high_half) c.places-low_place.ensures.high)))
+    (c.in_ok-push_rows-2.ensures f.high_half (given ++ map (entry_at family) low) f.high_stands (c.in_ok-push_rows.ensures f.low_half given f.low_stands has))

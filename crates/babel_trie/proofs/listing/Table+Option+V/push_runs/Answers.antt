@@ -1,13 +1,15 @@
 -- One change's rows after another's.
-use Rattle.std.proofs.Common.{◌≡◌, inl, inr, ℕ, ◌+◌, ◌^◌, true, List, ◌∷◌, ◌++◌, map, refl, ap, subst, arith, rules}
-use Rattle.babel_prefix.specs.Entries.{row_of}
+use Rattle.std.proofs.Common.{◌≡◌, inl, inr, ℕ, ◌+◌, ◌^◌, true, List, [], ◌∷◌, ◌++◌, map, refl, ap, subst, arith, rules, Option}
 use Rattle.babel_prefix.specs.Width.{width_of}
 use Rattle.babel_prefix.proofs.Members.{Listed}
 use Rattle.babel_trie.specs.Interned.{HasTrie}
-use Rattle.babel_trie.specs.Spans.{start_or, spans, span_rows, run_rows}
+use Rattle.babel_trie.specs.Cut.{largest_in}
+use Rattle.babel_trie.specs.Held.{sources_at}
+use Rattle.babel_trie.specs.Nested.{entry_at, rows_of}
+use Rattle.babel_trie.specs.Spans.{start_or, each_with, spans, span_rows, run_rows}
 use Rattle.babel_trie.specs.declared.runs.Change.{Change}
-use Rattle.babel_trie.specs.declared.table.NodeNumber.{NodeNumber}
-use Rattle.babel_trie.proofs.NumberLaws.{Represents-in}
+use Rattle.babel_trie.specs.declared.table.Sources.{Sources}
+use Rattle.babel_trie.proofs.PutLaws.{put_none, put_both}
 use Rattle.babel_trie.proofs.SpanBlocks.{start_within}
 use Rattle.babel_trie.proofs.SpanLaws.{IsRising, rising_runs}
 use Rattle.babel_trie.proofs.SpanRows.{rows_more, rows_none}
@@ -18,18 +20,10 @@ loop-run-init g c =
     record {
       rising = rising_runs (2 ^ width_of c.args.family) c.args.runs.now c.requires.runs c.requires.below;
       each = c.requires.each;
-      entries = λ old. old;
+      done = [];
+      put = λ given has. put_none c.args.family (g.S.Sink.has c.args.out.now) given [] refl has;
       rows = refl;
     }
-
-pub answers_nothing-requires : goal.answers_nothing-requires
-answers_nothing-requires g c =
-    let w = width_of c.args.family in
-    let run = c.in-Some.run'.now in
-    let later = c.in-Some.later.now in
-    let each = subst (λ (xs : List (Change NodeNumber)). (x : Change NodeNumber) → Listed xs x → HasTrie w c.args.self.now.nodes.items x.sources.0) c.in-Some.ensures.cases.0 c.loop-run.invariant.each in
-    let h = each run (inl refl) in
-    Represents-in c.args.self.now.nodes.items run.sources.0 h.trie h.stands
 
 pub run_last-requires : goal.run_last-requires
 run_last-requires g c =
@@ -46,7 +40,7 @@ push_blocks-requires-clause-trie g c =
     let w = width_of c.args.family in
     let run = c.in-Some.run'.now in
     let later = c.in-Some.later.now in
-    let each = subst (λ (xs : List (Change NodeNumber)). (x : Change NodeNumber) → Listed xs x → HasTrie w c.args.self.now.nodes.items x.sources.0) c.in-Some.ensures.cases.0 c.loop-run.invariant.each in
+    let each = subst (λ (xs : List (Change (Sources (Option g.row.V.Denot)))). (x : Change (Sources (Option g.row.V.Denot))) → Listed xs x → HasTrie w c.args.self.now.nodes.items x.sources) c.in-Some.ensures.cases.0 c.loop-run.invariant.each in
     each run (inl refl)
 
 pub push_blocks-requires-clause-some : goal.push_blocks-requires-clause-some
@@ -77,15 +71,19 @@ loop-run-preserved-in_ok-push_blocks g c =
     let rising : IsRising (2 ^ w) (run ∷ later) = subst (IsRising (2 ^ w)) c.in-Some.ensures.cases.0 c.loop-run.invariant.rising in
     let top_is : c.last_address-top.result + 1 ≡ 2 ^ w = omega (arith, c.last_address-top.ensures, ap (λ (n : ℕ). 2 ^ n) c.width.ensures) in
     let same : start_or (c.last_address-top.result + 1) later ≡ start_or (2 ^ w) later = ap (λ (e : ℕ). start_or e later) top_is in
-    let each = subst (λ (xs : List (Change NodeNumber)). (x : Change NodeNumber) → Listed xs x → HasTrie w c.args.self.now.nodes.items x.sources.0) c.in-Some.ensures.cases.0 c.loop-run.invariant.each in
+    let each = subst (λ (xs : List (Change (Sources (Option g.row.V.Denot)))). (x : Change (Sources (Option g.row.V.Denot))) → Listed xs x → HasTrie w c.args.self.now.nodes.items x.sources) c.in-Some.ensures.cases.0 c.loop-run.invariant.each in
     let sources = c.args.self.now.nodes.items in
-    let all = map row_of c.args.out.now.items ++ run_rows w sources c.args.runs.now in
-    let rows = subst (λ (xs : List (Change NodeNumber)). map row_of c.loop-run.out.items ++ span_rows w sources (spans (2 ^ w) xs) ≡ all) c.in-Some.ensures.cases.0 c.loop-run.invariant.rows in
+    let all = run_rows w sources c.args.runs.now in
+    let done = c.loop-run.invariant.done in
+    let rows = subst (λ (xs : List (Change (Sources (Option g.row.V.Denot)))). done ++ span_rows w sources (spans (2 ^ w) xs) ≡ all) c.in-Some.ensures.cases.0 c.loop-run.invariant.rows in
+    let more = rows_of w (each_with (sources_at w sources run.sources) (largest_in w run.start c.run_last.result)) in
     record {
       rising = rising.1;
       each = λ x t. each x (inr t);
-      entries = λ old. c.in_ok-push_blocks.ensures.entries (c.loop-run.invariant.entries old);
-      rows = rows_more w sources (2 ^ w) c.run_last.result run later (map row_of c.loop-run.out.items) (map row_of c.push_blocks.new.out.items) all (omega (arith, c.run_last.ensures)) c.in_ok-push_blocks.ensures.rows rows;
+      done = done ++ more;
+      put = λ given has. put_both c.args.family (g.S.Sink.has c.push_blocks.new.out) given done more (done ++ more) refl
+          (c.in_ok-push_blocks.ensures (given ++ map (entry_at c.args.family) done) (c.loop-run.invariant.put given has));
+      rows = rows_more w sources (2 ^ w) c.run_last.result run later done (done ++ more) all (omega (arith, c.run_last.ensures)) refl rows;
     }
 
 pub loop-run-preserved : goal.loop-run-preserved
@@ -93,15 +91,17 @@ loop-run-preserved g c =
     let w = width_of c.args.family in
     let run = c.in-Some.run'.now in
     let later = c.in-Some.later.now in
-    let each = subst (λ (xs : List (Change NodeNumber)). (x : Change NodeNumber) → Listed xs x → HasTrie w c.args.self.now.nodes.items x.sources.0) c.in-Some.ensures.cases.0 c.loop-run.invariant.each in
+    let each = subst (λ (xs : List (Change (Sources (Option g.row.V.Denot)))). (x : Change (Sources (Option g.row.V.Denot))) → Listed xs x → HasTrie w c.args.self.now.nodes.items x.sources) c.in-Some.ensures.cases.0 c.loop-run.invariant.each in
     let sources = c.args.self.now.nodes.items in
-    let all = map row_of c.args.out.now.items ++ run_rows w sources c.args.runs.now in
-    let rows = subst (λ (xs : List (Change NodeNumber)). map row_of c.loop-run.out.items ++ span_rows w sources (spans (2 ^ w) xs) ≡ all) c.in-Some.ensures.cases.0 c.loop-run.invariant.rows in
+    let all = run_rows w sources c.args.runs.now in
+    let done = c.loop-run.invariant.done in
+    let rows = subst (λ (xs : List (Change (Sources (Option g.row.V.Denot)))). done ++ span_rows w sources (spans (2 ^ w) xs) ≡ all) c.in-Some.ensures.cases.0 c.loop-run.invariant.rows in
     let rising : IsRising (2 ^ w) (run ∷ later) = subst (IsRising (2 ^ w)) c.in-Some.ensures.cases.0 c.loop-run.invariant.rising in
     let nothing : c.answers_nothing.result ≡ true = search rules in
     record {
       rising = rising.1;
       each = λ x t. each x (inr t);
-      entries = c.loop-run.invariant.entries;
-      rows = rows_none w sources (2 ^ w) run later (map row_of c.loop-run.out.items) all (each run (inl refl)) (c.answers_nothing.ensures nothing) rows;
+      done = done;
+      put = c.loop-run.invariant.put;
+      rows = rows_none w sources (2 ^ w) run later done all (each run (inl refl)) (c.answers_nothing.ensures nothing) rows;
     }

@@ -1,23 +1,24 @@
--- The rows that are listed and those of the changes that are left are all rows.
-use Rattle.std.proofs.Common.{◌≡◌, ◌^◌, ◌++◌, map, length}
-use Rattle.std.specs.List.{All}
-use Rattle.babel_prefix.specs.Entries.{row_of}
+-- The rows that are put out and those of the changes that are left are all rows.
+use Rattle.std.proofs.Common.{◌≡◌, ◌^◌, ◌++◌, List, map, length, Option}
+use Rattle.babel_prefix.specs.Best.{Row}
+use Rattle.babel_prefix.specs.Entries.{Entry}
 use Rattle.babel_prefix.specs.Members.{Listed}
 use Rattle.babel_prefix.specs.Width.{width_of}
 use Rattle.babel_trie.specs.Interned.{HasTrie}
-use Rattle.babel_trie.specs.Nested.{IsEntryIn}
+use Rattle.babel_trie.specs.Nested.{entry_at}
 use Rattle.babel_trie.specs.Spans.{spans, span_rows, run_rows}
 use Rattle.babel_trie.specs.declared.runs.Change.{Change}
-use Rattle.babel_trie.specs.declared.table.NodeNumber.{NodeNumber}
+use Rattle.babel_trie.specs.declared.table.Sources.{Sources}
 use Rattle.babel_trie.proofs.SpanLaws.{IsRising}
 use Rattle.babel_trie.proofs.listing.Table+Option+V.push_runs.Given as goal
 
 abbrev pub invariant-loop-run : goal.invariant-loop-run
 invariant-loop-run g l = record {
   rising : IsRising (2 ^ width_of l.family) l.rest;
-  each : (x : Change NodeNumber) → Listed l.rest x → HasTrie (width_of l.family) l.self.nodes.items x.sources.0;
-  entries : All (IsEntryIn l.family) l.fn.out.items → All (IsEntryIn l.family) l.out.items;
-  rows : map row_of l.out.items ++ span_rows (width_of l.family) l.self.nodes.items (spans (2 ^ width_of l.family) l.rest) ≡ map row_of l.fn.out.items ++ run_rows (width_of l.family) l.self.nodes.items l.runs;
+  each : (x : Change (Sources (Option g.row.V.Denot))) → Listed l.rest x → HasTrie (width_of l.family) l.self.nodes.items x.sources;
+  done : List (Row g.row.V.Denot);
+  put : (rows : List (Entry g.row.V.Denot)) → g.S.Sink.has l.fn.out rows → g.S.Sink.has l.out (rows ++ map (entry_at l.family) done);
+  rows : done ++ span_rows (width_of l.family) l.self.nodes.items (spans (2 ^ width_of l.family) l.rest) ≡ run_rows (width_of l.family) l.self.nodes.items l.runs;
 }
 
 abbrev pub decreases-loop-run : goal.decreases-loop-run

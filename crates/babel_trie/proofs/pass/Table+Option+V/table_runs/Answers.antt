@@ -1,18 +1,20 @@
 -- Each destination is laid over what the pass has come to.
-use Rattle.std.proofs.Common.{◌≡◌, inl, inr, ℕ, ◌+◌, ◌-◌, ◌^◌, ◌≤◌, List, [], ◌++◌, length, Option, refl, sym, ◌∙◌, ap, subst, arith, append-nil}
+use Rattle.std.proofs.Common.{◌≡◌, inl, inr, ℕ, ◌+◌, ◌-◌, ◌^◌, ◌≤◌, List, [], ◌++◌, length, Option, None, refl, sym, ◌∙◌, ap, subst, arith, append-nil}
 use Rattle.std.proofs.Math.Pow.{pow_mono}
 use Rattle.std.proofs.lemmas.List.{length-append, append_assoc}
 use Rattle.babel_prefix.specs.Address.{Address, block_of}
 use Rattle.babel_prefix.specs.Block.{Block}
 use Rattle.babel_prefix.specs.Entries.{Entry}
 use Rattle.babel_prefix.proofs.Members.{Listed}
+use Rattle.babel_trie.specs.Interned.{Represents, HasTrie}
 use Rattle.babel_trie.specs.Pass.{ahead_of, coming, all_changes}
 use Rattle.babel_trie.specs.Runs.{said_at}
 use Rattle.babel_trie.specs.declared.pass.Pass.{Pass}
 use Rattle.babel_trie.specs.declared.runs.Change.{Change}
+use Rattle.babel_trie.specs.declared.table.Loose.TheVariants.{Same}
 use Rattle.babel_trie.specs.declared.table.Node.{Node}
-use Rattle.babel_trie.specs.declared.table.Node.TheVariants.{Leaf, Fork}
-use Rattle.babel_trie.specs.declared.table.NodeNumber.{NodeNumber}
+use Rattle.babel_trie.specs.declared.table.Sources.{Sources}
+use Rattle.babel_trie.specs.declared.table.Sources.TheVariants.{Constant, Stored}
 use Rattle.babel_trie.proofs.NodeLaws.{sound_by}
 use Rattle.babel_trie.proofs.PassLaws.{AreSoFar, IsNext, is_next, open-first, so_far-first, so_far-reached, so_far-entered, so_far-all, block, rest_from, sources_in, starts_before, now_held, ends_ahead}
 use Rattle.babel_trie.proofs.Ranges.{size, block_ends}
@@ -24,14 +26,14 @@ last_address-last-requires g c = omega (arith, pow_mono {i = c.args.width} {j = 
 pub loop-next-init : goal.loop-next-init
 loop-next-init g c =
     let a = c.args in
-    let now : Change NodeNumber = record { start = 0; sources = c.in_ok-leaf.field-0 } in
+    let now : Change (Sources (Option g.row.V.Denot)) = record { start = 0; sources = Constant None } in
     (record {
       gone = [];
       parts = refl;
-      sound = sound_by c.leaf.new.self.nodes.items c.leaf.new.self.numbers (elim [ Leaf v ↦ elim [ Leaf u ↦ refl | Fork l h ↦ refl ] | Fork l h ↦ elim [ Leaf v ↦ refl | Fork m k ↦ refl ] ]) c.in_ok-leaf.ensures.sound;
-      keeps = c.in_ok-leaf.ensures.keeps;
+      sound = sound_by c.args.self.now.nodes.items c.args.self.now.numbers (elim [ Constant v ↦ elim [ Constant u ↦ refl | Stored m ↦ refl ] | Stored k ↦ elim [ Constant v ↦ refl | Stored m ↦ refl ] ]) c.requires.sound;
+      keeps = λ k node e. e;
       is_open = open-first c.new.result.items c.new-2.result.items now c.new.ensures.items c.new-2.ensures.items;
-      so_far = so_far-first a.width a.rows.now c.leaf.new.self.nodes.items c.new.result.items c.new-2.result.items now c.new.ensures.items c.new-2.ensures.items refl c.in_ok-leaf.ensures.stands;
+      so_far = so_far-first a.width a.rows.now c.args.self.now.nodes.items c.new.result.items c.new-2.result.items now c.new.ensures.items c.new-2.ensures.items refl (Same None, refl, refl);
       few = omega (arith, ap length c.new.ensures.items, ap length c.new-2.ensures.items);
     })
 
@@ -64,11 +66,11 @@ reach-requires-clause-order g c =
 
 pub overlaid-requires-clause-sound : goal.overlaid-requires-clause-sound
 overlaid-requires-clause-sound g c =
-    sound_by c.loop-next.self.nodes.items c.loop-next.self.numbers (elim [ Leaf v ↦ elim [ Leaf u ↦ refl | Fork l h ↦ refl ] | Fork l h ↦ elim [ Leaf v ↦ refl | Fork m k ↦ refl ] ]) c.loop-next.invariant.sound
+    sound_by c.loop-next.self.nodes.items c.loop-next.self.numbers (elim [ Constant v ↦ elim [ Constant u ↦ refl | Stored m ↦ refl ] | Stored k ↦ elim [ Constant v ↦ refl | Stored m ↦ refl ] ]) c.loop-next.invariant.sound
 
 -- what the pass has come to once it has reached the destination
-so_far-near : {V : Type 0} {w : ℕ} {rows gone rest own others : List (Entry V)} {b : Block} (n : IsNext w rows gone own others b) → rest ≡ own ++ others → (sources : List (Node (Option V))) (old new : Pass) (start : ℕ) → start ≡ b.start → new.now.start ≤ start →
-    ((x : Change NodeNumber) → Listed (coming new) x → Listed (coming old) x) → ((none : NodeNumber) (d : ℕ) → said_at none (all_changes new) d ≡ said_at none (all_changes old) d) →
+so_far-near : {V : Type 0} {w : ℕ} {rows gone rest own others : List (Entry V)} {b : Block} (n : IsNext w rows gone own others b) → rest ≡ own ++ others → (sources : List (Node (Option V))) (old new : Pass (Sources (Option V))) (start : ℕ) → start ≡ b.start → new.now.start ≤ start →
+    ((x : Change (Sources (Option V))) → Listed (coming new) x → Listed (coming old) x) → ((none : Sources (Option V)) (d : ℕ) → said_at none (all_changes new) d ≡ said_at none (all_changes old) d) →
     AreSoFar w gone rest sources old.list.items old.now (ahead_of old) → AreSoFar w gone (own ++ others) sources new.list.items new.now (ahead_of new)
 so_far-near {V} {w} {gone = gone} {own = own} {others = others} n split sources old new start start_is near left same p =
     so_far-reached w gone (own ++ others) sources old.list.items (ahead_of old) new.list.items (ahead_of new) old.now new.now (λ y t. omega (arith, rest_from n y t, near, start_is)) left same
@@ -84,7 +86,7 @@ overlaid-requires-clause-trie g c =
     let n = is_next i.gone next.rows.now next.others.now (block_of next.destination) c.requires.table c.requires.order i.parts some.parts some.some some.one in
     let start_is = c.bits-start.ensures.value ∙ ap (λ (x : Address). x.bits) c.addr.ensures.value in
     let p = so_far-near n some.parts c.loop-next.self.nodes.items c.loop-next.pass new c.bits-start.result start_is reach.reached reach.left reach.same i.so_far in
-    now_held n c.loop-next.self.nodes.items new.list.items (ahead_of new) new.now p (omega (arith, reach.reached, start_is)) (λ x t. omega (arith, reach.behind x t, start_is)) new.now.sources
+    subst (HasTrie c.args.width c.loop-next.self.nodes.items) (sym c.sources.ensures) (now_held n c.loop-next.self.nodes.items new.list.items (ahead_of new) new.now p (omega (arith, reach.reached, start_is)) (λ x t. omega (arith, reach.behind x t, start_is)) new.now.sources)
 
 pub overlaid-requires-clause-rows : goal.overlaid-requires-clause-rows
 overlaid-requires-clause-rows g c =
@@ -126,12 +128,12 @@ loop-next-preserved g c =
     let end_is : c.last_address-end.result + 1 ≡ b.start + size w b = omega (arith, start_is, ap (λ k. 2 ^ (w - k)) c.len.ensures.value, c.last_address-end.ensures) in
     let last_is : c.last_address-last.result + 1 ≡ 2 ^ w = omega (arith, c.last_address-last.ensures) in
     let entered = so_far-entered n old mid.list.items (ahead_of mid) mid.now p (omega (arith, reach.reached, start_is)) (λ x t. omega (arith, reach.behind x t, start_is))
-    c.overlaid.new.self.nodes.items c.in_ok-here.here here.keeps here.overlaid c.last_address-end.result c.last_address-last.result end_is last_is new.list.items (ahead_of new) new.now (enter.now ∙ start_is)
+    c.overlaid.new.self.nodes.items c.in_ok-here.here here.keeps (λ t stands. here.overlaid t (subst (λ (x : Sources (Option g.row.V.Denot)). Represents old x t) (sym c.sources.ensures) stands)) c.last_address-end.result c.last_address-last.result end_is last_is new.list.items (ahead_of new) new.now (enter.now ∙ start_is)
     (λ none d low high. enter.inside none d (omega (arith, start_is, low)) high) (λ none d out within. enter.outside none d (elim out [ inl lt ↦ inl (omega (arith, lt, start_is)) | inr gt ↦ inr gt ]) within) enter.ahead in
     (record {
       gone = i.gone ++ next.rows.now;
       parts = i.parts ∙ ap (λ xs. i.gone ++ xs) some.parts ∙ sym (append_assoc i.gone next.rows.now next.others.now);
-      sound = sound_by c.overlaid.new.self.nodes.items c.overlaid.new.self.numbers (elim [ Leaf v ↦ elim [ Leaf u ↦ refl | Fork l h ↦ refl ] | Fork l h ↦ elim [ Leaf v ↦ refl | Fork m k ↦ refl ] ]) here.sound;
+      sound = sound_by c.overlaid.new.self.nodes.items c.overlaid.new.self.numbers (elim [ Constant v ↦ elim [ Constant u ↦ refl | Stored m ↦ refl ] | Stored k ↦ elim [ Constant v ↦ refl | Stored m ↦ refl ] ]) here.sound;
       keeps = λ k node e. here.keeps k node (i.keeps k node e);
       is_open = enter.is_open;
       so_far = entered;
@@ -143,7 +145,7 @@ reach-requires-2-clause-order g c = omega (arith, c.loop-next.invariant.so_far.b
 
 pub returns-clause-sound : goal.returns-clause-sound
 returns-clause-sound g c =
-    sound_by c.loop-next.self.nodes.items c.loop-next.self.numbers (elim [ Leaf v ↦ elim [ Leaf u ↦ refl | Fork l h ↦ refl ] | Fork l h ↦ elim [ Leaf v ↦ refl | Fork m k ↦ refl ] ]) c.loop-next.invariant.sound
+    sound_by c.loop-next.self.nodes.items c.loop-next.self.numbers (elim [ Constant v ↦ elim [ Constant u ↦ refl | Stored m ↦ refl ] | Stored k ↦ elim [ Constant v ↦ refl | Stored m ↦ refl ] ]) c.loop-next.invariant.sound
 
 pub returns-clause-runs : goal.returns-clause-runs
 returns-clause-runs g c =

@@ -4,7 +4,7 @@ use Rattle.std.specs.Option.{option_cmp}
 use Rattle.babel_prefix.specs.Entries.{Entry}
 use Rattle.babel_trie.specs.Pass.{IsOpen, ahead_of}
 use Rattle.babel_trie.specs.Sound.{IsSound, KeepsNodes}
-use Rattle.babel_trie.proofs.NodeLaws.{node_cmp}
+use Rattle.babel_trie.proofs.NodeLaws.{sources_cmp}
 use Rattle.babel_trie.proofs.PassLaws.{AreSoFar}
 use Rattle.babel_trie.proofs.pass.Table+Option+V.table_runs.Given as goal
 
@@ -12,7 +12,7 @@ abbrev pub invariant-loop-next : goal.invariant-loop-next
 invariant-loop-next g l = record {
   gone : List (Entry g.row.V.Denot);
   parts : l.rows ≡ gone ++ l.rest;
-  sound : IsSound (node_cmp (option_cmp g.V.Ord.cmp)) l.self.nodes.items l.self.numbers;
+  sound : IsSound (sources_cmp (option_cmp g.V.Ord.cmp)) l.self.nodes.items l.self.numbers;
   keeps : KeepsNodes l.fn.self.nodes.items l.self.nodes.items;
   is_open : IsOpen l.pass;
   so_far : AreSoFar l.width gone l.rest l.self.nodes.items l.pass.list.items l.pass.now (ahead_of l.pass);

@@ -1,0 +1,10 @@
+use Rattle.std.proofs.Common.{arith}
+use Rattle.babel_canon.proofs.SinkLaws.{boxes_canonical, boxes-length}
+use Rattle.babel_canon.proofs.canon.pair_count.Goals as goal
+
+pub returns-clause-ok : goal.returns-clause-ok
+returns-clause-ok c = record {
+  pairs = _;
+  are_canonical = boxes_canonical c.counted_grids.new.values.list.items c.args.limits c.args.table.now.rows c.in_ok-grids.grids.v4.boxes c.in_ok-grids.grids.v6.boxes c.in_ok-grids.ensures.boxes c.in_ok-grids.ensures.few;
+  count_is = omega (arith, c.count.ensures, c.in_ok-grids.ensures.few, c.entries-valid.ensures.value, boxes-length c.counted_grids.new.values.list.items c.in_ok-grids.grids.v4.boxes c.in_ok-grids.grids.v6.boxes);
+}

@@ -1,0 +1,95 @@
+-- A run that finished wrote what was found of its dumps, or answered why nothing was found.
+use Rattle.std.proofs.Common.{◌≡◌, ℕ, List, Option, None, Some, Result, Ok, Err, arith, ap, sym, subst, rules}
+use Rattle.std.specs.Prelude.{IfOk, IfErr}
+use Rattle.std.specs.Io.KnownBytes.{Keeps}
+use Rattle.babel_tlv.specs.declared.fault.Fault.{Fault}
+use Rattle.babel_dump.specs.Command.{Compares, InTurn}
+use Rattle.babel_dump.specs.Given.{Input, IsFaultOfGiven}
+use Rattle.babel_dump.specs.Parts.{Finished, Gathered, SaysSo}
+use Rattle.babel_dump.specs.Run.{HasCause, Output, Ran, Reports, UnlessWrite, run_status}
+use Rattle.babel_dump.specs.declared.finish.Found.{Found}
+use Rattle.babel_dump.specs.declared.outcome.Outcome.{Outcome}
+use Rattle.babel_dump.specs.declared.run_fault.RunFault.{RunFault}
+use Rattle.babel_dump.specs.declared.run_fault.RunFault.TheVariants as run_faults
+
+-- a fault of reading is no fault of a write
+of_reading : (reader : Input) (other : Option Input) (Refuses : Fault → Type 0) (fault : RunFault) (P Q : Type 0) → HasCause reader other Refuses fault
+    → P → UnlessWrite fault P Q
+of_reading reader other Refuses run_faults.Read P Q cause known = known
+of_reading reader other Refuses (run_faults.Dump fault) P Q cause known = known
+of_reading reader other Refuses (run_faults.Ignored tlv) P Q cause known = known
+of_reading reader other Refuses run_faults.OtherRead P Q cause known = known
+of_reading reader other Refuses (run_faults.OtherDump fault) P Q cause known = known
+of_reading reader other Refuses (run_faults.OtherIgnored tlv) P Q cause known = known
+of_reading reader other Refuses run_faults.Write P Q cause known = absurd cause
+
+kept_same : (taken : Option (List ℕ)) → Keeps taken taken
+kept_same None = search rules
+kept_same (Some octets) = search rules
+
+-- nothing was found, and nothing written
+unfound : (reader : Input) (other : Option Input) (writer : Output) (Refuses : Fault → Type 0) (Says : List ℕ → ℕ → Type 0) (fault : RunFault)
+    → Gathered {T = Found} reader other Refuses (SaysSo reader other Says) (Err fault) → writer.new ≡ writer.old
+    → Ran reader other writer Refuses Says (Err fault)
+unfound reader other writer Refuses Says fault gathered same =
+    let failures = ap (λ (state : _). state.failures) same in
+    let flushes = ap (λ (state : _). state.flushes) same in record {
+      wrote = tt;
+      flushed = tt;
+      no_failure = tt;
+      no_failed_read = tt;
+      cause = of_reading reader other Refuses fault _ _ gathered.cause gathered.cause;
+      prefix = of_reading reader other Refuses fault _ _ gathered.cause (rw same (kept_same writer.old.taken));
+      few_calls = gathered.few_calls;
+      few_other_calls = gathered.few_other_calls;
+      one_failure = omega (arith, failures);
+      one_flush = omega (arith, flushes);
+    }
+
+pub ran : (reader : Input) (other : Option Input) (writer : Output) (Refuses : Fault → Type 0) (Says : List ℕ → ℕ → Type 0) (found : Result Found RunFault)
+    (result : Result Outcome RunFault) → Gathered reader other Refuses (SaysSo reader other Says) found → Finished writer found result
+    → Ran reader other writer Refuses Says (run_status result)
+ran reader other writer Refuses Says (Ok found) (Ok outcome) gathered finished =
+    let same = ap (λ (o : Outcome). o.status) finished.1 in record {
+      wrote = (found.text.items, subst (λ (status : ℕ). Says found.text.items status) (sym same) gathered.made.0, finished.0.whole);
+      flushed = finished.0.flushed;
+      no_failure = finished.0.no_failure;
+      no_failed_read = gathered.no_failure;
+      cause = tt;
+      prefix = tt;
+      few_calls = gathered.few_calls;
+      few_other_calls = gathered.few_other_calls;
+      one_failure = finished.0.one_failure;
+      one_flush = finished.0.one_flush;
+    }
+ran reader other writer Refuses Says (Ok found) (Err fault) gathered finished = rw finished.2 (record {
+  wrote = tt;
+  flushed = tt;
+  no_failure = tt;
+  no_failed_read = tt;
+  cause = finished.0.cause;
+  prefix = (found.text.items, found.outcome.status, gathered.made.0, finished.0.prefix);
+  few_calls = gathered.few_calls;
+  few_other_calls = gathered.few_other_calls;
+  one_failure = finished.0.one_failure;
+  one_flush = finished.0.one_flush;
+})
+ran reader other writer Refuses Says (Err fault) result gathered finished =
+    rw finished.0 (unfound reader other writer Refuses Says fault gathered finished.1)
+
+pub reports : (reader : Input) (other : Option Input) (writer : Output) (Refuses : Fault → Type 0) (Says : List ℕ → ℕ → Type 0) (found : Result Found RunFault)
+    (result : Result Outcome RunFault) → Gathered reader other Refuses (SaysSo reader other Says) found → Finished writer found result
+    → IfOk result (Reports reader other)
+reports reader other writer Refuses Says (Ok found) (Ok outcome) gathered finished = rw finished.1 gathered.made.1
+reports reader other writer Refuses Says (Ok found) (Err fault) gathered finished = tt
+reports reader other writer Refuses Says (Err fault) result gathered finished = rw finished.0 tt
+
+-- both dumps were found sound where the verdict was written or its write failed
+pub in_turn : (reader other : Input) (writer : Output) (untouched : Type 0) (found : Result Found RunFault) (result : Result Outcome RunFault)
+    → Gathered reader (Some other) (IsFaultOfGiven reader) (SaysSo reader (Some other) (Compares reader other)) found
+    → IfErr found (InTurn reader other untouched) → Finished writer found result
+    → IfErr (run_status result) (InTurn reader other untouched)
+in_turn reader other writer untouched (Ok found) (Ok outcome) gathered turn finished = tt
+in_turn reader other writer untouched (Ok found) (Err fault) gathered turn finished =
+    let gave = gathered.made.0.gave in rw finished.2 ((gave.table, gave.gave), (gave.other_table, gave.other_gave))
+in_turn reader other writer untouched (Err fault) result gathered turn finished = rw finished.0 turn

@@ -1,0 +1,19 @@
+-- The loop ends behind length 0, where no row was found either.
+use Rattle.std.proofs.Common.{arith, ◌∙◌}
+use Rattle.babel_table.proofs.LookupLaws.{longest-matches, no-destination_matches}
+use Rattle.babel_table.proofs.lookup.best_match.Goals.{else-loop-len-test, then-loop-len-test+in_ok-prefix+in_default+else-len-gt0}
+use Rattle.babel_table.proofs.lookup.best_match.Goals as goal
+
+pub returns-in-Some : goal.returns-in-Some
+returns-in-Some g c =
+    longest-matches c.args.rows.now c.args.dst.now c.args.src.now c.loop-len.len c.of.result c.in-Some.held c.requires.rows c.loop-len.invariant
+    (c.of.ensures ∙ c.in_ok-prefix.ensures.value) c.in-Some.ensures
+
+pub returns : goal.returns
+returns g c =
+    elim c.loop-len-test.branch [
+      | else-loop-len-test w ↦ absurd (omega (arith, w.loop-len-test.false))
+      | then-loop-len-test+in_ok-prefix+in_default+else-len-gt0 w ↦
+          no-destination_matches c.args.rows.now c.args.dst.now c.args.src.now c.loop-len.len w.of.result c.requires.rows c.loop-len.invariant (omega arith)
+          (w.of.ensures ∙ w.in_ok-prefix.ensures.value) w.in_default.ensures
+    ]

@@ -1,0 +1,42 @@
+-- How rows are kept: the key and what is held, of one family, in parts. This project's own.
+use Rattle.std.specs.Prelude.{◌≡◌, ◌≢◌, ◌==◌, if◌then◌else◌, ℕ, List}
+use Rattle.std.specs.Cmp.{IsTotalOrder}
+use Rattle.std.specs.List.{AllByRecursion}
+use Rattle.std.proofs.lemmas.Cmp.{on_total, then_total}
+use Rattle.babel_prefix.specs.declared.family.Family.{Family}
+use Rattle.babel_prefix.specs.Address.{AddressPrefix}
+use Rattle.babel_prefix.specs.TotalOrder.{prefix_total}
+use Rattle.babel_tlv.specs.declared.held.Held.{Held}
+use Rattle.babel_tlv.specs.declared.held.Held.TheVariants as helds
+use Rattle.babel_tlv.specs.Route.{RouteKey, key_cmp, Announcement, IsAnnouncement}
+
+-- a prefix and a key of a family, of their numbers
+abbrev pub prefix_in : Family → ℕ → ℕ → AddressPrefix
+prefix_in family bits len = record { address = record { family = family; bits = bits }; len = len }
+
+abbrev pub key_in : Family → ℕ → ℕ → ℕ → ℕ → RouteKey
+key_in family dst dst_len src src_len = record { dst = prefix_in family dst dst_len; src = prefix_in family src src_len }
+
+pub key_total : IsTotalOrder key_cmp
+key_total = then_total (on_total (λ (k : RouteKey). k.dst) prefix_total) (on_total (λ (k : RouteKey). k.src) prefix_total)
+
+-- an announcement with a next hop of a family, of its numbers
+abbrev pub announced : List ℕ → ℕ → ℕ → Family → ℕ → Announcement
+announced router_id seqno metric family bits =
+    record { router_id = router_id; seqno = seqno; metric = metric; next_hop = record { family = family; bits = bits } }
+
+-- RFC 8966, 4.6.9: where the metric is infinite there is no route
+abbrev pub held_by : Announcement → Held
+held_by ann = if ann.metric == 65535 then helds.Unreachable else helds.Route ann
+
+abbrev pub IsHeldBy : Announcement → Type 0
+IsHeldBy ann = ann.metric ≢ 65535 → IsAnnouncement ann
+
+-- an announcement with a next hop of the family, or unreachable
+abbrev pub FitsFamily : Family → Held → Type 0
+FitsFamily family (helds.Route ann) = IsAnnouncement ann × (ann.next_hop.family ≡ family)
+FitsFamily family helds.Unreachable = Unit {0}
+
+-- each key is of the family
+abbrev pub AreOf : {V : Type 0} → Family → List (RouteKey × V) → Type 0
+AreOf family rows = AllByRecursion (λ row. row.0.dst.address.family ≡ family) rows

@@ -1,0 +1,104 @@
+ghost use Rattle.std.specs.Prelude.{◌≡◌};
+ghost use Rattle.std.specs.Cmp.Rules.{comparing};
+ghost use Rattle.std.proofs.Common.{rules};
+
+use crate::word::Word;
+use babel_prefix::Prefix;
+use std::cmp::Ordering;
+use std::marker::Model;
+
+/// A prefix of the family whose addresses are kept in these words.
+#[derive(Drop)]
+pub struct CompactPrefix<W: Word> {
+    pub word: W,
+    pub len: u8,
+}
+
+impl<W: Word> Model for CompactPrefix<W> {
+    ghost use Rattle.babel_prefix.specs.Address.{AddressPrefix, IsAddressPrefix};
+    ghost use Rattle.babel_table.specs.Compact.{prefix_in};
+
+    ghost Value = { AddressPrefix };
+
+    ghost view = { λ p. prefix_in W.family (W.number p.word) p.len };
+
+    ghost invariant = { λ p. IsAddressPrefix (prefix_in W.family (W.number p.word) p.len) };
+}
+
+impl<W: Word> PartialEq for CompactPrefix<W> {
+    ghost use Rattle.std.specs.Ordering.{eq_by_cmp};
+    ghost use Rattle.babel_prefix.specs.Order.{prefix_cmp};
+    ghost use Rattle.std.specs.Cmp.{partial_equiv_from_equiv, eq_by_cmp_equiv};
+    ghost use Rattle.babel_prefix.specs.TotalOrder.{prefix_total};
+
+    ghost eq = { eq_by_cmp prefix_cmp };
+
+    ghost laws = { partial_equiv_from_equiv (eq_by_cmp_equiv prefix_total) };
+
+    fn eq(&self, other: &CompactPrefix<W>) -> bool {
+        self.cmp(other) == Ordering::Equal
+    }
+}
+
+impl<W: Word> Eq for CompactPrefix<W> {
+    ghost use Rattle.std.specs.Cmp.{eq_by_cmp_equiv};
+    ghost use Rattle.babel_prefix.specs.TotalOrder.{prefix_total};
+
+    ghost laws = { eq_by_cmp_equiv prefix_total };
+}
+
+impl<W: Word> Ord for CompactPrefix<W> {
+    ghost use Rattle.babel_prefix.specs.Order.{prefix_cmp};
+    ghost use Rattle.babel_prefix.specs.TotalOrder.{prefix_total};
+
+    ghost cmp = { prefix_cmp };
+
+    ghost total = { prefix_total };
+
+    ghost matches_partial_cmp = { Prim.search (comparing, rules) };
+
+    ghost matches_eq = { Prim.search (comparing, rules) };
+
+    fn cmp(&self, other: &CompactPrefix<W>) -> Ordering {
+        match self.word.cmp(&other.word) {
+            Ordering::Equal => self.len.cmp(&other.len),
+            order => order,
+        }
+    }
+}
+
+impl<W: Word> PartialOrd for CompactPrefix<W> {
+    ghost use Rattle.std.specs.Ordering.{as_partial_cmp};
+    ghost use Rattle.std.specs.Cmp.{partial_order_from_own_ties, partial_order_from_total};
+    ghost use Rattle.babel_prefix.specs.Order.{prefix_cmp};
+    ghost use Rattle.babel_prefix.specs.TotalOrder.{prefix_total};
+
+    ghost partial_cmp = { as_partial_cmp prefix_cmp };
+
+    ghost laws = { partial_order_from_own_ties (partial_order_from_total prefix_total) (Prim.search (comparing, rules)) };
+
+    fn partial_cmp(&self, other: &CompactPrefix<W>) -> Option<Ordering> {
+        Some(self.cmp(other))
+    }
+}
+
+impl<W: Word> CompactPrefix<W> {
+    /// The prefix, kept so.
+    pub fn of(prefix: &Prefix) -> CompactPrefix<W>
+        requires { prefix.now.address.family ≡ W.family }
+        ensures { result ≡ prefix.now }
+    {
+        let addr = prefix.addr();
+        CompactPrefix {
+            word: W::of(addr),
+            len: prefix.len(),
+        }
+    }
+
+    /// The prefix that is kept.
+    pub fn prefix(&self) -> Prefix
+        ensures { result ≡ self.now }
+    {
+        Prefix::new(self.word.addr(), self.len).unwrap()
+    }
+}

@@ -1,0 +1,109 @@
+ghost use Rattle.std.specs.Prelude.{◌≡◌, ◌<◌, ◌+◌, ◌^◌, if◌then◌else◌, [], IfOk, OnErr, OnOk, length, is_some};
+ghost use Rattle.std.specs.List.Sorted.{IsStrictlySortedBy};
+ghost use Rattle.std.specs.BTreeMap.{insert_entry, is_at};
+ghost use Rattle.std.specs.Map.{keys_of, lookup, remove_entry};
+ghost use Rattle.babel_tlv.specs.Pair.{IsPair};
+ghost use Rattle.babel_tlv.specs.Route.{key_cmp};
+ghost use Rattle.babel_table.specs.Live.{kept, live_rows};
+ghost use Rattle.babel_table.specs.Rows.{AreRows};
+
+use crate::family_rows::FamilyRows;
+use crate::halves::Halves;
+use crate::sorted_rows::SortedRows;
+use babel_prefix::Family;
+use babel_tlv::{Held, Key};
+use std::alloc::{AllocError, Global};
+use std::marker::Model;
+
+/// What is kept for each key: of IPv4, then of IPv6.
+#[derive(Drop)]
+pub struct KeptRows {
+    v4: FamilyRows<u32>,
+    v6: FamilyRows<Halves>,
+}
+
+impl Model for KeptRows {
+    ghost use Rattle.std.specs.Prelude.{List, ◌++◌};
+    ghost use Rattle.babel_prefix.specs.declared.family.Family.TheVariants.{V4, V6};
+    ghost use Rattle.babel_tlv.specs.Route.{RouteKey};
+    ghost use Rattle.babel_table.specs.Compact.{AreOf};
+    ghost use Rattle.babel_table.specs.Live.{Kept};
+
+    ghost Value = { List (RouteKey × Kept) };
+
+    ghost view = { λ r. r.v4 ++ r.v6 };
+
+    ghost invariant = { λ r. AreOf V4 r.v4 × AreOf V6 r.v6 };
+}
+
+impl KeptRows {
+    /// Nothing for any key.
+    pub fn new(alloc: Global) -> KeptRows
+        ensures { result ≡ [] }
+    {
+        KeptRows {
+            v4: FamilyRows::new(alloc),
+            v6: FamilyRows::new(alloc),
+        }
+    }
+
+    /// For how many keys there is something.
+    pub fn len(&self) -> usize
+        ensures len { result ≡ length self.now }
+        ensures rising { IsStrictlySortedBy key_cmp (keys_of self.now) }
+    {
+        self.v4.len() + self.v6.len()
+    }
+
+    /// Whether there is something for the key.
+    pub fn has(&self, key: &Key) -> bool
+        ensures { result ≡ is_some (lookup (is_at (key_cmp key.now)) self.now) }
+    {
+        match key.dst().family() {
+            Family::V4 => self.v4.has(key),
+            Family::V6 => self.v6.has(key),
+        }
+    }
+
+    /// Keeps this for the key.
+    pub fn put(&mut self, key: &Key, held: Held, wipes: u64) -> Result<(), AllocError>
+        requires pair { IsPair (key.now, held) }
+        requires few { length self.old < 2 ^ 62 }
+        ensures ok { OnOk result (self.new ≡ insert_entry key_cmp self.old key.now (kept held wipes)) }
+        ensures len { OnOk result (length self.new ≡ length self.old + (if is_some (lookup (is_at (key_cmp key.now)) self.old) then 0 else 1)) }
+        ensures err { OnErr result (self.new ≡ self.old) }
+    {
+        match key.dst().family() {
+            Family::V4 => self.v4.put(key, held, wipes),
+            Family::V6 => self.v6.put(key, held, wipes),
+        }
+    }
+
+    /// Keeps nothing for the key.
+    pub fn forget(&mut self, key: &Key)
+        ensures { self.new ≡ remove_entry (is_at (key_cmp key.now)) self.old }
+    {
+        match key.dst().family() {
+            Family::V4 => self.v4.forget(key),
+            Family::V6 => self.v6.forget(key),
+        }
+    }
+
+    /// Keeps nothing for any key.
+    pub fn clear(&mut self)
+        ensures { self.new ≡ [] }
+    {
+        self.v4.clear();
+        self.v6.clear();
+    }
+
+    /// The rows that these stand for behind so many wipes.
+    pub fn listed(self, alloc: Global, wipes: u64) -> Result<SortedRows, AllocError>
+        requires { AreRows (live_rows wipes self) }
+        ensures { IfOk result (λ rows. rows ≡ live_rows wipes self) }
+    {
+        let v4 = self.v4.listed(alloc, wipes)?;
+        let v6 = self.v6.listed(alloc, wipes)?;
+        Ok(SortedRows { v4, v6 })
+    }
+}

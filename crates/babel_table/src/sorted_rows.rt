@@ -1,0 +1,58 @@
+ghost use Rattle.std.specs.Prelude.{◌≡◌, MatchOption};
+ghost use Rattle.babel_table.specs.BestMatch.{HasBestMatch, HasNoMatch};
+ghost use Rattle.babel_table.specs.Left.{rows_left};
+ghost use Rattle.babel_table.specs.Rows.{AreRows};
+
+use crate::compact_row::CompactRow;
+use crate::halves::Halves;
+use crate::lookup::best_match;
+use crate::table_rows::TableRows;
+use babel_prefix::{Addr, Family};
+use babel_tlv::Held;
+use std::marker::Model;
+
+/// Rows in rising order: of IPv4, then of IPv6.
+#[derive(Drop)]
+pub struct SortedRows {
+    pub v4: Vec<CompactRow<u32>>,
+    pub v6: Vec<CompactRow<Halves>>,
+}
+
+impl Model for SortedRows {
+    ghost use Rattle.std.specs.Prelude.{List, ◌++◌};
+    ghost use Rattle.babel_prefix.specs.declared.family.Family.TheVariants.{V4, V6};
+    ghost use Rattle.babel_tlv.specs.Pair.{Pair};
+    ghost use Rattle.babel_table.specs.Compact.{AreOf};
+    ghost use Rattle.babel_table.specs.Rows.{AreRows};
+
+    ghost Value = { List Pair };
+
+    ghost view = { λ r. r.v4.items ++ r.v6.items };
+
+    ghost invariant = { λ r. AreOf V4 r.v4.items × AreOf V6 r.v6.items × AreRows (r.v4.items ++ r.v6.items) };
+}
+
+impl SortedRows {
+    /// The rows in order.
+    pub fn iter(&self) -> TableRows<'_>
+        ensures value { rows_left result ≡ self.now }
+        ensures valid { AreRows self.now }
+    {
+        TableRows {
+            v4: &self.v4,
+            v6: &self.v6,
+        }
+    }
+
+    /// What the best matching row holds, for two addresses of one family.
+    pub fn lookup(&self, dst: &Addr, src: &Addr) -> Option<Held>
+        requires one_family { dst.now.family ≡ src.now.family }
+        ensures valid { AreRows self.now }
+        ensures best { MatchOption result (HasNoMatch self.now dst.now src.now) (HasBestMatch self.now dst.now src.now) }
+    {
+        match dst.family() {
+            Family::V4 => best_match(&self.v4, dst, src),
+            Family::V6 => best_match(&self.v6, dst, src),
+        }
+    }
+}

@@ -1,0 +1,51 @@
+//! The numbers that rows keep the addresses of a family in.
+ghost use Rattle.std.specs.Prelude.{◌≡◌, ℕ};
+ghost use Rattle.std.specs.Ordering.{nat_cmp};
+ghost use Rattle.babel_prefix.specs.declared.family.Family.{Family as AddressFamily};
+ghost use Rattle.babel_prefix.specs.declared.family.Family.TheVariants.{V4};
+
+use babel_prefix::{Addr, Family};
+
+/// The bits of an address of one family, no wider than they have to be.
+pub trait Word: Ord + Copy {
+    ghost family: { AddressFamily };
+
+    ghost number: { Self → ℕ };
+
+    /// No bits.
+    fn zero() -> Self;
+
+    /// The bits of an address of the family.
+    fn of(addr: Addr) -> Self
+        requires { addr.family ≡ family }
+        ensures { number result ≡ addr.bits };
+
+    /// The address with these bits.
+    fn addr(self) -> Addr
+        ensures { result ≡ record { family = family; bits = number self } };
+
+    // Words are ordered as the bits are.
+    ghost ordered: { (a b : Self) → Self.cmp a b ≡ nat_cmp (number a) (number b) };
+}
+
+impl Word for u32 {
+    ghost use Rattle.std.specs.Prelude.{refl};
+
+    ghost family = { V4 };
+
+    ghost number = { λ w. w };
+
+    fn zero() -> u32 {
+        0
+    }
+
+    fn of(addr: Addr) -> u32 {
+        addr.bits() as u32
+    }
+
+    fn addr(self) -> Addr {
+        Addr::new(Family::V4, u128::from(self)).unwrap()
+    }
+
+    ghost ordered = { λ a b. refl };
+}

@@ -1,0 +1,37 @@
+-- A router-id as a number: RFC 8966, 4.1.3.
+use Rattle.std.proofs.Common.{◌≡◌, ◌≢◌, ℕ, ◌<◌, Bool, true, false, nat_eq, List, [], ◌∷◌, length, get_or, replicate, refl, sym, ap, ◌∙◌, arith}
+use Rattle.std.specs.Prelude.{◌==◌}
+use Rattle.std.specs.List.{list_all}
+use Rattle.std.specs.Int.{w64, from_be_bytes, to_be_bytes}
+use Rattle.std.proofs.lemmas.Bool.Decides.{nat_tests}
+use Rattle.std.proofs.lemmas.Nat.{be_bytes_8}
+use Rattle.babel_tlv.specs.Route.{is_reserved}
+
+all_same : (k : ℕ) (id : List ℕ) → list_all (λ octet. octet == k) id ≡ true → id ≡ replicate (length id) k
+all_same k [] all = refl
+all_same k (x ∷ id) all = let rest = all_same k id in grind (arith, nat_tests, rest)
+
+-- eight octets are all this one exactly if their number is that of eight such octets
+same_number : (k n : ℕ) (id : List ℕ) → length id ≡ 8 → ((i : ℕ) → get_or id i 0 < 256) → n ≡ from_be_bytes w64 id
+    → list_all (λ octet. octet == k) (to_be_bytes w64 (from_be_bytes w64 (replicate 8 k))) ≡ true
+    → nat_eq n (from_be_bytes w64 (replicate 8 k)) ≡ list_all (λ octet. octet == k) id
+same_number k n id eight octets is same = by (list_all (λ octet. octet == k) id) refl
+  where
+    by : (b : Bool) → list_all (λ octet. octet == k) id ≡ b → nat_eq n (from_be_bytes w64 (replicate 8 k)) ≡ b
+    by true all =
+        let whole : id ≡ replicate 8 k = all_same k id all ∙ ap (λ (m : ℕ). replicate m k) eight in
+        let equal : n ≡ from_be_bytes w64 (replicate 8 k) = is ∙ ap (from_be_bytes w64) whole in
+        grind (arith, nat_tests)
+    by false some =
+        let differ : n ≢ from_be_bytes w64 (replicate 8 k) = λ equal.
+        let bytes : to_be_bytes w64 (from_be_bytes w64 (replicate 8 k)) ≡ id = ap (to_be_bytes w64) (sym equal) ∙ be_bytes_8 id n eight octets is in
+        let all : list_all (λ octet. octet == k) id ≡ true = ap (list_all (λ octet. octet == k)) (sym bytes) ∙ same in
+        cc in
+        grind (arith, nat_tests)
+
+pub reserved_else : (id : List ℕ) (n : ℕ) → length id ≡ 8 → ((i : ℕ) → get_or id i 0 < 256) → n ≡ from_be_bytes w64 id → n ≢ 0 → nat_eq n 18446744073709551615 ≡ is_reserved id
+reserved_else id n eight octets is some =
+    let zeros : nat_eq n 0 ≡ list_all (λ octet. octet == 0) id = same_number 0 n id eight octets is refl in
+    let ones : nat_eq n 18446744073709551615 ≡ list_all (λ octet. octet == 255) id = same_number 255 n id eight octets is refl in
+    let none : nat_eq n 0 ≡ false = grind (arith, nat_tests) in
+    rw (← zeros, ← ones, none) refl

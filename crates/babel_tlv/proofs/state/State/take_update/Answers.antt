@@ -1,0 +1,18 @@
+use Rattle.std.proofs.Common.{◌≡◌, ◌∙◌, sym, ap, rules}
+use Rattle.babel_tlv.specs.Forming.{encoding, update_encoding}
+use Rattle.babel_tlv.specs.Frames.{tlv_value}
+use Rattle.babel_tlv.proofs.Advance.{update_said-family}
+use Rattle.babel_tlv.proofs.Telling.{as_ok}
+use Rattle.babel_tlv.proofs.state.State.take_update.Goals as goal
+
+pub returns-in-Ok-clause-said : goal.returns-in-Ok-clause-said
+returns-in-Ok-clause-said c =
+    let update = c.in-Some.update in
+    let is : update_encoding update.body.now ≡ encoding c.match-encoding.family = search rules in
+    ap as_ok (sym c.in-Ok.ensures.said) ∙ sym (update_said-family c.args.self.now (tlv_value c.args.tlv.now) update.body.now c.match-encoding.family c.in-Some.ensures update.fields.long is)
+
+pub returns-in-Err-clause-said : goal.returns-in-Err-clause-said
+returns-in-Err-clause-said c =
+    let update = c.in-Some.update in
+    let is : update_encoding update.body.now ≡ encoding c.match-encoding.family = search rules in
+    ap as_ok (sym c.in-Err.ensures.said) ∙ sym (update_said-family c.args.self.now (tlv_value c.args.tlv.now) update.body.now c.match-encoding.family c.in-Some.ensures update.fields.long is)

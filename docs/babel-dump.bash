@@ -1,0 +1,22 @@
+# Completions of babel-dump for bash.
+
+_babel_dump() {
+    local word=${COMP_WORDS[COMP_CWORD]} command=${COMP_WORDS[1]}
+    local options="--from --hold --strict --quiet --max-routes --max-octets --help"
+    case $command in
+        show) options=${options/ --strict/} ;;
+        lookup) options="$options --to --src" ;;
+        pairs) options="$options --count" ;;
+        normalise) options="$options --hex --body" ;;
+        compare) options="$options --other-from" ;;
+        *) options="show lookup pairs normalise compare help --help --version" ;;
+    esac
+    if [[ $COMP_CWORD -gt 1 && $word != -* ]]; then
+        mapfile -t COMPREPLY < <(compgen -f -- "$word")
+    else
+        [[ $COMP_CWORD -eq 1 ]] && options="show lookup pairs normalise compare help --help --version"
+        mapfile -t COMPREPLY < <(compgen -W "$options" -- "$word")
+    fi
+}
+
+complete -o filenames -F _babel_dump babel-dump
