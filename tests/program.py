@@ -142,6 +142,17 @@ def check_manual(program, tally):
         expect(tally, "what groff says of the manual page", page.stderr, b"")
 
 
+def check_examples(program, tally):
+    """The examples of the help texts work as printed, where `babel-dump` is on the PATH: they write, and nothing goes wrong."""
+    path = f"{program.parent}{os.pathsep}{os.environ['PATH']}"
+    for words in [], *([command] for command in COMMANDS):
+        text = subprocess.run([program, *words, "--help"], check=True, capture_output=True, text=True).stdout
+        for example in re.findall(r"^  (babel-dump .*)$", text, re.MULTILINE):
+            done = subprocess.run(example, shell=True, cwd=TOP, env={**os.environ, "PATH": path}, capture_output=True, text=True)
+            faults = [line for line in done.stderr.splitlines() if not line.startswith("note: ")]
+            expect(tally, f"an example: {example}", (done.returncode in (0, 1), done.stdout != "", faults), (True, True, []))
+
+
 def check_install(folder, tally):
     """What is installed runs without the repository."""
     subprocess.run([TOP / "install", folder / "usr"], check=True, stdout=subprocess.DEVNULL)
@@ -166,4 +177,5 @@ def check(tally, _long):
         check_failed_write(program, tally)
         check_little_memory(program, folder, tally)
         check_manual(program, tally)
+        check_examples(program, tally)
         check_install(folder, tally)

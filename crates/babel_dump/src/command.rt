@@ -5,11 +5,15 @@ use std::alloc::{AllocError, Global};
 /// The most routes for which the least limit on octets, 83 for each, is a number of 32 bits.
 const MOST_ROUTES: i64 = 51_746_593;
 
-/// The end of a help text: an example, and the exit statuses, of which only 0 and 1 differ from command to command.
+/// The end of a help text: what has to be known, if anything, then examples and the exit statuses, of which only 0 and 1
+/// differ from command to command.
 macro_rules! after_help {
-    ($example:literal, $($status:literal),+) => {
+    ($($known:literal,)* examples: $($example:literal),+; $($status:literal),+) => {
         concat!(
-            "Example:\n  babel-dump ", $example, "\n\nExit statuses:",
+            $($known, "\n",)*
+            "Examples:",
+            $("\n  babel-dump ", $example,)+
+            "\n\nExit statuses:",
             $("\n  ", $status,)+
             "\n  2  the command line is wrong",
             "\n  3  a dump is refused",
@@ -21,28 +25,48 @@ macro_rules! after_help {
 }
 
 const AFTER_HELP: &str = after_help!(
-    "lookup --from 192.0.2.1 --to 10.1.2.3 --src 0.0.0.0 examples/one-route.dump",
+    "IPv4 routes with an IPv6 next hop (address encoding 4, AE 4 for short, RFC 9229) are not read.",
+    "babeld sends them on links without IPv4 addresses. They and their retractions are ignored and",
+    "counted as unknown-encoding, so that an answer for IPv4 can be missing or stale.\n",
+    examples:
+    "show --from fe80::5eff:fe00:4a01 examples/captures/frr-basic.dump",
+    "lookup --from 192.0.2.1 --to 10.1.2.3 --src 0.0.0.0 examples/one-route.dump";
     "0  done; a lookup has a route; the compared dumps answer the same",
     "1  a lookup has no route: none or unreachable; the compared dumps differ"
 );
 
-const AFTER_SHOW: &str = after_help!("show --from 192.0.2.1 examples/one-route.dump", "0  done");
+const AFTER_SHOW: &str = after_help!(
+    examples:
+    "show --from 192.0.2.1 examples/one-route.dump",
+    "show --hold --from fe80::5eff:fe00:b901 examples/captures/babeld-retract.dump | grep unreachable";
+    "0  done"
+);
 
 const AFTER_LOOKUP: &str = after_help!(
+    examples:
     "lookup --from 192.0.2.1 --to 10.1.2.3 --src 0.0.0.0 examples/one-route.dump",
+    "lookup --from 192.0.2.1 --to 10.1.2.3 --src 0.0.0.0 < examples/one-route.dump";
     "0  the answer is a route",
     "1  the answer is none or unreachable"
 );
 
 const AFTER_NORMALISE: &str = after_help!(
+    examples:
     "normalise --from 192.0.2.1 --hex examples/one-route.dump",
+    "normalise --from 192.0.2.1 examples/one-route.dump | sha256sum";
     "0  done"
 );
 
-const AFTER_PAIRS: &str = after_help!("pairs --from 192.0.2.1 examples/one-route.dump", "0  done");
+const AFTER_PAIRS: &str = after_help!(
+    examples:
+    "pairs --from 192.0.2.1 examples/one-route.dump",
+    "pairs --count --from fe80::5eff:fe00:4a01 examples/captures/frr-basic.dump";
+    "0  done"
+);
 
 const AFTER_COMPARE: &str = after_help!(
-    "compare --from 192.0.2.1 --other-from 192.0.2.1 examples/one-route.dump other.dump",
+    examples:
+    "compare --from fe80::5eff:fe00:4a01 --other-from fe80::5eff:fe00:4b01 examples/captures/frr-basic.dump examples/captures/bird-sadr.dump";
     "0  every destination and source has the same answer",
     "1  some destination and source has not"
 );

@@ -380,13 +380,13 @@ const OF_COMPARE: [&str; 8] = [
 ];
 
 const ENDS: [&str; 3] = [
-    "\nExample:\n",
+    "\nExamples:\n  babel-dump ",
     "\nExit statuses:\n  0  ",
     "\n  5  out of memory",
 ];
 
 /// The words that ask for a help text, and its parts beside `ENDS`. Each names its options, each with a sentence, and
-/// has an example and the exit statuses.
+/// has examples and the exit statuses.
 static HELPS: [(&str, &[&str], &[&str]); 7] = [
     ("--help", &COMMANDS, &["babel-dump lookup --from"]),
     ("help", &COMMANDS, &["babel-dump lookup --from"]),
