@@ -108,7 +108,7 @@ module _ {V : Type 0} (nodes : List (Node V)) where
           (found.0, found.1, b.0, b.1)
 
   -- not both halves in the one form are one value
-  halves_are_not_one : (x l h : Loose V) (v : V) → IsNormalLoose nodes x → HalvesAt nodes x l h → l ≡ Same v → h ≡ Same v → ⊥
+  pub halves_are_not_one : (x l h : Loose V) (v : V) → IsNormalLoose nodes x → HalvesAt nodes x l h → l ≡ Same v → h ≡ Same v → ⊥
   halves_are_not_one (Same w) l h v n p e f = p
   halves_are_not_one (Split node) l h v n (inl p) e f =
       n.halves_differ v (constant node.low l p.1 e) (constant node.high h p.2 f)

@@ -1,5 +1,5 @@
 -- Rows of a block: those of the whole block come first, and those of its lower half before those of its upper.
-use Rattle.std.proofs.Common.{◌≡◌, inl, inr, ℕ, zero, suc, ◌+◌, ◌-◌, ◌*◌, ◌/◌, ◌%◌, ◌^◌, ◌<◌, ◌≤◌, ◌==◌, true, nat_lt, List, [], ◌∷◌, ◌++◌, length, get_or, refl, sym, ◌∙◌, ap, subst, arith, eqb-true, eq-eqb}
+use Rattle.std.proofs.Common.{◌≡◌, ◌⊎◌, inl, inr, ℕ, zero, suc, ◌+◌, ◌-◌, ◌*◌, ◌/◌, ◌%◌, ◌^◌, ◌<◌, ◌≤◌, ◌==◌, true, nat_lt, List, [], ◌∷◌, ◌++◌, length, get_or, refl, sym, ◌∙◌, ap, subst, arith, eqb-true, eq-eqb}
 use Rattle.std.specs.List.Sorted.{IsPartitionedBy}
 use Rattle.std.proofs.lemmas.Nat.{pow_pos, shr_high}
 use Rattle.std.proofs.lemmas.Bool.{ltb-true, lt-ltb, cases_order}
@@ -115,6 +115,12 @@ high_misses w bits start b a p len from lt c =
 pub low_misses : (w bits start : ℕ) (b : Block) (a : ℕ) → IsPlace w bits start → w - bits ≤ b.len → b.start < start → start ≤ a → BlockCovers w b a → ⊥
 low_misses w bits start b a p len lt from c =
     two_sides bits p.index b.start a (subst (λ n. b.start < n) p.start_is lt) (subst (λ n. n ≤ a) p.start_is from) (sym (covered_agrees w bits b a p.bits_in len c))
+
+-- a prefix of a block covers no address outside it
+pub outside_misses : (w bits start : ℕ) (b : Block) (a : ℕ) → IsPlace w bits start → w - bits ≤ b.len → start ≤ b.start → b.start < start + 2 ^ bits → (a < start) ⊎ (start + 2 ^ bits ≤ a) → BlockCovers w b a → ⊥
+outside_misses w bits start b a p len from before (inl lt) c = high_misses w bits start b a p len from lt c
+outside_misses w bits start b a p len from before (inr ge) c =
+    two_sides bits (suc p.index) b.start a (omega (arith, p.start_is, before)) (omega (arith, p.start_is, ge)) (sym (covered_agrees w bits b a p.bits_in len c))
 
 module _ {X : Type 0} (key : X → Block) where
   pairs_of : (w bits start : ℕ) (rows : List X) → InBlock key w bits start rows → (i j : ℕ) (d : X) → i < j → j < length rows → IsNoLater (key (get_or rows i d)) (key (get_or rows j d))

@@ -1,10 +1,11 @@
 -- What laying rows over a trie gives: the best match of RFC 9079, 4, block by block.
-use Rattle.std.specs.Prelude.{◌≡◌, ◌⊎◌, ℕ, ◌+◌, ◌^◌, ◌<◌, ◌≤◌, List, [], Option, Some}
+use Rattle.std.specs.Prelude.{◌≡◌, ◌⊎◌, ℕ, ◌+◌, ◌^◌, ◌<◌, ◌≤◌, Bool, true, false, List, [], Option, Some}
 use Rattle.babel_prefix.specs.Entries.{Entry}
 use Rattle.babel_prefix.specs.Block.{BlockCovers}
 use Rattle.babel_prefix.specs.Address.{block_of}
 use Rattle.babel_prefix.specs.Best.{Row}
 use Rattle.babel_trie.specs.Shape.{Shape, leaf, height, value_at, IsReduced}
+use Rattle.babel_trie.specs.Held.{along}
 use Rattle.babel_trie.specs.Interned.{Stands, Represents}
 use Rattle.babel_prefix.specs.Members.{Listed}
 use Rattle.babel_trie.specs.Rows.{Overlays}
@@ -13,6 +14,19 @@ use Rattle.babel_trie.specs.declared.table.Node.{Node}
 use Rattle.babel_trie.specs.declared.table.Sources.{Sources}
 
 module _ {V : Type 0} where
+  -- one is the lower half and the other the upper
+  abbrev pub AreHalvesBy : Bool → Loose V → Loose V → Loose V → Loose V → Type 0
+  AreHalvesBy true inside beside low high = (low ≡ inside) × (high ≡ beside)
+  AreHalvesBy false inside beside low high = (low ≡ beside) × (high ≡ inside)
+
+  -- it stands for the trie in a block that these bits lead to, with this value beside it
+  pub record IsAlong (nodes : List (Node V)) (x : Loose V) (skip path : ℕ) (v : V) (inside : Shape V) : Type 0 where
+    pub whole : Shape V
+    pub stands : Stands nodes x whole
+    pub values : (bits a : ℕ) → value_at whole bits a ≡ value_at (along skip path (leaf v) inside) bits a
+    pub lower : height whole ≤ height inside + skip
+    pub reduced : IsReduced inside → IsReduced whole
+
   -- the rows have one destination prefix
   abbrev pub HasOneDestination : List (Entry V) → Type 0
   HasOneDestination rows = (x y : Entry V) → Listed rows x → Listed rows y → (block_of x.0) ≡ (block_of y.0)

@@ -18,7 +18,7 @@ pub fn run_last<F>(top: u128, later: &[Change<F>]) -> u128
 }
 
 /// The highest bit in which the numbers differ.
-fn split(from: u128, last: u128) -> u32
+pub fn split(from: u128, last: u128) -> u32
     requires { from < last }
     ensures split { IsSplit from last result }
     ensures few { result ≤ 127 }

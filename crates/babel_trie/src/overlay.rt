@@ -9,7 +9,7 @@ ghost use Rattle.babel_trie.specs.Sound.{IsSound, KeepsNodes};
 ghost use Rattle.babel_trie.specs.declared.table.Node.{Node};
 
 use crate::lawful::LawfulOrd;
-use crate::rows::{Row, parts};
+use crate::rows::{Row, inner_block, parts};
 use crate::table::{Loose, Sources, Table};
 use std::alloc::AllocError;
 
@@ -46,6 +46,13 @@ impl<V: LawfulOrd> Table<Option<V>> {
         ensures normal { IfOk result (IsNormalLoose self.new.nodes.items) }
         ensures laid { IfOk result (λ new. (t : Shape (Option V)) → Stands self.old.nodes.items old t → IsLaid width bits start (map row_of rows.now) self.new.nodes.items new t) }
     {
+        if let Some(value) = old.value() {
+            if let Some(inner) = inner_block(rows, width, bits, start) {
+                let inside = self.laid(rows, width, inner.bits, inner.start, old)?;
+                let whole = self.along(inside, value, bits - inner.bits, inner.path)?;
+                return Ok(whole);
+            }
+        }
         let (own, rest) = parts(rows, width, bits, start);
         let old = set(own, old);
         let Some(rest) = rest else {

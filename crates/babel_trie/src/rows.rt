@@ -1,11 +1,12 @@
 //! Rows in order, and their parts.
-ghost use Rattle.std.specs.Prelude.{◌≡◌, ◌≢◌, ◌+◌, ◌-◌, ◌^◌, ◌++◌, ◌<◌, ◌≤◌, ◌==◌, nat_lt, List, All, IfOk, IfSome, IfNone, true, false, length};
+ghost use Rattle.std.specs.Prelude.{◌≡◌, ◌≢◌, ◌+◌, ◌-◌, ◌*◌, ◌/◌, ◌^◌, ◌++◌, ◌<◌, ◌≤◌, ◌==◌, nat_lt, List, All, IfOk, IfSome, IfNone, true, false, length};
 ghost use Rattle.std.specs.List.Sorted.{IsPartitionedBy, IsPartitionPoint, IsPermutation};
 ghost use Rattle.babel_prefix.specs.Entries.{HasPrefixes};
 ghost use Rattle.babel_prefix.specs.Members.{Listed};
 ghost use Rattle.babel_trie.specs.Held.{RowOrder, row_place};
 ghost use Rattle.babel_trie.specs.Rows.{InOrder, InBlock, IsPlace, AreParted, source_block};
 
+use crate::cut::split;
 use babel_prefix::Prefix;
 use std::alloc::{AllocError, Global};
 
@@ -157,4 +158,51 @@ pub fn parts<V>(
     let middle = upper_start(start, bits);
     let (low, high) = low_and_high(rest, middle);
     (own, Some(Halves { low, high, middle }))
+}
+
+/// In how many bits the addresses of the smallest block with both of these differ.
+fn common_bits(from: u128, last: u128) -> u8
+    requires { from ≤ last }
+    ensures same { from / 2 ^ result ≡ last / 2 ^ result }
+    ensures few { result ≤ 128 }
+{
+    if from == last {
+        return 0;
+    }
+    split(from, last) as u8 + 1
+}
+
+/// A block inside another, and the bits that lead to it from there.
+#[derive(Clone, Copy)]
+pub struct Inner {
+    pub bits: u8,
+    pub start: u128,
+    pub path: u128,
+}
+
+/// The smallest block that all rows of a block lie in, if there are rows and it is not the whole block.
+pub fn inner_block<V>(rows: &[Row<V>], width: u8, bits: u8, start: u128) -> Option<Inner>
+    requires place { IsPlace width bits start }
+    requires rows { InBlock source_block width bits start rows.now }
+    requires width { width ≤ 128 }
+    ensures smaller { IfSome result (λ r. r.bits < bits) }
+    ensures path { IfSome result (λ r. r.path < 2 ^ (bits - r.bits)) }
+    ensures start { IfSome result (λ r. r.start ≡ start + r.path * 2 ^ r.bits) }
+    ensures place { IfSome result (λ r. IsPlace width r.bits r.start) }
+    ensures rows { IfSome result (λ r. InBlock source_block width r.bits r.start rows.now) }
+{
+    let first = &rows.first()?.1;
+    let from = first.addr().bits();
+    let last = rows.last()?.1.addr().bits();
+    let inner = common_bits(from, last).max(width - first.len());
+    if inner >= bits {
+        return None;
+    }
+    let place = from >> inner;
+    let above = start >> inner;
+    Some(Inner {
+        bits: inner,
+        start: place << inner,
+        path: place - above,
+    })
 }

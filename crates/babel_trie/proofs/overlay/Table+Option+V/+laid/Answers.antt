@@ -3,7 +3,7 @@ use Rattle.std.proofs.Common.{◌-◌, ◌<◌, ◌≤◌, ◌++◌, map, subst,
 use Rattle.babel_trie.specs.Interned.{IsTrie, IsNormalLoose}
 use Rattle.babel_trie.specs.Laid.{HasOneDestination, IsLaid}
 use Rattle.babel_prefix.specs.Entries.{row_of}
-use Rattle.babel_trie.specs.Shape.{height}
+use Rattle.babel_trie.specs.Shape.{leaf, height}
 use Rattle.babel_trie.specs.Rows.{source_block, InBlock, IsPlace}
 use Rattle.babel_trie.proofs.NumberLaws.{one_shape, Stands-grows, IsNormalLoose-grows, form_from_sound}
 use Rattle.babel_trie.proofs.FormLaws.{IsTrie-grows}
@@ -11,63 +11,105 @@ use Rattle.babel_trie.proofs.HalfLaws.{halved, halves_normal, set_trie}
 use Rattle.babel_trie.proofs.PlaceLaws.{place_low}
 use Rattle.babel_trie.proofs.PartLaws.{some_holds, none_holds, upper_place, upper_rows}
 use Rattle.babel_trie.proofs.SourceLaws.{overlaid_set, overlaid_joined, halved_tries, one_left, one_right}
+use Rattle.babel_trie.proofs.LaidAlong.{laid_along, one_trie}
 use Rattle.babel_trie.proofs.overlay.Table+Option+V.+laid.Goals as goal
 
-pub returns-in_default-clause-laid : goal.returns-in_default-clause-laid
-returns-in_default-clause-laid g t c u p =
+pub returns-in_default-rest-clause-laid : goal.returns-in_default-rest-clause-laid
+returns-in_default-rest-clause-laid g t c u p =
     let a = c.args in
     overlaid_set a.width a.bits a.start a.rows.now c.parts.result.0.now c.args.self.now.nodes.items c.set-old.result u c.requires.place c.requires.rows c.requires.one
-    (none_holds c.parts.ensures.none c.in_default.is) c.parts.ensures.own (c.set-old.ensures.is c.args.self.now.nodes.items u p)
+    (none_holds c.parts.ensures.none c.in_default-rest.is) c.parts.ensures.own (c.set-old.ensures.is c.args.self.now.nodes.items u p)
 
-pub returns-in_default-clause-normal : goal.returns-in_default-clause-normal
-returns-in_default-clause-normal g t c = c.set-old.ensures.normal c.args.self.now.nodes.items c.requires.normal
-
-pub halves-low-requires : goal.halves-low-requires
-halves-low-requires g t c =
-    let set = c.set-old.ensures.is c.args.self.now.nodes.items c.requires.trie.trie c.requires.trie.stands in
-    (c.args.bits, omega (arith, c.requires.place.bits_in, c.requires.width), set_trie c.args.bits c.parts.result.0.now c.args.self.now.nodes.items c.set-old.result c.requires.trie.trie set c.requires.trie.fits c.requires.trie.reduced)
+pub returns-in_default-rest-clause-normal : goal.returns-in_default-rest-clause-normal
+returns-in_default-rest-clause-normal g t c = c.set-old.ensures.normal c.args.self.now.nodes.items c.requires.normal
 
 pub overflow_sub-bits : goal.overflow_sub-bits
-overflow_sub-bits g t c = (some_holds _ c.parts.ensures.halves c.in-Some.is).some
+overflow_sub-bits g t c = omega (arith, some_holds _ c.inner_block.ensures.smaller c.in-Some-inner_block.is)
 
 pub laid-requires : goal.laid-requires
 laid-requires g t c κs within =
     let a = c.args in
-    let nodes = c.args.self.now.nodes.items in
-    let own = c.parts.result.0.now in
-    let low = c.in-Some.rest.low.now in
-    let high = c.in-Some.rest.high.now in
-    let parts = some_holds _ c.parts.ensures.halves c.in-Some.is in
-    let set = c.set-old.ensures.is c.args.self.now.nodes.items c.requires.trie.trie c.requires.trie.stands in
-    let tries = halved_tries a.bits own nodes c.set-old.result c.halves-low.result.0 c.halves-low.result.1 c.requires.trie.trie set c.requires.trie.fits c.requires.trie.reduced parts.some (halved c.args.self.now.nodes.items c.set-old.result c.halves-low.result.0 c.halves-low.result.1 c.halves-low.ensures.one c.halves-low.ensures.node set.new set.stands) in
-    let falls : a.bits - 1 < t = omega (arith, c.decreases) in
-    let trie : IsTrie (a.bits - 1) nodes c.halves-low.result.0 = tries.0 in
-    let form = form_from_sound _ nodes a.self.now.numbers c.requires.sound in
-    let normals = halves_normal nodes form c.set-old.result c.halves-low.result.0 c.halves-low.result.1 c.halves-low.ensures.one c.halves-low.ensures.node (c.set-old.ensures.normal nodes c.requires.normal) in
-    let normal : IsNormalLoose nodes c.halves-low.result.0 = normals.0 in
-    let place : IsPlace a.width (a.bits - 1) a.start = place_low a.width a.bits a.start c.requires.place parts.some in
-    let rows : InBlock source_block a.width (a.bits - 1) a.start low = parts.low_in in
-    let one : HasOneDestination low = one_left low high (one_right own (low ++ high) (subst HasOneDestination parts.whole c.requires.one)) in
+    let inner = c.in-Some-inner_block.inner in
+    let nodes = a.self.now.nodes.items in
+    let is = some_holds _ c.value.ensures c.in-Some.is in
+    let falls : inner.bits < t = omega (arith, c.decreases, some_holds _ c.inner_block.ensures.smaller c.in-Some-inner_block.is) in
+    let trie : IsTrie inner.bits nodes a.old = one_trie inner.bits nodes a.old c.in-Some.value is in
+    let place : IsPlace a.width inner.bits inner.start = some_holds _ c.inner_block.ensures.place c.in-Some-inner_block.is in
+    let rows : InBlock source_block a.width inner.bits inner.start a.rows.now = some_holds _ c.inner_block.ensures.rows c.in-Some-inner_block.is in
     search rules
+
+pub along-requires-clause-inside : goal.along-requires-clause-inside
+along-requires-clause-inside g t c =
+    let is = some_holds _ c.value.ensures c.in-Some.is in
+    let laid = c.in_ok-inside.ensures.laid (leaf c.in-Some.value) is in
+    let smaller = some_holds _ c.inner_block.ensures.smaller c.in-Some-inner_block.is in
+    let fits : height laid.new ≤ 128 - (c.args.bits - c.in-Some-inner_block.inner.bits) = omega (arith, laid.fits (omega arith), smaller, c.requires.place.bits_in, c.requires.width) in
+    record { trie = laid.new; stands = laid.stands; fits = fits; reduced = laid.reduced tt }
+
+pub returns-in-Some-inner_block-clause-keeps : goal.returns-in-Some-inner_block-clause-keeps
+returns-in-Some-inner_block-clause-keeps g t c i node e = c.in_ok-whole.ensures.keeps i node (c.in_ok-inside.ensures.keeps i node e)
+
+pub returns-in-Some-inner_block-clause-laid : goal.returns-in-Some-inner_block-clause-laid
+returns-in-Some-inner_block-clause-laid g t c u p =
+    let a = c.args in
+    let inner = c.in-Some-inner_block.inner in
+    let ensures = c.inner_block.ensures in
+    let there = c.in-Some-inner_block.is in
+    let v = c.in-Some.value in
+    let new = c.along.new.self.nodes.items in
+    let is = some_holds _ c.value.ensures c.in-Some.is in
+    let laid = c.in_ok-inside.ensures.laid (leaf v) is in
+    let smaller = some_holds _ ensures.smaller there in
+    let whole = laid_along a.width a.bits a.start inner.bits inner.start inner.path a.rows.now (some_holds _ ensures.place there) (some_holds _ ensures.rows there) (omega (arith, smaller)) (some_holds _ ensures.path there) (some_holds _ ensures.start there)
+    c.laid.new.self.nodes.items new c.in_ok-inside.inside c.in_ok-whole.whole v laid (c.in_ok-whole.ensures.along laid.new laid.stands) in
+    subst (IsLaid a.width a.bits a.start (map row_of a.rows.now) new c.in_ok-whole.whole) (one_shape a.self.now.nodes.items a.old (leaf v) u is p) whole
+
+pub halves-requires : goal.halves-requires
+halves-requires g t c =
+    let set = c.set-old.ensures.is c.args.self.now.nodes.items c.requires.trie.trie c.requires.trie.stands in
+    (c.args.bits, omega (arith, c.requires.place.bits_in, c.requires.width), set_trie c.args.bits c.parts.result.0.now c.args.self.now.nodes.items c.set-old.result c.requires.trie.trie set c.requires.trie.fits c.requires.trie.reduced)
+
+pub overflow_sub-bits-2 : goal.overflow_sub-bits-2
+overflow_sub-bits-2 g t c = (some_holds _ c.parts.ensures.halves c.in-Some-rest.is).some
 
 pub laid-requires-2 : goal.laid-requires-2
 laid-requires-2 g t c κs within =
     let a = c.args in
     let nodes = c.args.self.now.nodes.items in
     let own = c.parts.result.0.now in
-    let low = c.in-Some.rest.low.now in
-    let high = c.in-Some.rest.high.now in
-    let parts = some_holds _ c.parts.ensures.halves c.in-Some.is in
-    let middle = some_holds _ c.parts.ensures.middle c.in-Some.is in
+    let low = c.in-Some-rest.rest.low.now in
+    let high = c.in-Some-rest.rest.high.now in
+    let parts = some_holds _ c.parts.ensures.halves c.in-Some-rest.is in
     let set = c.set-old.ensures.is c.args.self.now.nodes.items c.requires.trie.trie c.requires.trie.stands in
-    let tries = halved_tries a.bits own nodes c.set-old.result c.halves-low.result.0 c.halves-low.result.1 c.requires.trie.trie set c.requires.trie.fits c.requires.trie.reduced parts.some (halved c.args.self.now.nodes.items c.set-old.result c.halves-low.result.0 c.halves-low.result.1 c.halves-low.ensures.one c.halves-low.ensures.node set.new set.stands) in
+    let tries = halved_tries a.bits own nodes c.set-old.result c.halves.result.0 c.halves.result.1 c.requires.trie.trie set c.requires.trie.fits c.requires.trie.reduced parts.some (halved c.args.self.now.nodes.items c.set-old.result c.halves.result.0 c.halves.result.1 c.halves.ensures.one c.halves.ensures.node set.new set.stands) in
+    let falls : a.bits - 1 < t = omega (arith, c.decreases) in
+    let trie : IsTrie (a.bits - 1) nodes c.halves.result.0 = tries.0 in
+    let form = form_from_sound _ nodes a.self.now.numbers c.requires.sound in
+    let normals = halves_normal nodes form c.set-old.result c.halves.result.0 c.halves.result.1 c.halves.ensures.one c.halves.ensures.node (c.set-old.ensures.normal nodes c.requires.normal) in
+    let normal : IsNormalLoose nodes c.halves.result.0 = normals.0 in
+    let place : IsPlace a.width (a.bits - 1) a.start = place_low a.width a.bits a.start c.requires.place parts.some in
+    let rows : InBlock source_block a.width (a.bits - 1) a.start low = parts.low_in in
+    let one : HasOneDestination low = one_left low high (one_right own (low ++ high) (subst HasOneDestination parts.whole c.requires.one)) in
+    search rules
+
+pub laid-requires-3 : goal.laid-requires-3
+laid-requires-3 g t c κs within =
+    let a = c.args in
+    let nodes = c.args.self.now.nodes.items in
+    let own = c.parts.result.0.now in
+    let low = c.in-Some-rest.rest.low.now in
+    let high = c.in-Some-rest.rest.high.now in
+    let parts = some_holds _ c.parts.ensures.halves c.in-Some-rest.is in
+    let middle = some_holds _ c.parts.ensures.middle c.in-Some-rest.is in
+    let set = c.set-old.ensures.is c.args.self.now.nodes.items c.requires.trie.trie c.requires.trie.stands in
+    let tries = halved_tries a.bits own nodes c.set-old.result c.halves.result.0 c.halves.result.1 c.requires.trie.trie set c.requires.trie.fits c.requires.trie.reduced parts.some (halved c.args.self.now.nodes.items c.set-old.result c.halves.result.0 c.halves.result.1 c.halves.ensures.one c.halves.ensures.node set.new set.stands) in
     let falls : a.bits - 1 < t = omega (arith, c.decreases) in
     let form = form_from_sound _ nodes a.self.now.numbers c.requires.sound in
-    let normals = halves_normal nodes form c.set-old.result c.halves-low.result.0 c.halves-low.result.1 c.halves-low.ensures.one c.halves-low.ensures.node (c.set-old.ensures.normal nodes c.requires.normal) in
-    let normal : IsNormalLoose c.laid.new.self.nodes.items c.halves-low.result.1 = IsNormalLoose-grows nodes c.laid.new.self.nodes.items c.in_ok-low.ensures.keeps c.halves-low.result.1 normals.1 in
-    let trie : IsTrie (a.bits - 1) c.laid.new.self.nodes.items c.halves-low.result.1 = IsTrie-grows nodes c.laid.new.self.nodes.items c.in_ok-low.ensures.keeps (a.bits - 1) c.halves-low.result.1 tries.1 in
-    let place : IsPlace a.width (a.bits - 1) c.in-Some.rest.middle = upper_place middle parts in
-    let rows : InBlock source_block a.width (a.bits - 1) c.in-Some.rest.middle high = upper_rows middle parts in
+    let normals = halves_normal nodes form c.set-old.result c.halves.result.0 c.halves.result.1 c.halves.ensures.one c.halves.ensures.node (c.set-old.ensures.normal nodes c.requires.normal) in
+    let normal : IsNormalLoose c.laid-2.new.self.nodes.items c.halves.result.1 = IsNormalLoose-grows nodes c.laid-2.new.self.nodes.items c.in_ok-low.ensures.keeps c.halves.result.1 normals.1 in
+    let trie : IsTrie (a.bits - 1) c.laid-2.new.self.nodes.items c.halves.result.1 = IsTrie-grows nodes c.laid-2.new.self.nodes.items c.in_ok-low.ensures.keeps (a.bits - 1) c.halves.result.1 tries.1 in
+    let place : IsPlace a.width (a.bits - 1) c.in-Some-rest.rest.middle = upper_place middle parts in
+    let rows : InBlock source_block a.width (a.bits - 1) c.in-Some-rest.rest.middle high = upper_rows middle parts in
     let one : HasOneDestination high = one_right low high (one_right own (low ++ high) (subst HasOneDestination parts.whole c.requires.one)) in
     search rules
 
@@ -75,12 +117,12 @@ pub joined-requires-clause-low : goal.joined-requires-clause-low
 joined-requires-clause-low g t c =
     let a = c.args in
     let nodes1 = a.self.now.nodes.items in
-    let nodes2 = c.laid.new.self.nodes.items in
-    let nodes3 = c.laid-2.new.self.nodes.items in
-    let parts = some_holds _ c.parts.ensures.halves c.in-Some.is in
+    let nodes2 = c.laid-2.new.self.nodes.items in
+    let nodes3 = c.laid-3.new.self.nodes.items in
+    let parts = some_holds _ c.parts.ensures.halves c.in-Some-rest.is in
     let set = c.set-old.ensures.is nodes1 c.requires.trie.trie c.requires.trie.stands in
-    let halves = halved nodes1 c.set-old.result c.halves-low.result.0 c.halves-low.result.1 c.halves-low.ensures.one c.halves-low.ensures.node set.new set.stands in
-    let tries = halved_tries a.bits c.parts.result.0.now nodes1 c.set-old.result c.halves-low.result.0 c.halves-low.result.1 c.requires.trie.trie set c.requires.trie.fits c.requires.trie.reduced parts.some halves in
+    let halves = halved nodes1 c.set-old.result c.halves.result.0 c.halves.result.1 c.halves.ensures.one c.halves.ensures.node set.new set.stands in
+    let tries = halved_tries a.bits c.parts.result.0.now nodes1 c.set-old.result c.halves.result.0 c.halves.result.1 c.requires.trie.trie set c.requires.trie.fits c.requires.trie.reduced parts.some halves in
     let low = c.in_ok-low.ensures.laid tries.0.trie tries.0.stands in
     let fits : height low.new ≤ 127 = omega (arith, low.fits tries.0.fits, c.requires.width) in
     IsTrie-grows nodes2 nodes3 c.in_ok-high.ensures.keeps 127 c.in_ok-low.low (record { trie = low.new; stands = low.stands; fits = fits; reduced = low.reduced tries.0.reduced })
@@ -89,40 +131,40 @@ pub joined-requires-clause-high : goal.joined-requires-clause-high
 joined-requires-clause-high g t c =
     let a = c.args in
     let nodes1 = a.self.now.nodes.items in
-    let nodes2 = c.laid.new.self.nodes.items in
-    let nodes3 = c.laid-2.new.self.nodes.items in
-    let parts = some_holds _ c.parts.ensures.halves c.in-Some.is in
+    let nodes2 = c.laid-2.new.self.nodes.items in
+    let nodes3 = c.laid-3.new.self.nodes.items in
+    let parts = some_holds _ c.parts.ensures.halves c.in-Some-rest.is in
     let set = c.set-old.ensures.is nodes1 c.requires.trie.trie c.requires.trie.stands in
-    let halves = halved nodes1 c.set-old.result c.halves-low.result.0 c.halves-low.result.1 c.halves-low.ensures.one c.halves-low.ensures.node set.new set.stands in
-    let tries = halved_tries a.bits c.parts.result.0.now nodes1 c.set-old.result c.halves-low.result.0 c.halves-low.result.1 c.requires.trie.trie set c.requires.trie.fits c.requires.trie.reduced parts.some halves in
-    let high = c.in_ok-high.ensures.laid tries.1.trie (Stands-grows nodes1 nodes2 c.in_ok-low.ensures.keeps c.halves-low.result.1 tries.1.trie tries.1.stands) in
+    let halves = halved nodes1 c.set-old.result c.halves.result.0 c.halves.result.1 c.halves.ensures.one c.halves.ensures.node set.new set.stands in
+    let tries = halved_tries a.bits c.parts.result.0.now nodes1 c.set-old.result c.halves.result.0 c.halves.result.1 c.requires.trie.trie set c.requires.trie.fits c.requires.trie.reduced parts.some halves in
+    let high = c.in_ok-high.ensures.laid tries.1.trie (Stands-grows nodes1 nodes2 c.in_ok-low.ensures.keeps c.halves.result.1 tries.1.trie tries.1.stands) in
     let fits : height high.new ≤ 127 = omega (arith, high.fits tries.1.fits, c.requires.width) in
     record { trie = high.new; stands = high.stands; fits = fits; reduced = high.reduced tries.1.reduced }
 
 pub joined-requires-clause-low_normal : goal.joined-requires-clause-low_normal
 joined-requires-clause-low_normal g t c =
-    IsNormalLoose-grows c.laid.new.self.nodes.items c.laid-2.new.self.nodes.items c.in_ok-high.ensures.keeps c.in_ok-low.low c.in_ok-low.ensures.normal
+    IsNormalLoose-grows c.laid-2.new.self.nodes.items c.laid-3.new.self.nodes.items c.in_ok-high.ensures.keeps c.in_ok-low.low c.in_ok-low.ensures.normal
 
 pub returns-clause-keeps : goal.returns-clause-keeps
 returns-clause-keeps g t c i node e =
-    c.in_ok-whole.ensures.keeps i node (c.in_ok-high.ensures.keeps i node (c.in_ok-low.ensures.keeps i node e))
+    c.in_ok-whole-2.ensures.keeps i node (c.in_ok-high.ensures.keeps i node (c.in_ok-low.ensures.keeps i node e))
 
 pub returns-clause-laid : goal.returns-clause-laid
 returns-clause-laid g t c u p =
     let a = c.args in
-    let low = c.in-Some.rest.low.now in
-    let high = c.in-Some.rest.high.now in
-    let parts = some_holds _ c.parts.ensures.halves c.in-Some.is in
+    let low = c.in-Some-rest.rest.low.now in
+    let high = c.in-Some-rest.rest.high.now in
+    let parts = some_holds _ c.parts.ensures.halves c.in-Some-rest.is in
     let nodes1 = c.args.self.now.nodes.items in
-    let nodes2 = c.laid.new.self.nodes.items in
-    let nodes3 = c.laid-2.new.self.nodes.items in
+    let nodes2 = c.laid-2.new.self.nodes.items in
+    let nodes3 = c.laid-3.new.self.nodes.items in
     let nodes4 = c.joined.new.self.nodes.items in
     let fits : height u ≤ a.bits = subst (λ x. height x ≤ a.bits) (one_shape c.args.self.now.nodes.items a.old c.requires.trie.trie u c.requires.trie.stands p) c.requires.trie.fits in
     let set = c.set-old.ensures.is c.args.self.now.nodes.items u p in
-    let halved = halved c.args.self.now.nodes.items c.set-old.result c.halves-low.result.0 c.halves-low.result.1 c.halves-low.ensures.one c.halves-low.ensures.node set.new set.stands in
+    let halved = halved c.args.self.now.nodes.items c.set-old.result c.halves.result.0 c.halves.result.1 c.halves.ensures.one c.halves.ensures.node set.new set.stands in
     let in_low = c.in_ok-low.ensures.laid halved.low_half halved.low_stands in
-    let there = c.in_ok-high.ensures.laid halved.high_half (Stands-grows nodes1 nodes2 c.in_ok-low.ensures.keeps c.halves-low.result.1 halved.high_half halved.high_stands) in
-    let in_high = subst (λ m. IsLaid a.width (a.bits - 1) m (map row_of high) nodes3 c.in_ok-high.high halved.high_half) (some_holds _ c.parts.ensures.middle c.in-Some.is) there in
-    let joined = c.in_ok-whole.ensures.joins in_low.new in_high.new (Stands-grows nodes2 nodes3 c.in_ok-high.ensures.keeps c.in_ok-low.low in_low.new in_low.stands) in_high.stands in
-    overlaid_joined a.width a.bits a.start a.rows.now c.parts.result.0.now low high parts c.requires.one nodes1 nodes2 nodes3 nodes4 c.set-old.result c.halves-low.result.0 c.halves-low.result.1 c.in_ok-low.low c.in_ok-high.high c.in_ok-whole.whole u
+    let there = c.in_ok-high.ensures.laid halved.high_half (Stands-grows nodes1 nodes2 c.in_ok-low.ensures.keeps c.halves.result.1 halved.high_half halved.high_stands) in
+    let in_high = subst (λ m. IsLaid a.width (a.bits - 1) m (map row_of high) nodes3 c.in_ok-high.high halved.high_half) (some_holds _ c.parts.ensures.middle c.in-Some-rest.is) there in
+    let joined = c.in_ok-whole-2.ensures.joins in_low.new in_high.new (Stands-grows nodes2 nodes3 c.in_ok-high.ensures.keeps c.in_ok-low.low in_low.new in_low.stands) in_high.stands in
+    overlaid_joined a.width a.bits a.start a.rows.now c.parts.result.0.now low high parts c.requires.one nodes1 nodes2 nodes3 nodes4 c.set-old.result c.halves.result.0 c.halves.result.1 c.in_ok-low.low c.in_ok-high.high c.in_ok-whole-2.whole u
     set halved in_low in_high joined fits

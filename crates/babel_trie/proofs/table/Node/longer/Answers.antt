@@ -1,14 +1,16 @@
--- A path of less than 127 bits has room for one more.
-use Rattle.std.proofs.Common.{◌^◌, ◌≤◌, arith}
-use Rattle.std.proofs.Math.Pow.{pow_mono}
-use Rattle.babel_trie.proofs.table.Node.longer.Goals.{then-upper, else-upper}
+-- A path of less than 128 bits fits.
+use Rattle.std.proofs.Common.{◌+◌, ap, arith}
+use Rattle.babel_trie.specs.declared.table.Sources.TheVariants.{Constant}
+use Rattle.babel_trie.proofs.AlongLaws.{longer_in, shifted_fits}
 use Rattle.babel_trie.proofs.table.Node.longer.Goals as goal
 
 pub overflow_add-result-2 : goal.overflow_add-result-2
 overflow_add-result-2 g c =
-    let k = c.args.self.now.skip in
-    let most : 2 ^ k ≤ 2 ^ 126 = pow_mono {i = k} {j = 126} (omega (arith, c.requires.skip)) in
-    elim c.if-upper.branch [
-      | then-upper w ↦ omega (arith, most, c.requires.path, w.first-is, w.bit_at-first.ensures)
-      | else-upper w ↦ omega (arith, most, c.requires.path, w.first-is)
-    ]
+    let n = c.args.self.now in
+    omega (arith, longer_in n.skip n.path c.args.more c.args.path c.requires.skip c.requires.path c.requires.more)
+
+pub returns : goal.returns
+returns g c =
+    let n = c.args.self.now in
+    ap (λ p. record { skip = n.skip + c.args.more; path = n.path + p; outside = Constant c.args.value; low = n.low; high = n.high })
+    (shifted_fits n.skip c.args.more c.args.path c.requires.skip c.requires.more)
