@@ -1,29 +1,35 @@
--- What was said of each key, over the rows whose keys came out of order.
-use Rattle.std.proofs.Common.{◌≡◌, ℕ, zero, suc, ◌+◌, ◌-◌, ◌^◌, ◌<◌, ◌≤◌, Bool, true, false, cond, T, List, [], ◌∷◌, ◌++◌, length, set, get_or, Option, Some, None, Result, Ok, Err, MatchOption, refl, sym, ap, subst, ◌∙◌, append_assoc, arith}
+-- What was said of each key, whatever the order in which the keys came.
+use Rattle.std.proofs.Common.{◌≡◌, ℕ, zero, suc, ◌+◌, ◌-◌, ◌^◌, ◌<◌, ◌≤◌, Bool, true, false, cond, T, List, [], ◌∷◌, ◌++◌, length, set, get_or, take, Option, Some, None, Ok, Err, MatchOption, refl, sym, ap, subst, ◌∙◌, append_assoc, length-append, arith}
 use mir.Val.{bool_byte}
-use Rattle.std.specs.Prelude.{◌&&◌, not}
+use Rattle.std.specs.Prelude.{◌&&◌, ◌||◌, not}
+use Rattle.std.specs.Cmp.{IsStrictWeakOrder}
 use Rattle.std.specs.declared.cmp.Ordering.{Ordering}
 use Rattle.std.specs.declared.cmp.Ordering.TheVariants.{Less, Equal, Greater}
-use Rattle.std.specs.Ordering.{is_eq, is_lt, match_ordering, ordering_reverse}
+use Rattle.std.specs.Ordering.{is_eq, is_lt, match_ordering, ordering_reverse, eq_by_cmp}
 use Rattle.std.specs.Option.{is_some, is_none}
-use Rattle.std.specs.List.{AllByRecursion, Contains, filter, slice_get}
-use Rattle.std.specs.List.Sorted.{IsStrictlySortedBy, IsSearchInRange, IsBinarySearchResult}
-use Rattle.std.specs.Result.{result_ok}
+use Rattle.std.specs.List.{AllByRecursion, Contains, IsDistinct, filter, list_any, slice_get}
+use Rattle.std.specs.List.Sorted.{IsStrictlySortedBy, IsSortedBy, IsPermutation, IsSearchInRange, IsBinarySearchResult}
 use Rattle.std.specs.Map.{keys_of, lookup, remove_entry}
 use Rattle.std.specs.BTreeMap.{insert_entry, is_at}
 use Rattle.std.specs.FinMap.Entries as finite
-use Rattle.std.proofs.lemmas.Cmp.{tied_itself}
-use Rattle.std.proofs.lemmas.List.{get_or_default}
+use Rattle.std.proofs.Math.ListN.{get_or-map, get_or-append}
+use Rattle.std.proofs.Math.Seq.{map-set_same, get_or-append_seam}
+use Rattle.std.proofs.lemmas.Cmp.{tied_itself, eq_by_cmp_equiv}
+use Rattle.std.proofs.lemmas.List.{get_or_default, take_all, take-append-le, take-map, length-take-le}
+use Rattle.std.proofs.lemmas.List.Sorted.{IsPermutation-map, IsPermutation-sym, Contains-permutation}
 use Rattle.std.proofs.lemmas.Option.{get_or_from_slice_get}
-use Rattle.std.proofs.lemmas.Map.Views.{Contains-from_lookup}
+use Rattle.std.proofs.lemmas.Map.Entries.{length-keys_of, lookup-filter-values, option_filter}
+use Rattle.std.proofs.lemmas.Map.Keys.{IsDistinct-IsPermutation, IsDistinct-from_sorted, apart_from_distinct}
+use Rattle.std.proofs.lemmas.Map.Made.{is_some-lookup}
+use Rattle.std.proofs.lemmas.Map.Views.{Contains-from_lookup, lookup-from_Contains}
 use Rattle.babel_tlv.specs.Route.{RouteKey, key_cmp}
 use Rattle.babel_tlv.proofs.OrderLaws.{key_total, key_exact}
 use Rattle.babel_tlv.specs.declared.held.Held.{Held}
 use Rattle.babel_table.specs.Live.{Kept, current, live_rows}
 use Rattle.babel_table.specs.Rows.{IsRising}
-use Rattle.babel_table.specs.Said.{Words, say, over, AreAbove, AreSaid, AreCounted, IsPlace, StartsFrom}
+use Rattle.babel_table.specs.Said.{Words, say, standing, AreDistinct, IsAbsent, IsPlace, AreIndexed, AreCounted, AreAbove}
 use Rattle.babel_table.proofs.SearchLaws.{searchable, missed, less_not_greater}
-use Rattle.babel_table.proofs.Entries.{is_at-sym, equal_of, lookup-insert, lookup-remove, sorted-insert, sorted-remove, same_miss, miss_below, below_all, below_remove}
+use Rattle.babel_table.proofs.Entries.{is_at-sym, equal_of, lookup-insert, lookup-remove, sorted-insert, sorted-remove, miss_below, below_all, below_insert, below_remove}
 
 both : (a b : Bool) → T a → T b → T (a && b)
 both true b x y = y
@@ -66,38 +72,116 @@ module _ {X : Type 0} where
   pub same_entries : (es fs : List (RouteKey × X)) → IsRising es → IsRising fs → ((q : RouteKey) → found q es ≡ found q fs) → es ≡ fs
   same_entries es fs s t same = finite.same_entries key_cmp key_total key_exact es fs (test-sorted es s) (test-sorted fs t) (λ q. find-found q es ∙ same q ∙ sym (find-found q fs))
 
-  -- ---- a place in a list
+-- ---- keys that are absent
 
-  below_found : (k : RouteKey) (es : List (RouteKey × X)) (x : RouteKey) (v : X) → AreBelow x es → found k es ≡ Some v → key_cmp x k ≡ Less
-  below_found k [] x v below is = absurd cc
-  below_found k (e ∷ es) x v below is = by (below_found k es x v below.1) (is_at (key_cmp k) e.0) refl is
-    where
-      by : (found k es ≡ Some v → key_cmp x k ≡ Less) → (b : Bool) → is_at (key_cmp k) e.0 ≡ b → cond b (Some e.1) (found k es) ≡ Some v → key_cmp x k ≡ Less
-      by again true at is = subst (λ y. key_cmp x y ≡ Less) (same_key k e.0 at) below.0
-      by again false at is = again is
+pub none_of : {T : Type 0} (o : Option T) → is_some o ≡ false → o ≡ None
+none_of None e = refl
+none_of (Some x) e = absurd cc
 
-  pub place-found : (k : RouteKey) (es : List (RouteKey × X)) (i : ℕ) (d : RouteKey × X) → IsRising es → i < length es → (get_or es i d).0 ≡ k → found k es ≡ Some (get_or es i d).1
-  unfolding IsStrictlySortedBy
-  place-found k [] i d rising inside at = absurd (omega (arith, inside))
-  place-found k (e ∷ es) zero d rising inside at = rw (at, at_itself k) refl
-  place-found k (e ∷ es) (suc i) d rising inside at =
-      let later = place-found k es i d rising.1 (omega (arith, inside)) at in
-      let above : key_cmp e.0 k ≡ Less = below_found k es e.0 (get_or es i d).1 rising.0 later in
-      let back : key_cmp k e.0 ≡ Greater = key_total.antisymm k e.0 ∙ ap ordering_reverse above in
-      rw back later
+pub absent_of : {X : Type 0} (k : RouteKey) (es : List (RouteKey × X)) → found k es ≡ None → IsAbsent k (keys_of es)
+absent_of k es none = sym (is_some-lookup (is_at (key_cmp k)) es) ∙ ap is_some none
+
+none_from_absent : {X : Type 0} (k : RouteKey) (es : List (RouteKey × X)) → IsAbsent k (keys_of es) → found k es ≡ None
+none_from_absent k es absent = none_of (found k es) (is_some-lookup (is_at (key_cmp k)) es ∙ absent)
+
+left_false : (a b : Bool) → (a || b) ≡ false → a ≡ false
+left_false true b e = absurd cc
+left_false false b e = refl
+
+right_false : (a b : Bool) → (a || b) ≡ false → b ≡ false
+right_false true b e = absurd cc
+right_false false b e = e
+
+either_false : (a b : Bool) → a ≡ false → b ≡ false → (a || b) ≡ false
+either_false true b x y = absurd cc
+either_false false b x y = y
+
+absent_head : (k x : RouteKey) (ks : List RouteKey) → IsAbsent k (x ∷ ks) → is_at (key_cmp k) x ≡ false
+absent_head k x ks absent = left_false (is_at (key_cmp k) x) (list_any (is_at (key_cmp k)) ks) absent
+
+absent_tail : (k x : RouteKey) (ks : List RouteKey) → IsAbsent k (x ∷ ks) → IsAbsent k ks
+absent_tail k x ks absent = right_false (is_at (key_cmp k) x) (list_any (is_at (key_cmp k)) ks) absent
+
+absent_push : (k x : RouteKey) (ks : List RouteKey) → IsAbsent k ks → is_at (key_cmp k) x ≡ false → IsAbsent k (ks ++ x ∷ [])
+absent_push k x [] absent apart = either_false _ _ apart refl
+absent_push k x (y ∷ ks) absent apart = either_false _ _ (absent_head k y ks absent) (absent_push k x ks (absent_tail k y ks absent) apart)
+
+absent_take : (k : RouteKey) (n : ℕ) (ks : List RouteKey) → IsAbsent k ks → IsAbsent k (take n ks)
+absent_take k zero ks absent = refl
+absent_take k (suc n) [] absent = refl
+absent_take k (suc n) (x ∷ ks) absent = either_false _ _ (absent_head k x ks absent) (absent_take k n ks (absent_tail k x ks absent))
+
+distinct_push : (x : RouteKey) (ks : List RouteKey) → AreDistinct ks → IsAbsent x ks → AreDistinct (ks ++ x ∷ [])
+unfolding IsDistinct
+distinct_push x [] distinct absent = (tt, tt)
+distinct_push x (y ∷ ks) distinct absent = (apart ks distinct.0, distinct_push x ks distinct.1 (absent_tail x y ks absent))
+  where
+    apart : (zs : List RouteKey) → AllByRecursion (λ z. eq_by_cmp key_cmp y z ≡ false) zs → AllByRecursion (λ z. eq_by_cmp key_cmp y z ≡ false) (zs ++ x ∷ [])
+    apart [] all = (is_at-sym key_total y x ∙ absent_head x y ks absent, tt)
+    apart (z ∷ zs) all = (all.0, apart zs all.1)
+
+-- ---- places
+
+key_at : (k : RouteKey) (ws : Words) (i : ℕ) (x : RouteKey × Option Kept) → IsPlace (keys_of ws) k i → (get_or ws i x).0 ≡ k
+key_at k ws i x place = let key : RouteKey × Option Kept → RouteKey = λ w. w.0 in sym (get_or-map key ws i x) ∙ place.at_key x.0
+
+pub inside_of : (k : RouteKey) (ws : Words) (i : ℕ) → IsPlace (keys_of ws) k i → i < length ws
+inside_of k ws i place = subst (λ n. i < n) (length-keys_of ws) place.inside
+
+pub place-read : (ws : Words) (k : RouteKey) (i : ℕ) (x : RouteKey × Option Kept) → i < length ws → is_eq (key_cmp (get_or ws i x).0 k) ≡ true → IsPlace (keys_of ws) k i
+place-read ws k i x inside same =
+    let long : i < length (keys_of ws) = subst (λ n. i < n) (sym (length-keys_of ws)) inside in
+    let key : RouteKey × Option Kept → RouteKey = λ w. w.0 in
+    record {
+      inside = long;
+      at_key = λ d. get_or_default (keys_of ws) i d x.0 long ∙ get_or-map key ws i x ∙ key_exact (get_or ws i x).0 k (equal_of (key_cmp (get_or ws i x).0 k) same);
+    }
+
+place_push : (k x : RouteKey) (ks : List RouteKey) (i : ℕ) → IsPlace ks k i → IsPlace (ks ++ x ∷ []) k i
+place_push k x ks i place = record {
+  inside = omega (arith, place.inside, length-append ks (x ∷ []));
+  at_key = λ d. get_or-append ks (x ∷ []) d i place.inside ∙ place.at_key d;
+}
+
+place_last : (x : RouteKey) (ks : List RouteKey) → IsPlace (ks ++ x ∷ []) x (length ks)
+place_last x ks = record {
+  inside = omega (arith, length-append ks (x ∷ []));
+  at_key = λ d. get_or-append_seam ks x [] d;
+}
+
+place_in_front : (k : RouteKey) (ks : List RouteKey) (n i : ℕ) → n ≤ length ks → IsPlace (take n ks) k i → IsPlace ks k i
+place_in_front k ks n i le place =
+    let long : length (take n ks) ≡ n = length-take-le n ks le in
+    record {
+      inside = omega (arith, place.inside, long, le);
+      at_key = λ d. get_or_in_front ks n i d (omega (arith, place.inside, long)) ∙ place.at_key d;
+    }
+  where
+    get_or_in_front : (xs : List RouteKey) (m j : ℕ) (d : RouteKey) → j < m → get_or xs j d ≡ get_or (take m xs) j d
+    get_or_in_front [] zero j d lt = refl
+    get_or_in_front [] (suc m) j d lt = refl
+    get_or_in_front (x ∷ xs) zero j d lt = absurd (omega (arith, lt))
+    get_or_in_front (x ∷ xs) (suc m) zero d lt = refl
+    get_or_in_front (x ∷ xs) (suc m) (suc j) d lt = get_or_in_front xs m j d (omega (arith, lt))
 
 -- ---- where a search ends
 
-pub place-read : (ws : Words) (k : RouteKey) (i : ℕ) (x : RouteKey × Option Kept) → i < length ws → is_eq (key_cmp (get_or ws i x).0 k) ≡ true → IsPlace ws k i
-place-read ws k i x inside same = record {
-  inside = inside;
-  at_key = λ d. ap (λ (w : RouteKey × Option Kept). w.0) (get_or_default ws i d x inside) ∙ key_exact (get_or ws i x).0 k (equal_of (key_cmp (get_or ws i x).0 k) same);
-}
+keys_take : (n : ℕ) (ws : Words) → keys_of (take n ws) ≡ take n (keys_of ws)
+keys_take n ws = sym (take-map (λ (w : RouteKey × Option Kept). w.0) n ws)
 
-pub place-searched : (ws : Words) (k : RouteKey) (r : Result ℕ ℕ) → IsRising ws → IsSearchInRange r (length ws) → IsBinarySearchResult (λ word. key_cmp word.0 k) ws r
-    → MatchOption (result_ok r) (found k ws ≡ None) (IsPlace ws k)
-place-searched ws k (Ok i) rising inside at = record { inside = inside; at_key = λ d. key_exact (get_or ws i d).0 k (at d) }
-place-searched ws k (Err i) rising inside point = none (found k ws) refl
+-- in the rows in front
+pub place-searched : (ws : Words) (k : RouteKey) (i n : ℕ) → n ≤ length (keys_of ws) → IsSearchInRange (Ok i) (length (take n ws)) → IsBinarySearchResult (λ word. key_cmp word.0 k) (take n ws) (Ok i) → IsPlace (keys_of ws) k i
+place-searched ws k i n le inside at =
+    let front = subst (λ ks. IsPlace ks k i) (keys_take n ws) (record {
+      inside = subst (λ m. i < m) (sym (length-keys_of (take n ws))) inside;
+      at_key = λ d. get_or_default (keys_of (take n ws)) i d d (subst (λ m. i < m) (sym (length-keys_of (take n ws))) inside)
+          ∙ (let x : RouteKey × Option Kept = (d, None) in let key : RouteKey × Option Kept → RouteKey = λ w. w.0 in get_or-map key (take n ws) i x ∙ key_exact (get_or (take n ws) i x).0 k (at x));
+    }) in
+    place_in_front k (keys_of ws) n i le front
+
+-- behind them
+pub absent-searched : (ws : Words) (k : RouteKey) (i : ℕ) → IsRising ws → IsBinarySearchResult (λ word. key_cmp word.0 k) ws (Err i) → IsAbsent k (keys_of ws)
+absent-searched ws k i rising point = absent_of k ws (none (found k ws) refl)
   where
     none : (o : Option (Option Kept)) → found k ws ≡ o → found k ws ≡ None
     none None is = is
@@ -106,64 +190,62 @@ place-searched ws k (Err i) rising inside point = none (found k ws) refl
         let there : Contains ws (k, o) = Contains-from_lookup (λ x y e. key_exact x y (equal_of (key_cmp x y) e)) k o ws is in
         absurd (missed (λ (word : RouteKey × Option Kept). key_cmp word.0 k) ws i (point order) (k, o) there (tied_itself key_total k))
 
+match_found : (k : RouteKey) (ws : Words) (o : Option ℕ) → MatchOption o (IsAbsent k (keys_of ws)) (IsPlace (keys_of ws) k) → MatchOption o (found k ws ≡ None) (IsPlace (keys_of ws) k)
+match_found k ws None absent = none_from_absent k ws absent
+match_found k ws (Some i) place = place
+
+pub searched-behind : (ws : Words) (k : RouteKey) (rising : ℕ) (places : List (RouteKey × ℕ)) (i : ℕ) → AreIndexed (keys_of ws) rising places → IsBinarySearchResult (λ word. key_cmp word.0 k) (take rising ws) (Err i)
+    → MatchOption (found k places) (found k ws ≡ None) (IsPlace (keys_of ws) k)
+searched-behind ws k rising places i indexed point =
+    let order : IsRising (take rising ws) = subst (λ t. IsStrictlySortedBy key_cmp t) (sym (keys_take rising ws)) indexed.front in
+    let absent : IsAbsent k (take rising (keys_of ws)) = subst (λ t. IsAbsent k t) (keys_take rising ws) (absent-searched (take rising ws) k i order point) in
+    match_found k ws (found k places) (indexed.behind k absent)
+
 -- ---- what is said
 
 pub sorted-say : (k : RouteKey) (o : Option Kept) (es : List (RouteKey × Kept)) → IsRising es → IsRising (say k o es)
 sorted-say k (Some v) es rising = sorted-insert key_total k v es rising
 sorted-say k None es rising = sorted-remove key_total (is_at (key_cmp k)) es rising
 
-pub sorted-over : (es : List (RouteKey × Kept)) (ws : Words) → IsRising es → IsRising (over es ws)
-sorted-over es [] rising = rising
-sorted-over es (w ∷ ws) rising = sorted-say w.0 w.1 (over es ws) (sorted-over es ws rising)
+pub sorted-standing : (ws : Words) → IsRising (standing ws)
+unfolding IsStrictlySortedBy
+sorted-standing [] = tt
+sorted-standing (w ∷ ws) = sorted-say w.0 w.1 (standing ws) (sorted-standing ws)
 
 pub found-say : (q k : RouteKey) (o : Option Kept) (es : List (RouteKey × Kept)) → IsRising es → found q (say k o es) ≡ cond (is_at (key_cmp k) q) o (found q es)
 found-say q k (Some v) es rising = lookup-insert key_total q k v es
 found-say q k None es rising = lookup-remove key_total q k es rising
 
--- the list's word, or else what is kept under it
-abbrev pub word_or : Option (Option Kept) → Option Kept → Option Kept
-word_or (Some o) kept = o
-word_or None kept = kept
+-- the word of a key, if it has one
+abbrev word_of : Option (Option Kept) → Option Kept
+word_of (Some o) = o
+word_of None = None
 
-pub found-over : (q : RouteKey) (es : List (RouteKey × Kept)) (ws : Words) → IsRising es → found q (over es ws) ≡ word_or (found q ws) (found q es)
-found-over q es [] rising = refl
-found-over q es (w ∷ ws) rising =
-    found-say q w.0 w.1 (over es ws) (sorted-over es ws rising) ∙ (rw (is_at-sym key_total w.0 q) (by (is_at (key_cmp q) w.0) (found-over q es ws rising)))
+pub found-standing : (q : RouteKey) (ws : Words) → found q (standing ws) ≡ word_of (found q ws)
+found-standing q [] = refl
+found-standing q (w ∷ ws) = found-say q w.0 w.1 (standing ws) (sorted-standing ws) ∙ (rw (is_at-sym key_total w.0 q) (by (is_at (key_cmp q) w.0) (found-standing q ws)))
   where
-    by : (b : Bool) → found q (over es ws) ≡ word_or (found q ws) (found q es) → cond b w.1 (found q (over es ws)) ≡ word_or (cond b (Some w.1) (found q ws)) (found q es)
+    by : (b : Bool) → found q (standing ws) ≡ word_of (found q ws) → cond b w.1 (found q (standing ws)) ≡ word_of (cond b (Some w.1) (found q ws))
     by true again = refl
     by false again = again
 
--- another word of a key, in the list
-pub over-word : (es : List (RouteKey × Kept)) (ws : Words) (k : RouteKey) (o : Option Kept) → AreSaid ws es → over es (insert_entry key_cmp ws k o) ≡ say k o (over es ws)
-over-word es ws k o said =
-    same_entries (over es (insert_entry key_cmp ws k o)) (say k o (over es ws)) (sorted-over es (insert_entry key_cmp ws k o) said.late) (sorted-say k o (over es ws) (sorted-over es ws said.late))
-    (λ q. found-over q es (insert_entry key_cmp ws k o) said.late
-    ∙ ap (λ t. word_or t (found q es)) (lookup-insert key_total q k o ws)
-    ∙ by (is_at (key_cmp k) q) (found q ws) (found q es)
-    ∙ sym (ap (λ t. cond (is_at (key_cmp k) q) o t) (found-over q es ws said.late))
-    ∙ sym (found-say q k o (over es ws) (sorted-over es ws said.late)))
-  where
-    by : (b : Bool) (x : Option (Option Kept)) (y : Option Kept) → word_or (cond b (Some o) x) y ≡ cond b o (word_or x y)
-    by true x y = refl
-    by false x y = refl
+-- words of which each key has the same say the same
+same_standing : (vs ws : Words) → ((q : RouteKey) → word_of (found q vs) ≡ word_of (found q ws)) → standing vs ≡ standing ws
+same_standing vs ws same = same_entries (standing vs) (standing ws) (sorted-standing vs) (sorted-standing ws) (λ q. found-standing q vs ∙ same q ∙ sym (found-standing q ws))
 
--- a word of a key that the list has no word of, under it
-pub over-late : (es : List (RouteKey × Kept)) (ws : Words) (k : RouteKey) (o : Option Kept) → AreSaid ws es → found k ws ≡ None → over (say k o es) ws ≡ say k o (over es ws)
-over-late es ws k o said none =
-    same_entries (over (say k o es) ws) (say k o (over es ws)) (sorted-over (say k o es) ws late) (sorted-say k o (over es ws) (sorted-over es ws said.late))
-    (λ q. found-over q (say k o es) ws late
-    ∙ ap (λ t. word_or (found q ws) t) (found-say q k o es said.late)
-    ∙ by q (is_at (key_cmp k) q) refl
-    ∙ sym (ap (λ t. cond (is_at (key_cmp k) q) o t) (found-over q es ws said.late))
-    ∙ sym (found-say q k o (over es ws) (sorted-over es ws said.late)))
+-- one more word
+standing-one : (vs ws : Words) (k : RouteKey) (o : Option Kept) → ((q : RouteKey) → found q vs ≡ cond (is_at (key_cmp k) q) (Some o) (found q ws)) → standing vs ≡ say k o (standing ws)
+standing-one vs ws k o same =
+    same_entries (standing vs) (say k o (standing ws)) (sorted-standing vs) (sorted-say k o (standing ws) (sorted-standing ws))
+    (λ q. found-standing q vs
+    ∙ ap word_of (same q)
+    ∙ by (is_at (key_cmp k) q) (found q ws)
+    ∙ sym (ap (λ t. cond (is_at (key_cmp k) q) o t) (found-standing q ws))
+    ∙ sym (found-say q k o (standing ws) (sorted-standing ws)))
   where
-    late : IsRising (say k o es)
-    late = sorted-say k o es said.late
-
-    by : (q : RouteKey) (b : Bool) → is_at (key_cmp k) q ≡ b → word_or (found q ws) (cond b o (found q es)) ≡ cond b o (word_or (found q ws) (found q es))
-    by q true at = let no : found q ws ≡ None = ap (λ (y : RouteKey). found y ws) (same_key k q at) ∙ none in rw no refl
-    by q false at = refl
+    by : (b : Bool) (x : Option (Option Kept)) → word_of (cond b (Some o) x) ≡ cond b o (word_of x)
+    by true x = refl
+    by false x = refl
 
 -- ---- how many
 
@@ -187,21 +269,52 @@ length-unsaid k (e ∷ es) = by (length-unsaid k es) (is_at (key_cmp k) e.0)
     by again true = omega arith
     by again false = omega (arith, again)
 
--- ---- the list, by places
+-- ---- a word in its place
+
+-- a key is at its place alone
+apart_place : (k : RouteKey) (w : RouteKey × Option Kept) (ws : Words) (i : ℕ) (d : RouteKey × Option Kept) → AreDistinct (keys_of (w ∷ ws)) → i < length ws → (get_or ws i d).0 ≡ k → is_at (key_cmp k) w.0 ≡ false
+apart_place k w ws i d distinct inside at =
+    let key : RouteKey × Option Kept → RouteKey = λ v. v.0 in
+    let here : get_or (keys_of ws) i d.0 ≡ k = get_or-map key ws i d ∙ at in
+    let long : i < length (keys_of ws) = subst (λ n. i < n) (sym (length-keys_of ws)) inside in
+    let apart : eq_by_cmp key_cmp w.0 (get_or (keys_of ws) i d.0) ≡ false = apart_from_distinct (eq_by_cmp key_cmp) (keys_of (w ∷ ws)) 0 (suc i) d.0 distinct (omega arith) (omega (arith, long)) in
+    is_at-sym key_total k w.0 ∙ subst (λ y. is_at (key_cmp w.0) y ≡ false) here apart
+
+found-place : (k : RouteKey) (ws : Words) (i : ℕ) (d : RouteKey × Option Kept) → AreDistinct (keys_of ws) → i < length ws → (get_or ws i d).0 ≡ k → found k ws ≡ Some (get_or ws i d).1
+unfolding IsDistinct
+found-place k [] i d distinct inside at = absurd (omega (arith, inside))
+found-place k (w ∷ ws) zero d distinct inside at = rw (at, at_itself k) refl
+found-place k (w ∷ ws) (suc i) d distinct inside at =
+    let later = found-place k ws i d distinct.1 (omega (arith, inside)) at in
+    rw (apart_place k w ws i d distinct (omega (arith, inside)) at) later
+
+found-set : (k q : RouteKey) (o : Option Kept) (ws : Words) (i : ℕ) (d : RouteKey × Option Kept) → AreDistinct (keys_of ws) → i < length ws → (get_or ws i d).0 ≡ k
+    → found q (set ws i (k, o)) ≡ cond (is_at (key_cmp k) q) (Some o) (found q ws)
+unfolding IsDistinct
+found-set k q o [] i d distinct inside at = absurd (omega (arith, inside))
+found-set k q o (w ∷ ws) zero d distinct inside at = rw (at, is_at-sym key_total k q) (by (is_at (key_cmp q) k))
+  where
+    by : (b : Bool) → cond b (Some o) (found q ws) ≡ cond b (Some o) (cond b (Some w.1) (found q ws))
+    by true = refl
+    by false = refl
+found-set k q o (w ∷ ws) (suc i) d distinct inside at =
+    let apart = apart_place k w ws i d distinct (omega (arith, inside)) at in
+    ap (λ t. cond (is_at (key_cmp q) w.0) (Some w.1) t) (found-set k q o ws i d distinct.1 (omega (arith, inside)) at)
+    ∙ by (is_at (key_cmp q) w.0) (is_at (key_cmp k) q) refl refl apart
+  where
+    by : (a b : Bool) → is_at (key_cmp q) w.0 ≡ a → is_at (key_cmp k) q ≡ b → is_at (key_cmp k) w.0 ≡ false
+        → cond a (Some w.1) (cond b (Some o) (found q ws)) ≡ cond b (Some o) (cond a (Some w.1) (found q ws))
+    by true true x y apart =
+        let same : is_at (key_cmp k) w.0 ≡ true = ap (λ z. is_at (key_cmp k) z) (same_key q w.0 x) ∙ y in
+        absurd cc
+    by true false x y apart = refl
+    by false true x y apart = refl
+    by false false x y apart = refl
+
+keys-set : (k : RouteKey) (o : Option Kept) (ws : Words) (i : ℕ) (d : RouteKey × Option Kept) → (get_or ws i d).0 ≡ k → keys_of (set ws i (k, o)) ≡ keys_of ws
+keys-set k o ws i d at = let key : RouteKey × Option Kept → RouteKey = λ w. w.0 in map-set_same key ws i (k, o) d (sym at)
 
 module _ {X : Type 0} where
-  pub set-place : (k : RouteKey) (o : X) (es : List (RouteKey × X)) (i : ℕ) (d : RouteKey × X) → IsRising es → i < length es → (get_or es i d).0 ≡ k → set es i (k, o) ≡ insert_entry key_cmp es k o
-  unfolding IsStrictlySortedBy
-  set-place k o [] i d rising inside at = absurd (omega (arith, inside))
-  set-place k o (e ∷ es) zero d rising inside at =
-      let is : key_cmp k e.0 ≡ Equal = subst (λ y. key_cmp k y ≡ Equal) (sym at) (tied_itself key_total k) in
-      rw is (ap (λ (y : RouteKey). (y, o) ∷ es) (sym at))
-  set-place k o (e ∷ es) (suc i) d rising inside at =
-      let later = place-found k es i d rising.1 (omega (arith, inside)) at in
-      let above : key_cmp e.0 k ≡ Less = below_found k es e.0 (get_or es i d).1 rising.0 later in
-      let back : key_cmp k e.0 ≡ Greater = key_total.antisymm k e.0 ∙ ap ordering_reverse above in
-      rw back (ap (λ (t : List (RouteKey × X)). e ∷ t) (set-place k o es i d rising.1 (omega (arith, inside)) at))
-
   below_at : (x : RouteKey) (es : List (RouteKey × X)) (i : ℕ) (d : RouteKey × X) → AreBelow x es → i < length es → key_cmp x (get_or es i d).0 ≡ Less
   below_at x [] i d below inside = absurd (omega (arith, inside))
   below_at x (e ∷ es) zero d below inside = below.0
@@ -228,163 +341,186 @@ module _ {X : Type 0} where
       let back : key_cmp k e.0 ≡ Greater = key_total.antisymm k e.0 ∙ ap ordering_reverse above.0 in
       rw back (ap (λ (t : List (RouteKey × X)). e ∷ t) (pushed k o es above.1))
 
-  pub none-past : (k : RouteKey) (es : List (RouteKey × X)) → AreAbove k es → found k es ≡ None
-  none-past k [] above = refl
-  none-past k (e ∷ es) above =
-      let back : key_cmp k e.0 ≡ Greater = key_total.antisymm k e.0 ∙ ap ordering_reverse above.0 in
-      rw back (none-past k es above.1)
+-- ---- a word behind the others
 
--- ---- what is kept from word to word
+abbrev or_else : Option (Option Kept) → Option (Option Kept) → Option (Option Kept)
+or_else (Some x) y = Some x
+or_else None y = y
 
-pub none_of : {T : Type 0} (o : Option T) → is_some o ≡ false → o ≡ None
-none_of None e = refl
-none_of (Some x) e = absurd cc
-
-some_of : {T : Type 0} (o : Option T) (x : T) → o ≡ Some x → is_some o ≡ true
-some_of o x is = ap is_some is
-
-pub said-word : (ws : Words) (es : List (RouteKey × Kept)) (k : RouteKey) (o : Option Kept) → AreSaid ws es → found k es ≡ None → AreSaid (insert_entry key_cmp ws k o) es
-said-word ws es k o said none = record {
-  rising = sorted-insert key_total k o ws said.rising;
-  late = said.late;
-  apart = λ q there. by q (is_at (key_cmp k) q) refl (sym (ap is_some (lookup-insert key_total q k o ws)) ∙ there);
-}
+found-push : (k q : RouteKey) (o : Option Kept) (ws : Words) → found k ws ≡ None → found q (ws ++ (k, o) ∷ []) ≡ cond (is_at (key_cmp k) q) (Some o) (found q ws)
+found-push k q o ws none = in_turn ws ∙ (rw (is_at-sym key_total q k) (by (is_at (key_cmp k) q) refl (found q ws) refl))
   where
-    by : (q : RouteKey) (b : Bool) → is_at (key_cmp k) q ≡ b → is_some (cond b (Some o) (found q ws)) ≡ true → found q es ≡ None
-    by q true at there = ap (λ (y : RouteKey). found y es) (same_key k q at) ∙ none
-    by q false at there = said.apart q there
+    in_turn : (vs : Words) → found q (vs ++ (k, o) ∷ []) ≡ or_else (found q vs) (cond (is_at (key_cmp q) k) (Some o) None)
+    in_turn [] = refl
+    in_turn (v ∷ vs) = under (is_at (key_cmp q) v.0) _ _ _ (in_turn vs)
+      where
+        under : (b : Bool) (x y z : Option (Option Kept)) → x ≡ or_else y z → cond b (Some v.1) x ≡ or_else (cond b (Some v.1) y) z
+        under true x y z e = refl
+        under false x y z e = e
 
-pub said-late : (ws : Words) (es : List (RouteKey × Kept)) (k : RouteKey) (o : Option Kept) → AreSaid ws es → found k ws ≡ None → AreSaid ws (say k o es)
-said-late ws es k o said none = record {
-  rising = said.rising;
-  late = sorted-say k o es said.late;
-  apart = λ q there. found-say q k o es said.late ∙ by q there (is_at (key_cmp k) q) refl;
-}
+    by : (b : Bool) → is_at (key_cmp k) q ≡ b → (x : Option (Option Kept)) → found q ws ≡ x → or_else x (cond b (Some o) None) ≡ cond b (Some o) x
+    by b at None is = refl
+    by true at (Some v) is = let no : found q ws ≡ None = ap (λ y. found y ws) (same_key k q at) ∙ none in absurd cc
+    by false at (Some v) is = refl
+
+keys-push : (k : RouteKey) (o : Option Kept) (ws : Words) → keys_of (ws ++ (k, o) ∷ []) ≡ keys_of ws ++ k ∷ []
+keys-push k o [] = refl
+keys-push k o (w ∷ ws) = ap (λ (t : List RouteKey). w.0 ∷ t) (keys-push k o ws)
+
+-- ---- the order of keys
+
+rising-push : (k : RouteKey) (o : Option Kept) (ws : Words) → AreAbove k ws → IsRising ws → IsRising (ws ++ (k, o) ∷ [])
+rising-push k o ws above rising = subst (λ t. IsRising t) (sym (pushed k o ws above)) (sorted-insert key_total k o ws rising)
+
+-- numbers of rows that rise: no row is less than the one before, and none is its equal
+rising-sorted : (ws : Words) → IsSortedBy (λ x y. is_lt (key_cmp x.0 y.0)) ws → AreDistinct (keys_of ws) → IsRising ws
+unfolding IsStrictlySortedBy IsDistinct
+rising-sorted [] sorted distinct = tt
+rising-sorted (w ∷ []) sorted distinct = (tt, tt)
+rising-sorted (w ∷ v ∷ ws) sorted distinct =
+    let rest : IsRising (v ∷ ws) = rising-sorted (v ∷ ws) later distinct.1 in
+    let less : key_cmp w.0 v.0 ≡ Less = by (key_cmp w.0 v.0) (sym (is_at_lt w.0 v.0) ∙ sorted 0 w (omega arith) (omega arith)) distinct.0.0 in
+    ((less, below_all key_total w.0 v.0 (keys_of ws) less rest.0), rest)
   where
-    by : (q : RouteKey) → is_some (found q ws) ≡ true → (b : Bool) → is_at (key_cmp k) q ≡ b → cond b o (found q es) ≡ None
-    by q there true at =
-        let no : found q ws ≡ None = ap (λ (y : RouteKey). found y ws) (same_key k q at) ∙ none in
-        absurd (let t : is_some (found q ws) ≡ false = ap is_some no in cc)
-    by q there false at = said.apart q there
+    later : IsSortedBy (λ x y. is_lt (key_cmp x.0 y.0)) (v ∷ ws)
+    later i d from to =
+        let e : suc i + 1 ≡ suc (i + 1) = omega arith in
+        subst (λ n. is_lt (key_cmp (get_or (w ∷ v ∷ ws) n d).0 (get_or (v ∷ ws) i d).0) ≡ false) e (sorted (suc i) d (omega arith) (omega (arith, to)))
+
+    is_at_lt : (k l : RouteKey) → is_lt (key_cmp l k) ≡ is_lt (ordering_reverse (key_cmp k l))
+    is_at_lt k l = ap is_lt (key_total.antisymm l k)
+
+    by : (r : Ordering) → is_lt (ordering_reverse r) ≡ false → is_eq r ≡ false → r ≡ Less
+    by Less not_greater not_equal = refl
+    by Equal not_greater not_equal = absurd cc
+    by Greater not_greater not_equal = absurd cc
+
+-- the order of keys, as a test of rows
+chained : (x y z : RouteKey) (r s : Ordering) → key_cmp x y ≡ r → key_cmp y z ≡ s → is_lt r ≡ false → is_lt s ≡ false → is_lt (key_cmp x z) ≡ false
+chained x y z Less s p q a b = absurd cc
+chained x y z Equal s p q a b = let e : x ≡ y = key_exact x y p in ap is_lt (ap (λ (k : RouteKey). key_cmp k z) e ∙ q) ∙ b
+chained x y z Greater Less p q a b = absurd cc
+chained x y z Greater Equal p q a b = let e : y ≡ z = key_exact y z q in ap is_lt (ap (λ (k : RouteKey). key_cmp x k) (sym e) ∙ p)
+chained x y z Greater Greater p q a b =
+    let zy : key_cmp z y ≡ Less = key_total.antisymm z y ∙ ap ordering_reverse q in
+    let yx : key_cmp y x ≡ Less = key_total.antisymm y x ∙ ap ordering_reverse p in
+    ap is_lt (key_total.antisymm x z ∙ ap ordering_reverse (key_total.trans z y x zy yx))
+
+one_way : (r : Ordering) → is_lt r ≡ true → is_lt (ordering_reverse r) ≡ false
+one_way Less less = refl
+one_way Equal less = absurd cc
+one_way Greater less = absurd cc
+
+pub words_weak : IsStrictWeakOrder (λ (x y : RouteKey × Option Kept). is_lt (key_cmp x.0 y.0))
+words_weak = record {
+  one_way = λ x y less. ap is_lt (key_total.antisymm y.0 x.0) ∙ one_way (key_cmp x.0 y.0) less;
+  chain = λ x y z a b. chained x.0 y.0 z.0 (key_cmp x.0 y.0) (key_cmp y.0 z.0) refl refl a b;
+}
+
+found-permuted : (vs ws : Words) (q : RouteKey) (o : Option Kept) → IsPermutation ws vs → AreDistinct (keys_of vs) → found q ws ≡ Some o → found q vs ≡ Some o
+found-permuted vs ws q o permuted distinct is =
+    let there : Contains ws (q, o) = Contains-from_lookup (λ x y e. key_exact x y (equal_of (key_cmp x y) e)) q o ws is in
+    lookup-from_Contains (eq_by_cmp_equiv key_total) q o vs distinct (Contains-permutation ws vs (q, o) permuted there)
+
+distinct-permuted : (vs ws : Words) → IsPermutation ws vs → AreDistinct (keys_of ws) → AreDistinct (keys_of vs)
+distinct-permuted vs ws permuted distinct =
+    IsDistinct-IsPermutation (eq_by_cmp key_cmp) (λ x y. is_at-sym key_total x y) (keys_of ws) (keys_of vs) (IsPermutation-map (λ (w : RouteKey × Option Kept). w.0) ws vs permuted) distinct
+
+pub standing-permuted : (vs ws : Words) → IsPermutation ws vs → AreDistinct (keys_of ws) → standing vs ≡ standing ws
+standing-permuted vs ws permuted distinct = same_standing vs ws (λ q. ap word_of (by q (found q ws) refl (found q vs) refl))
+  where
+    by : (q : RouteKey) (x : Option (Option Kept)) → found q ws ≡ x → (y : Option (Option Kept)) → found q vs ≡ y → found q vs ≡ found q ws
+    by q (Some o) is y same = found-permuted vs ws q o permuted (distinct-permuted vs ws permuted distinct) is ∙ sym is
+    by q None is None same = same ∙ sym is
+    by q None is (Some o) same = let no = found-permuted ws vs q o (IsPermutation-sym ws vs permuted) distinct same in absurd cc
+
+pub rising-permuted : (vs ws : Words) → IsPermutation ws vs → AreDistinct (keys_of ws) → IsSortedBy (λ x y. is_lt (key_cmp x.0 y.0)) vs → IsRising vs
+rising-permuted vs ws permuted distinct sorted = rising-sorted vs sorted (distinct-permuted vs ws permuted distinct)
 
 -- ---- the words of what is not retracted
 
 abbrev pub is_said : RouteKey × Option Kept → Bool
 is_said word = is_some word.1
 
-below-filter : (k : RouteKey) (ws : Words) → AreBelow k ws → AreBelow k (filter is_said ws)
-below-filter k [] below = tt
-below-filter k (w ∷ ws) below = by (is_said w) (below-filter k ws below.1)
+apart-filter : (k : RouteKey) (ws : Words) → AllByRecursion (λ y. eq_by_cmp key_cmp k y ≡ false) (keys_of ws) → AllByRecursion (λ y. eq_by_cmp key_cmp k y ≡ false) (keys_of (filter is_said ws))
+apart-filter k [] apart = tt
+apart-filter k (w ∷ ws) apart = by (is_said w) (apart-filter k ws apart.1)
   where
-    by : (b : Bool) → AreBelow k (filter is_said ws) → AreBelow k (cond b (w ∷ filter is_said ws) (filter is_said ws))
-    by true again = (below.0, again)
+    by : (b : Bool) → AllByRecursion (λ y. eq_by_cmp key_cmp k y ≡ false) (keys_of (filter is_said ws)) → AllByRecursion (λ y. eq_by_cmp key_cmp k y ≡ false) (keys_of (cond b (w ∷ filter is_said ws) (filter is_said ws)))
+    by true again = (apart.0, again)
     by false again = again
 
-sorted-filter : (ws : Words) → IsRising ws → IsRising (filter is_said ws)
-unfolding IsStrictlySortedBy
-sorted-filter [] rising = rising
-sorted-filter (w ∷ ws) rising = by (is_said w) (sorted-filter ws rising.1)
+pub distinct-filter : (ws : Words) → AreDistinct (keys_of ws) → AreDistinct (keys_of (filter is_said ws))
+unfolding IsDistinct
+distinct-filter [] distinct = tt
+distinct-filter (w ∷ ws) distinct = by (is_said w) (distinct-filter ws distinct.1)
   where
-    by : (b : Bool) → IsRising (filter is_said ws) → IsRising (cond b (w ∷ filter is_said ws) (filter is_said ws))
-    by true again = (below-filter w.0 ws rising.0, again)
+    by : (b : Bool) → AreDistinct (keys_of (filter is_said ws)) → AreDistinct (keys_of (cond b (w ∷ filter is_said ws) (filter is_said ws)))
+    by true again = (apart-filter w.0 ws distinct.0, again)
     by false again = again
 
--- a retraction is no word
-abbrev word_of : Option (Option Kept) → Option (Option Kept)
-word_of None = None
-word_of (Some None) = None
-word_of (Some (Some v)) = Some (Some v)
-
-found-filter : (q : RouteKey) (ws : Words) → IsRising ws → found q (filter is_said ws) ≡ word_of (found q ws)
-unfolding IsStrictlySortedBy
-found-filter q [] rising = refl
-found-filter q (w ∷ ws) rising = by w.1 (is_at (key_cmp q) w.0) refl (found-filter q ws rising.1)
+pub standing-filter : (ws : Words) → AreDistinct (keys_of ws) → standing (filter is_said ws) ≡ standing ws
+standing-filter ws distinct = same_standing (filter is_said ws) ws (λ q. ap word_of (lookup-filter-values (eq_by_cmp_equiv key_total) is_some q ws distinct) ∙ by (found q ws))
   where
-    by : (o : Option Kept) (b : Bool) → is_at (key_cmp q) w.0 ≡ b → found q (filter is_said ws) ≡ word_of (found q ws)
-        → found q (cond (is_some o) ((w.0, o) ∷ filter is_said ws) (filter is_said ws)) ≡ word_of (cond b (Some o) (found q ws))
-    by None true at again =
-        let none : found q ws ≡ None = same_miss key_total q w.0 ws (equal_of (key_cmp q w.0) at) ∙ miss_below key_total w.0 ws rising.0 in
-        again ∙ ap word_of none
-    by None false at again = again
-    by (Some v) true at again = rw at refl
-    by (Some v) false at again = rw at again
+    by : (x : Option (Option Kept)) → word_of (option_filter is_some x) ≡ word_of x
+    by None = refl
+    by (Some None) = refl
+    by (Some (Some v)) = refl
 
-some_word : (x : Option (Option Kept)) → is_some (word_of x) ≡ true → is_some x ≡ true
-some_word None there = there
-some_word (Some None) there = absurd cc
-some_word (Some (Some v)) there = refl
+-- ---- the index
 
-pub said-filter : (ws : Words) (es : List (RouteKey × Kept)) → AreSaid ws es → AreSaid (filter is_said ws) es
-said-filter ws es said = record {
-  rising = sorted-filter ws said.rising;
-  late = said.late;
-  apart = λ q there. said.apart q (some_word (found q ws) (sym (ap is_some (found-filter q ws said.rising)) ∙ there));
+indexed-nothing : AreIndexed [] 0 []
+unfolding IsStrictlySortedBy IsDistinct
+indexed-nothing = record { distinct = tt; inside = omega arith; front = tt; behind = λ key absent. refl }
+
+-- all keys in front
+indexed-rising : (ks : List RouteKey) → AreDistinct ks → IsStrictlySortedBy key_cmp ks → AreIndexed ks (length ks) []
+indexed-rising ks distinct rising = record {
+  distinct = distinct;
+  inside = omega arith;
+  front = subst (λ t. IsStrictlySortedBy key_cmp t) (sym (take_all (length ks) ks (omega arith))) rising;
+  behind = λ key absent. subst (λ t. IsAbsent key t) (take_all (length ks) ks (omega arith)) absent;
 }
 
-pub over-filter : (ws : Words) (es : List (RouteKey × Kept)) → AreSaid ws es → over es (filter is_said ws) ≡ over es ws
-over-filter ws es said =
-    same_entries (over es (filter is_said ws)) (over es ws) (sorted-over es (filter is_said ws) said.late) (sorted-over es ws said.late)
-    (λ q. found-over q es (filter is_said ws) said.late
-    ∙ ap (λ t. word_or t (found q es)) (found-filter q ws said.rising)
-    ∙ by (found q ws) (found q es) (said.apart q)
-    ∙ sym (found-over q es ws said.late))
+-- one more in front
+indexed-front : (ks : List RouteKey) (places : List (RouteKey × ℕ)) (k : RouteKey) → AreIndexed ks (length ks) places → IsAbsent k ks → IsStrictlySortedBy key_cmp (ks ++ k ∷ []) → AreIndexed (ks ++ k ∷ []) (length ks + 1) places
+indexed-front ks places k indexed absent rising =
+    let more : length (ks ++ k ∷ []) ≡ length ks + 1 = length-append ks (k ∷ []) in
+    let all : take (length ks + 1) (ks ++ k ∷ []) ≡ ks ++ k ∷ [] = take_all (length ks + 1) (ks ++ k ∷ []) (omega (arith, more)) in
+    record {
+      distinct = distinct_push k ks indexed.distinct absent;
+      inside = omega (arith, more);
+      front = subst (λ t. IsStrictlySortedBy key_cmp t) (sym all) rising;
+      behind = λ key none.
+          let nowhere : IsAbsent key (ks ++ k ∷ []) = subst (λ t. IsAbsent key t) all none in
+          by key nowhere (lookup (is_at (key_cmp key)) places) (indexed.behind key (absent_take key (length ks) ks (absent_before key ks nowhere)));
+    }
   where
-    by : (x : Option (Option Kept)) (y : Option Kept) → (is_some x ≡ true → y ≡ None) → word_or (word_of x) y ≡ word_or x y
-    by None y apart = refl
-    by (Some None) y apart = apart refl
-    by (Some (Some v)) y apart = refl
+    absent_before : (key : RouteKey) (xs : List RouteKey) → IsAbsent key (xs ++ k ∷ []) → IsAbsent key xs
+    absent_before key [] none = refl
+    absent_before key (x ∷ xs) none = either_false _ _ (absent_head key x (xs ++ k ∷ []) none) (absent_before key xs (absent_tail key x (xs ++ k ∷ []) none))
 
--- ---- from the first on
+    by : (key : RouteKey) → IsAbsent key (ks ++ k ∷ []) → (o : Option ℕ) → MatchOption o (IsAbsent key ks) (IsPlace ks key) → MatchOption o (IsAbsent key (ks ++ k ∷ [])) (IsPlace (ks ++ k ∷ []) key)
+    by key nowhere None none = nowhere
+    by key nowhere (Some i) place = place_push key k ks i place
 
-module _ {X : Type 0} where
-  below_insert : (x k : RouteKey) (v : X) (es : List (RouteKey × X)) → key_cmp x k ≡ Less → AreBelow x es → AreBelow x (insert_entry key_cmp es k v)
-  below_insert x k v [] less below = (less, tt)
-  below_insert x k v (e ∷ es) less below = by (below_insert x k v es less below.1) (key_cmp k e.0)
-    where
-      by : AreBelow x (insert_entry key_cmp es k v) → (r : Ordering) → AreBelow x (match_ordering r ((k, v) ∷ e ∷ es) ((e.0, v) ∷ es) (e ∷ insert_entry key_cmp es k v))
-      by again Less = (less, below)
-      by again Equal = below
-      by again Greater = (below.0, again)
-
--- what is less than the first word's key comes first
-pub over-first : (e : RouteKey × Kept) (es : List (RouteKey × Kept)) (ws : Words) → AreBelow e.0 ws → over (e ∷ es) ws ≡ e ∷ over es ws
-over-first e es [] below = refl
-over-first e es (w ∷ ws) below = ap (say w.0 w.1) (over-first e es ws below.1) ∙ by w.1
+-- one more behind
+indexed-behind : (ks : List RouteKey) (rising : ℕ) (places : List (RouteKey × ℕ)) (k : RouteKey) → AreIndexed ks rising places → IsAbsent k ks → AreIndexed (ks ++ k ∷ []) rising (insert_entry key_cmp places k (length ks))
+indexed-behind ks rising places k indexed absent =
+    let same : take rising (ks ++ k ∷ []) ≡ take rising ks = take-append-le rising ks (k ∷ []) indexed.inside in
+    record {
+      distinct = distinct_push k ks indexed.distinct absent;
+      inside = omega (arith, indexed.inside, length-append ks (k ∷ []));
+      front = subst (λ t. IsStrictlySortedBy key_cmp t) (sym same) indexed.front;
+      behind = λ key none. rw (lookup-insert key_total key k (length ks) places)
+          (by key (is_at (key_cmp k) key) refl (lookup (is_at (key_cmp key)) places) (indexed.behind key (subst (λ t. IsAbsent key t) same none)));
+    }
   where
-    back : key_cmp w.0 e.0 ≡ Greater
-    back = key_total.antisymm w.0 e.0 ∙ ap ordering_reverse below.0
-
-    by : (o : Option Kept) → say w.0 o (e ∷ over es ws) ≡ e ∷ say w.0 o (over es ws)
-    by (Some v) = rw back refl
-    by None = rw back refl
-
-below-over : (k : RouteKey) (es : List (RouteKey × Kept)) (ws : Words) → AreBelow k es → AreBelow k ws → AreBelow k (over es ws)
-below-over k es [] entries words = entries
-below-over k es (w ∷ ws) entries words = by w.1 (below-over k es ws entries words.1)
-  where
-    by : (o : Option Kept) → AreBelow k (over es ws) → AreBelow k (say w.0 o (over es ws))
-    by (Some v) below = below_insert k w.0 v (over es ws) words.0 below
-    by None below = below_remove key_total k (is_at (key_cmp w.0)) (over es ws) below
-
--- a word of a key that is less than all others comes first
-first-word : (k : RouteKey) (v : Kept) (es : List (RouteKey × Kept)) → AreBelow k es → insert_entry key_cmp es k v ≡ (k, v) ∷ es
-first-word k v [] below = refl
-first-word k v (e ∷ es) below = rw below.0 refl
-
-first-retracted : (k : RouteKey) (es : List (RouteKey × Kept)) → AreBelow k es → remove_entry (is_at (key_cmp k)) es ≡ es
-first-retracted k [] below = refl
-first-retracted k (e ∷ es) below = rw below.0 (ap (λ (t : List (RouteKey × Kept)). e ∷ t) (first-retracted k es below.1))
-
--- the entries are greater than the key, where the first of them is not less
-not_lesser : (k : RouteKey) (es : List (RouteKey × Kept)) → IsRising es → found k es ≡ None → StartsFrom k es → AreBelow k es
-unfolding IsStrictlySortedBy
-not_lesser k [] rising none from = tt
-not_lesser k (e ∷ es) rising none from = by (key_cmp k e.0) refl none
-  where
-    by : (r : Ordering) → key_cmp k e.0 ≡ r → cond (is_eq r) (Some e.1) (found k es) ≡ None → AreBelow k (e ∷ es)
-    by Less is none = (is, below_all key_total k e.0 (keys_of es) is rising.0)
-    by Equal is none = absurd cc
-    by Greater is none = absurd (from (key_total.antisymm e.0 k ∙ ap ordering_reverse is))
+    by : (key : RouteKey) (b : Bool) → is_at (key_cmp k) key ≡ b → (o : Option ℕ) → MatchOption o (IsAbsent key ks) (IsPlace ks key)
+        → MatchOption (cond b (Some (length ks)) o) (IsAbsent key (ks ++ k ∷ [])) (IsPlace (ks ++ k ∷ []) key)
+    by key true at o found = rw (same_key k key at) (place_last k ks)
+    by key false at None none = absent_push key k ks none (is_at-sym key_total key k ∙ at)
+    by key false at (Some i) place = place_push key k ks i place
 
 -- ---- the count
 
@@ -404,216 +540,158 @@ at_most_one : (b : Bool) → cond b 0 1 < 2
 at_most_one true = omega arith
 at_most_one false = omega arith
 
-pub said-length : (k : RouteKey) (v : Kept) (old new : List (RouteKey × Kept)) → IsRising old → new ≡ insert_entry key_cmp old k v → length new ≡ length old + cond (is_some (found k old)) 0 1
-said-length k v old new rising is = ap (λ (t : List (RouteKey × Kept)). length t) is ∙ length-said k v old rising
+module _ (n : ℕ) (ws : Words) (rising : ℕ) (places : List (RouteKey × ℕ)) (all : AreCounted n ws rising places) (k : RouteKey) where
+  said-count : (v : Kept) (m : ℕ) → m ≡ cond (is_some (found k (standing ws))) 0 1 → n + m ≡ length (say k (Some v) (standing ws))
+  said-count v m one = let len = length-said k v (standing ws) (sorted-standing ws) in omega (arith, len, one, all.count)
 
-module _ (n : ℕ) (ws : Words) (es : List (RouteKey × Kept)) (all : AreCounted n ws es) (k : RouteKey) where
-  counted-said : (vs : Words) (fs : List (RouteKey × Kept)) (v : Kept) (m : ℕ) → AreSaid vs fs → over fs vs ≡ say k (Some v) (over es ws) → m ≡ cond (is_some (found k (over es ws))) 0 1 → n + 1 < 2 ^ 63 → AreCounted (n + m) vs fs
-  counted-said vs fs v m said is one few =
-      let len : length (over fs vs) ≡ length (over es ws) + cond (is_some (found k (over es ws))) 0 1 = said-length k v (over es ws) (over fs vs) (sorted-over es ws all.said.late) is in
-      record {
-        said = said;
-        count = omega (arith, len, one, all.count);
-        small = omega (arith, one, few, at_most_one (is_some (found k (over es ws))));
-      }
+  unsaid-count : (m : ℕ) → m ≡ cond (is_some (found k (standing ws))) 1 0 → length (say k None (standing ws)) + m ≡ n
+  unsaid-count m one = let len = length-unsaid k (standing ws) in omega (arith, len, one, all.count)
 
-  unsaid-length : (new : List (RouteKey × Kept)) → new ≡ say k None (over es ws) → length new + cond (is_some (found k (over es ws))) 1 0 ≡ n
-  unsaid-length new is = ap (λ (t : List (RouteKey × Kept)). length t + cond (is_some (found k (over es ws))) 1 0) is ∙ length-unsaid k (over es ws) ∙ sym all.count
+  -- ---- at a place
 
-  counted-unsaid : (vs : Words) (fs : List (RouteKey × Kept)) (m : ℕ) → AreSaid vs fs → over fs vs ≡ say k None (over es ws) → m ≡ cond (is_some (found k (over es ws))) 1 0 → AreCounted (n - m) vs fs
-  counted-unsaid vs fs m said is one =
-      let len = unsaid-length (over fs vs) is in
-      record { said = said; count = omega (arith, len, one); small = omega (arith, all.small) }
+  module _ (i : ℕ) (place : IsPlace (keys_of ws) k i) (x : RouteKey × Option Kept) where
+    found-here : found k ws ≡ Some (get_or ws i x).1
+    found-here = found-place k ws i x all.indexed.distinct (inside_of k ws i place) (key_at k ws i x place)
 
-  one-less : (m : ℕ) → m ≡ cond (is_some (found k (over es ws))) 1 0 → m ≤ n
-  one-less m one = let len = unsaid-length (say k None (over es ws)) refl in omega (arith, len, one)
+    pub stands-here : found k (standing ws) ≡ (get_or ws i x).1
+    stands-here = found-standing k ws ∙ ap word_of found-here
 
-  -- ---- at a place of the list
+    pub standing-set : (o : Option Kept) → standing (set ws i (k, o)) ≡ say k o (standing ws)
+    standing-set o = standing-one (set ws i (k, o)) ws k o (λ q. found-set k q o ws i x all.indexed.distinct (inside_of k ws i place) (key_at k ws i x place))
 
-  module _ (i : ℕ) (place : IsPlace ws k i) (x : RouteKey × Option Kept) where
-    set-word : (o : Option Kept) → set ws i (k, o) ≡ insert_entry key_cmp ws k o
-    set-word o = set-place k o ws i x all.said.rising place.inside (place.at_key x)
+    indexed-set : (o : Option Kept) → AreIndexed (keys_of (set ws i (k, o))) rising places
+    indexed-set o = subst (λ ks. AreIndexed ks rising places) (sym (keys-set k o ws i x (key_at k ws i x place))) all.indexed
 
-    word-here : found k ws ≡ Some (get_or ws i x).1
-    word-here = place-found k ws i x all.said.rising place.inside (place.at_key x)
+    here : (was : Bool) → x ≡ get_or ws i x → was ≡ is_some x.1 → is_some (found k (standing ws)) ≡ was
+    here was at is = ap is_some stands-here ∙ sym (ap (λ (w : RouteKey × Option Kept). is_some w.1) at) ∙ sym is
 
-    pub found-here : found k (over es ws) ≡ (get_or ws i x).1
-    found-here = found-over k es ws all.said.late ∙ ap (λ t. word_or t (found k es)) word-here
+    pub counted-set : (v : Kept) (was : Bool) (m : ℕ) → x ≡ get_or ws i x → was ≡ is_some x.1 → m ≡ bool_byte (not was) → n + 1 < 2 ^ 63 → AreCounted (n + m) (set ws i (k, Some v)) rising places
+    counted-set v was m at is byte few =
+        let one : m ≡ cond (is_some (found k (standing ws))) 0 1 = byte ∙ byte_of_not was ∙ sym (ap (λ b. cond b 0 1) (here was at is)) in
+        record {
+          indexed = indexed-set (Some v);
+          count = said-count v m one ∙ sym (ap (λ (t : List (RouteKey × Kept)). length t) (standing-set (Some v)));
+          small = omega (arith, one, few, at_most_one (is_some (found k (standing ws))));
+        }
 
-    pub over-set : (o : Option Kept) → over es (set ws i (k, o)) ≡ say k o (over es ws)
-    over-set o = ap (over es) (set-word o) ∙ over-word es ws k o all.said
-
-    said-set : (o : Option Kept) → AreSaid (set ws i (k, o)) es
-    said-set o = subst (λ vs. AreSaid vs es) (sym (set-word o)) (said-word ws es k o all.said (all.said.apart k (ap is_some word-here)))
-
-    here : (was : Bool) → x ≡ get_or ws i x → was ≡ is_some x.1 → is_some (found k (over es ws)) ≡ was
-    here was at is = ap is_some found-here ∙ sym (ap (λ (w : RouteKey × Option Kept). is_some w.1) at) ∙ sym is
-
-    pub counted-set : (v : Kept) (was : Bool) (m : ℕ) → x ≡ get_or ws i x → was ≡ is_some x.1 → m ≡ bool_byte (not was) → n + 1 < 2 ^ 63 → AreCounted (n + m) (set ws i (k, Some v)) es
-    counted-set v was m at is byte few = counted-said (set ws i (k, Some v)) es v m (said-set (Some v)) (over-set (Some v)) (byte ∙ byte_of_not was ∙ sym (ap (λ b. cond b 0 1) (here was at is))) few
-
-    one-unset : (was : Bool) (m : ℕ) → x ≡ get_or ws i x → was ≡ is_some x.1 → m ≡ bool_byte was → m ≡ cond (is_some (found k (over es ws))) 1 0
+    one-unset : (was : Bool) (m : ℕ) → x ≡ get_or ws i x → was ≡ is_some x.1 → m ≡ bool_byte was → m ≡ cond (is_some (found k (standing ws))) 1 0
     one-unset was m at is byte = byte ∙ byte_of was ∙ sym (ap (λ b. cond b 1 0) (here was at is))
 
     pub fewer-set : (was : Bool) (m : ℕ) → x ≡ get_or ws i x → was ≡ is_some x.1 → m ≡ bool_byte was → m ≤ n
-    fewer-set was m at is byte = one-less m (one-unset was m at is byte)
+    fewer-set was m at is byte = let len = unsaid-count m (one-unset was m at is byte) in omega (arith, len)
 
-    pub counted-unset : (was : Bool) (m : ℕ) → x ≡ get_or ws i x → was ≡ is_some x.1 → m ≡ bool_byte was → AreCounted (n - m) (set ws i (k, None)) es
-    counted-unset was m at is byte = counted-unsaid (set ws i (k, None)) es m (said-set None) (over-set None) (one-unset was m at is byte)
+    pub counted-unset : (was : Bool) (m : ℕ) → x ≡ get_or ws i x → was ≡ is_some x.1 → m ≡ bool_byte was → AreCounted (n - m) (set ws i (k, None)) rising places
+    counted-unset was m at is byte =
+        let len = unsaid-count m (one-unset was m at is byte) in
+        let same : length (standing (set ws i (k, None))) ≡ length (say k None (standing ws)) = ap (λ (t : List (RouteKey × Kept)). length t) (standing-set None) in
+        record {
+          indexed = indexed-set None;
+          count = omega (arith, len, same);
+          small = omega (arith, all.small);
+        }
 
-  -- ---- behind the list
-
-  module _ (above : AreAbove k ws) (none : found k es ≡ None) where
-    pub over-pushed : (v : Kept) → over es (ws ++ (k, Some v) ∷ []) ≡ insert_entry key_cmp (over es ws) k v
-    over-pushed v = ap (over es) (pushed k (Some v) ws above) ∙ over-word es ws k (Some v) all.said
-
-    pub counted-pushed : (v : Kept) → n + 1 < 2 ^ 63 → AreCounted (n + 1) (ws ++ (k, Some v) ∷ []) es
-    counted-pushed v few =
-        let no : found k (over es ws) ≡ None = found-over k es ws all.said.late ∙ ap (λ t. word_or t (found k es)) (none-past k ws above) ∙ none in
-        counted-said (ws ++ (k, Some v) ∷ []) es v 1 (subst (λ vs. AreSaid vs es) (sym (pushed k (Some v) ws above)) (said-word ws es k (Some v) all.said none)) (over-pushed v)
-        (sym (ap (λ (t : Option Kept). cond (is_some t) 0 1) no)) few
-
-  -- ---- under the list
+  -- ---- of a key that has no place
 
   module _ (none : found k ws ≡ None) where
-    pub found-under : found k (over es ws) ≡ found k es
-    found-under = found-over k es ws all.said.late ∙ ap (λ t. word_or t (found k es)) none
+    pub stands-nowhere : found k (standing ws) ≡ None
+    stands-nowhere = found-standing k ws ∙ ap word_of none
 
-    pub over-under : (o : Option Kept) → over (say k o es) ws ≡ say k o (over es ws)
-    over-under o = over-late es ws k o all.said none
+    pub standing-pushed : (v : Kept) → standing (ws ++ (k, Some v) ∷ []) ≡ insert_entry key_cmp (standing ws) k v
+    standing-pushed v = standing-one (ws ++ (k, Some v) ∷ []) ws k (Some v) (λ q. found-push k q (Some v) ws none)
 
-    pub counted-under : (v : Kept) (was : Option Kept) (m : ℕ) → was ≡ found k es → m ≡ bool_byte (is_none was) → n + 1 < 2 ^ 63 → AreCounted (n + m) ws (insert_entry key_cmp es k v)
-    counted-under v was m is byte few =
-        counted-said ws (say k (Some v) es) v m (said-late ws es k (Some v) all.said none) (over-under (Some v))
-        (byte ∙ byte_of_none was ∙ ap (λ (t : Option Kept). cond (is_some t) 0 1) (is ∙ sym found-under)) few
+    counted-more : (v : Kept) (front : ℕ) (index : List (RouteKey × ℕ)) → n + 1 < 2 ^ 63 → AreIndexed (keys_of ws ++ k ∷ []) front index → AreCounted (n + 1) (ws ++ (k, Some v) ∷ []) front index
+    counted-more v front index few indexed = record {
+      indexed = subst (λ ks. AreIndexed ks front index) (sym (keys-push k (Some v) ws)) indexed;
+      count = said-count v 1 (sym (ap (λ (t : Option Kept). cond (is_some t) 0 1) stands-nowhere)) ∙ sym (ap (λ (t : List (RouteKey × Kept)). length t) (standing-pushed v));
+      small = few;
+    }
 
-    one-under : (was : Option Kept) (m : ℕ) → was ≡ found k es → m ≡ bool_byte (is_some was) → m ≡ cond (is_some (found k (over es ws))) 1 0
-    one-under was m is byte = byte ∙ byte_of (is_some was) ∙ ap (λ (t : Option Kept). cond (is_some t) 1 0) (is ∙ sym found-under)
+    pub counted-behind : (v : Kept) → n + 1 < 2 ^ 63 → AreCounted (n + 1) (ws ++ (k, Some v) ∷ []) rising (insert_entry key_cmp places k (length ws))
+    counted-behind v few = counted-more v rising _ few
+        (subst (λ m. AreIndexed (keys_of ws ++ k ∷ []) rising (insert_entry key_cmp places k m)) (length-keys_of ws) (indexed-behind (keys_of ws) rising places k all.indexed (absent_of k ws none)))
 
-    pub fewer-under : (was : Option Kept) (m : ℕ) → was ≡ found k es → m ≡ bool_byte (is_some was) → m ≤ n
-    fewer-under was m is byte = one-less m (one-under was m is byte)
+    pub counted-front : (v : Kept) (m : ℕ) → m ≡ length (ws ++ (k, Some v) ∷ []) → n + 1 < 2 ^ 63 → rising ≡ length ws → AreAbove k ws → AreCounted (n + 1) (ws ++ (k, Some v) ∷ []) m places
+    counted-front v m long few full above =
+        let whole : AreIndexed (keys_of ws) (length (keys_of ws)) places = subst (λ m. AreIndexed (keys_of ws) m places) (full ∙ sym (length-keys_of ws)) all.indexed in
+        let order : IsRising ws = subst (λ t. IsStrictlySortedBy key_cmp t) (take_all (length (keys_of ws)) (keys_of ws) (omega arith)) whole.front in
+        let longer : IsStrictlySortedBy key_cmp (keys_of ws ++ k ∷ []) = subst (λ t. IsStrictlySortedBy key_cmp t) (keys-push k (Some v) ws) (rising-push k (Some v) ws above order) in
+        let more : length (keys_of ws) + 1 ≡ m = omega (arith, long, length-keys_of ws, length-append ws ((k, Some v) ∷ [])) in
+        counted-more v m places few (subst (λ t. AreIndexed (keys_of ws ++ k ∷ []) t places) more (indexed-front (keys_of ws) places k whole (absent_of k ws none) longer))
 
-    pub counted-unsaid_under : (was : Option Kept) (m : ℕ) → was ≡ found k es → m ≡ bool_byte (is_some was) → AreCounted (n - m) ws (remove_entry (is_at (key_cmp k)) es)
-    counted-unsaid_under was m is byte = counted-unsaid ws (say k None es) m (said-late ws es k None all.said none) (over-under None) (one-under was m is byte)
+pub counted-nothing : AreCounted 0 [] 0 []
+counted-nothing = record { indexed = indexed-nothing; count = refl; small = omega arith }
 
-pub counted-filter : (n : ℕ) (ws : Words) (es : List (RouteKey × Kept)) → AreCounted n ws es → AreCounted n (filter is_said ws) es
-counted-filter n ws es all = record {
-  said = said-filter ws es all.said;
-  count = all.count ∙ sym (ap (λ (t : List (RouteKey × Kept)). length t) (over-filter ws es all.said));
+-- the rows that are not retracted, in order
+pub counted-sorted : (n : ℕ) (ws vs : Words) (rising : ℕ) (places : List (RouteKey × ℕ)) → AreCounted n ws rising places → IsRising vs → standing vs ≡ standing (filter is_said ws) → AreCounted n vs (length vs) []
+counted-sorted n ws vs rising places all order same = record {
+  indexed = subst (λ m. AreIndexed (keys_of vs) m []) (length-keys_of vs) (indexed-rising (keys_of vs) (IsDistinct-from_sorted key_cmp (keys_of vs) order) order);
+  count = all.count ∙ ap (λ (t : List (RouteKey × Kept)). length t) (sym (same ∙ standing-filter ws all.indexed.distinct));
   small = all.small;
 }
+
+-- nothing is retracted where nothing stands
+pub unsaid-nothing : (k : RouteKey) (es : List (RouteKey × Kept)) → found k es ≡ None → remove_entry (is_at (key_cmp k)) es ≡ es
+unsaid-nothing k [] none = refl
+unsaid-nothing k (e ∷ es) none = by (is_at (key_cmp k) e.0) none (unsaid-nothing k es)
+  where
+    by : (b : Bool) → cond b (Some e.1) (found k es) ≡ None → (found k es ≡ None → remove_entry (is_at (key_cmp k)) es ≡ es) → cond b es (e ∷ remove_entry (is_at (key_cmp k)) es) ≡ e ∷ es
+    by true none again = absurd cc
+    by false none again = ap (λ (t : List (RouteKey × Kept)). e ∷ t) (again none)
 
 pub byte_small : (b : Bool) (m : ℕ) → m ≡ bool_byte b → m < 2
 byte_small true m is = omega (arith, is)
 byte_small false m is = omega (arith, is)
 
-pub one_more : (n : ℕ) (ws : Words) (es old : List (RouteKey × Kept)) → AreCounted n ws es → over es ws ≡ old → length old < 2 ^ 62 → n + 1 < 2 ^ 63
-one_more n ws es old all is few =
+pub one_more : (n : ℕ) (ws : Words) (rising : ℕ) (places : List (RouteKey × ℕ)) (old : List (RouteKey × Kept)) → AreCounted n ws rising places → standing ws ≡ old → length old < 2 ^ 62 → n + 1 < 2 ^ 63
+one_more n ws rising places old all is few =
     let len : n ≡ length old = all.count ∙ ap (λ (t : List (RouteKey × Kept)). length t) is in
     omega (arith, len, few)
 
-pub rising-view : (n : ℕ) (ws : Words) (es old : List (RouteKey × Kept)) → AreCounted n ws es → over es ws ≡ old → IsRising old
-rising-view n ws es old all is = subst (λ t. IsRising t) is (sorted-over es ws all.said.late)
-
-pub byte_of_answer : (r : Bool) (o : Option Kept) → is_some o ≡ not r → bool_byte r ≡ bool_byte (is_none o)
-byte_of_answer true o is = rw is refl
-byte_of_answer false o is = rw is refl
+pub said-length : (k : RouteKey) (v : Kept) (ws : Words) (old new : List (RouteKey × Kept)) → standing ws ≡ old → new ≡ insert_entry key_cmp old k v → length new ≡ length old + cond (is_some (found k old)) 0 1
+said-length k v ws old new view is = ap (λ (t : List (RouteKey × Kept)). length t) is ∙ length-said k v old (subst (λ t. IsRising t) view (sorted-standing ws))
 
 -- ---- in order
 
--- the tail of a list in order
-pub said-tail : (w : RouteKey × Option Kept) (ws : Words) (es : List (RouteKey × Kept)) → AreSaid (w ∷ ws) es → AreSaid ws es
-unfolding IsStrictlySortedBy
-said-tail w ws es said = record {
-  rising = said.rising.1;
-  late = said.late;
-  apart = λ q there. said.apart q (by (is_at (key_cmp q) w.0) (found q ws) there);
-}
+below-standing : (k : RouteKey) (ws : Words) → AreBelow k ws → AreBelow k (standing ws)
+below-standing k [] below = tt
+below-standing k (w ∷ ws) below = by w.1 (below-standing k ws below.1)
   where
-    by : (b : Bool) (o : Option (Option Kept)) → is_some o ≡ true → is_some (cond b (Some w.1) o) ≡ true
-    by true o there = refl
-    by false o there = there
+    by : (o : Option Kept) → AreBelow k (standing ws) → AreBelow k (say w.0 o (standing ws))
+    by (Some v) again = below_insert key_total k w.0 v (standing ws) below.0 again
+    by None again = below_remove key_total k (is_at (key_cmp w.0)) (standing ws) again
 
--- the other entries
-pub said-behind : (ws : Words) (e : RouteKey × Kept) (es : List (RouteKey × Kept)) → AreSaid ws (e ∷ es) → AreSaid ws es
+first-word : (k : RouteKey) (v : Kept) (es : List (RouteKey × Kept)) → AreBelow k es → insert_entry key_cmp es k v ≡ (k, v) ∷ es
+first-word k v [] below = refl
+first-word k v (e ∷ es) below = rw below.0 refl
+
+first-retracted : (k : RouteKey) (es : List (RouteKey × Kept)) → AreBelow k es → remove_entry (is_at (key_cmp k)) es ≡ es
+first-retracted k [] below = refl
+first-retracted k (e ∷ es) below = rw below.0 (ap (λ (t : List (RouteKey × Kept)). e ∷ t) (first-retracted k es below.1))
+
+-- the rows that are listed so far, and those to come
+pub record IsListing (wipes : ℕ) (rows : List (RouteKey × Held)) (ws : Words) (whole : List (RouteKey × Kept)) : Type 0 where
+  pub rising : IsRising ws
+  pub listed : rows ++ live_rows wipes (standing ws) ≡ live_rows wipes whole
+
+pub lists-said : (wipes : ℕ) (rows : List (RouteKey × Held)) (w : RouteKey × Option Kept) (ws : Words) (whole : List (RouteKey × Kept)) (v : Kept) → IsListing wipes rows (w ∷ ws) whole
+    → w.1 ≡ Some v → IsListing wipes (rows ++ (w.0, current wipes v) ∷ []) ws whole
 unfolding IsStrictlySortedBy
-said-behind ws e es said = record {
-  rising = said.rising;
-  late = said.late.1;
-  apart = λ q there. by (is_at (key_cmp q) e.0) (found q es) (said.apart q there);
-}
-  where
-    by : (b : Bool) (o : Option Kept) → cond b (Some e.1) o ≡ None → o ≡ None
-    by true o none = absurd cc
-    by false o none = none
-
--- the first word, where no entry's key is less
-module _ (w : RouteKey × Option Kept) (ws : Words) (es : List (RouteKey × Kept)) (said : AreSaid (w ∷ ws) es) (from : StartsFrom w.0 es) where
-  below-words : AreBelow w.0 ws
-  unfolding IsStrictlySortedBy
-  below-words = said.rising.0
-
-  below-both : AreBelow w.0 (over es ws)
-  below-both =
-      let there : is_some (found w.0 (w ∷ ws)) ≡ true = rw (at_itself w.0) refl in
-      below-over w.0 es ws (not_lesser w.0 es said.late (said.apart w.0 there) from) below-words
-
-  pub over-said : (v : Kept) → w.1 ≡ Some v → over es (w ∷ ws) ≡ (w.0, v) ∷ over es ws
-  over-said v is = ap (λ o. say w.0 o (over es ws)) is ∙ first-word w.0 v (over es ws) below-both
-
-  pub over-retracted : w.1 ≡ None → over es (w ∷ ws) ≡ over es ws
-  over-retracted is = ap (λ o. say w.0 o (over es ws)) is ∙ first-retracted w.0 (over es ws) below-both
-
--- an entry whose key is less than the first word's
-pub over-lesser : (w : RouteKey × Option Kept) (ws : Words) (e : RouteKey × Kept) (es : List (RouteKey × Kept)) → AreSaid (w ∷ ws) (e ∷ es) → key_cmp e.0 w.0 ≡ Less
-    → over (e ∷ es) (w ∷ ws) ≡ e ∷ over es (w ∷ ws)
-unfolding IsStrictlySortedBy
-over-lesser w ws e es said less = over-first e es (w ∷ ws) (less, below_all key_total e.0 w.0 (keys_of ws) less said.rising.0)
-
--- ---- the rows that are listed so far, and those to come
-
-pub record IsListing (wipes : ℕ) (rows : List (RouteKey × Held)) (ws : Words) (es : List (RouteKey × Kept)) (whole : List (RouteKey × Kept)) : Type 0 where
-  pub said : AreSaid ws es
-  pub listed : rows ++ live_rows wipes (over es ws) ≡ live_rows wipes whole
-
-pub listed-more : (wipes : ℕ) (rows : List (RouteKey × Held)) (e : RouteKey × Kept) (es now whole : List (RouteKey × Kept)) → now ≡ e ∷ es → rows ++ live_rows wipes now ≡ live_rows wipes whole
-    → (rows ++ (e.0, current wipes e.1) ∷ []) ++ live_rows wipes es ≡ live_rows wipes whole
-listed-more wipes rows e es now whole is listed = append_assoc rows ((e.0, current wipes e.1) ∷ []) (live_rows wipes es) ∙ sym (ap (λ t. rows ++ live_rows wipes t) is) ∙ listed
-
-pub lists-lesser : (wipes : ℕ) (rows : List (RouteKey × Held)) (w : RouteKey × Option Kept) (ws : Words) (e : RouteKey × Kept) (es old whole : List (RouteKey × Kept)) → IsListing wipes rows (w ∷ ws) old whole
-    → old ≡ e ∷ es → key_cmp e.0 w.0 ≡ Less → IsListing wipes (rows ++ (e.0, current wipes e.1) ∷ []) (w ∷ ws) es whole
-lists-lesser wipes rows w ws e es old whole listing is less =
-    let said : AreSaid (w ∷ ws) (e ∷ es) = subst (λ t. AreSaid (w ∷ ws) t) is listing.said in
+lists-said wipes rows w ws whole v listing is =
+    let first : standing (w ∷ ws) ≡ (w.0, v) ∷ standing ws = ap (λ o. say w.0 o (standing ws)) is ∙ first-word w.0 v (standing ws) (below-standing w.0 ws listing.rising.0) in
     record {
-      said = said-behind (w ∷ ws) e es said;
-      listed = listed-more wipes rows e (over es (w ∷ ws)) (over old (w ∷ ws)) whole (ap (λ t. over t (w ∷ ws)) is ∙ over-lesser w ws e es said less) listing.listed;
+      rising = listing.rising.1;
+      listed = append_assoc rows ((w.0, current wipes v) ∷ []) (live_rows wipes (standing ws)) ∙ sym (ap (λ t. rows ++ live_rows wipes t) first) ∙ listing.listed;
     }
 
-pub lists-said : (wipes : ℕ) (rows : List (RouteKey × Held)) (w : RouteKey × Option Kept) (ws : Words) (es whole : List (RouteKey × Kept)) (v : Kept) → IsListing wipes rows (w ∷ ws) es whole
-    → StartsFrom w.0 es → w.1 ≡ Some v → IsListing wipes (rows ++ (w.0, current wipes v) ∷ []) ws es whole
-lists-said wipes rows w ws es whole v listing from is = record {
-  said = said-tail w ws es listing.said;
-  listed = listed-more wipes rows (w.0, v) (over es ws) (over es (w ∷ ws)) whole (over-said w ws es listing.said from v is) listing.listed;
-}
-
-pub lists-retracted : (wipes : ℕ) (rows : List (RouteKey × Held)) (w : RouteKey × Option Kept) (ws : Words) (es whole : List (RouteKey × Kept)) → IsListing wipes rows (w ∷ ws) es whole
-    → StartsFrom w.0 es → w.1 ≡ None → IsListing wipes rows ws es whole
-lists-retracted wipes rows w ws es whole listing from is = record {
-  said = said-tail w ws es listing.said;
-  listed = sym (ap (λ t. rows ++ live_rows wipes t) (over-retracted w ws es listing.said from is)) ∙ listing.listed;
-}
-
-pub starts-from : (k : RouteKey) (es : List (RouteKey × Kept)) (e : RouteKey × Kept) → slice_get es 0 ≡ Some e → is_lt (key_cmp e.0 k) ≡ false → StartsFrom k es
-starts-from k [] e first not_less = tt
-starts-from k (x ∷ es) e first not_less = λ less.
-    let same : x ≡ e = cc in
-    let no : is_lt (key_cmp x.0 k) ≡ false = ap (λ (y : RouteKey × Kept). is_lt (key_cmp y.0 k)) same ∙ not_less in
-    let yes : is_lt (key_cmp x.0 k) ≡ true = ap is_lt less in
-    absurd cc
-
-pub starts-nowhere : (k : RouteKey) (es : List (RouteKey × Kept)) → (0 < length es → ⊥) → StartsFrom k es
-starts-nowhere k [] none = tt
-starts-nowhere k (e ∷ es) none = absurd (none (omega arith))
+pub lists-retracted : (wipes : ℕ) (rows : List (RouteKey × Held)) (w : RouteKey × Option Kept) (ws : Words) (whole : List (RouteKey × Kept)) → IsListing wipes rows (w ∷ ws) whole
+    → w.1 ≡ None → IsListing wipes rows ws whole
+unfolding IsStrictlySortedBy
+lists-retracted wipes rows w ws whole listing is =
+    let first : standing (w ∷ ws) ≡ standing ws = ap (λ o. say w.0 o (standing ws)) is ∙ first-retracted w.0 (standing ws) (below-standing w.0 ws listing.rising.0) in
+    record {
+      rising = listing.rising.1;
+      listed = sym (ap (λ t. rows ++ live_rows wipes t) first) ∙ listing.listed;
+    }
 
 pub no_more : {X : Type 0} (xs : List X) → length xs ≡ 0 → xs ≡ []
 no_more [] none = refl

@@ -1,5 +1,4 @@
-ghost use Rattle.std.specs.Prelude.{◌≡◌, ◌<◌, ◌+◌, ◌^◌, ◌∷◌, if◌then◌else◌, [], IfOk, IfSome, IfNone, OnOk, OnErr, MatchOption, length, is_some, IsTrue, None};
-ghost use Rattle.std.specs.declared.cmp.Ordering.TheVariants.{Less};
+ghost use Rattle.std.specs.Prelude.{◌≡◌, ◌<◌, ◌+◌, ◌^◌, ◌∷◌, ◌++◌, if◌then◌else◌, [], IfOk, OnOk, OnErr, MatchOption, length, is_some, IsTrue, None};
 ghost use Rattle.std.specs.List.Sorted.{IsStrictlySortedBy};
 ghost use Rattle.std.specs.BTreeMap.{insert_entry, is_at};
 ghost use Rattle.std.specs.Map.{keys_of, lookup, remove_entry};
@@ -7,7 +6,7 @@ ghost use Rattle.babel_tlv.specs.Route.{key_cmp};
 ghost use Rattle.babel_table.specs.Compact.{FitsFamily};
 ghost use Rattle.babel_table.specs.Live.{kept, live_rows};
 ghost use Rattle.babel_table.specs.Rows.{IsRising};
-ghost use Rattle.babel_table.specs.Said.{IsPlace, AreAbove, StartsFrom};
+ghost use Rattle.babel_table.specs.Said.{standing, AreDistinct, AreIndexed, IsPlace, AreAbove};
 
 use crate::compact_held::CompactHeld;
 use crate::compact_key::CompactKey;
@@ -19,16 +18,24 @@ use std::alloc::{AllocError, Global};
 use std::collections::BTreeMap;
 use std::marker::Model;
 
+/// So many rows may be retracted beside as many as are not, before they are taken out.
+const SPARE: usize = 1_024;
+
+/// A key and what was last said of it: nothing where it was retracted.
+type WordRow<W> = (CompactKey<W>, Option<Stored<W>>);
+
 /// What is kept for the keys of the family whose addresses are kept in these words. A router repeats its routes in one
-/// order, so the row behind the one found last is tried before any search.
+/// order, whichever it is, so the row behind the one found last is tried before any search.
 #[derive(Drop)]
 pub struct FamilyRows<W: Word> {
-    /// The keys that came in rising order, with nothing where they were retracted.
-    rows: Vec<(CompactKey<W>, Option<Stored<W>>)>,
+    /// A row for each key, in the order in which the keys came.
+    rows: Vec<WordRow<W>>,
     /// The place behind the row that was found last.
     next: usize,
-    /// The keys that came out of order.
-    late: BTreeMap<CompactKey<W>, Stored<W>>,
+    /// So many rows at the front are in the order of their keys.
+    rising: usize,
+    /// The places of the keys behind those.
+    places: BTreeMap<CompactKey<W>, usize>,
     /// For how many keys there is something.
     count: usize,
 }
@@ -37,13 +44,13 @@ impl<W: Word> Model for FamilyRows<W> {
     ghost use Rattle.std.specs.Prelude.{List};
     ghost use Rattle.babel_tlv.specs.Route.{RouteKey};
     ghost use Rattle.babel_table.specs.Live.{Kept};
-    ghost use Rattle.babel_table.specs.Said.{over, AreCounted};
+    ghost use Rattle.babel_table.specs.Said.{standing, AreCounted};
 
     ghost Value = { List (RouteKey × Kept) };
 
-    ghost view = { λ r. over r.late.entries r.rows.items };
+    ghost view = { λ r. standing r.rows.items };
 
-    ghost invariant = { λ r. AreCounted r.count r.rows.items r.late.entries };
+    ghost invariant = { λ r. AreCounted r.count r.rows.items r.rising r.places.entries };
 }
 
 impl<W: Word> FamilyRows<W> {
@@ -54,7 +61,8 @@ impl<W: Word> FamilyRows<W> {
         FamilyRows {
             rows: Vec::new(alloc),
             next: 0,
-            late: BTreeMap::new(alloc),
+            rising: 0,
+            places: BTreeMap::new(alloc),
             count: 0,
         }
     }
@@ -74,9 +82,9 @@ impl<W: Word> FamilyRows<W> {
         ensures { result ≡ is_some (lookup (is_at (key_cmp key.now)) self.now) }
     {
         let key = CompactKey::of(key);
-        match find(&self.rows, self.next, &key) {
+        match find(&self.rows, self.next, self.rising, &self.places, &key) {
             Some(place) => self.rows[place].1.is_some(),
-            None => self.late.contains_key(&key),
+            None => false,
         }
     }
 
@@ -92,21 +100,22 @@ impl<W: Word> FamilyRows<W> {
         let key = CompactKey::of(key);
         let held = CompactHeld::of(held);
         let stored = Stored { held, wipes };
-        if let Some(place) = find(&self.rows, self.next, &key) {
+        if let Some(place) = find(&self.rows, self.next, self.rising, &self.places, &key) {
             let was = self.rows[place].1.is_some();
             self.rows[place] = (key, Some(stored));
             self.next = place + 1;
             self.count += usize::from(!was);
             return Ok(());
         }
-        if is_past(&self.rows, &key) && !self.late.contains_key(&key) {
+        if self.rising == self.rows.len() && is_past(&self.rows, &key) {
             self.rows.push((key, Some(stored)))?;
-            self.next = self.rows.len();
-            self.count += 1;
-            return Ok(());
+            self.rising = self.rows.len();
+        } else {
+            push_placed(&mut self.rows, &mut self.places, key, stored)?;
         }
-        let was = self.late.insert(key, stored)?;
-        self.count += usize::from(was.is_none());
+        self.next = self.rows.len();
+        self.count += 1;
+        self.compact();
         Ok(())
     }
 
@@ -116,28 +125,23 @@ impl<W: Word> FamilyRows<W> {
         ensures { self.new ≡ remove_entry (is_at (key_cmp key.now)) self.old }
     {
         let key = CompactKey::of(key);
-        match find(&self.rows, self.next, &key) {
-            Some(place) => {
-                let was = self.rows[place].1.is_some();
-                self.rows[place] = (key, None);
-                self.next = place + 1;
-                self.count -= usize::from(was);
-            }
-            None => {
-                let was = self.late.remove(&key);
-                self.count -= usize::from(was.is_some());
-            }
+        if let Some(place) = find(&self.rows, self.next, self.rising, &self.places, &key) {
+            let was = self.rows[place].1.is_some();
+            self.rows[place] = (key, None);
+            self.next = place + 1;
+            self.count -= usize::from(was);
         }
-        self.compact();
     }
 
-    /// Takes the retracted rows out of the list where they are at least half of it.
+    /// Takes the retracted rows out where they are many more than the others, and puts these in order.
     fn compact(&mut self)
         ensures { self.new ≡ self.old }
     {
-        let live = self.count.saturating_sub(self.late.len());
-        if live <= self.rows.len() / 2 {
+        if self.count.saturating_add(SPARE) <= self.rows.len() / 2 {
             self.rows.retain(|row| row.1.is_some());
+            sort(&mut self.rows);
+            self.rising = self.rows.len();
+            self.places.clear();
             self.next = 0;
         }
     }
@@ -147,8 +151,9 @@ impl<W: Word> FamilyRows<W> {
         ensures { self.new ≡ [] }
     {
         self.rows.clear();
-        self.late.clear();
+        self.places.clear();
         self.next = 0;
+        self.rising = 0;
         self.count = 0;
     }
 
@@ -156,18 +161,15 @@ impl<W: Word> FamilyRows<W> {
     pub fn listed(self, alloc: Global, wipes: u64) -> Result<Vec<CompactRow<W>>, AllocError>
         ensures { IfOk result (λ rows. rows.items ≡ live_rows wipes self) }
     {
+        let mut places = self.places;
+        places.clear();
+        let mut rows = self.rows;
+        sort(&mut rows);
         let mut listed = Vec::with_capacity(alloc, self.count)?;
-        let mut late = self.late;
-        'rows: for (key, said) in self.rows {
-            'lesser: while let Some((lesser, stored)) = pop_lesser(&mut late, &key) {
-                listed.push((lesser, stored.current(wipes)))?;
-            }
+        for (key, said) in rows {
             if let Some(stored) = said {
                 listed.push((key, stored.current(wipes)))?;
             }
-        }
-        'late: for (key, stored) in late {
-            listed.push((key, stored.current(wipes)))?;
         }
         Ok(listed)
     }
@@ -175,21 +177,26 @@ impl<W: Word> FamilyRows<W> {
 
 /// The key's place among the rows; the next one is tried first.
 fn find<W: Word>(
-    rows: &[(CompactKey<W>, Option<Stored<W>>)],
+    rows: &[WordRow<W>],
     next: usize,
+    rising: usize,
+    places: &BTreeMap<CompactKey<W>, usize>,
     key: &CompactKey<W>,
 ) -> Option<usize>
-    requires { IsRising rows.now }
-    ensures { MatchOption result (lookup (is_at (key_cmp key.now)) rows.now ≡ None) (IsPlace rows.now key.now) }
+    requires { AreIndexed (keys_of rows.now) rising places.now.entries }
+    ensures { MatchOption result (lookup (is_at (key_cmp key.now)) rows.now ≡ None) (IsPlace (keys_of rows.now) key.now) }
 {
     if next < rows.len() && rows[next].0 == *key {
         return Some(next);
     }
-    rows.binary_search_by(|row| row.0.cmp(key)).ok()
+    match rows[..rising].binary_search_by(|row| row.0.cmp(key)) {
+        Ok(place) => Some(place),
+        Err(_) => places.get(key).copied(),
+    }
 }
 
 /// Whether the key is greater than all of the rows.
-fn is_past<W: Word>(rows: &[(CompactKey<W>, Option<Stored<W>>)], key: &CompactKey<W>) -> bool
+fn is_past<W: Word>(rows: &[WordRow<W>], key: &CompactKey<W>) -> bool
     requires { IsRising rows.now }
     ensures { IsTrue result → AreAbove key.now rows.now }
 {
@@ -199,16 +206,32 @@ fn is_past<W: Word>(rows: &[(CompactKey<W>, Option<Stored<W>>)], key: &CompactKe
     }
 }
 
-/// Takes the first entry out, if its key is less than this one.
-fn pop_lesser<W: Word>(
-    late: &mut BTreeMap<CompactKey<W>, Stored<W>>,
-    key: &CompactKey<W>,
-) -> Option<(CompactKey<W>, Stored<W>)>
-    ensures some { IfSome result (λ entry. (late.old.entries ≡ entry ∷ late.new.entries) × (key_cmp entry.0 key.now ≡ Less)) }
-    ensures none { IfNone result ((late.new.entries ≡ late.old.entries) × StartsFrom key.now late.old.entries) }
+/// Adds a row, and its place.
+fn push_placed<W: Word>(
+    rows: &mut Vec<WordRow<W>>,
+    places: &mut BTreeMap<CompactKey<W>, usize>,
+    key: CompactKey<W>,
+    stored: Stored<W>,
+) -> Result<(), AllocError>
+    ensures ok { OnOk result ((rows.new.items ≡ rows.old.items ++ (key, Some stored) ∷ []) × (places.new.entries ≡ insert_entry key_cmp places.old.entries key (length rows.old.items))) }
+    ensures err { OnErr result ((rows.new.items ≡ rows.old.items) × (places.new.entries ≡ places.old.entries)) }
 {
-    match late.first_key_value() {
-        Some((first, _)) if *first < *key => late.pop_first(),
-        _ => None,
+    let place = rows.len();
+    rows.push((key.copied(), Some(stored)))?;
+    match places.insert(key, place) {
+        Ok(_) => Ok(()),
+        Err(_) => {
+            rows.pop();
+            Err(AllocError)
+        }
     }
+}
+
+/// Puts the rows in the order of their keys.
+fn sort<W: Word>(rows: &mut Vec<WordRow<W>>)
+    requires { AreDistinct (keys_of rows.old.items) }
+    ensures rising { IsRising rows.new.items }
+    ensures same { standing rows.new.items ≡ standing rows.old.items }
+{
+    rows.sort_unstable_by(|row, other| row.0.cmp(&other.0));
 }

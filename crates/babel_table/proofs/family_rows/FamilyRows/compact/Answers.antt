@@ -1,16 +1,22 @@
--- What was retracted says nothing over what came out of order.
+-- What was retracted says nothing, and the order of rows is no part of what stands.
 use Rattle.std.proofs.Common.{◌∙◌, ap, rules}
 use Rattle.std.proofs.lemmas.Fn.{filter_same}
-use Rattle.babel_table.specs.Said.{over}
-use Rattle.babel_table.proofs.SaidLaws.{is_said, counted-filter, over-filter}
+use Rattle.babel_table.specs.Said.{standing}
+use Rattle.babel_table.proofs.SaidLaws.{is_said, distinct-filter, standing-filter, counted-sorted}
 use Rattle.babel_table.proofs.family_rows.FamilyRows.compact.Goals as goal
+
+pub sort-requires : goal.sort-requires
+sort-requires g c =
+    let left = filter_same _ is_said _ (λ x b f r. search rules) _ _ c.retain.ensures.filtered in
+    rw left (distinct-filter c.self.inside.rows.items c.self.invariant.indexed.distinct)
 
 pub invariant_of-self : goal.invariant_of-self
 invariant_of-self g c =
-    let kept = filter_same _ is_said _ (λ x b f r. search rules) _ _ c.retain.ensures.filtered in
-    rw kept (counted-filter c.self.inside.count c.self.inside.rows.items c.self.inside.late.entries c.self.invariant)
+    let left = filter_same _ is_said _ (λ x b f r. search rules) _ _ c.retain.ensures.filtered in
+    rw (c.clear.ensures.empty, c.len-self-inside.ensures ∙ c.sort.new.rows.ok.0)
+    (counted-sorted c.self.inside.count c.self.inside.rows.items c.sort.new.rows.items c.self.inside.rising c.self.inside.places.entries c.self.invariant c.sort.ensures.rising (c.sort.ensures.same ∙ ap standing left))
 
-pub returns-then-live-len : goal.returns-then-live-len
-returns-then-live-len g c =
-    let kept = filter_same _ is_said _ (λ x b f r. search rules) _ _ c.retain.ensures.filtered in
-    ap (over c.self.inside.late.entries) kept ∙ over-filter c.self.inside.rows.items c.self.inside.late.entries c.self.invariant.said ∙ c.self.view_is
+pub returns-then-saturating_add-len : goal.returns-then-saturating_add-len
+returns-then-saturating_add-len g c =
+    let left = filter_same _ is_said _ (λ x b f r. search rules) _ _ c.retain.ensures.filtered in
+    c.sort.ensures.same ∙ ap standing left ∙ standing-filter c.self.inside.rows.items c.self.invariant.indexed.distinct ∙ c.self.view_is

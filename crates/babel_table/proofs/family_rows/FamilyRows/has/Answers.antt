@@ -1,20 +1,21 @@
--- The list says whether there is something, or else what came out of order does.
+-- The key's row says whether there is something.
 use Rattle.std.proofs.Common.{◌≡◌, ◌∙◌, sym, ap, subst, None}
 use Rattle.std.specs.Option.{is_some}
+use Rattle.std.specs.Map.{keys_of}
 use Rattle.babel_table.specs.Said.{IsPlace}
-use Rattle.babel_table.proofs.SaidLaws.{found, found-here, found-under}
+use Rattle.babel_table.proofs.SaidLaws.{found, stands-here, stands-nowhere}
 use Rattle.babel_table.proofs.family_rows.FamilyRows.has.Goals as goal
 
 pub returns-in-Some : goal.returns-in-Some
 returns-in-Some g c =
     let k = c.of-key.result in
-    let place : IsPlace c.self.inside.rows.items k c.in-Some.place = subst (λ ws. IsPlace ws k c.in-Some.place) c.deref.ensures.value c.in-Some.ensures in
-    let here = found-here c.self.inside.count c.self.inside.rows.items c.self.inside.late.entries c.self.invariant k c.in-Some.place place c.index.result.now in
+    let place : IsPlace (keys_of c.self.inside.rows.items) k c.in-Some.place = subst (λ ws. IsPlace (keys_of ws) k c.in-Some.place) c.deref.ensures.value c.in-Some.ensures in
+    let here = stands-here c.self.inside.count c.self.inside.rows.items c.self.inside.rising c.self.inside.places.entries c.self.invariant k c.in-Some.place place c.index.result.now in
     rw (← c.self.view_is, ← c.of-key.ensures) (c.is_some.ensures ∙ ap (λ row. is_some row.1) c.index.ensures ∙ sym (ap is_some here))
 
 pub returns-in-None : goal.returns-in-None
 returns-in-None g c =
     let k = c.of-key.result in
-    let none = subst (λ ws. found k ws ≡ None) c.deref.ensures.value c.in-None.ensures in
-    let under = found-under c.self.inside.count c.self.inside.rows.items c.self.inside.late.entries c.self.invariant k none in
-    rw (← c.self.view_is, ← c.of-key.ensures) (c.contains_key.ensures ∙ sym (ap is_some under))
+    let none : found k c.self.inside.rows.items ≡ None = subst (λ ws. found k ws ≡ None) c.deref.ensures.value c.in-None.ensures in
+    let nowhere = stands-nowhere c.self.inside.count c.self.inside.rows.items c.self.inside.rising c.self.inside.places.entries c.self.invariant k none in
+    rw (← c.self.view_is, ← c.of-key.ensures) (sym (ap is_some nowhere))

@@ -1,38 +1,28 @@
 -- A row is listed where all that is still to come is greater.
-use Rattle.std.proofs.Common.{◌≡◌, ◌++◌, ◌∙◌, List, [], sym, ap, subst}
+use Rattle.std.proofs.Common.{◌≡◌, ◌++◌, ◌∙◌, List, [], sym, ap, subst, append-nil}
 use Rattle.babel_tlv.specs.Route.{RouteKey}
 use Rattle.babel_table.specs.Live.{Kept, live_rows}
-use Rattle.babel_table.specs.Said.{over}
-use Rattle.babel_table.proofs.SaidLaws.{no_more, lists-lesser, lists-said, lists-retracted}
+use Rattle.babel_table.specs.Said.{standing}
+use Rattle.babel_table.proofs.SaidLaws.{IsListing, no_more, lists-said, lists-retracted}
 use Rattle.babel_table.proofs.family_rows.FamilyRows.listed.Goals as goal
 
-pub rows-init : goal.rows-init
-rows-init g c =
+pub loop-key-init : goal.loop-key-init
+loop-key-init g c =
     rw (c.in_ok-listed.ensures.items, c.into_iter-key-iterator.ensures.into_iter_gives.0)
-    (record { said = c.self.invariant.said; listed = ap (λ (es : List (RouteKey × Kept)). live_rows c.args.wipes es) c.self.view_is })
+    (record { rising = c.sort.ensures.rising; listed = ap (λ (es : List (RouteKey × Kept)). live_rows c.args.wipes es) (c.sort.ensures.same ∙ c.self.view_is) })
 
-pub lesser-preserved : goal.lesser-preserved
-lesser-preserved g c =
-    let some = c.in-Some-pop_lesser.ensures.some in
+pub loop-key-preserved-in-Continue-branch-2 : goal.loop-key-preserved-in-Continue-branch-2
+loop-key-preserved-in-Continue-branch-2 g c =
+    let listing = subst (λ ws. IsListing c.args.wipes c.loop-key.listed.items ws c.args.self) c.in-Some.ensures.steps.0 c.loop-key.invariant in
     rw (c.in_ok-push.ensures.items, c.current.ensures)
-    (lists-lesser c.args.wipes c.lesser.listed.items (c.in-Some.key, c.in-Some.said) c.next.new.self.rest.items (c.in-Some-pop_lesser.lesser, c.in-Some-pop_lesser.stored)
-    c.pop_lesser.new.late.entries c.lesser.late.entries c.args.self c.lesser.invariant some.0 some.1)
+    (lists-said c.args.wipes c.loop-key.listed.items (c.in-Some.key, c.in-Some.said) c.next.new.self.rest.items c.args.self c.in-Some-said.stored listing c.in-Some-said.is)
 
-pub rows-preserved-in-Continue-branch-3 : goal.rows-preserved-in-Continue-branch-3
-rows-preserved-in-Continue-branch-3 g c =
-    let none = c.in_default.ensures.none in
-    rw (c.in_ok-push-2.ensures.items, c.current-in-Some-said.ensures, none.0)
-    (lists-said c.args.wipes c.lesser.listed.items (c.in-Some.key, c.in-Some.said) c.next.new.self.rest.items c.lesser.late.entries c.args.self c.in-Some-said.stored c.lesser.invariant none.1
-    c.in-Some-said.is)
+pub loop-key-preserved : goal.loop-key-preserved
+loop-key-preserved g c =
+    let listing = subst (λ ws. IsListing c.args.wipes c.loop-key.listed.items ws c.args.self) c.in-Some.ensures.steps.0 c.loop-key.invariant in
+    lists-retracted c.args.wipes c.loop-key.listed.items (c.in-Some.key, c.in-Some.said) c.next.new.self.rest.items c.args.self listing c.in_default.is
 
-pub rows-preserved : goal.rows-preserved
-rows-preserved g c =
-    let none = c.in_default.ensures.none in
-    rw none.0
-    (lists-retracted c.args.wipes c.lesser.listed.items (c.in-Some.key, c.in-Some.said) c.next.new.self.rest.items c.lesser.late.entries c.args.self c.lesser.invariant none.1
-    c.in_default-said.is)
-
-pub late-init : goal.late-init
-late-init g c =
-    let none : c.rows.key-iterator.rest.items ≡ [] = no_more _ (sym c.rows.key-iterator.rest.ok.0 ∙ c.in-None.ensures.steps.0) in
-    rw c.into_iter-key-iterator-2.ensures.into_iter_gives.0 (subst (λ ws. c.rows.listed.items ++ live_rows c.args.wipes (over c.rows.late.entries ws) ≡ live_rows c.args.wipes c.args.self) none c.rows.invariant.listed)
+pub returns : goal.returns
+returns g c =
+    let none : c.loop-key.key-iterator.rest.items ≡ [] = no_more _ (sym c.loop-key.key-iterator.rest.ok.0 ∙ c.in-None.ensures.steps.0) in
+    sym (append-nil c.loop-key.listed.items) ∙ subst (λ ws. c.loop-key.listed.items ++ live_rows c.args.wipes (standing ws) ≡ live_rows c.args.wipes c.args.self) none c.loop-key.invariant.listed

@@ -1,11 +1,14 @@
--- What is kept of the key stands in its place, behind the list, or among what came out of order.
-use Rattle.std.proofs.Common.{◌≡◌, ◌∙◌, Some, None, sym, ap, subst, arith}
+-- What is kept of the key stands in its row, or in a new one behind the others.
+use Rattle.std.proofs.Common.{◌≡◌, ◌∙◌, None, Result, Ok, Err, length, ap, subst, arith}
+use Rattle.std.specs.Prelude.{OnErr}
+use Rattle.std.specs.Map.{keys_of}
 use Rattle.babel_table.specs.Live.{kept}
-use Rattle.babel_table.specs.Said.{over, IsPlace, AreAbove}
-use Rattle.babel_table.proofs.SaidLaws.{found, none_of, rising-view, said-length, one_more, byte_small, byte_of_answer, counted-set, over-set, counted-pushed, over-pushed, counted-under, over-under}
+use Rattle.babel_table.specs.Said.{IsPlace, AreAbove}
+use Rattle.babel_table.proofs.SaidLaws.{found, said-length, one_more, byte_small, counted-set, standing-set, counted-front, counted-behind, standing-pushed}
 use Rattle.babel_table.proofs.family_rows.FamilyRows.put.Goals as goal
+use Rattle.babel_table.proofs.family_rows.FamilyRows.put.Goals.{then-self-len+then-is_past+in_ok-push, else-self-len+in_ok-push_placed}
 
--- ---- in its place
+-- ---- in its row
 
 pub overflow_add-self-in-Some : goal.overflow_add-self-in-Some
 overflow_add-self-in-Some g c = omega (arith, byte_small _ c.from.result c.from.ensures, c.self.invariant.small)
@@ -13,70 +16,63 @@ overflow_add-self-in-Some g c = omega (arith, byte_small _ c.from.result c.from.
 pub invariant_of-self : goal.invariant_of-self
 invariant_of-self g c =
     let k = c.of-key.result in
-    let place : IsPlace c.self.inside.rows.items k c.in-Some.place = subst (λ ws. IsPlace ws k c.in-Some.place) c.deref.ensures.value c.in-Some.ensures in
-    counted-set c.self.inside.count c.self.inside.rows.items c.self.inside.late.entries c.self.invariant k c.in-Some.place place c.index.result.now _ c.is_some-was.result c.from.result
-    c.index.ensures c.is_some-was.ensures c.from.ensures (one_more _ _ _ _ c.self.invariant c.self.view_is c.requires.few)
+    let place : IsPlace (keys_of c.self.inside.rows.items) k c.in-Some.place = subst (λ ws. IsPlace (keys_of ws) k c.in-Some.place) c.deref.ensures.value c.in-Some.ensures in
+    counted-set c.self.inside.count c.self.inside.rows.items c.self.inside.rising c.self.inside.places.entries c.self.invariant k c.in-Some.place place c.index.result.now _ c.is_some-was.result c.from.result
+    c.index.ensures c.is_some-was.ensures c.from.ensures (one_more _ _ _ _ _ c.self.invariant c.self.view_is c.requires.few)
 
 pub returns-in-Some-clause-ok : goal.returns-in-Some-clause-ok
 returns-in-Some-clause-ok g c =
     let k = c.of-key.result in
-    let place : IsPlace c.self.inside.rows.items k c.in-Some.place = subst (λ ws. IsPlace ws k c.in-Some.place) c.deref.ensures.value c.in-Some.ensures in
+    let place : IsPlace (keys_of c.self.inside.rows.items) k c.in-Some.place = subst (λ ws. IsPlace (keys_of ws) k c.in-Some.place) c.deref.ensures.value c.in-Some.ensures in
     rw (← c.self.view_is, ← c.of-key.ensures, ← c.of-held.ensures)
-    (over-set c.self.inside.count c.self.inside.rows.items c.self.inside.late.entries c.self.invariant k c.in-Some.place place c.index.result.now _)
+    (standing-set c.self.inside.count c.self.inside.rows.items c.self.inside.rising c.self.inside.places.entries c.self.invariant k c.in-Some.place place c.index.result.now _)
 
 pub returns-in-Some-clause-len : goal.returns-in-Some-clause-len
-returns-in-Some-clause-len g c =
-    said-length c.args.key.now (kept c.args.held c.args.wipes) c.args.self.now _
-    (rising-view c.self.inside.count c.self.inside.rows.items c.self.inside.late.entries c.args.self.now c.self.invariant c.self.view_is)
-    (returns-in-Some-clause-ok g c)
+returns-in-Some-clause-len g c = said-length c.args.key.now (kept c.args.held c.args.wipes) c.self.inside.rows.items c.args.self.now _ c.self.view_is (returns-in-Some-clause-ok g c)
 
--- ---- behind the list
+-- ---- in a new row
 
-pub invariant_of-self-then-not-contains_key : goal.invariant_of-self-then-not-contains_key
-invariant_of-self-then-not-contains_key g c =
-    let k = c.of-key.result in
-    let above : AreAbove k c.self.inside.rows.items = subst (λ ws. AreAbove k ws) c.deref-2.ensures.value (c.is_past.ensures c.if-is_past.true) in
-    let none : found k c.self.inside.late.entries ≡ None = none_of _ (sym c.contains_key.ensures ∙ c.if-not-contains_key.true) in
-    rw c.in_ok-push.ensures.items
-    (counted-pushed c.self.inside.count c.self.inside.rows.items c.self.inside.late.entries c.self.invariant k above none _ (one_more _ _ _ _ c.self.invariant c.self.view_is c.requires.few))
+on_err : {T E : Type 0} (r : Result T E) (P : Type 0) → P → OnErr r P
+on_err (Ok x) P p = tt
+on_err (Err e) P p = p
 
-pub returns-then-not-contains_key-clause-ok : goal.returns-then-not-contains_key-clause-ok
-returns-then-not-contains_key-clause-ok g c =
-    let k = c.of-key.result in
-    let above : AreAbove k c.self.inside.rows.items = subst (λ ws. AreAbove k ws) c.deref-2.ensures.value (c.is_past.ensures c.if-is_past.true) in
-    let none : found k c.self.inside.late.entries ≡ None = none_of _ (sym c.contains_key.ensures ∙ c.if-not-contains_key.true) in
-    rw (c.in_ok-push.ensures.items, ← c.self.view_is, ← c.of-key.ensures, ← c.of-held.ensures)
-    (over-pushed c.self.inside.count c.self.inside.rows.items c.self.inside.late.entries c.self.invariant k above none _)
-
-pub returns-then-not-contains_key-clause-len : goal.returns-then-not-contains_key-clause-len
-returns-then-not-contains_key-clause-len g c =
-    said-length c.args.key.now (kept c.args.held c.args.wipes) c.args.self.now _
-    (rising-view c.self.inside.count c.self.inside.rows.items c.self.inside.late.entries c.args.self.now c.self.invariant c.self.view_is)
-    (returns-then-not-contains_key-clause-ok g c)
-
--- ---- out of order
+pub returns-in_err-push-clause-err : goal.returns-in_err-push-clause-err
+returns-in_err-push-clause-err g c = on_err c.from_residual.result _ (rw c.in_err-push.ensures.items c.self.view_is)
 
 pub overflow_add-self-2 : goal.overflow_add-self-2
-overflow_add-self-2 g c = omega (arith, byte_small _ c.from-2.result c.from-2.ensures, c.self.invariant.small)
+overflow_add-self-2 g c = elim c.if-self-len.branch [
+  | then-self-len+then-is_past+in_ok-push w ↦ rw w.self-inside-is (omega (arith, c.self.invariant.small))
+  | else-self-len+in_ok-push_placed w ↦ rw w.self-inside-is (omega (arith, c.self.invariant.small))
+]
 
 pub invariant_of-self-2 : goal.invariant_of-self-2
 invariant_of-self-2 g c =
     let k = c.of-key.result in
     let none : found k c.self.inside.rows.items ≡ None = subst (λ ws. found k ws ≡ None) c.deref.ensures.value c.in_default.ensures in
-    rw c.in_ok-was.ensures.entries
-    (counted-under c.self.inside.count c.self.inside.rows.items c.self.inside.late.entries c.self.invariant k none _ c.in_ok-was.was' c.from-2.result
-    c.in_ok-was.ensures.old (c.from-2.ensures ∙ byte_of_answer c.is_none.result c.in_ok-was.was' c.is_none.ensures) (one_more _ _ _ _ c.self.invariant c.self.view_is c.requires.few))
+    let few = one_more _ _ _ _ _ c.self.invariant c.self.view_is c.requires.few in
+    elim c.if-self-len.branch [
+      | then-self-len+then-is_past+in_ok-push w ↦
+          let above : AreAbove k c.self.inside.rows.items = subst (λ ws. AreAbove k ws) w.deref-then-self-len.ensures.value (w.is_past.ensures w.if-is_past.true) in
+          rw (w.self-inside-is, w.in_ok-push.ensures.items)
+          (counted-front c.self.inside.count c.self.inside.rows.items c.self.inside.rising c.self.inside.places.entries c.self.invariant k none _ w.len-self-inside.result
+          (w.len-self-inside.ensures ∙ w.push.new.self.ok.0 ∙ ap length w.in_ok-push.ensures.items) few (w.if-self-len.true ∙ c.len.ensures ∙ c.self.inside.rows.ok.0) above)
+      | else-self-len+in_ok-push_placed w ↦
+          rw (w.self-inside-is, w.in_ok-push_placed.ensures.ok.0, w.in_ok-push_placed.ensures.ok.1)
+          (counted-behind c.self.inside.count c.self.inside.rows.items c.self.inside.rising c.self.inside.places.entries c.self.invariant k none _ few)
+    ]
 
 pub returns-clause-ok : goal.returns-clause-ok
 returns-clause-ok g c =
     let k = c.of-key.result in
     let none : found k c.self.inside.rows.items ≡ None = subst (λ ws. found k ws ≡ None) c.deref.ensures.value c.in_default.ensures in
-    rw (← c.self.view_is, ← c.of-key.ensures, ← c.of-held.ensures)
-    (ap (λ es. over es c.self.inside.rows.items) c.in_ok-was.ensures.entries
-    ∙ over-under c.self.inside.count c.self.inside.rows.items c.self.inside.late.entries c.self.invariant k none (Some _))
+    c.compact.ensures ∙ elim c.if-self-len.branch [
+      | then-self-len+then-is_past+in_ok-push w ↦
+          rw (w.self-inside-is, w.in_ok-push.ensures.items, ← c.self.view_is, ← c.of-key.ensures, ← c.of-held.ensures)
+          (standing-pushed c.self.inside.count c.self.inside.rows.items c.self.inside.rising c.self.inside.places.entries c.self.invariant k none _)
+      | else-self-len+in_ok-push_placed w ↦
+          rw (w.self-inside-is, w.in_ok-push_placed.ensures.ok.0, ← c.self.view_is, ← c.of-key.ensures, ← c.of-held.ensures)
+          (standing-pushed c.self.inside.count c.self.inside.rows.items c.self.inside.rising c.self.inside.places.entries c.self.invariant k none _)
+    ]
 
 pub returns-clause-len : goal.returns-clause-len
-returns-clause-len g c =
-    said-length c.args.key.now (kept c.args.held c.args.wipes) c.args.self.now _
-    (rising-view c.self.inside.count c.self.inside.rows.items c.self.inside.late.entries c.args.self.now c.self.invariant c.self.view_is)
-    (returns-clause-ok g c)
+returns-clause-len g c = said-length c.args.key.now (kept c.args.held c.args.wipes) c.self.inside.rows.items c.args.self.now _ c.self.view_is (returns-clause-ok g c)
