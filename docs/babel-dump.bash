@@ -2,12 +2,12 @@
 
 _babel_dump() {
     local word=${COMP_WORDS[COMP_CWORD]} command=${COMP_WORDS[1]}
-    local options="--from --hold --strict --quiet --max-routes --max-octets --help"
+    local options="--from --hold --strict --quiet --json --max-routes --max-octets --help"
     case $command in
         show) options=${options/ --strict/} ;;
         lookup) options="$options --to --src" ;;
         pairs) options="$options --count" ;;
-        normalise) options="$options --hex --body" ;;
+        normalise) options="${options/ --json/} --hex --body" ;;
         compare) options="$options --other-from" ;;
         *) options="show lookup pairs normalise compare help --help --version" ;;
     esac

@@ -1,5 +1,6 @@
 """The program as a process: program.txt, and what a shell's words can't bring about."""
 
+import json
 import os
 import pathlib
 import re
@@ -153,6 +154,28 @@ def check_examples(program, tally):
             expect(tally, f"an example: {example}", (done.returncode in (0, 1), done.stdout != "", faults), (True, True, []))
 
 
+def text_of(line):
+    """What `show` and `pairs` write as text where they write this line as JSON."""
+    said = json.loads(line)
+    if "tlvs" in said:
+        ignored = ["ignored {reason} {count} first {first}\n".format(**each) for each in said["ignored"]]
+        return f"tlvs {said['tlvs']}\n" + "".join(ignored)
+    answer = said["answer"]
+    if answer != "unreachable":
+        answer = "via {next_hop} id {router_id} seqno {seqno} metric {metric}".format(**answer)
+    return f"{said['destination']} from {said['source']} {answer}\n"
+
+
+def check_json(program, tally):
+    """Python reads in the JSON of each capture what is in its text."""
+    for name, sender in agree.SENDERS.items():
+        for command in "show", "pairs":
+            words = [program, command, "--hold", "--from", sender, CAPTURES / f"{name}.dump"]
+            text, lines = (subprocess.run(words + more, check=True, capture_output=True, text=True).stdout for more in ([], ["--json"]))
+            found = "".join(map(text_of, lines.splitlines()))
+            tally.check(f"{command} --json of {name}", transcript.difference(text, found))
+
+
 def check_install(folder, tally):
     """What is installed runs without the repository."""
     subprocess.run([TOP / "install", folder / "usr"], check=True, stdout=subprocess.DEVNULL)
@@ -178,4 +201,5 @@ def check(tally, _long):
         check_little_memory(program, folder, tally)
         check_manual(program, tally)
         check_examples(program, tally)
+        check_json(program, tally)
         check_install(folder, tally)

@@ -8,6 +8,7 @@ use Rattle.babel_dump.specs.Given.{Input, IsFaultOfGiven}
 use Rattle.babel_dump.specs.Parts.{Finished, Gathered, SaysSo}
 use Rattle.babel_dump.specs.Run.{HasCause, Output, Ran, Reports, UnlessWrite, run_status}
 use Rattle.babel_dump.specs.declared.finish.Found.{Found}
+use Rattle.babel_dump.specs.declared.format.Format.{Format}
 use Rattle.babel_dump.specs.declared.outcome.Outcome.{Outcome}
 use Rattle.babel_dump.specs.declared.run_fault.RunFault.{RunFault}
 use Rattle.babel_dump.specs.declared.run_fault.RunFault.TheVariants as run_faults
@@ -85,11 +86,11 @@ reports reader other writer Refuses Says (Ok found) (Err fault) gathered finishe
 reports reader other writer Refuses Says (Err fault) result gathered finished = rw finished.0 tt
 
 -- both dumps were found sound where the verdict was written or its write failed
-pub in_turn : (reader other : Input) (writer : Output) (untouched : Type 0) (found : Result Found RunFault) (result : Result Outcome RunFault)
-    → Gathered reader (Some other) (IsFaultOfGiven reader) (SaysSo reader (Some other) (Compares reader other)) found
+pub in_turn : (reader other : Input) (format : Format) (writer : Output) (untouched : Type 0) (found : Result Found RunFault) (result : Result Outcome RunFault)
+    → Gathered reader (Some other) (IsFaultOfGiven reader) (SaysSo reader (Some other) (Compares reader other format)) found
     → IfErr found (InTurn reader other untouched) → Finished writer found result
     → IfErr (run_status result) (InTurn reader other untouched)
-in_turn reader other writer untouched (Ok found) (Ok outcome) gathered turn finished = tt
-in_turn reader other writer untouched (Ok found) (Err fault) gathered turn finished =
+in_turn reader other format writer untouched (Ok found) (Ok outcome) gathered turn finished = tt
+in_turn reader other format writer untouched (Ok found) (Err fault) gathered turn finished =
     let gave = gathered.made.0.gave in rw finished.2 ((gave.table, gave.gave), (gave.other_table, gave.other_gave))
-in_turn reader other writer untouched (Err fault) result gathered turn finished = rw finished.0 turn
+in_turn reader other format writer untouched (Err fault) result gathered turn finished = rw finished.0 turn

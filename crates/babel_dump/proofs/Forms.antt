@@ -9,8 +9,9 @@ use Rattle.babel_canon.specs.Fewest.{SaysFewest}
 use Rattle.babel_canon.specs.Headline.{Headline, Normalises}
 use Rattle.babel_canon.specs.Packing.{TextIsOne}
 use Rattle.babel_dump.specs.Given.{GaveNormal, GaveTable, Input}
+use Rattle.babel_dump.specs.InFormat.{pairs_or_counts_in}
 use Rattle.babel_dump.specs.Parts.{SaysPairs}
-use Rattle.babel_dump.specs.RunText.{pairs_or_counts}
+use Rattle.babel_dump.specs.declared.format.Format.{Format}
 
 -- the canonical octets of the table are those of the dump
 pub gave_normal : Headline → (reader : Input) (body : ℕ) (table : Routes) (octets : List ℕ) → AreBounds reader.reading.limits
@@ -33,9 +34,9 @@ gave_normal headline reader body table octets bounds size given says =
     record { table = table; gave = given; normalises = normal; fewest = fewest; tells_apart = told.0; reads_again = told.1 }
 
 -- the canonical pairs have a text
-pub says_pairs : TextIsOne → (limits : Bounds) (count : Bool) (rows pairs : List Pair) (text : List ℕ) → AreCanonical limits rows pairs
-    → text ≡ pairs_or_counts count rows pairs → SaysPairs limits count rows text
-says_pairs one limits count rows pairs text are text_is =
+pub says_pairs : TextIsOne → (limits : Bounds) (count : Bool) (format : Format) (rows pairs : List Pair) (text : List ℕ) → AreCanonical limits rows pairs
+    → text ≡ pairs_or_counts_in format count rows pairs → SaysPairs limits count format rows text
+says_pairs one limits count format rows pairs text are text_is =
     let size : IsBodySize 1024 = record { room = omega arith; said = omega arith } in
     let whole = one 1024 pairs size are.boxes.are_rows.each in
     record {

@@ -20,11 +20,13 @@ use Rattle.babel_canon.proofs.OneVerdict.{verdict_is_one}
 use Rattle.babel_dump.specs.Command.{Compares, InTurn, ListsPairs, LooksUp, Shows, WritesNormal}
 use Rattle.babel_dump.specs.Device.{AppendsPrefix}
 use Rattle.babel_dump.specs.Given.{GaveAll, GaveDump, GaveIgnored, GaveTable, Input, IsFaultOfForm, IsFaultOfGiven, IsOfWhole, read_from}
+use Rattle.babel_dump.specs.InFormat.{lookup_in, pairs_or_counts_in, show_in, verdict_in}
 use Rattle.babel_dump.specs.JobRun.{left_reading, reading_of, right_reading}
 use Rattle.babel_dump.specs.OneOutcome.{FaultIsOfAll, FaultIsOne, IsOfOctets, NothingWritten, OtherFaultIsOfAll, RanOver, StatusIsOne, StatusOrFault, WrittenIsPrefix}
 use Rattle.babel_dump.specs.Run.{HasCause, Output, Ran, UnlessWrite, run_status}
-use Rattle.babel_dump.specs.RunText.{answer_in, form_text, lookup_status, lookup_text, pairs_or_counts, show_text, verdict_status, verdict_text}
+use Rattle.babel_dump.specs.RunText.{answer_in, form_text, lookup_status, verdict_status}
 use Rattle.babel_dump.specs.Ignored.{IgnoresNone, first_ignored}
+use Rattle.babel_dump.specs.declared.format.Format.{Format}
 use Rattle.babel_dump.specs.declared.ignored.IgnoredTlv.{IgnoredTlv}
 use Rattle.babel_dump.specs.declared.job.Job.{Job}
 use Rattle.babel_dump.specs.declared.job.Job.TheVariants as jobs
@@ -152,35 +154,35 @@ pub record NormalSays (reading : Reading) (body : ℕ) (hex : Bool) (dump : List
   pub text_is : text ≡ form_text hex octets
   pub status_is : status ≡ 0
 
-pub record PairsSay (reading : Reading) (count : Bool) (dump : List ℕ) (text : List ℕ) (status : ℕ) : Type 0 where
+pub record PairsSay (reading : Reading) (count : Bool) (format : Format) (dump : List ℕ) (text : List ℕ) (status : ℕ) : Type 0 where
   pub table : Routes
   pub sound : IsSound reading dump table
   pub pairs : List Pair
   pub boxes : AreBoxes table.rows pairs
   pub few : length pairs ≤ reading.limits.entries
-  pub text_is : text ≡ pairs_or_counts count table.rows pairs
+  pub text_is : text ≡ pairs_or_counts_in format count table.rows pairs
   pub status_is : status ≡ 0
 
-pub record TablesSay (reading other_reading : Reading) (dump other : List ℕ) (text : List ℕ) (status : ℕ) : Type 0 where
+pub record TablesSay (reading other_reading : Reading) (format : Format) (dump other : List ℕ) (text : List ℕ) (status : ℕ) : Type 0 where
   pub table : Routes
   pub sound : IsSound reading dump table
   pub other_table : Routes
   pub other_sound : IsSound other_reading other other_table
   pub verdict : Verdict
   pub is_verdict : IsVerdict table.rows other_table.rows verdict
-  pub text_is : text ≡ verdict_text verdict
+  pub text_is : text ≡ verdict_in format verdict
   pub status_is : status ≡ verdict_status verdict
 
 -- what a job says of the octets of its readers
 abbrev pub SaysOf : Bounds → Job → List ℕ → List ℕ → List ℕ → ℕ → Type 0
-SaysOf limits (jobs.Show dump) octets other text status = TableSays (reading_of limits dump) octets show_text (λ _. 0) text status
+SaysOf limits (jobs.Show dump) octets other text status = TableSays (reading_of limits dump) octets (show_in dump.format) (λ _. 0) text status
 SaysOf limits (jobs.Lookup dump pair) octets other text status =
-    TableSays (reading_of limits dump) octets (λ table. lookup_text (answer_in table pair.dst pair.src))
+    TableSays (reading_of limits dump) octets (λ table. lookup_in dump.format pair.dst pair.src (answer_in table pair.dst pair.src))
     (λ table. lookup_status (answer_in table pair.dst pair.src)) text status
 SaysOf limits (jobs.Normalise dump body hex) octets other text status = NormalSays (reading_of limits dump) body hex octets text status
-SaysOf limits (jobs.Pairs dump count) octets other text status = PairsSay (reading_of limits dump) count octets text status
+SaysOf limits (jobs.Pairs dump count) octets other text status = PairsSay (reading_of limits dump) count dump.format octets text status
 SaysOf limits (jobs.Compare dumps) octets other text status =
-    TablesSay (left_reading limits dumps) (right_reading limits dumps) octets other text status
+    TablesSay (left_reading limits dumps) (right_reading limits dumps) dumps.format octets other text status
 
 -- the fault is a dump's own, or that a TLV of it was ignored, and is answered as one of these
 abbrev pub FaultAs : (Fault → RunFault) → (IgnoredTlv → RunFault) → Reading → List ℕ → RunFault → Type 0
@@ -233,31 +235,31 @@ normal_says_one reading body hex dump text text_too status status_too one two =
     let same = normal_form_is_one _ _ body _ dump one.octets two.octets one.normal two.normal in
     (one.text_is ∙ ap (form_text hex) same ∙ sym two.text_is, one.status_is ∙ sym two.status_is)
 
-pairs_say_one : (reading : Reading) (count : Bool) (dump text text_too : List ℕ) (status status_too : ℕ)
-    → PairsSay reading count dump text status → PairsSay reading count dump text_too status_too → (text ≡ text_too) × (status ≡ status_too)
-pairs_say_one reading count dump text text_too status status_too one two =
+pairs_say_one : (reading : Reading) (count : Bool) (format : Format) (dump text text_too : List ℕ) (status status_too : ℕ)
+    → PairsSay reading count format dump text status → PairsSay reading count format dump text_too status_too → (text ≡ text_too) × (status ≡ status_too)
+pairs_say_one reading count format dump text text_too status status_too one two =
     let rows = ap (λ (t : Routes). t.rows) (sound_one reading dump one.table two.table one.sound two.sound) in
     let pairs = boxes_same one.table.rows two.table.rows one.pairs two.pairs rows one.boxes two.boxes in
-    (one.text_is ∙ ap (λ (r : List Pair). pairs_or_counts count r one.pairs) rows ∙ ap (pairs_or_counts count two.table.rows) pairs ∙ sym two.text_is, one.status_is ∙ sym two.status_is)
+    (one.text_is ∙ ap (λ (r : List Pair). pairs_or_counts_in format count r one.pairs) rows ∙ ap (pairs_or_counts_in format count two.table.rows) pairs ∙ sym two.text_is, one.status_is ∙ sym two.status_is)
 
-tables_say_one : (reading other_reading : Reading) (dump other text text_too : List ℕ) (status status_too : ℕ)
-    → TablesSay reading other_reading dump other text status → TablesSay reading other_reading dump other text_too status_too
+tables_say_one : (reading other_reading : Reading) (format : Format) (dump other text text_too : List ℕ) (status status_too : ℕ)
+    → TablesSay reading other_reading format dump other text status → TablesSay reading other_reading format dump other text_too status_too
     → (text ≡ text_too) × (status ≡ status_too)
-tables_say_one reading other_reading dump other text text_too status status_too one two =
+tables_say_one reading other_reading format dump other text text_too status status_too one two =
     let left = ap (λ (t : Routes). t.rows) (sound_one reading dump one.table two.table one.sound two.sound) in
     let right = ap (λ (t : Routes). t.rows) (sound_one other_reading other one.other_table two.other_table one.other_sound two.other_sound) in
     let moved = subst (λ (r : List Pair). IsVerdict two.table.rows r one.verdict) right
     (subst (λ (r : List Pair). IsVerdict r one.other_table.rows one.verdict) left one.is_verdict) in
     let same = verdict_is_one two.table.rows two.other_table.rows one.verdict two.verdict moved two.is_verdict in
-    (one.text_is ∙ ap verdict_text same ∙ sym two.text_is, one.status_is ∙ ap verdict_status same ∙ sym two.status_is)
+    (one.text_is ∙ ap (verdict_in format) same ∙ sym two.text_is, one.status_is ∙ ap verdict_status same ∙ sym two.status_is)
 
 says_one : (limits : Bounds) (job : Job) (dump other text text_too : List ℕ) (status status_too : ℕ) → SaysOf limits job dump other text status
     → SaysOf limits job dump other text_too status_too → (text ≡ text_too) × (status ≡ status_too)
 says_one limits (jobs.Show given) dump other text text_too status status_too one two = table_says_one _ dump _ _ text text_too status status_too one two
 says_one limits (jobs.Lookup given pair) dump other text text_too status status_too one two = table_says_one _ dump _ _ text text_too status status_too one two
 says_one limits (jobs.Normalise given body hex) dump other text text_too status status_too one two = normal_says_one _ body hex dump text text_too status status_too one two
-says_one limits (jobs.Pairs given count) dump other text text_too status status_too one two = pairs_say_one _ count dump text text_too status status_too one two
-says_one limits (jobs.Compare dumps) dump other text text_too status status_too one two = tables_say_one _ _ dump other text text_too status status_too one two
+says_one limits (jobs.Pairs given count) dump other text text_too status status_too one two = pairs_say_one _ count given.format dump text text_too status status_too one two
+says_one limits (jobs.Compare dumps) dump other text text_too status status_too one two = tables_say_one _ _ dumps.format dump other text text_too status status_too one two
 
 -- too many pairs are not few
 not_many : (limits : Bounds) (rows others pairs : List Pair) → rows ≡ others → AreBoxes rows pairs → length pairs ≤ limits.entries → HasManyBoxes limits others → ⊥
@@ -321,13 +323,13 @@ fault_one limits (jobs.Pairs given count) dump other fault fault_too one two = n
 fault_one limits (jobs.Compare dumps) dump other fault fault_too one two = tables_fault_one _ _ dump other fault fault_too one two
 
 -- what a run found is what its job says of the octets
-shows : (reader : Input) (dump text : List ℕ) (status : ℕ) → reader.old.left ≡ Some dump → Shows reader text status
-    → TableSays reader.reading dump show_text (λ _. 0) text status
-shows reader dump text status has says = record { table = says.table; sound = sound reader dump says.table has says.gave; text_is = says.text_is; status_is = says.status_is }
+shows : (reader : Input) (format : Format) (dump text : List ℕ) (status : ℕ) → reader.old.left ≡ Some dump → Shows reader format text status
+    → TableSays reader.reading dump (show_in format) (λ _. 0) text status
+shows reader format dump text status has says = record { table = says.table; sound = sound reader dump says.table has says.gave; text_is = says.text_is; status_is = says.status_is }
 
-looks_up : (reader : Input) (dst src : Address) (dump text : List ℕ) (status : ℕ) → reader.old.left ≡ Some dump → LooksUp reader dst src text status
-    → TableSays reader.reading dump (λ table. lookup_text (answer_in table dst src)) (λ table. lookup_status (answer_in table dst src)) text status
-looks_up reader dst src dump text status has says = record { table = says.table; sound = sound reader dump says.table has says.gave; text_is = says.text_is; status_is = says.status_is }
+looks_up : (reader : Input) (dst src : Address) (format : Format) (dump text : List ℕ) (status : ℕ) → reader.old.left ≡ Some dump → LooksUp reader dst src format text status
+    → TableSays reader.reading dump (λ table. lookup_in format dst src (answer_in table dst src)) (λ table. lookup_status (answer_in table dst src)) text status
+looks_up reader dst src format dump text status has says = record { table = says.table; sound = sound reader dump says.table has says.gave; text_is = says.text_is; status_is = says.status_is }
 
 normalises : (reader : Input) (body : ℕ) (hex : Bool) (dump text : List ℕ) (status : ℕ) → reader.old.left ≡ Some dump
     → WritesNormal reader body hex text status → NormalSays reader.reading body hex dump text status
@@ -341,9 +343,9 @@ normalises reader body hex dump text status has says =
       status_is = says.status_is;
     }
 
-lists_pairs : (reader : Input) (count : Bool) (dump text : List ℕ) (status : ℕ) → reader.old.left ≡ Some dump
-    → ListsPairs reader count text status → PairsSay reader.reading count dump text status
-lists_pairs reader count dump text status has says = record {
+lists_pairs : (reader : Input) (count : Bool) (format : Format) (dump text : List ℕ) (status : ℕ) → reader.old.left ≡ Some dump
+    → ListsPairs reader count format text status → PairsSay reader.reading count format dump text status
+lists_pairs reader count format dump text status has says = record {
   table = says.table;
   sound = sound reader dump says.table has says.gave.gave;
   pairs = says.canon.pairs;
@@ -353,9 +355,9 @@ lists_pairs reader count dump text status has says = record {
   status_is = says.status_is;
 }
 
-compares : (reader second : Input) (dump other text : List ℕ) (status : ℕ) → reader.old.left ≡ Some dump → second.old.left ≡ Some other
-    → Compares reader second text status → TablesSay reader.reading second.reading dump other text status
-compares reader second dump other text status has other_has says = record {
+compares : (reader second : Input) (format : Format) (dump other text : List ℕ) (status : ℕ) → reader.old.left ≡ Some dump → second.old.left ≡ Some other
+    → Compares reader second format text status → TablesSay reader.reading second.reading format dump other text status
+compares reader second format dump other text status has other_has says = record {
   table = says.gave.table;
   sound = sound reader dump says.gave.table has says.gave.gave;
   other_table = says.gave.other_table;
@@ -464,12 +466,12 @@ tell : (limits : Bounds) (job : Job) (dump other before after : List ℕ) (resul
     → Told limits job dump other run.writer (run_status result)
 tell limits (jobs.Show given) dump other before after result run =
     let reader = read_from run.old run.new (reading_of limits given) in
-    told_of limits (jobs.Show given) dump other reader None run.writer _ _ (run_status result) run.ran.ran.1 (λ text status says. shows reader dump text status run.has says)
+    told_of limits (jobs.Show given) dump other reader None run.writer _ _ (run_status result) run.ran.ran.1 (λ text status says. shows reader given.format dump text status run.has says)
     (of_each _ (run_status result) (λ fault is cause. of_table reader dump fault run.has is cause))
 tell limits (jobs.Lookup given pair) dump other before after result run =
     let reader = read_from run.old run.new (reading_of limits given) in
     told_of limits (jobs.Lookup given pair) dump other reader None run.writer _ _ (run_status result) run.ran.ran.1
-    (λ text status says. looks_up reader pair.dst pair.src dump text status run.has says)
+    (λ text status says. looks_up reader pair.dst pair.src given.format dump text status run.has says)
     (of_each _ (run_status result) (λ fault is cause. of_table reader dump fault run.has is cause))
 tell limits (jobs.Normalise given body hex) dump other before after result run =
     let reader = read_from run.old run.new (reading_of limits given) in
@@ -479,13 +481,13 @@ tell limits (jobs.Normalise given body hex) dump other before after result run =
 tell limits (jobs.Pairs given count) dump other before after result run =
     let reader = read_from run.old run.new (reading_of limits given) in
     told_of limits (jobs.Pairs given count) dump other reader None run.writer _ _ (run_status result) run.ran.ran.1
-    (λ text status says. lists_pairs reader count dump text status run.has says)
+    (λ text status says. lists_pairs reader count given.format dump text status run.has says)
     (of_each _ (run_status result) (λ fault is cause. of_normal reader dump fault run.has is cause))
 tell limits (jobs.Compare dumps) dump other before after result run =
     let reader = read_from run.old run.new (left_reading limits dumps) in
     let second = read_from run.other_old run.other_new (right_reading limits dumps) in
     told_of limits (jobs.Compare dumps) dump other reader (Some second) run.writer _ _ (run_status result) run.ran.ran.ran
-    (λ text status says. compares reader second dump other text status run.has run.other_has says)
+    (λ text status says. compares reader second dumps.format dump other text status run.has run.other_has says)
     (both_of dump other reader second _ (run_status result) run.has run.other_has run.ran.ran.in_turn)
 
 -- what a writer took, in octets

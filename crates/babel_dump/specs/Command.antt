@@ -6,23 +6,25 @@ use Rattle.babel_table.specs.Rows.{Routes}
 use Rattle.babel_canon.specs.Canonical.{Canonical}
 use Rattle.babel_canon.specs.declared.verdict.Verdict.{Verdict}
 use Rattle.babel_dump.specs.Given.{GaveNormal, GavePairs, GaveTable, GaveVerdict, Input, IsFaultOfForm, IsFaultOfGiven}
+use Rattle.babel_dump.specs.InFormat.{lookup_in, pairs_or_counts_in, show_in, verdict_in}
 use Rattle.babel_dump.specs.Run.{Output, Ran}
-use Rattle.babel_dump.specs.RunText.{answer_in, form_text, lookup_status, lookup_text, pairs_or_counts, show_text, verdict_status, verdict_text}
+use Rattle.babel_dump.specs.RunText.{answer_in, form_text, lookup_status, verdict_status}
+use Rattle.babel_dump.specs.declared.format.Format.{Format}
 use Rattle.babel_dump.specs.declared.run_fault.RunFault.{RunFault}
 use Rattle.babel_dump.specs.declared.run_fault.RunFault.TheVariants as run_faults
 
 -- `show`: the rows and the report of the dump's table
-pub record Shows (reader : Input) (text : List ℕ) (status : ℕ) : Type 0 where
+pub record Shows (reader : Input) (format : Format) (text : List ℕ) (status : ℕ) : Type 0 where
   pub table : Routes
   pub gave : GaveTable reader table
-  pub text_is : text ≡ show_text table
+  pub text_is : text ≡ show_in format table
   pub status_is : status ≡ 0
 
 -- `lookup`: what the dump's table answers for a destination and a source
-pub record LooksUp (reader : Input) (dst src : Address) (text : List ℕ) (status : ℕ) : Type 0 where
+pub record LooksUp (reader : Input) (dst src : Address) (format : Format) (text : List ℕ) (status : ℕ) : Type 0 where
   pub table : Routes
   pub gave : GaveTable reader table
-  pub text_is : text ≡ lookup_text (answer_in table dst src)
+  pub text_is : text ≡ lookup_in format dst src (answer_in table dst src)
   pub status_is : status ≡ lookup_status (answer_in table dst src)
 
 -- `normalise`: the dump's canonical octets
@@ -33,31 +35,31 @@ pub record WritesNormal (reader : Input) (body : ℕ) (hex : Bool) (text : List 
   pub status_is : status ≡ 0
 
 -- `pairs`: the canonical pairs of the dump's table, or how many rows and pairs there are
-pub record ListsPairs (reader : Input) (count : Bool) (text : List ℕ) (status : ℕ) : Type 0 where
+pub record ListsPairs (reader : Input) (count : Bool) (format : Format) (text : List ℕ) (status : ℕ) : Type 0 where
   pub table : Routes
   pub canon : Canonical
   pub gave : GavePairs reader table canon
-  pub text_is : text ≡ pairs_or_counts count table.rows canon.pairs
+  pub text_is : text ≡ pairs_or_counts_in format count table.rows canon.pairs
   pub status_is : status ≡ 0
 
 -- `compare`: how the answers of the dumps' tables compare
-pub record Compares (reader other : Input) (text : List ℕ) (status : ℕ) : Type 0 where
+pub record Compares (reader other : Input) (format : Format) (text : List ℕ) (status : ℕ) : Type 0 where
   pub verdict : Verdict
   pub gave : GaveVerdict reader other verdict
-  pub text_is : text ≡ verdict_text verdict
+  pub text_is : text ≡ verdict_in format verdict
   pub status_is : status ≡ verdict_status verdict
 
-abbrev pub RanShow : Input → Output → Result ℕ RunFault → Type 0
-RanShow reader writer result = Ran reader None writer (IsFaultOfGiven reader) (Shows reader) result
+abbrev pub RanShow : Input → Format → Output → Result ℕ RunFault → Type 0
+RanShow reader format writer result = Ran reader None writer (IsFaultOfGiven reader) (Shows reader format) result
 
-abbrev pub RanLookup : Input → Address → Address → Output → Result ℕ RunFault → Type 0
-RanLookup reader dst src writer result = Ran reader None writer (IsFaultOfGiven reader) (LooksUp reader dst src) result
+abbrev pub RanLookup : Input → Address → Address → Format → Output → Result ℕ RunFault → Type 0
+RanLookup reader dst src format writer result = Ran reader None writer (IsFaultOfGiven reader) (LooksUp reader dst src format) result
 
 abbrev pub RanNormalise : Input → ℕ → Bool → Output → Result ℕ RunFault → Type 0
 RanNormalise reader body hex writer result = Ran reader None writer (IsFaultOfForm reader) (WritesNormal reader body hex) result
 
-abbrev pub RanPairs : Input → Bool → Output → Result ℕ RunFault → Type 0
-RanPairs reader count writer result = Ran reader None writer (IsFaultOfForm reader) (ListsPairs reader count) result
+abbrev pub RanPairs : Input → Bool → Format → Output → Result ℕ RunFault → Type 0
+RanPairs reader count format writer result = Ran reader None writer (IsFaultOfForm reader) (ListsPairs reader count format) result
 
 -- the reader gave a dump without a fault, and without an ignored TLV if it is read strictly
 abbrev pub GaveSound : Input → Type 0
@@ -75,6 +77,6 @@ InTurn reader other untouched (run_faults.OtherDump fault) = GaveSound reader
 InTurn reader other untouched run_faults.Write = GaveSound reader × GaveSound other
 
 -- `untouched` says that the other reader is as it was
-pub record RanCompare (reader other : Input) (writer : Output) (untouched : Type 0) (result : Result ℕ RunFault) : Type 0 where
-  pub ran : Ran reader (Some other) writer (IsFaultOfGiven reader) (Compares reader other) result
+pub record RanCompare (reader other : Input) (format : Format) (writer : Output) (untouched : Type 0) (result : Result ℕ RunFault) : Type 0 where
+  pub ran : Ran reader (Some other) writer (IsFaultOfGiven reader) (Compares reader other format) result
   pub in_turn : IfErr result (InTurn reader other untouched)

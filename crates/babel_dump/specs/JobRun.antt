@@ -43,15 +43,15 @@ other_input limits (jobs.Compare dumps) other = Some (other (right_reading limit
 -- read so; `untouched` says that the other is as it was, which it is after each command over one dump.
 abbrev pub RanCommand : Bounds → Job → (reader other : Reading → Input) → Output → (untouched : Type 0) → Result ℕ RunFault → Type 0
 RanCommand limits (jobs.Show dump) reader other writer untouched result =
-    untouched × RanShow (reader (reading_of limits dump)) writer result
+    untouched × RanShow (reader (reading_of limits dump)) dump.format writer result
 RanCommand limits (jobs.Lookup dump pair) reader other writer untouched result =
-    untouched × RanLookup (reader (reading_of limits dump)) pair.dst pair.src writer result
+    untouched × RanLookup (reader (reading_of limits dump)) pair.dst pair.src dump.format writer result
 RanCommand limits (jobs.Normalise dump body hex) reader other writer untouched result =
     untouched × RanNormalise (reader (reading_of limits dump)) body hex writer result
 RanCommand limits (jobs.Pairs dump count) reader other writer untouched result =
-    untouched × RanPairs (reader (reading_of limits dump)) count writer result
+    untouched × RanPairs (reader (reading_of limits dump)) count dump.format writer result
 RanCommand limits (jobs.Compare dumps) reader other writer untouched result =
-    RanCompare (reader (left_reading limits dumps)) (other (right_reading limits dumps)) writer untouched result
+    RanCompare (reader (left_reading limits dumps)) (other (right_reading limits dumps)) dumps.format writer untouched result
 
 -- it also says what was ignored of the dumps
 pub record RanJob (limits : Bounds) (job : Job) (reader other : Reading → Input) (writer : Output) (untouched : Type 0) (result : Result Outcome RunFault) : Type 0 where

@@ -10,9 +10,10 @@ use Rattle.babel_canon.specs.Canonical.{Canonical, IsCanonical}
 use Rattle.babel_canon.specs.Fewest.{AreFewest}
 use Rattle.babel_dump.specs.Device.{AppendsPrefix}
 use Rattle.babel_dump.specs.Given.{GaveAll, GaveIgnored, Input, IsFaultOfGiven}
+use Rattle.babel_dump.specs.InFormat.{pairs_or_counts_in}
 use Rattle.babel_dump.specs.Run.{FewCalls, HasCause, HasFailed, IfOther, NoFailure, Output, Reports}
-use Rattle.babel_dump.specs.RunText.{pairs_or_counts}
 use Rattle.babel_dump.specs.declared.finish.Found.{Found}
+use Rattle.babel_dump.specs.declared.format.Format.{Format}
 use Rattle.babel_dump.specs.declared.outcome.Outcome.{Outcome}
 use Rattle.babel_dump.specs.declared.run_fault.RunFault.{RunFault}
 use Rattle.babel_dump.specs.declared.run_fault.RunFault.TheVariants as run_faults
@@ -59,11 +60,11 @@ pub record WroteText {T E : Type 0} (writer : Output) (text : List ℕ) (result 
   pub one_flush : writer.new.flushes ≤ writer.old.flushes + 1
 
 -- the text is that of the canonical pairs of rows, or of their count
-pub record SaysPairs (limits : Bounds) (count : Bool) (rows : List Pair) (text : List ℕ) : Type 0 where
+pub record SaysPairs (limits : Bounds) (count : Bool) (format : Format) (rows : List Pair) (text : List ℕ) : Type 0 where
   pub canon : Canonical
   pub is_canon : IsCanonical limits 1024 rows canon
   pub fewest : AreFewest rows canon.pairs
-  pub text_is : text ≡ pairs_or_counts count rows canon.pairs
+  pub text_is : text ≡ pairs_or_counts_in format count rows canon.pairs
 
 -- what was found says this, and has the reports of the dumps
 abbrev pub SaysSo : Input → Option Input → (List ℕ → ℕ → Type 0) → Found → Type 0

@@ -98,7 +98,7 @@ fn show<'a>(alloc: Global) -> Result<Command<'a>, AllocError> {
     let command = Command::new(alloc, "show")
         .about(about)
         .after_help(AFTER_SHOW);
-    of_one_dump(alloc, command)
+    of_one_dump(alloc, command)?.arg(json(alloc))
 }
 
 /// The command for one answer.
@@ -109,6 +109,7 @@ fn lookup<'a>(alloc: Global) -> Result<Command<'a>, AllocError> {
         .after_help(AFTER_LOOKUP);
     of_one_dump(alloc, command)?
         .arg(strict(alloc))?
+        .arg(json(alloc))?
         .arg(address(alloc, "to", "The destination to look up"))?
         .arg(address(
             alloc,
@@ -149,11 +150,15 @@ fn pairs<'a>(alloc: Global) -> Result<Command<'a>, AllocError> {
     let command = Command::new(alloc, "pairs")
         .about(about)
         .after_help(AFTER_PAIRS);
-    of_one_dump(alloc, command)?.arg(strict(alloc))?.arg(flag(
+    let count = flag(
         alloc,
         "count",
         "Write only how many rows and how many canonical pairs there are",
-    ))
+    );
+    of_one_dump(alloc, command)?
+        .arg(strict(alloc))?
+        .arg(json(alloc))?
+        .arg(count)
 }
 
 /// The command for the answers of two dumps.
@@ -176,6 +181,7 @@ fn compare<'a>(alloc: Global) -> Result<Command<'a>, AllocError> {
         .arg(other_from)?;
     with_settings(alloc, command)?
         .arg(strict(alloc))?
+        .arg(json(alloc))?
         .arg(dump(alloc, "file", "FILE", "The first dump; - is standard input"))?
         .arg(dump(
             alloc,
@@ -259,6 +265,11 @@ fn flag<'a>(alloc: Global, id: &'a str, help: &'a str) -> Arg<'a> {
 fn strict<'a>(alloc: Global) -> Arg<'a> {
     let help = "Refuse a dump of which a TLV is ignored";
     flag(alloc, "strict", help)
+}
+
+/// The option that has the output be read by programs.
+fn json<'a>(alloc: Global) -> Arg<'a> {
+    flag(alloc, "json", "Write one JSON object a line")
 }
 
 /// The option that leaves notes out.

@@ -4,15 +4,17 @@ ghost use Rattle.babel_dump.specs.Given.{GaveTable, GaveVerdict, IsFaultOfGiven,
 ghost use Rattle.babel_dump.specs.Parts.{Gathered, GatheredOther, SaysSo};
 ghost use Rattle.babel_dump.specs.Run.{Reports, output, run_status};
 ghost use Rattle.babel_dump.specs.RunText.{verdict_status};
+ghost use Rattle.babel_dump.specs.declared.format.Format.TheVariants as formats;
 
 use crate::byte_in::ByteIn;
 use crate::byte_out::ByteOut;
 use crate::finish::{Found, finish};
+use crate::format::Format;
 use crate::input::read_table;
 use crate::outcome::Outcome;
+use crate::output::verdict_output;
 use crate::reading::Reading;
 use crate::run_fault::RunFault;
-use crate::text::verdict_text;
 use babel_canon::Verdict;
 use babel_prefix::Addr;
 use babel_table::{Limits, Table};
@@ -47,7 +49,7 @@ pub fn run_compare<R: ByteIn, S: ByteIn, W: ByteOut>(
     requires writer_flushes { (W.state writer.old).flushes < 2 ^ 63 }
     ensures { RanCompare (input limits mode sender (R.state reader.old) (R.state reader.new))
         (input limits mode other_sender (S.state other.old) (S.state other.new))
-        (output (W.state writer.old) (W.state writer.new)) (other.new ≡ other.old) result }
+        formats.Text (output (W.state writer.old) (W.state writer.new)) (other.new ≡ other.old) result }
 {
     let reading = Reading {
         limits,
@@ -59,15 +61,17 @@ pub fn run_compare<R: ByteIn, S: ByteIn, W: ByteOut>(
         sender: other_sender,
         ..reading
     };
-    let outcome = compare(alloc, reading, other_reading, reader, other, writer)?;
+    let text = Format::Text;
+    let outcome = compare(alloc, reading, other_reading, text, reader, other, writer)?;
     Ok(outcome.status)
 }
 
-/// `run_compare`, of two dumps that are read so.
+/// `run_compare`, of two dumps that are read so, in a format.
 pub(crate) fn compare<R: ByteIn, S: ByteIn, W: ByteOut>(
     alloc: Global,
     reading: Reading,
     other_reading: Reading,
+    format: Format,
     reader: &mut R,
     other: &mut S,
     writer: &mut W,
@@ -82,11 +86,11 @@ pub(crate) fn compare<R: ByteIn, S: ByteIn, W: ByteOut>(
     requires writer_flushes { (W.state writer.old).flushes < 2 ^ 63 }
     ensures ran { RanCompare (read_from (R.state reader.old) (R.state reader.new) reading)
         (read_from (S.state other.old) (S.state other.new) other_reading)
-        (output (W.state writer.old) (W.state writer.new)) (other.new ≡ other.old) (run_status result) }
+        format (output (W.state writer.old) (W.state writer.new)) (other.new ≡ other.old) (run_status result) }
     ensures reports { IfOk result (Reports (read_from (R.state reader.old) (R.state reader.new) reading)
         (Some (read_from (S.state other.old) (S.state other.new) other_reading))) }
 {
-    let found = read_verdict(alloc, reading, other_reading, reader, other);
+    let found = read_verdict(alloc, reading, other_reading, format, reader, other);
     finish(writer, found)
 }
 
@@ -95,6 +99,7 @@ fn read_verdict<R: ByteIn, S: ByteIn>(
     alloc: Global,
     reading: Reading,
     other_reading: Reading,
+    format: Format,
     reader: &mut R,
     other: &mut S,
 ) -> Result<Found, RunFault>
@@ -106,14 +111,14 @@ fn read_verdict<R: ByteIn, S: ByteIn>(
     requires other_ends { (S.state other.old).ends < 2 ^ 63 }
     ensures gathered { let dump = read_from (R.state reader.old) (R.state reader.new) reading in
         let other_dump = read_from (S.state other.old) (S.state other.new) other_reading in
-        Gathered dump (Some other_dump) (IsFaultOfGiven dump) (SaysSo dump (Some other_dump) (Compares dump other_dump)) result }
+        Gathered dump (Some other_dump) (IsFaultOfGiven dump) (SaysSo dump (Some other_dump) (Compares dump other_dump format)) result }
     ensures in_turn { IfErr result (InTurn (read_from (R.state reader.old) (R.state reader.new) reading)
         (read_from (S.state other.old) (S.state other.new) other_reading) (other.new ≡ other.old)) }
 {
     let left = read_table(alloc, reading, reader)?;
     let right = read_other(alloc, other_reading, other)?;
     let verdict = babel_canon::compare(alloc, &left, &right)?;
-    let text = verdict_text(alloc, &verdict)?.into_bytes();
+    let text = verdict_output(alloc, format, &verdict)?.into_bytes();
     let outcome = Outcome {
         status: verdict_status(&verdict),
         report: *left.report(),

@@ -3,6 +3,7 @@ ghost use Rattle.std.specs.Option.{option_copied};
 ghost use Rattle.babel_dump.specs.Files.{first_file, other_file};
 
 use crate::addr_pair::AddrPair;
+use crate::format::Format;
 use babel_canon::Body;
 use babel_prefix::Addr;
 use babel_table::Limits;
@@ -59,6 +60,8 @@ pub struct OneDump {
     pub mode: Mode,
     /// Whether the dump is refused if a TLV of it is ignored: `--strict`.
     pub strict: bool,
+    /// How what was found is written: `--json`. What `normalise` writes are octets, whatever the format.
+    pub format: Format,
     /// Where the dump is read from: FILE.
     pub file: DumpFile,
 }
@@ -74,6 +77,8 @@ pub struct TwoDumps {
     pub mode: Mode,
     /// Whether a dump is refused if a TLV of it is ignored, either: `--strict`.
     pub strict: bool,
+    /// How what was found is written: `--json`.
+    pub format: Format,
     /// Where the first dump is read from: FILE.
     pub file: DumpFile,
     /// Where the other dump is read from: OTHER.

@@ -43,20 +43,25 @@ pub fn run_job<R: ByteIn, S: ByteIn, W: ByteOut>(
         (output (W.state writer.old) (W.state writer.new)) (other.new ≡ other.old) result }
 {
     match job {
-        Job::Show { dump } => show(alloc, reading_of(limits, dump), reader, writer),
+        Job::Show { dump } => {
+            let reading = reading_of(limits, dump);
+            show(alloc, reading, dump.format, reader, writer)
+        }
         Job::Lookup { dump, pair } => {
-            lookup(alloc, reading_of(limits, dump), *pair, reader, writer)
+            let reading = reading_of(limits, dump);
+            lookup(alloc, reading, *pair, dump.format, reader, writer)
         }
         Job::Normalise { dump, body, hex } => {
             let reading = reading_of(limits, dump);
             normalise(alloc, reading, *body, *hex, reader, writer)
         }
         Job::Pairs { dump, count } => {
-            pairs(alloc, reading_of(limits, dump), *count, reader, writer)
+            let reading = reading_of(limits, dump);
+            pairs(alloc, reading, *count, dump.format, reader, writer)
         }
         Job::Compare { dumps } => {
             let (left, right) = (left_reading(limits, dumps), right_reading(limits, dumps));
-            compare(alloc, left, right, reader, other, writer)
+            compare(alloc, left, right, dumps.format, reader, other, writer)
         }
     }
 }

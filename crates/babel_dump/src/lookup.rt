@@ -5,16 +5,18 @@ ghost use Rattle.babel_dump.specs.Given.{IsFaultOfGiven, input, read_from};
 ghost use Rattle.babel_dump.specs.Parts.{Gathered, SaysSo};
 ghost use Rattle.babel_dump.specs.Run.{Reports, output, run_status};
 ghost use Rattle.babel_dump.specs.RunText.{lookup_status};
+ghost use Rattle.babel_dump.specs.declared.format.Format.TheVariants as formats;
 
 use crate::addr_pair::AddrPair;
 use crate::byte_in::ByteIn;
 use crate::byte_out::ByteOut;
 use crate::finish::{Found, finish};
+use crate::format::Format;
 use crate::input::read_table;
 use crate::outcome::Outcome;
+use crate::output::lookup_output;
 use crate::reading::Reading;
 use crate::run_fault::RunFault;
-use crate::text::lookup_text;
 use babel_prefix::Addr;
 use babel_table::Limits;
 use babel_tlv::{Held, Mode};
@@ -42,7 +44,7 @@ pub fn run_lookup<R: ByteIn, W: ByteOut>(
     requires reader_ends { (R.state reader.old).ends < 2 ^ 63 }
     requires writer_failures { (W.state writer.old).failures < 2 ^ 63 }
     requires writer_flushes { (W.state writer.old).flushes < 2 ^ 63 }
-    ensures { RanLookup (input limits mode sender (R.state reader.old) (R.state reader.new)) dst src
+    ensures { RanLookup (input limits mode sender (R.state reader.old) (R.state reader.new)) dst src formats.Text
         (output (W.state writer.old) (W.state writer.new)) result }
 {
     let reading = Reading {
@@ -51,15 +53,23 @@ pub fn run_lookup<R: ByteIn, W: ByteOut>(
         sender,
         strict: false,
     };
-    let outcome = lookup(alloc, reading, AddrPair { dst, src }, reader, writer)?;
+    let outcome = lookup(
+        alloc,
+        reading,
+        AddrPair { dst, src },
+        Format::Text,
+        reader,
+        writer,
+    )?;
     Ok(outcome.status)
 }
 
-/// `run_lookup`, of a dump that is read so.
+/// `run_lookup`, of a dump that is read so, in a format.
 pub(crate) fn lookup<R: ByteIn, W: ByteOut>(
     alloc: Global,
     reading: Reading,
     pair: AddrPair,
+    format: Format,
     reader: &mut R,
     writer: &mut W,
 ) -> Result<Outcome, RunFault>
@@ -68,11 +78,11 @@ pub(crate) fn lookup<R: ByteIn, W: ByteOut>(
     requires reader_ends { (R.state reader.old).ends < 2 ^ 63 }
     requires writer_failures { (W.state writer.old).failures < 2 ^ 63 }
     requires writer_flushes { (W.state writer.old).flushes < 2 ^ 63 }
-    ensures ran { RanLookup (read_from (R.state reader.old) (R.state reader.new) reading) pair.dst pair.src
+    ensures ran { RanLookup (read_from (R.state reader.old) (R.state reader.new) reading) pair.dst pair.src format
         (output (W.state writer.old) (W.state writer.new)) (run_status result) }
     ensures reports { IfOk result (Reports (read_from (R.state reader.old) (R.state reader.new) reading) None) }
 {
-    let found = read_answer(alloc, reading, pair, reader);
+    let found = read_answer(alloc, reading, pair, format, reader);
     finish(writer, found)
 }
 
@@ -81,13 +91,14 @@ fn read_answer<R: ByteIn>(
     alloc: Global,
     reading: Reading,
     pair: AddrPair,
+    format: Format,
     reader: &mut R,
 ) -> Result<Found, RunFault>
     requires failures { (R.state reader.old).failures < 2 ^ 63 }
     requires reads { (R.state reader.old).reads < 2 ^ 63 }
     requires ends { (R.state reader.old).ends < 2 ^ 63 }
     ensures { let dump = read_from (R.state reader.old) (R.state reader.new) reading in
-        Gathered dump None (IsFaultOfGiven dump) (SaysSo dump None (LooksUp dump pair.dst pair.src)) result }
+        Gathered dump None (IsFaultOfGiven dump) (SaysSo dump None (LooksUp dump pair.dst pair.src format)) result }
 {
     let table = read_table(alloc, reading, reader)?;
     let answer = table.lookup(&pair.dst, &pair.src);
@@ -96,7 +107,7 @@ fn read_answer<R: ByteIn>(
         report: *table.report(),
         other: None,
     };
-    let text = lookup_text(alloc, answer.as_ref())?.into_bytes();
+    let text = lookup_output(alloc, format, pair, answer)?.into_bytes();
     Ok(Found { text, outcome })
 }
 

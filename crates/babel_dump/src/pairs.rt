@@ -4,15 +4,17 @@ ghost use Rattle.babel_dump.specs.Command.{ListsPairs, RanPairs};
 ghost use Rattle.babel_dump.specs.Given.{IsFaultOfForm, input, read_from};
 ghost use Rattle.babel_dump.specs.Parts.{Gathered, SaysPairs, SaysSo};
 ghost use Rattle.babel_dump.specs.Run.{Reports, output, run_status};
+ghost use Rattle.babel_dump.specs.declared.format.Format.TheVariants as formats;
 
 use crate::byte_in::ByteIn;
 use crate::byte_out::ByteOut;
 use crate::finish::{Found, finish};
+use crate::format::Format;
 use crate::input::read_table;
 use crate::outcome::Outcome;
+use crate::output::{counts_output, pairs_output};
 use crate::reading::Reading;
 use crate::run_fault::RunFault;
-use crate::text::{counts_text, pairs_text};
 use babel_canon::laws::text_is_one;
 use babel_canon::{canonical_pairs, pair_count};
 use babel_prefix::Addr;
@@ -41,7 +43,7 @@ pub fn run_pairs<R: ByteIn, W: ByteOut>(
     requires reader_ends { (R.state reader.old).ends < 2 ^ 63 }
     requires writer_failures { (W.state writer.old).failures < 2 ^ 63 }
     requires writer_flushes { (W.state writer.old).flushes < 2 ^ 63 }
-    ensures { RanPairs (input limits mode sender (R.state reader.old) (R.state reader.new)) count
+    ensures { RanPairs (input limits mode sender (R.state reader.old) (R.state reader.new)) count formats.Text
         (output (W.state writer.old) (W.state writer.new)) result }
 {
     let reading = Reading {
@@ -50,15 +52,16 @@ pub fn run_pairs<R: ByteIn, W: ByteOut>(
         sender,
         strict: false,
     };
-    let outcome = pairs(alloc, reading, count, reader, writer)?;
+    let outcome = pairs(alloc, reading, count, Format::Text, reader, writer)?;
     Ok(outcome.status)
 }
 
-/// `run_pairs`, of a dump that is read so.
+/// `run_pairs`, of a dump that is read so, in a format.
 pub(crate) fn pairs<R: ByteIn, W: ByteOut>(
     alloc: Global,
     reading: Reading,
     count: bool,
+    format: Format,
     reader: &mut R,
     writer: &mut W,
 ) -> Result<Outcome, RunFault>
@@ -67,11 +70,11 @@ pub(crate) fn pairs<R: ByteIn, W: ByteOut>(
     requires reader_ends { (R.state reader.old).ends < 2 ^ 63 }
     requires writer_failures { (W.state writer.old).failures < 2 ^ 63 }
     requires writer_flushes { (W.state writer.old).flushes < 2 ^ 63 }
-    ensures ran { RanPairs (read_from (R.state reader.old) (R.state reader.new) reading) count
+    ensures ran { RanPairs (read_from (R.state reader.old) (R.state reader.new) reading) count format
         (output (W.state writer.old) (W.state writer.new)) (run_status result) }
     ensures reports { IfOk result (Reports (read_from (R.state reader.old) (R.state reader.new) reading) None) }
 {
-    let found = read_pairs(alloc, reading, count, reader);
+    let found = read_pairs(alloc, reading, count, format, reader);
     finish(writer, found)
 }
 
@@ -80,17 +83,18 @@ fn read_pairs<R: ByteIn>(
     alloc: Global,
     reading: Reading,
     count: bool,
+    format: Format,
     reader: &mut R,
 ) -> Result<Found, RunFault>
     requires failures { (R.state reader.old).failures < 2 ^ 63 }
     requires reads { (R.state reader.old).reads < 2 ^ 63 }
     requires ends { (R.state reader.old).ends < 2 ^ 63 }
     ensures { let dump = read_from (R.state reader.old) (R.state reader.new) reading in
-        Gathered dump None (IsFaultOfForm dump) (SaysSo dump None (ListsPairs dump count)) result }
+        Gathered dump None (IsFaultOfForm dump) (SaysSo dump None (ListsPairs dump count format)) result }
 {
     let table = read_table(alloc, reading, reader)?;
     let report = *table.report();
-    let text = lines(alloc, reading.limits, count, table)?.into_bytes();
+    let text = lines(alloc, reading.limits, count, format, table)?.into_bytes();
     let outcome = Outcome {
         status: 0,
         report,
@@ -101,18 +105,24 @@ fn read_pairs<R: ByteIn>(
 
 /// The lines of a table's canonical pairs, or of how many rows and pairs there are, for which no pair is made. The table is
 /// gone before the lines of pairs are made.
-fn lines(alloc: Global, limits: Limits, count: bool, table: Table) -> Result<String, Fault>
-    ensures ok { IfOk result (λ text. SaysPairs limits count table.rows (string_bytes text)) }
+fn lines(
+    alloc: Global,
+    limits: Limits,
+    count: bool,
+    format: Format,
+    table: Table,
+) -> Result<String, Fault>
+    ensures ok { IfOk result (λ text. SaysPairs limits count format table.rows (string_bytes text)) }
     ensures err { IfErr result (CanonicalFault limits table.rows) }
 {
     text_is_one();
     if count {
         let pairs = pair_count(alloc, limits, &table)?;
-        let text = counts_text(alloc, table.rows().len(), pairs)?;
+        let text = counts_output(alloc, format, table.rows().len(), pairs)?;
         return Ok(text);
     }
     let pairs = canonical_pairs(alloc, limits, &table)?;
     drop(table);
-    let text = pairs_text(alloc, &pairs)?;
+    let text = pairs_output(alloc, format, &pairs)?;
     Ok(text)
 }

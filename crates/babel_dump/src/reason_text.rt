@@ -1,6 +1,6 @@
 //! The lines of a report.
 ghost use Rattle.std.specs.Prelude.{◌≡◌, ◌++◌, OnOk, string_bytes};
-ghost use Rattle.babel_dump.specs.RunText.{reason_name, ignored_lines};
+ghost use Rattle.babel_dump.specs.RunText.{ignored_lines, reason_name, report_text};
 
 use babel_table::Report;
 use babel_tlv::Reason;
@@ -45,12 +45,17 @@ impl fmt::Display for IgnoredLine {
     }
 }
 
+/// Adds the lines of a report.
+pub(crate) fn push_report(text: &mut String, report: &Report) -> Result<(), AllocError>
+    ensures { OnOk result (string_bytes text.new ≡ string_bytes text.old ++ report_text report.now) }
+{
+    let tlvs = report.tlvs();
+    write!(text, "tlvs {tlvs}\n")?;
+    push_ignored(text, report, &REASONS)
+}
+
 /// Adds a line for each of these reasons that occurred.
-pub(crate) fn push_ignored(
-    text: &mut String,
-    report: &Report,
-    reasons: &[Reason],
-) -> Result<(), AllocError>
+fn push_ignored(text: &mut String, report: &Report, reasons: &[Reason]) -> Result<(), AllocError>
     ensures { OnOk result (string_bytes text.new ≡ string_bytes text.old ++ ignored_lines report.now reasons.now) }
 {
     for reason in reasons {

@@ -3,15 +3,17 @@ ghost use Rattle.babel_dump.specs.Command.{RanShow, Shows};
 ghost use Rattle.babel_dump.specs.Given.{IsFaultOfGiven, input, read_from};
 ghost use Rattle.babel_dump.specs.Parts.{Gathered, SaysSo};
 ghost use Rattle.babel_dump.specs.Run.{Reports, output, run_status};
+ghost use Rattle.babel_dump.specs.declared.format.Format.TheVariants as formats;
 
 use crate::byte_in::ByteIn;
 use crate::byte_out::ByteOut;
 use crate::finish::{Found, finish};
+use crate::format::Format;
 use crate::input::read_table;
 use crate::outcome::Outcome;
+use crate::output::show_output;
 use crate::reading::Reading;
 use crate::run_fault::RunFault;
-use crate::text::show_text;
 use babel_prefix::Addr;
 use babel_table::Limits;
 use babel_tlv::Mode;
@@ -36,7 +38,8 @@ pub fn run_show<R: ByteIn, W: ByteOut>(
     requires reader_ends { (R.state reader.old).ends < 2 ^ 63 }
     requires writer_failures { (W.state writer.old).failures < 2 ^ 63 }
     requires writer_flushes { (W.state writer.old).flushes < 2 ^ 63 }
-    ensures { RanShow (input limits mode sender (R.state reader.old) (R.state reader.new)) (output (W.state writer.old) (W.state writer.new)) result }
+    ensures { RanShow (input limits mode sender (R.state reader.old) (R.state reader.new)) formats.Text
+        (output (W.state writer.old) (W.state writer.new)) result }
 {
     let reading = Reading {
         limits,
@@ -44,14 +47,15 @@ pub fn run_show<R: ByteIn, W: ByteOut>(
         sender,
         strict: false,
     };
-    let outcome = show(alloc, reading, reader, writer)?;
+    let outcome = show(alloc, reading, Format::Text, reader, writer)?;
     Ok(outcome.status)
 }
 
-/// `run_show`, of a dump that is read so.
+/// `run_show`, of a dump that is read so, in a format.
 pub(crate) fn show<R: ByteIn, W: ByteOut>(
     alloc: Global,
     reading: Reading,
+    format: Format,
     reader: &mut R,
     writer: &mut W,
 ) -> Result<Outcome, RunFault>
@@ -60,23 +64,29 @@ pub(crate) fn show<R: ByteIn, W: ByteOut>(
     requires reader_ends { (R.state reader.old).ends < 2 ^ 63 }
     requires writer_failures { (W.state writer.old).failures < 2 ^ 63 }
     requires writer_flushes { (W.state writer.old).flushes < 2 ^ 63 }
-    ensures ran { RanShow (read_from (R.state reader.old) (R.state reader.new) reading) (output (W.state writer.old) (W.state writer.new)) (run_status result) }
+    ensures ran { RanShow (read_from (R.state reader.old) (R.state reader.new) reading) format
+        (output (W.state writer.old) (W.state writer.new)) (run_status result) }
     ensures reports { IfOk result (Reports (read_from (R.state reader.old) (R.state reader.new) reading) None) }
 {
-    let found = read_rows(alloc, reading, reader);
+    let found = read_rows(alloc, reading, format, reader);
     finish(writer, found)
 }
 
 /// Reads a dump to its end, or to its first fault, and makes the lines of its table.
-fn read_rows<R: ByteIn>(alloc: Global, reading: Reading, reader: &mut R) -> Result<Found, RunFault>
+fn read_rows<R: ByteIn>(
+    alloc: Global,
+    reading: Reading,
+    format: Format,
+    reader: &mut R,
+) -> Result<Found, RunFault>
     requires failures { (R.state reader.old).failures < 2 ^ 63 }
     requires reads { (R.state reader.old).reads < 2 ^ 63 }
     requires ends { (R.state reader.old).ends < 2 ^ 63 }
     ensures { let dump = read_from (R.state reader.old) (R.state reader.new) reading in
-        Gathered dump None (IsFaultOfGiven dump) (SaysSo dump None (Shows dump)) result }
+        Gathered dump None (IsFaultOfGiven dump) (SaysSo dump None (Shows dump format)) result }
 {
     let table = read_table(alloc, reading, reader)?;
-    let text = show_text(alloc, &table)?.into_bytes();
+    let text = show_output(alloc, format, &table)?.into_bytes();
     let outcome = Outcome {
         status: 0,
         report: *table.report(),

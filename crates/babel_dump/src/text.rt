@@ -1,18 +1,16 @@
 //! The lines that the runs write.
 ghost use Rattle.std.specs.Prelude.{◌≡◌, IfOk, string_bytes};
 ghost use Rattle.std.specs.Option.{option_copied};
-ghost use Rattle.babel_dump.specs.RunText.{counts_text, hex_text, lookup_text, pairs_text, show_text, verdict_text};
+ghost use Rattle.babel_dump.specs.RunText.{counts_text, hex_text, lookup_text, verdict_text};
 
-use crate::reason_text::{REASONS, push_ignored};
 use babel_canon::Verdict;
-use babel_table::Table;
 use babel_tlv::{Held, Key};
 use std::alloc::{AllocError, Global};
 use std::{fmt, str};
 
 /// A router-id, shown as 16 lower-case hexadecimal digits.
 #[derive(Clone, Copy)]
-struct RouterId([u8; 8]);
+pub(crate) struct RouterId(pub [u8; 8]);
 
 impl fmt::Display for RouterId {
     ghost use Rattle.std.specs.Prelude.{Some};
@@ -54,7 +52,7 @@ impl fmt::Display for Shown {
 
 /// A row of a table, as the runs show it.
 #[derive(Clone, Copy)]
-struct PairLine(Key, Held);
+pub(crate) struct PairLine(pub Key, pub Held);
 
 impl fmt::Display for PairLine {
     ghost use Rattle.std.specs.Prelude.{Some};
@@ -114,51 +112,11 @@ pub(crate) fn hex_text(alloc: Global, octets: &[u8]) -> Result<String, AllocErro
     Ok(text)
 }
 
-/// The longest line of an IPv4 route, in octets. Room for so many is taken for each row at once.
-const LINE: usize = 108;
-
-/// The lines of pairs.
-pub(crate) fn pairs_text(alloc: Global, pairs: &[(Key, Held)]) -> Result<String, AllocError>
-    ensures { IfOk result (λ text. string_bytes text ≡ pairs_text pairs.now) }
-{
-    let mut text = String::with_capacity(alloc, pairs.len().saturating_mul(LINE))?;
-    for pair in pairs {
-        let line = PairLine(pair.0, pair.1);
-        write!(text, "{line}")?;
-    }
-    Ok(text)
-}
-
-/// The lines of the rows.
-fn rows_text(alloc: Global, table: &Table) -> Result<String, AllocError>
-    ensures { IfOk result (λ text. string_bytes text ≡ pairs_text table.now.rows) }
-{
-    let rows = table.rows();
-    let mut text = String::with_capacity(alloc, rows.len().saturating_mul(LINE))?;
-    for (key, held) in rows {
-        let line = PairLine(key, held);
-        write!(text, "{line}")?;
-    }
-    Ok(text)
-}
-
 /// How many rows and pairs there are.
 pub(crate) fn counts_text(alloc: Global, rows: usize, pairs: usize) -> Result<String, AllocError>
     ensures { IfOk result (λ text. string_bytes text ≡ counts_text rows pairs) }
 {
     let mut text = format!(in alloc; "rows {rows}\n")?;
     write!(text, "pairs {pairs}\n")?;
-    Ok(text)
-}
-
-/// The lines of the rows, and of the report.
-pub(crate) fn show_text(alloc: Global, table: &Table) -> Result<String, AllocError>
-    ensures { IfOk result (λ text. string_bytes text ≡ show_text table.now) }
-{
-    let mut text = rows_text(alloc, table)?;
-    let report = table.report();
-    let tlvs = report.tlvs();
-    write!(text, "tlvs {tlvs}\n")?;
-    push_ignored(&mut text, report, &REASONS)?;
     Ok(text)
 }

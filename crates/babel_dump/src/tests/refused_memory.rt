@@ -7,6 +7,7 @@ use super::devices::ScriptedIn;
 use super::dumps::{NESTED_SOURCES, ONE_FAMILY, TWO_FAMILIES, V4, V6};
 use crate::addr_pair::AddrPair;
 use crate::byte_out::ByteOut;
+use crate::format::Format;
 use crate::job::{DumpFile, Job, OneDump, TwoDumps};
 use crate::job_run::run_job;
 use crate::run_fault::RunFault;
@@ -117,6 +118,7 @@ fn dump_from(sender: &str) -> Result<OneDump, Fail> {
         from: address(sender)?,
         mode: Mode::Plain,
         strict: false,
+        format: Format::Text,
         file: DumpFile::StandardInput,
     })
 }
@@ -170,6 +172,7 @@ fn refused_memory_of_compare(rt: HostRuntime) -> Result<(), Fail> {
         other_from: from,
         mode: Mode::Plain,
         strict: false,
+        format: Format::Text,
         file: DumpFile::StandardInput,
         other: DumpFile::StandardInput,
     };

@@ -1,5 +1,6 @@
 //! The program's words: jobs, refusals and help.
 use super::{address, split};
+use crate::format::Format;
 use crate::job::{DumpFile, Job, OneDump, Refusal};
 use crate::words::{read_order, read_words};
 use babel_prefix::Addr;
@@ -18,6 +19,7 @@ struct Wanted<'a> {
     src: Option<&'a str>,
     mode: Mode,
     strict: bool,
+    format: Format,
     hex: bool,
     body: Option<u16>,
     count: bool,
@@ -34,6 +36,7 @@ const SHOW: Wanted<'static> = Wanted {
     src: None,
     mode: Mode::Plain,
     strict: false,
+    format: Format::Text,
     hex: false,
     body: None,
     count: false,
@@ -69,7 +72,7 @@ const COMPARE: Wanted<'static> = Wanted {
 
 /// Words, and the job that they ask for.
 #[rattlefmt::skip]
-static JOBS: [(&str, Wanted<'static>); 22] = [
+static JOBS: [(&str, Wanted<'static>); 26] = [
     (
         "lookup --from fe80::1 --to 10.1.2.3 --src=0.0.0.0 --hold x",
         Wanted {
@@ -101,6 +104,10 @@ static JOBS: [(&str, Wanted<'static>); 22] = [
     ("normalise --from :: --strict", Wanted { strict: true, ..NORMALISE }),
     ("pairs --from :: --strict", Wanted { strict: true, ..PAIRS }),
     ("compare --from :: --other-from :: --strict a b", Wanted { strict: true, ..COMPARE }),
+    ("show --from :: --json", Wanted { format: Format::Json, ..SHOW }),
+    ("lookup --from :: --to :: --src :: --json", Wanted { format: Format::Json, ..LOOKUP }),
+    ("pairs --from :: --json", Wanted { format: Format::Json, ..PAIRS }),
+    ("compare --from :: --other-from :: --json a b", Wanted { format: Format::Json, ..COMPARE }),
     ("normalise --from :: --hex", Wanted { hex: true, ..NORMALISE }),
     ("pairs --from :: --count", Wanted { count: true, ..PAIRS }),
     ("normalise --from :: --body 128", Wanted { body: Some(128), ..NORMALISE }),
@@ -144,6 +151,7 @@ fn expect_job(rt: &impl Abort, line: &str, job: &Job, wanted: &Wanted<'_>) -> Re
             assert_eq!(rt; "compare", wanted.command, "of {line}");
             assert_eq!(rt; dumps.mode, wanted.mode, "of {line}");
             assert_eq!(rt; dumps.strict, wanted.strict, "of {line}");
+            assert_eq!(rt; dumps.format, wanted.format, "of {line}");
             expect_address(rt, line, dumps.from, Some(wanted.from))?;
             expect_address(rt, line, dumps.other_from, wanted.other_from)?;
             expect_file(rt, line, &dumps.file, wanted.file);
@@ -164,6 +172,7 @@ fn expect_dump(
     assert_eq!(rt; command, wanted.command, "of {line}");
     assert_eq!(rt; dump.mode, wanted.mode, "of {line}");
     assert_eq!(rt; dump.strict, wanted.strict, "of {line}");
+    assert_eq!(rt; dump.format, wanted.format, "of {line}");
     expect_address(rt, line, dump.from, Some(wanted.from))?;
     expect_file(rt, line, &dump.file, wanted.file);
     Ok(())
@@ -234,7 +243,7 @@ const USAGE: &str = "Usage: babel-dump";
 const BODY: &str = "'--body <OCTETS>'";
 
 /// Words that are refused, and a part of the text.
-static REFUSED: [(&str, &str); 22] = [
+static REFUSED: [(&str, &str); 23] = [
     ("", USAGE),
     ("shows", USAGE),
     ("show x", USAGE),
@@ -248,6 +257,7 @@ static REFUSED: [(&str, &str); 22] = [
     ("show --from :: --to ::", USAGE),
     ("show --from :: --hex", USAGE),
     ("show --from :: --strict", USAGE),
+    ("normalise --from :: --json", USAGE),
     ("pairs --from :: --body 128", USAGE),
     ("normalise --from :: --count", USAGE),
     ("normalise --from :: --body 127", BODY),
@@ -339,6 +349,8 @@ const OF_ONE_DUMP: [&str; 6] = [
     "[FILE]  The dump; standard input if it is left out, or is -",
 ];
 
+const OF_JSON: &str = "--json                 Write one JSON object a line";
+
 const COMMANDS: [&str; 5] = [
     "  show  ",
     "  lookup  ",
@@ -347,7 +359,8 @@ const COMMANDS: [&str; 5] = [
     "  compare  ",
 ];
 
-const OF_LOOKUP: [&str; 5] = [
+const OF_LOOKUP: [&str; 6] = [
+    OF_JSON,
     "--strict               Refuse a dump of which a TLV is ignored",
     "--to <ADDRESS>         The destination to look up",
     "--src <ADDRESS>        The source to look up, of the destination's family",
@@ -362,13 +375,15 @@ const OF_NORMALISE: [&str; 4] = [
     "babel-dump normalise --from",
 ];
 
-const OF_PAIRS: [&str; 3] = [
+const OF_PAIRS: [&str; 4] = [
+    OF_JSON,
     "--strict               Refuse a dump of which a TLV is ignored",
     "--count                Write only how many rows and how many canonical pairs there are",
     "babel-dump pairs --from",
 ];
 
-const OF_COMPARE: [&str; 8] = [
+const OF_COMPARE: [&str; 9] = [
+    "--json                  Write one JSON object a line",
     "--strict                Refuse a dump of which a TLV is ignored",
     "--from <ADDRESS>        The address that the packets of FILE were sent from",
     "--other-from <ADDRESS>  The address that the packets of OTHER were sent from",
@@ -390,7 +405,11 @@ const ENDS: [&str; 3] = [
 static HELPS: [(&str, &[&str], &[&str]); 7] = [
     ("--help", &COMMANDS, &["babel-dump lookup --from"]),
     ("help", &COMMANDS, &["babel-dump lookup --from"]),
-    ("show -h", &OF_ONE_DUMP, &["babel-dump show --from"]),
+    (
+        "show -h",
+        &OF_ONE_DUMP,
+        &[OF_JSON, "babel-dump show --from"],
+    ),
     ("lookup --help", &OF_ONE_DUMP, &OF_LOOKUP),
     ("normalise --help", &OF_ONE_DUMP, &OF_NORMALISE),
     ("help pairs", &OF_ONE_DUMP, &OF_PAIRS),

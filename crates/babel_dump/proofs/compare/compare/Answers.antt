@@ -6,7 +6,7 @@ pub returns-clause-ran : goal.returns-clause-ran
 returns-clause-ran g c =
     let found = c.read_verdict-found in record {
       ran = ran _ (Some _) _ _ _ found.result c.finish.result found.ensures.gathered c.finish.ensures;
-      in_turn = in_turn _ _ _ _ found.result c.finish.result found.ensures.gathered found.ensures.in_turn c.finish.ensures;
+      in_turn = in_turn _ _ _ _ _ found.result c.finish.result found.ensures.gathered found.ensures.in_turn c.finish.ensures;
     }
 
 pub returns-clause-reports : goal.returns-clause-reports

@@ -1,25 +1,27 @@
 use Rattle.std.proofs.Common.{ℕ, Bool, List, length, sym, ap, ◌∙◌}
 use Rattle.std.specs.Prelude.{string_bytes}
 use Rattle.babel_tlv.specs.Pair.{Pair}
-use Rattle.babel_dump.specs.RunText.{counts_text, pairs_text, pairs_or_counts}
+use Rattle.babel_dump.specs.InFormat.{counts_in, pairs_in, pairs_or_counts_in}
 use Rattle.babel_dump.proofs.Forms.{says_pairs}
 use Rattle.babel_dump.proofs.pairs.lines.Goals as goal
 
 pub returns-then-count-clause-ok : goal.returns-then-count-clause-ok
 returns-then-count-clause-ok c =
     let rows = c.args.table.rows in
+    let format = c.args.format in
     let counted = c.in_ok-pairs.ensures.ok in
-    says_pairs c.text_is_one.ensures c.args.limits c.args.count rows counted.pairs (string_bytes c.in_ok-text.text) counted.are_canonical
+    says_pairs c.text_is_one.ensures c.args.limits c.args.count format rows counted.pairs (string_bytes c.in_ok-text.text) counted.are_canonical
     (c.in_ok-text.ensures
-    ∙ ap (λ (n : ℕ). counts_text n c.in_ok-pairs.pairs) c.len.ensures
-    ∙ ap (λ (rs : List Pair). counts_text (length rs) c.in_ok-pairs.pairs) c.rows.ensures.value
-    ∙ ap (λ (n : ℕ). counts_text (length rows) n) counted.count_is
-    ∙ sym (ap (λ (b : Bool). pairs_or_counts b rows counted.pairs) c.if-count.true))
+    ∙ ap (λ (n : ℕ). counts_in format n c.in_ok-pairs.pairs) c.len.ensures
+    ∙ ap (λ (rs : List Pair). counts_in format (length rs) c.in_ok-pairs.pairs) c.rows.ensures.value
+    ∙ ap (λ (n : ℕ). counts_in format (length rows) n) counted.count_is
+    ∙ sym (ap (λ (b : Bool). pairs_or_counts_in format b rows counted.pairs) c.if-count.true))
 
 pub returns-clause-ok : goal.returns-clause-ok
 returns-clause-ok c =
     let rows = c.args.table.rows in
-    says_pairs c.text_is_one.ensures c.args.limits c.args.count rows c.in_ok-pairs-2.pairs.items (string_bytes c.in_ok-text-2.text) c.in_ok-pairs-2.ensures.ok
+    let format = c.args.format in
+    says_pairs c.text_is_one.ensures c.args.limits c.args.count format rows c.in_ok-pairs-2.pairs.items (string_bytes c.in_ok-text-2.text) c.in_ok-pairs-2.ensures.ok
     (c.in_ok-text-2.ensures
-    ∙ ap (λ (ps : List Pair). pairs_text ps) c.deref.ensures.value
-    ∙ sym (ap (λ (b : Bool). pairs_or_counts b rows c.in_ok-pairs-2.pairs.items) c.if-count.false))
+    ∙ ap (λ (ps : List Pair). pairs_in format ps) c.deref.ensures.value
+    ∙ sym (ap (λ (b : Bool). pairs_or_counts_in format b rows c.in_ok-pairs-2.pairs.items) c.if-count.false))

@@ -1,0 +1,45 @@
+-- What the runs write, in the format that is asked for: this project's own.
+use Rattle.std.specs.Prelude.{ℕ, Bool, if◌then◌else◌, List, ◌++◌, length, Option}
+use Rattle.std.specs.List.{flat_map}
+use Rattle.babel_prefix.specs.Address.{Address}
+use Rattle.babel_tlv.specs.declared.held.Held.{Held}
+use Rattle.babel_tlv.specs.Route.{RouteKey}
+use Rattle.babel_table.specs.Counts.{Counts}
+use Rattle.babel_table.specs.Rows.{Routes}
+use Rattle.babel_canon.specs.declared.verdict.Verdict.{Verdict}
+use Rattle.babel_dump.specs.JsonText.{counts_json, lookup_json, pair_json, report_json, verdict_json}
+use Rattle.babel_dump.specs.RunText.{counts_text, lookup_text, pair_line, report_text, verdict_text}
+use Rattle.babel_dump.specs.declared.format.Format.{Format}
+use Rattle.babel_dump.specs.declared.format.Format.TheVariants as formats
+
+-- the text, or the JSON that says the same
+abbrev pub in_format : Format → (text json : List ℕ) → List ℕ
+in_format formats.Text text json = text
+in_format formats.Json text json = json
+
+abbrev pub line_in : Format → RouteKey × Held → List ℕ
+line_in format pair = in_format format (pair_line pair) (pair_json pair)
+
+-- a line for each pair
+abbrev pub pairs_in : Format → List (RouteKey × Held) → List ℕ
+pairs_in format pairs = flat_map (line_in format) pairs
+
+abbrev pub counts_in : Format → (rows pairs : ℕ) → List ℕ
+counts_in format rows pairs = in_format format (counts_text rows pairs) (counts_json rows pairs)
+
+-- the lines of the pairs, or how many rows and pairs there are
+abbrev pub pairs_or_counts_in : Format → Bool → (rows pairs : List (RouteKey × Held)) → List ℕ
+pairs_or_counts_in format count rows pairs = if count then counts_in format (length rows) (length pairs) else pairs_in format pairs
+
+abbrev pub report_in : Format → Counts → List ℕ
+report_in format counts = in_format format (report_text counts) (report_json counts)
+
+-- a line for each row, and the report
+abbrev pub show_in : Format → Routes → List ℕ
+show_in format table = pairs_in format table.rows ++ report_in format table.report
+
+abbrev pub lookup_in : Format → (dst src : Address) → Option Held → List ℕ
+lookup_in format dst src answer = in_format format (lookup_text answer) (lookup_json dst src answer)
+
+abbrev pub verdict_in : Format → Verdict → List ℕ
+verdict_in format verdict = in_format format (verdict_text verdict) (verdict_json verdict)

@@ -1,0 +1,74 @@
+-- The lines that the runs write as JSON (RFC 8259): one object a line, with the members in the order that is shown here. No
+-- string has a character that needs an escape. These are this project's own.
+use Rattle.std.specs.Prelude.{ℕ, List, ◌++◌, codes, Option, Some, None}
+use Rattle.std.specs.List.{filter_map, join_by}
+use Rattle.std.specs.Option.{option_map}
+use Rattle.std.specs.Fmt.{decimal}
+use Rattle.babel_prefix.specs.Address.{Address}
+use Rattle.babel_prefix.specs.Text.{printed, printed_prefix}
+use Rattle.babel_tlv.specs.declared.reason.Reason.{Reason}
+use Rattle.babel_tlv.specs.declared.held.Held.{Held}
+use Rattle.babel_tlv.specs.declared.held.Held.TheVariants as helds
+use Rattle.babel_tlv.specs.Route.{RouteKey, Announcement}
+use Rattle.babel_table.specs.Counts.{Counts, all_reasons, reason_place, count_at}
+use Rattle.babel_canon.specs.declared.verdict.Verdict.{Verdict}
+use Rattle.babel_canon.specs.declared.verdict.Verdict.TheVariants as verdicts
+use Rattle.babel_dump.specs.RunText.{hex_digits, newline, reason_name}
+
+-- `{"next_hop":"ADDRESS","router_id":"ROUTERID","seqno":N,"metric":N}`
+abbrev pub announcement_json : Announcement → List ℕ
+announcement_json ann =
+    codes "{\"next_hop\":\"" ++ printed ann.next_hop ++ codes "\",\"router_id\":\"" ++ hex_digits ann.router_id
+    ++ codes "\",\"seqno\":" ++ decimal ann.seqno ++ codes ",\"metric\":" ++ decimal ann.metric ++ codes "}"
+
+-- the announcement, `"unreachable"`, or `null`
+abbrev pub answer_json : Option Held → List ℕ
+answer_json None = codes "null"
+answer_json (Some (helds.Route ann)) = announcement_json ann
+answer_json (Some helds.Unreachable) = codes "\"unreachable\""
+
+-- `"destination":"DST","source":"SRC"`, of their texts
+abbrev pub addressed_json : (dst src : List ℕ) → List ℕ
+addressed_json dst src = codes "\"destination\":\"" ++ dst ++ codes "\",\"source\":\"" ++ src ++ codes "\""
+
+-- `{"destination":"DST","source":"SRC","answer":ANSWER}`
+abbrev pub answered_line : (dst src : List ℕ) → Option Held → List ℕ
+answered_line dst src answer =
+    codes "{" ++ addressed_json dst src ++ codes ",\"answer\":" ++ answer_json answer ++ codes "}" ++ newline
+
+abbrev pub pair_json : RouteKey × Held → List ℕ
+pair_json pair = answered_line (printed_prefix pair.0.dst) (printed_prefix pair.0.src) (Some pair.1)
+
+abbrev pub lookup_json : (dst src : Address) → Option Held → List ℕ
+lookup_json dst src answer = answered_line (printed dst) (printed src) answer
+
+-- `{"rows":N,"pairs":N}`
+abbrev pub counts_json : ℕ → ℕ → List ℕ
+counts_json rows pairs = codes "{\"rows\":" ++ decimal rows ++ codes ",\"pairs\":" ++ decimal pairs ++ codes "}" ++ newline
+
+-- `{"reason":"NAME","count":N,"first":OFFSET}`
+abbrev pub ignored_object : Reason → ℕ × ℕ → List ℕ
+ignored_object reason counted =
+    codes "{\"reason\":\"" ++ reason_name reason ++ codes "\",\"count\":" ++ decimal counted.0 ++ codes ",\"first\":"
+    ++ decimal counted.1 ++ codes "}"
+
+-- an object for each of these reasons that occurred
+abbrev pub ignored_objects : Counts → List Reason → List (List ℕ)
+ignored_objects counts reasons =
+    filter_map (λ reason. option_map (ignored_object reason) (count_at counts.ignored (reason_place reason))) reasons
+
+-- with a comma between each two
+abbrev pub comma_separated : List (List ℕ) → List ℕ
+comma_separated values = join_by (λ value. value) (codes ",") values
+
+-- `{"tlvs":N,"ignored":[..]}`
+abbrev pub report_json : Counts → List ℕ
+report_json counts =
+    codes "{\"tlvs\":" ++ decimal counts.tlvs ++ codes ",\"ignored\":[" ++ comma_separated (ignored_objects counts all_reasons) ++ codes "]}" ++ newline
+
+-- `{"same":true}`, or `{"same":false,"destination":"DST","source":"SRC","left":ANSWER,"right":ANSWER}`
+abbrev pub verdict_json : Verdict → List ℕ
+verdict_json verdicts.Same = codes "{\"same\":true}" ++ newline
+verdict_json (verdicts.Differ dst src left right) =
+    codes "{\"same\":false," ++ addressed_json (printed dst) (printed src) ++ codes ",\"left\":" ++ answer_json left
+    ++ codes ",\"right\":" ++ answer_json right ++ codes "}" ++ newline

@@ -1,0 +1,186 @@
+//! The lines that the runs write as JSON: RFC 8259. No text of an address, a router-id or a reason has a
+//! character that JSON escapes.
+ghost use Rattle.std.specs.Prelude.{◌≡◌, ◌++◌, IfOk, OnOk, string_bytes};
+ghost use Rattle.babel_dump.specs.JsonText.{comma_separated, counts_json, ignored_objects, lookup_json, report_json, verdict_json};
+
+use crate::addr_pair::AddrPair;
+use crate::reason_text::{REASONS, name};
+use crate::text::RouterId;
+use babel_canon::Verdict;
+use babel_table::Report;
+use babel_tlv::{Ann, Held, Key, Reason};
+use std::alloc::{AllocError, Global};
+use std::fmt;
+
+/// The route that is announced: an object.
+#[derive(Clone, Copy)]
+struct Announced(Ann);
+
+impl fmt::Display for Announced {
+    ghost use Rattle.std.specs.Prelude.{Some};
+    ghost use Rattle.babel_dump.specs.JsonText.{announcement_json};
+
+    ghost output = { λ announced. Some (announcement_json announced.0) };
+
+    fn fmt<W: fmt::Write>(&self, f: &mut fmt::Formatter<W>) -> fmt::Result {
+        let next_hop = self.0.next_hop();
+        let id = RouterId(self.0.router_id());
+        let seqno = self.0.seqno();
+        let metric = self.0.metric();
+        write!(
+            f,
+            r#"{{"next_hop":"{next_hop}","router_id":"{id}","seqno":{seqno},"metric":{metric}}}"#
+        )
+    }
+}
+
+/// What is answered: the object of a route, `"unreachable"`, or `null`.
+#[derive(Clone, Copy)]
+struct Answer(Option<Held>);
+
+impl fmt::Display for Answer {
+    ghost use Rattle.std.specs.Prelude.{Some};
+    ghost use Rattle.babel_dump.specs.JsonText.{answer_json};
+
+    ghost output = { λ answer. Some (answer_json answer.0) };
+
+    fn fmt<W: fmt::Write>(&self, f: &mut fmt::Formatter<W>) -> fmt::Result {
+        match self.0 {
+            Some(Held::Route(ann)) => Announced(ann).fmt(f),
+            Some(Held::Unreachable) => f.write_str(r#""unreachable""#),
+            None => f.write_str("null"),
+        }
+    }
+}
+
+/// A destination and a source: two members of an object.
+#[derive(Clone, Copy)]
+struct Addressed<A>(A, A);
+
+impl<A: fmt::Display> fmt::Display for Addressed<A> {
+    ghost use Rattle.std.specs.Option.{option_and_then, option_map};
+    ghost use Rattle.babel_dump.specs.JsonText.{addressed_json};
+
+    ghost output = { λ pair. option_and_then (λ dst. option_map (addressed_json dst) (A.output pair.1)) (A.output pair.0) };
+
+    fn fmt<W: fmt::Write>(&self, f: &mut fmt::Formatter<W>) -> fmt::Result {
+        let dst = &self.0;
+        let src = &self.1;
+        write!(f, r#""destination":"{dst}","source":"{src}""#)
+    }
+}
+
+/// A row of a table: a line.
+#[derive(Clone, Copy)]
+pub(crate) struct PairJson(pub Key, pub Held);
+
+impl fmt::Display for PairJson {
+    ghost use Rattle.std.specs.Prelude.{Some};
+    ghost use Rattle.babel_dump.specs.JsonText.{pair_json};
+
+    ghost output = { λ line. Some (pair_json (line.0, line.1)) };
+
+    fn fmt<W: fmt::Write>(&self, f: &mut fmt::Formatter<W>) -> fmt::Result {
+        let addressed = Addressed(self.0.dst(), self.0.src());
+        let answer = Answer(Some(self.1));
+        writeln!(f, r#"{{{addressed},"answer":{answer}}}"#)
+    }
+}
+
+/// The line of a lookup's answer.
+pub(crate) fn lookup_json(
+    alloc: Global,
+    pair: AddrPair,
+    answer: Option<Held>,
+) -> Result<String, AllocError>
+    ensures { IfOk result (λ text. string_bytes text ≡ lookup_json pair.dst pair.src answer) }
+{
+    let addressed = Addressed(pair.dst, pair.src);
+    let answer = Answer(answer);
+    let mut text = String::new(alloc);
+    writeln!(text, r#"{{{addressed},"answer":{answer}}}"#)?;
+    Ok(text)
+}
+
+/// The line of a verdict.
+pub(crate) fn verdict_json(alloc: Global, verdict: &Verdict) -> Result<String, AllocError>
+    ensures { IfOk result (λ text. string_bytes text ≡ verdict_json verdict.now) }
+{
+    let mut text = String::new(alloc);
+    match verdict {
+        Verdict::Same => writeln!(text, r#"{{"same":true}}"#)?,
+        Verdict::Differ {
+            dst,
+            src,
+            left,
+            right,
+        } => {
+            let addressed = Addressed(*dst, *src);
+            let (left, right) = (Answer(*left), Answer(*right));
+            writeln!(
+                text,
+                r#"{{"same":false,{addressed},"left":{left},"right":{right}}}"#
+            )?;
+        }
+    }
+    Ok(text)
+}
+
+/// How many rows and pairs there are: a line.
+pub(crate) fn counts_json(alloc: Global, rows: usize, pairs: usize) -> Result<String, AllocError>
+    ensures { IfOk result (λ text. string_bytes text ≡ counts_json rows pairs) }
+{
+    let mut text = String::new(alloc);
+    writeln!(text, r#"{{"rows":{rows},"pairs":{pairs}}}"#)?;
+    Ok(text)
+}
+
+/// Adds the line of a report.
+pub(crate) fn push_report_json(
+    alloc: Global,
+    text: &mut String,
+    report: &Report,
+) -> Result<(), AllocError>
+    ensures { OnOk result (string_bytes text.new ≡ string_bytes text.old ++ report_json report.now) }
+{
+    let tlvs = report.tlvs();
+    let ignored = ignored_json(alloc, report, &REASONS)?;
+    writeln!(text, r#"{{"tlvs":{tlvs},"ignored":[{ignored}]}}"#)?;
+    Ok(())
+}
+
+/// How many TLVs were ignored for a reason, and where the first lies: an object.
+#[derive(Clone, Copy)]
+struct Ignored(Reason, u64, u64);
+
+impl fmt::Display for Ignored {
+    ghost use Rattle.std.specs.Prelude.{Some};
+    ghost use Rattle.babel_dump.specs.JsonText.{ignored_object};
+
+    ghost output = { λ ignored. Some (ignored_object ignored.0 (ignored.1, ignored.2)) };
+
+    fn fmt<W: fmt::Write>(&self, f: &mut fmt::Formatter<W>) -> fmt::Result {
+        let Ignored(reason, count, first) = *self;
+        let name = name(reason);
+        write!(
+            f,
+            r#"{{"reason":"{name}","count":{count},"first":{first}}}"#
+        )
+    }
+}
+
+/// An object for each of these reasons that occurred, with a comma between each two.
+fn ignored_json(alloc: Global, report: &Report, reasons: &[Reason]) -> Result<String, AllocError>
+    ensures { IfOk result (λ text. string_bytes text ≡ comma_separated (ignored_objects report.now reasons.now)) }
+{
+    let mut text = String::new(alloc);
+    let mut comma = "";
+    for reason in reasons {
+        if let Some((count, first)) = report.ignored(*reason) {
+            let ignored = Ignored(*reason, count, first);
+            write!(text, "{comma}{ignored}")?;
+            comma = ",";
+        }
+    }
+    Ok(text)
+}

@@ -1,0 +1,131 @@
+//! What the runs write, in the format that is asked for.
+ghost use Rattle.std.specs.Prelude.{◌≡◌, IfOk, string_bytes};
+ghost use Rattle.babel_dump.specs.InFormat.{counts_in, lookup_in, pairs_in, show_in, verdict_in};
+
+use crate::addr_pair::AddrPair;
+use crate::format::Format;
+use crate::json::{PairJson, counts_json, lookup_json, push_report_json, verdict_json};
+use crate::reason_text::push_report;
+use crate::text::{PairLine, counts_text, lookup_text, verdict_text};
+use babel_canon::Verdict;
+use babel_table::Table;
+use babel_tlv::{Held, Key};
+use std::alloc::{AllocError, Global};
+use std::fmt;
+
+/// A row of a table: a line in a format.
+#[derive(Clone, Copy)]
+struct Line(Format, Key, Held);
+
+impl fmt::Display for Line {
+    ghost use Rattle.std.specs.Prelude.{Some};
+    ghost use Rattle.babel_dump.specs.InFormat.{line_in};
+
+    ghost output = { λ line. Some (line_in line.0 (line.1, line.2)) };
+
+    fn fmt<W: fmt::Write>(&self, f: &mut fmt::Formatter<W>) -> fmt::Result {
+        match self.0 {
+            Format::Text => PairLine(self.1, self.2).fmt(f),
+            Format::Json => PairJson(self.1, self.2).fmt(f),
+        }
+    }
+}
+
+impl Format {
+    /// The longest line of an IPv4 route, in octets. Room for so many is taken for each row at once.
+    fn line_room(self) -> usize {
+        match self {
+            Format::Text => 108,
+            Format::Json => 167,
+        }
+    }
+}
+
+/// The lines of pairs.
+pub(crate) fn pairs_output(
+    alloc: Global,
+    format: Format,
+    pairs: &[(Key, Held)],
+) -> Result<String, AllocError>
+    ensures { IfOk result (λ text. string_bytes text ≡ pairs_in format pairs.now) }
+{
+    let mut text = String::with_capacity(alloc, pairs.len().saturating_mul(format.line_room()))?;
+    for pair in pairs {
+        let line = Line(format, pair.0, pair.1);
+        write!(text, "{line}")?;
+    }
+    Ok(text)
+}
+
+/// The lines of the rows.
+fn rows_output(alloc: Global, format: Format, table: &Table) -> Result<String, AllocError>
+    ensures { IfOk result (λ text. string_bytes text ≡ pairs_in format table.now.rows) }
+{
+    let rows = table.rows();
+    let mut text = String::with_capacity(alloc, rows.len().saturating_mul(format.line_room()))?;
+    for (key, held) in rows {
+        let line = Line(format, key, held);
+        write!(text, "{line}")?;
+    }
+    Ok(text)
+}
+
+/// The lines of the rows, and of the report.
+pub(crate) fn show_output(
+    alloc: Global,
+    format: Format,
+    table: &Table,
+) -> Result<String, AllocError>
+    ensures { IfOk result (λ text. string_bytes text ≡ show_in format table.now) }
+{
+    let mut text = rows_output(alloc, format, table)?;
+    match format {
+        Format::Text => push_report(&mut text, table.report())?,
+        Format::Json => push_report_json(alloc, &mut text, table.report())?,
+    }
+    Ok(text)
+}
+
+/// How many rows and pairs there are.
+pub(crate) fn counts_output(
+    alloc: Global,
+    format: Format,
+    rows: usize,
+    pairs: usize,
+) -> Result<String, AllocError>
+    ensures { IfOk result (λ text. string_bytes text ≡ counts_in format rows pairs) }
+{
+    match format {
+        Format::Text => counts_text(alloc, rows, pairs),
+        Format::Json => counts_json(alloc, rows, pairs),
+    }
+}
+
+/// The answer of a lookup.
+pub(crate) fn lookup_output(
+    alloc: Global,
+    format: Format,
+    pair: AddrPair,
+    answer: Option<Held>,
+) -> Result<String, AllocError>
+    ensures { IfOk result (λ text. string_bytes text ≡ lookup_in format pair.dst pair.src answer) }
+{
+    match format {
+        Format::Text => lookup_text(alloc, answer.as_ref()),
+        Format::Json => lookup_json(alloc, pair, answer),
+    }
+}
+
+/// The lines of a verdict.
+pub(crate) fn verdict_output(
+    alloc: Global,
+    format: Format,
+    verdict: &Verdict,
+) -> Result<String, AllocError>
+    ensures { IfOk result (λ text. string_bytes text ≡ verdict_in format verdict.now) }
+{
+    match format {
+        Format::Text => verdict_text(alloc, verdict),
+        Format::Json => verdict_json(alloc, verdict),
+    }
+}
