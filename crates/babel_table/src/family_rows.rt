@@ -19,7 +19,7 @@ use std::collections::BTreeMap;
 use std::marker::Model;
 
 /// So many rows may be retracted beside as many as are not, before they are taken out.
-const SPARE: usize = 1_024;
+const SPARE: usize = 16;
 
 /// A key and what was last said of it: nothing where it was retracted.
 type WordRow<W> = (CompactKey<W>, Option<Stored<W>>);
