@@ -5,7 +5,7 @@ _babel_dump() {
     local options="--from --hold --strict --quiet --json --max-routes --max-octets --help"
     case $command in
         show) options=${options/ --strict/} ;;
-        lookup) options="$options --to --src" ;;
+        lookup) options="$options --to --src --each" ;;
         pairs) options="$options --count" ;;
         normalise) options="${options/ --json/} --hex --body" ;;
         compare) options="$options --other-from" ;;

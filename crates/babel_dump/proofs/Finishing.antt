@@ -22,9 +22,10 @@ of_reading reader other Refuses (run_faults.Ignored tlv) P Q cause known = known
 of_reading reader other Refuses run_faults.OtherRead P Q cause known = known
 of_reading reader other Refuses (run_faults.OtherDump fault) P Q cause known = known
 of_reading reader other Refuses (run_faults.OtherIgnored tlv) P Q cause known = known
+of_reading reader other Refuses (run_faults.Pairs fault) P Q cause known = known
 of_reading reader other Refuses run_faults.Write P Q cause known = absurd cause
 
-kept_same : (taken : Option (List ℕ)) → Keeps taken taken
+pub kept_same : (taken : Option (List ℕ)) → Keeps taken taken
 kept_same None = search rules
 kept_same (Some octets) = search rules
 

@@ -1,5 +1,5 @@
 -- What a job's run answers and writes is settled by the octets of its readers.
-use Rattle.std.proofs.Common.{◌≡◌, ◌≢◌, refl, ℕ, ◌≤◌, Bool, true, List, [], ◌++◌, length, take, Option, None, Some, Result, Ok, Err, inl, inr, ◌⊎◌, arith, append-nil, subst, ap, sym, ◌∙◌}
+use Rattle.std.proofs.Common.{◌≡◌, ◌≢◌, refl, ℕ, ◌<◌, ◌≤◌, Bool, true, if◌then◌else◌, List, [], ◌++◌, length, length-append, take, Option, None, Some, Result, Ok, Err, inl, inr, ◌⊎◌, arith, append-nil, subst, ap, sym, ◌∙◌}
 use Rattle.std.specs.Prelude.{IfOk, IfErr}
 use Rattle.std.specs.Io.KnownBytes.{Appends, Consumes, IsAtEnd, Keeps}
 use Rattle.babel_prefix.specs.Address.{Address}
@@ -18,22 +18,30 @@ use Rattle.babel_canon.specs.declared.verdict.Verdict.{Verdict}
 use Rattle.babel_canon.proofs.OneOutcome.{boxes_same, normal_form_is_one}
 use Rattle.babel_canon.proofs.OneVerdict.{verdict_is_one}
 use Rattle.babel_dump.specs.Command.{Compares, InTurn, ListsPairs, LooksUp, Shows, WritesNormal}
+use Rattle.babel_dump.specs.AskedPairs.{AskFor, IsFirstWrong, asking, lines_of}
 use Rattle.babel_dump.specs.Device.{AppendsPrefix}
+use Rattle.babel_dump.specs.Each.{GavePairsOf, GaveText, LooksUpEach, RanOverPairs, RefusedPairs, RefusesPairs}
 use Rattle.babel_dump.specs.Given.{GaveAll, GaveDump, GaveIgnored, GaveTable, Input, IsFaultOfForm, IsFaultOfGiven, IsOfWhole, read_from}
-use Rattle.babel_dump.specs.InFormat.{lookup_in, pairs_or_counts_in, show_in, verdict_in}
+use Rattle.babel_dump.specs.InFormat.{answer_line_in, each_in, lookup_in, pairs_or_counts_in, show_in, verdict_in}
 use Rattle.babel_dump.specs.JobRun.{left_reading, reading_of, right_reading}
 use Rattle.babel_dump.specs.OneOutcome.{FaultIsOfAll, FaultIsOne, IsOfOctets, NothingWritten, OtherFaultIsOfAll, RanOver, StatusIsOne, StatusOrFault, WrittenIsPrefix}
 use Rattle.babel_dump.specs.Run.{HasCause, Output, Ran, UnlessWrite, run_status}
-use Rattle.babel_dump.specs.RunText.{answer_in, form_text, lookup_status, verdict_status}
+use Rattle.babel_dump.specs.RunText.{answer_in, each_status, form_text, lacks_route, lookup_status, verdict_status}
 use Rattle.babel_dump.specs.Ignored.{IgnoresNone, first_ignored}
 use Rattle.babel_dump.specs.declared.format.Format.{Format}
 use Rattle.babel_dump.specs.declared.ignored.IgnoredTlv.{IgnoredTlv}
+use Rattle.babel_dump.specs.declared.addr_pair.AddrPair.{AddrPair}
+use Rattle.babel_dump.specs.declared.job.DumpFile.{DumpFile}
 use Rattle.babel_dump.specs.declared.job.Job.{Job}
 use Rattle.babel_dump.specs.declared.job.Job.TheVariants as jobs
+use Rattle.babel_dump.specs.declared.job.OneDump.{OneDump}
 use Rattle.babel_dump.specs.declared.outcome.Outcome.{Outcome}
+use Rattle.babel_dump.specs.declared.pairs_fault.PairsFault.TheVariants as pairs_faults
 use Rattle.babel_dump.specs.declared.reading.Reading.{Reading}
 use Rattle.babel_dump.specs.declared.run_fault.RunFault.{RunFault}
 use Rattle.babel_dump.specs.declared.run_fault.RunFault.TheVariants as run_faults
+use Rattle.babel_dump.proofs.AskedLaws.{first_wrong_one, not_wrong, same_tests, same_texts}
+use Rattle.babel_dump.proofs.Finishing.{kept_same}
 use Rattle.babel_dump.proofs.IgnoredLaws.{none_is_first}
 
 -- the octets that a reader gave are the first of those that it had
@@ -173,12 +181,23 @@ pub record TablesSay (reading other_reading : Reading) (format : Format) (dump o
   pub text_is : text ≡ verdict_in format verdict
   pub status_is : status ≡ verdict_status verdict
 
+-- a text asks for these pairs, and is no longer than a dump may be
+pub record AreAskedBy (reading : Reading) (text : List ℕ) (pairs : List AddrPair) : Type 0 where
+  pub in_limit : length text ≤ reading.limits.bytes
+  pub asked : AskFor (lines_of text) pairs
+
+pub record EachSays (reading : Reading) (format : Format) (dump pairs : List ℕ) (text : List ℕ) (status : ℕ) : Type 0 where
+  pub asked : List AddrPair
+  pub are : AreAskedBy reading pairs asked
+  pub says : TableSays reading dump (λ table. each_in format table asked) (λ table. each_status table asked) text status
+
 -- what a job says of the octets of its readers
 abbrev pub SaysOf : Bounds → Job → List ℕ → List ℕ → List ℕ → ℕ → Type 0
 SaysOf limits (jobs.Show dump) octets other text status = TableSays (reading_of limits dump) octets (show_in dump.format) (λ _. 0) text status
 SaysOf limits (jobs.Lookup dump pair) octets other text status =
     TableSays (reading_of limits dump) octets (λ table. lookup_in dump.format pair.dst pair.src (answer_in table pair.dst pair.src))
     (λ table. lookup_status (answer_in table pair.dst pair.src)) text status
+SaysOf limits (jobs.Each dump pairs) octets other text status = EachSays (reading_of limits dump) dump.format octets other text status
 SaysOf limits (jobs.Normalise dump body hex) octets other text status = NormalSays (reading_of limits dump) body hex octets text status
 SaysOf limits (jobs.Pairs dump count) octets other text status = PairsSay (reading_of limits dump) count dump.format octets text status
 SaysOf limits (jobs.Compare dumps) octets other text status =
@@ -211,10 +230,23 @@ FaultOfTables reading other_reading dump other fault =
     FaultOfTable reading dump fault
     ⊎ (((table : Routes) × IsSound reading dump table) × FaultOfOther other_reading other fault)
 
+-- the fault is that of the text of pairs
+abbrev pub FaultOfPairs : Reading → List ℕ → RunFault → Type 0
+FaultOfPairs reading text fault =
+    ((line : ℕ) × (fault ≡ run_faults.Pairs (pairs_faults.NotAPair line)) × (length text ≤ reading.limits.bytes) × IsFirstWrong (lines_of text) line)
+    ⊎ ((fault ≡ run_faults.Pairs pairs_faults.TooLong) × (reading.limits.bytes < length text))
+
+-- the fault is that of the text of pairs, or, where that has none, of the dump
+abbrev pub FaultOfEach : Reading → List ℕ → List ℕ → RunFault → Type 0
+FaultOfEach reading dump text fault =
+    FaultOfPairs reading text fault
+    ⊎ (((pairs : List AddrPair) × AreAskedBy reading text pairs) × FaultOfTable reading dump fault)
+
 -- the fault that a job has of the octets of its readers
 abbrev pub FaultOf : Bounds → Job → List ℕ → List ℕ → RunFault → Type 0
 FaultOf limits (jobs.Show dump) octets other fault = FaultOfTable (reading_of limits dump) octets fault
 FaultOf limits (jobs.Lookup dump pair) octets other fault = FaultOfTable (reading_of limits dump) octets fault
+FaultOf limits (jobs.Each dump pairs) octets other fault = FaultOfEach (reading_of limits dump) octets other fault
 FaultOf limits (jobs.Normalise dump body hex) octets other fault = FaultOfNormal (reading_of limits dump) octets fault
 FaultOf limits (jobs.Pairs dump count) octets other fault = FaultOfNormal (reading_of limits dump) octets fault
 FaultOf limits (jobs.Compare dumps) octets other fault =
@@ -253,10 +285,22 @@ tables_say_one reading other_reading format dump other text text_too status stat
     let same = verdict_is_one two.table.rows two.other_table.rows one.verdict two.verdict moved two.is_verdict in
     (one.text_is ∙ ap (verdict_in format) same ∙ sym two.text_is, one.status_is ∙ ap verdict_status same ∙ sym two.status_is)
 
+each_says_one : (reading : Reading) (format : Format) (dump pairs text text_too : List ℕ) (status status_too : ℕ)
+    → EachSays reading format dump pairs text status → EachSays reading format dump pairs text_too status_too → (text ≡ text_too) × (status ≡ status_too)
+each_says_one reading format dump pairs text text_too status status_too one two =
+    let same = sound_one reading dump one.says.table two.says.table one.says.sound two.says.sound in
+    let table = two.says.table in
+    let texts = same_texts (λ dst src. answer_line_in format dst src (answer_in table dst src)) (asking (lines_of pairs)) one.asked two.asked one.are.asked two.are.asked in
+    let tests = same_tests (lacks_route table) (asking (lines_of pairs)) one.asked two.asked one.are.asked two.are.asked in (
+      one.says.text_is ∙ ap (λ (t : Routes). each_in format t one.asked) same ∙ texts ∙ sym two.says.text_is,
+      one.says.status_is ∙ ap (λ (t : Routes). each_status t one.asked) same ∙ ap (λ (lacks : Bool). if lacks then 1 else 0) tests ∙ sym two.says.status_is,
+    )
+
 says_one : (limits : Bounds) (job : Job) (dump other text text_too : List ℕ) (status status_too : ℕ) → SaysOf limits job dump other text status
     → SaysOf limits job dump other text_too status_too → (text ≡ text_too) × (status ≡ status_too)
 says_one limits (jobs.Show given) dump other text text_too status status_too one two = table_says_one _ dump _ _ text text_too status status_too one two
 says_one limits (jobs.Lookup given pair) dump other text text_too status status_too one two = table_says_one _ dump _ _ text text_too status status_too one two
+says_one limits (jobs.Each given pairs) dump other text text_too status status_too one two = each_says_one _ given.format dump other text text_too status status_too one two
 says_one limits (jobs.Normalise given body hex) dump other text text_too status status_too one two = normal_says_one _ body hex dump text text_too status status_too one two
 says_one limits (jobs.Pairs given count) dump other text text_too status status_too one two = pairs_say_one _ count given.format dump text text_too status status_too one two
 says_one limits (jobs.Compare dumps) dump other text text_too status status_too one two = tables_say_one _ _ dumps.format dump other text text_too status status_too one two
@@ -273,11 +317,18 @@ sound_no_fault : (own : Fault → RunFault) (ignored : IgnoredTlv → RunFault) 
 sound_no_fault own ignored reading dump table fault is (inl (of_dump, same, has)) = is.whole.accepted of_dump has
 sound_no_fault own ignored reading dump table fault is (inr (tlv, same, first)) = sound_ignores_none reading dump table tlv is first
 
+-- a text that asks for pairs has no fault
+asked_no_fault : (reading : Reading) (text : List ℕ) (pairs : List AddrPair) (fault : RunFault) → AreAskedBy reading text pairs → FaultOfPairs reading text fault → ⊥
+asked_no_fault reading text pairs fault are (inl (line, is, few, wrong)) = not_wrong (lines_of text) pairs line are.asked wrong
+asked_no_fault reading text pairs fault are (inr (is, over)) = let few = are.in_limit in absurd (omega (arith, few, over))
+
 -- where a job says something of octets it has no fault of them
 says_no_fault : (limits : Bounds) (job : Job) (dump other text : List ℕ) (status : ℕ) (fault : RunFault) → SaysOf limits job dump other text status
     → FaultOf limits job dump other fault → ⊥
 says_no_fault limits (jobs.Show given) dump other text status fault says has = sound_no_fault _ _ _ dump says.table fault says.sound has
 says_no_fault limits (jobs.Lookup given pair) dump other text status fault says has = sound_no_fault _ _ _ dump says.table fault says.sound has
+says_no_fault limits (jobs.Each given pairs) dump other text status fault says (inl has) = asked_no_fault (reading_of limits given) other says.asked fault says.are has
+says_no_fault limits (jobs.Each given pairs) dump other text status fault says (inr (asked, has)) = sound_no_fault _ _ _ dump says.says.table fault says.says.sound has
 says_no_fault limits (jobs.Normalise given body hex) dump other text status fault says (inl has) = sound_no_fault _ _ _ dump says.table fault says.sound has
 says_no_fault limits (jobs.Normalise given body hex) dump other text status fault says (inr (many, (table, is, boxes))) =
     let same = table_is_one limits given.mode given.from dump says.normal.table table says.normal.is_table is.whole.is_table in
@@ -314,10 +365,24 @@ tables_fault_one reading other_reading dump other fault fault_too (inl one) (inr
 tables_fault_one reading other_reading dump other fault fault_too (inr (first, one)) (inl two) = absurd (sound_no_fault _ _ reading dump first.0 fault_too first.1 two)
 tables_fault_one reading other_reading dump other fault fault_too (inr (first, one)) (inr (first_too, two)) = as_one _ _ other_reading other fault fault_too one two
 
+pairs_fault_one : (reading : Reading) (text : List ℕ) (fault fault_too : RunFault) → FaultOfPairs reading text fault → FaultOfPairs reading text fault_too → fault ≡ fault_too
+pairs_fault_one reading text fault fault_too (inl (line, is, few, wrong)) (inl (line_too, is_too, few_too, wrong_too)) =
+    is ∙ ap (λ (at : ℕ). run_faults.Pairs (pairs_faults.NotAPair at)) (first_wrong_one (lines_of text) line line_too wrong wrong_too) ∙ sym is_too
+pairs_fault_one reading text fault fault_too (inl (line, is, few, wrong)) (inr (is_too, over)) = absurd (omega (arith, few, over))
+pairs_fault_one reading text fault fault_too (inr (is, over)) (inl (line_too, is_too, few, wrong)) = absurd (omega (arith, few, over))
+pairs_fault_one reading text fault fault_too (inr (is, over)) (inr (is_too, over_too)) = is ∙ sym is_too
+
+each_fault_one : (reading : Reading) (dump text : List ℕ) (fault fault_too : RunFault) → FaultOfEach reading dump text fault → FaultOfEach reading dump text fault_too → fault ≡ fault_too
+each_fault_one reading dump text fault fault_too (inl one) (inl two) = pairs_fault_one reading text fault fault_too one two
+each_fault_one reading dump text fault fault_too (inl one) (inr (asked, two)) = absurd (asked_no_fault reading text asked.0 fault asked.1 one)
+each_fault_one reading dump text fault fault_too (inr (asked, one)) (inl two) = absurd (asked_no_fault reading text asked.0 fault_too asked.1 two)
+each_fault_one reading dump text fault fault_too (inr (asked, one)) (inr (asked_too, two)) = as_one _ _ reading dump fault fault_too one two
+
 fault_one : (limits : Bounds) (job : Job) (dump other : List ℕ) (fault fault_too : RunFault) → FaultOf limits job dump other fault
     → FaultOf limits job dump other fault_too → fault ≡ fault_too
 fault_one limits (jobs.Show given) dump other fault fault_too one two = as_one _ _ _ dump fault fault_too one two
 fault_one limits (jobs.Lookup given pair) dump other fault fault_too one two = as_one _ _ _ dump fault fault_too one two
+fault_one limits (jobs.Each given pairs) dump other fault fault_too one two = each_fault_one _ dump other fault fault_too one two
 fault_one limits (jobs.Normalise given body hex) dump other fault fault_too one two = normal_fault_one _ dump fault fault_too one two
 fault_one limits (jobs.Pairs given count) dump other fault fault_too one two = normal_fault_one _ dump fault fault_too one two
 fault_one limits (jobs.Compare dumps) dump other fault fault_too one two = tables_fault_one _ _ dump other fault fault_too one two
@@ -330,6 +395,20 @@ shows reader format dump text status has says = record { table = says.table; sou
 looks_up : (reader : Input) (dst src : Address) (format : Format) (dump text : List ℕ) (status : ℕ) → reader.old.left ≡ Some dump → LooksUp reader dst src format text status
     → TableSays reader.reading dump (λ table. lookup_in format dst src (answer_in table dst src)) (λ table. lookup_status (answer_in table dst src)) text status
 looks_up reader dst src format dump text status has says = record { table = says.table; sound = sound reader dump says.table has says.gave; text_is = says.text_is; status_is = says.status_is }
+
+gave_text : (reader : Input) (text given : List ℕ) → reader.old.left ≡ Some text → GaveText reader given → given ≡ text
+gave_text reader text given has gave = gave_all reader text given has gave.gave
+
+asked_by : (reader : Input) (text : List ℕ) (pairs : List AddrPair) → reader.old.left ≡ Some text → GavePairsOf reader pairs → AreAskedBy reader.reading text pairs
+asked_by reader text pairs has gave =
+    let same = gave_text reader text gave.text has gave.gave in record {
+      in_limit = subst (λ (t : List ℕ). length t ≤ reader.reading.limits.bytes) same gave.gave.in_limit;
+      asked = subst (λ (t : List ℕ). AskFor (lines_of t) pairs) same gave.asked;
+    }
+
+looks_up_each : (reader : Input) (format : Format) (asked : List AddrPair) (dump text : List ℕ) (status : ℕ) → reader.old.left ≡ Some dump → LooksUpEach reader format asked text status
+    → TableSays reader.reading dump (λ table. each_in format table asked) (λ table. each_status table asked) text status
+looks_up_each reader format asked dump text status has says = record { table = says.table; sound = sound reader dump says.table has says.gave; text_is = says.text_is; status_is = says.status_is }
 
 normalises : (reader : Input) (body : ℕ) (hex : Bool) (dump text : List ℕ) (status : ℕ) → reader.old.left ≡ Some dump
     → WritesNormal reader body hex text status → NormalSays reader.reading body hex dump text status
@@ -377,7 +456,31 @@ of_table reader dump (run_faults.Ignored tlv) has is cause = inr (tlv, refl, is_
 of_table reader dump run_faults.OtherRead has is cause = absurd is
 of_table reader dump (run_faults.OtherDump fault) has is cause = absurd cause
 of_table reader dump (run_faults.OtherIgnored tlv) has is cause = absurd cause
+of_table reader dump (run_faults.Pairs fault) has is cause = absurd cause
 of_table reader dump run_faults.Write has is cause = absurd is
+
+of_pairs : (reader : Input) (text : List ℕ) (fault : RunFault) → reader.old.left ≡ Some text → IsOfOctets fault → RefusesPairs reader fault
+    → FaultOfPairs reader.reading text fault
+of_pairs reader text (run_faults.Pairs (pairs_faults.NotAPair line)) has is wrong =
+    let same = gave_text reader text wrong.text has wrong.gave in
+    inl (
+      line,
+      refl,
+      subst (λ (t : List ℕ). length t ≤ reader.reading.limits.bytes) same wrong.gave.in_limit,
+      subst (λ (t : List ℕ). IsFirstWrong (lines_of t) line) same wrong.wrong,
+    )
+of_pairs reader text (run_faults.Pairs pairs_faults.TooLong) has is many =
+    let whole = begins reader.old.left reader.new.left text many.octets has many.gave in
+    let long : length text ≡ length (many.octets ++ whole.0) = ap (λ (t : List ℕ). length t) whole.1 in
+    inr (refl, omega (arith, many.over, long, length-append many.octets whole.0))
+of_pairs reader text (run_faults.Pairs pairs_faults.Read) has is refuses = absurd is
+of_pairs reader text (run_faults.Dump fault) has is memory = absurd (is memory)
+of_pairs reader text run_faults.Read has is refuses = absurd refuses
+of_pairs reader text (run_faults.Ignored tlv) has is refuses = absurd refuses
+of_pairs reader text run_faults.OtherRead has is refuses = absurd refuses
+of_pairs reader text (run_faults.OtherDump fault) has is refuses = absurd refuses
+of_pairs reader text (run_faults.OtherIgnored tlv) has is refuses = absurd refuses
+of_pairs reader text run_faults.Write has is refuses = absurd refuses
 
 form_of_all : (reader : Input) (dump : List ℕ) (fault : Fault) → reader.old.left ≡ Some dump → IsFaultOfForm reader fault
     → FaultOfNormal reader.reading dump (run_faults.Dump fault)
@@ -393,6 +496,7 @@ of_normal reader dump (run_faults.Ignored tlv) has is cause = inl (inr (tlv, ref
 of_normal reader dump run_faults.OtherRead has is cause = absurd is
 of_normal reader dump (run_faults.OtherDump fault) has is cause = absurd cause
 of_normal reader dump (run_faults.OtherIgnored tlv) has is cause = absurd cause
+of_normal reader dump (run_faults.Pairs fault) has is cause = absurd cause
 of_normal reader dump run_faults.Write has is cause = absurd is
 
 of_tables : (reader second : Input) (dump other : List ℕ) (untouched : Type 0) (fault : RunFault) → reader.old.left ≡ Some dump
@@ -408,6 +512,7 @@ of_tables reader second dump other untouched (run_faults.OtherDump fault) has ot
     inr ((table, sound reader dump table has gave), inl (fault, refl, fault_of_all second other fault other_has (cause is)))
 of_tables reader second dump other untouched (run_faults.OtherIgnored tlv) has other_has is cause (table, gave) =
     inr ((table, sound reader dump table has gave), inr (tlv, refl, is_ignored second other tlv other_has cause))
+of_tables reader second dump other untouched (run_faults.Pairs fault) has other_has is cause in_turn = absurd cause
 of_tables reader second dump other untouched run_faults.Write has other_has is cause in_turn = absurd is
 
 -- what a run of a job says of the octets of its readers
@@ -425,6 +530,7 @@ unwritten (run_faults.Ignored tlv) P Q known is = known
 unwritten run_faults.OtherRead P Q known is = known
 unwritten (run_faults.OtherDump fault) P Q known is = known
 unwritten (run_faults.OtherIgnored tlv) P Q known is = known
+unwritten (run_faults.Pairs fault) P Q known is = known
 unwritten run_faults.Write P Q known is = absurd is
 
 at_write : (fault : RunFault) (P Q R : Type 0) → (Q → R) → UnlessWrite fault P Q → UnlessWrite fault P R
@@ -434,6 +540,7 @@ at_write (run_faults.Ignored tlv) P Q R f known = known
 at_write run_faults.OtherRead P Q R f known = known
 at_write (run_faults.OtherDump fault) P Q R f known = known
 at_write (run_faults.OtherIgnored tlv) P Q R f known = known
+at_write (run_faults.Pairs fault) P Q R f known = known
 at_write run_faults.Write P Q R f known = f known
 
 told_of : (limits : Bounds) (job : Job) (dump other : List ℕ) (reader : Input) (second : Option Input) (writer : Output) (Refuses : Fault → Type 0)
@@ -462,6 +569,31 @@ both_of dump other reader second untouched (Ok status) has other_has in_turn = t
 both_of dump other reader second untouched (Err fault) has other_has in_turn =
     λ is cause. of_tables reader second dump other untouched fault has other_has is cause in_turn
 
+-- pairs are not refused for a write
+refuses_unless : (reader : Input) (fault : RunFault) (P Q : Type 0) → RefusesPairs reader fault → P → UnlessWrite fault P Q
+refuses_unless reader (run_faults.Pairs fault) P Q refuses known = known
+refuses_unless reader (run_faults.Dump fault) P Q refuses known = known
+refuses_unless reader run_faults.Read P Q refuses known = absurd refuses
+refuses_unless reader (run_faults.Ignored tlv) P Q refuses known = absurd refuses
+refuses_unless reader run_faults.OtherRead P Q refuses known = absurd refuses
+refuses_unless reader (run_faults.OtherDump fault) P Q refuses known = absurd refuses
+refuses_unless reader (run_faults.OtherIgnored tlv) P Q refuses known = absurd refuses
+refuses_unless reader run_faults.Write P Q refuses known = absurd refuses
+
+tell_each : (limits : Bounds) (given : OneDump) (file : DumpFile) (dump other : List ℕ) (reader pairs : Input) (writer : Output) (result : Result ℕ RunFault)
+    → reader.reading ≡ reading_of limits given → pairs.reading ≡ reading_of limits given → reader.old.left ≡ Some dump → pairs.old.left ≡ Some other
+    → RefusedPairs reader pairs writer result ⊎ RanOverPairs reader pairs given.format writer result → Told limits (jobs.Each given file) dump other writer result
+tell_each limits given file dump other reader pairs writer result read_so asked_so has pairs_has (inl refused) = rw refused.answers (record {
+  wrote = tt;
+  cause = λ is. inl (rw asked_so at (of_pairs pairs other refused.fault pairs_has is refused.refuses));
+  prefix = refuses_unless pairs refused.fault _ _ refused.refuses (rw (ap (λ (state : _). state.taken) refused.unwritten) (kept_same writer.old.taken));
+})
+tell_each limits given file dump other reader pairs writer result read_so asked_so has pairs_has (inr over) =
+    let are = rw asked_so at (asked_by pairs other over.asked pairs_has over.gave) in
+    told_of limits (jobs.Each given file) dump other reader None writer _ _ result over.ran
+    (λ text status says. record { asked = over.asked; are = are; says = rw read_so at (looks_up_each reader given.format over.asked dump text status has says) })
+    (of_each _ result (λ fault is cause. inr ((over.asked, are), rw read_so at (of_table reader dump fault has is cause))))
+
 tell : (limits : Bounds) (job : Job) (dump other before after : List ℕ) (result : Result Outcome RunFault) (run : RanOver limits job dump other before after result)
     → Told limits job dump other run.writer (run_status result)
 tell limits (jobs.Show given) dump other before after result run =
@@ -473,6 +605,9 @@ tell limits (jobs.Lookup given pair) dump other before after result run =
     told_of limits (jobs.Lookup given pair) dump other reader None run.writer _ _ (run_status result) run.ran.ran.1
     (λ text status says. looks_up reader pair.dst pair.src given.format dump text status run.has says)
     (of_each _ (run_status result) (λ fault is cause. of_table reader dump fault run.has is cause))
+tell limits (jobs.Each given file) dump other before after result run =
+    tell_each limits given file dump other (read_from run.old run.new (reading_of limits given)) (read_from run.other_old run.other_new (reading_of limits given))
+    run.writer (run_status result) refl refl run.has run.other_has run.ran.ran.ran
 tell limits (jobs.Normalise given body hex) dump other before after result run =
     let reader = read_from run.old run.new (reading_of limits given) in
     told_of limits (jobs.Normalise given body hex) dump other reader None run.writer _ _ (run_status result) run.ran.ran.1
@@ -534,6 +669,7 @@ not_at_write (run_faults.Ignored tlv) P Q not_write known = known
 not_at_write run_faults.OtherRead P Q not_write known = known
 not_at_write (run_faults.OtherDump fault) P Q not_write known = known
 not_at_write (run_faults.OtherIgnored tlv) P Q not_write known = known
+not_at_write (run_faults.Pairs fault) P Q not_write known = known
 not_at_write run_faults.Write P Q not_write known = absurd (not_write refl)
 
 pub nothing_written : NothingWritten
@@ -552,6 +688,12 @@ of_normal_fault : (reading : Reading) (dump : List ℕ) (fault : Fault) → Faul
 of_normal_fault reading dump fault (inl has) not_pairs = of_table_fault reading dump fault has
 of_normal_fault reading dump fault (inr (is, many)) not_pairs =
     let same : fault ≡ faults.TooManyPairs = cc in absurd (not_pairs same)
+
+of_each_fault : (reading : Reading) (dump text : List ℕ) (fault : Fault) → FaultOfEach reading dump text (run_faults.Dump fault)
+    → DumpFault reading.limits reading.mode reading.sender dump fault
+of_each_fault reading dump text fault (inl (inl (line, is, few, wrong))) = absurd cc
+of_each_fault reading dump text fault (inl (inr (is, over))) = absurd cc
+of_each_fault reading dump text fault (inr (asked, has)) = of_table_fault reading dump fault has
 
 of_first : (reading other_reading : Reading) (dump other : List ℕ) (fault : Fault)
     → FaultOfTables reading other_reading dump other (run_faults.Dump fault) → DumpFault reading.limits reading.mode reading.sender dump fault
@@ -574,6 +716,8 @@ fault_is_of_all limits (jobs.Show given) dump other before after fault one not_m
     of_table_fault _ dump fault ((tell limits (jobs.Show given) dump other before after _ one).cause not_memory)
 fault_is_of_all limits (jobs.Lookup given pair) dump other before after fault one not_memory not_pairs =
     of_table_fault _ dump fault ((tell limits (jobs.Lookup given pair) dump other before after _ one).cause not_memory)
+fault_is_of_all limits (jobs.Each given file) dump other before after fault one not_memory not_pairs =
+    of_each_fault _ dump other fault ((tell limits (jobs.Each given file) dump other before after _ one).cause not_memory)
 fault_is_of_all limits (jobs.Normalise given body hex) dump other before after fault one not_memory not_pairs =
     of_normal_fault _ dump fault ((tell limits (jobs.Normalise given body hex) dump other before after _ one).cause not_memory) not_pairs
 fault_is_of_all limits (jobs.Pairs given count) dump other before after fault one not_memory not_pairs =

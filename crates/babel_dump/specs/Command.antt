@@ -74,6 +74,7 @@ InTurn reader other untouched (run_faults.Ignored tlv) = untouched
 InTurn reader other untouched run_faults.OtherRead = GaveSound reader
 InTurn reader other untouched (run_faults.OtherIgnored tlv) = GaveSound reader
 InTurn reader other untouched (run_faults.OtherDump fault) = GaveSound reader
+InTurn reader other untouched (run_faults.Pairs fault) = ⊥
 InTurn reader other untouched run_faults.Write = GaveSound reader × GaveSound other
 
 -- `untouched` says that the other reader is as it was

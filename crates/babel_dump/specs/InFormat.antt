@@ -8,7 +8,8 @@ use Rattle.babel_table.specs.Counts.{Counts}
 use Rattle.babel_table.specs.Rows.{Routes}
 use Rattle.babel_canon.specs.declared.verdict.Verdict.{Verdict}
 use Rattle.babel_dump.specs.JsonText.{counts_json, lookup_json, pair_json, report_json, verdict_json}
-use Rattle.babel_dump.specs.RunText.{counts_text, lookup_text, pair_line, report_text, verdict_text}
+use Rattle.babel_dump.specs.RunText.{answer_in, answer_line, counts_text, lookup_text, pair_line, report_text, verdict_text}
+use Rattle.babel_dump.specs.declared.addr_pair.AddrPair.{AddrPair}
 use Rattle.babel_dump.specs.declared.format.Format.{Format}
 use Rattle.babel_dump.specs.declared.format.Format.TheVariants as formats
 
@@ -40,6 +41,13 @@ show_in format table = pairs_in format table.rows ++ report_in format table.repo
 
 abbrev pub lookup_in : Format → (dst src : Address) → Option Held → List ℕ
 lookup_in format dst src answer = in_format format (lookup_text answer) (lookup_json dst src answer)
+
+abbrev pub answer_line_in : Format → (dst src : Address) → Option Held → List ℕ
+answer_line_in format dst src answer = in_format format (answer_line dst src answer) (lookup_json dst src answer)
+
+-- a line for each pair of addresses
+abbrev pub each_in : Format → Routes → List AddrPair → List ℕ
+each_in format table pairs = flat_map (λ pair. answer_line_in format pair.dst pair.src (answer_in table pair.dst pair.src)) pairs
 
 abbrev pub verdict_in : Format → Verdict → List ℕ
 verdict_in format verdict = in_format format (verdict_text verdict) (verdict_json verdict)

@@ -2,6 +2,7 @@
 use Rattle.std.specs.Prelude.{ℕ, Option, None, Some, Result, IfOk}
 use Rattle.babel_table.specs.Bounds.{Bounds}
 use Rattle.babel_dump.specs.Command.{RanCompare, RanLookup, RanNormalise, RanPairs, RanShow}
+use Rattle.babel_dump.specs.Each.{RanEach}
 use Rattle.babel_dump.specs.Given.{Input}
 use Rattle.babel_dump.specs.Run.{Output, Reports, run_status}
 use Rattle.babel_dump.specs.declared.job.Job.{Job}
@@ -27,6 +28,7 @@ right_reading limits dumps = record { limits = limits; mode = dumps.mode; sender
 abbrev pub first_reading : Bounds → Job → Reading
 first_reading limits (jobs.Show dump) = reading_of limits dump
 first_reading limits (jobs.Lookup dump pair) = reading_of limits dump
+first_reading limits (jobs.Each dump pairs) = reading_of limits dump
 first_reading limits (jobs.Normalise dump body hex) = reading_of limits dump
 first_reading limits (jobs.Pairs dump count) = reading_of limits dump
 first_reading limits (jobs.Compare dumps) = left_reading limits dumps
@@ -35,6 +37,7 @@ first_reading limits (jobs.Compare dumps) = left_reading limits dumps
 abbrev pub other_input : Bounds → Job → (Reading → Input) → Option Input
 other_input limits (jobs.Show dump) other = None
 other_input limits (jobs.Lookup dump pair) other = None
+other_input limits (jobs.Each dump pairs) other = None
 other_input limits (jobs.Normalise dump body hex) other = None
 other_input limits (jobs.Pairs dump count) other = None
 other_input limits (jobs.Compare dumps) other = Some (other (right_reading limits dumps))
@@ -46,6 +49,8 @@ RanCommand limits (jobs.Show dump) reader other writer untouched result =
     untouched × RanShow (reader (reading_of limits dump)) dump.format writer result
 RanCommand limits (jobs.Lookup dump pair) reader other writer untouched result =
     untouched × RanLookup (reader (reading_of limits dump)) pair.dst pair.src dump.format writer result
+RanCommand limits (jobs.Each dump pairs) reader other writer untouched result =
+    RanEach (reader (reading_of limits dump)) (other (reading_of limits dump)) dump.format writer result
 RanCommand limits (jobs.Normalise dump body hex) reader other writer untouched result =
     untouched × RanNormalise (reader (reading_of limits dump)) body hex writer result
 RanCommand limits (jobs.Pairs dump count) reader other writer untouched result =

@@ -13,6 +13,7 @@ use Rattle.babel_dump.specs.declared.job.Job.{Job}
 use Rattle.babel_dump.specs.declared.job.Job.TheVariants as jobs
 use Rattle.babel_dump.specs.declared.job.TwoDumps.{TwoDumps}
 use Rattle.babel_dump.specs.declared.outcome.Outcome.{Outcome}
+use Rattle.babel_dump.specs.declared.pairs_fault.PairsFault.TheVariants as pairs_faults
 use Rattle.babel_dump.specs.declared.run_fault.RunFault.{RunFault}
 use Rattle.babel_dump.specs.declared.run_fault.RunFault.TheVariants as run_faults
 
@@ -38,6 +39,9 @@ IsOfOctets run_faults.OtherRead = ⊥
 IsOfOctets (run_faults.OtherDump fault) = fault ≢ faults.Memory
 IsOfOctets (run_faults.Ignored tlv) = Unit {0}
 IsOfOctets (run_faults.OtherIgnored tlv) = Unit {0}
+IsOfOctets (run_faults.Pairs (pairs_faults.NotAPair line)) = Unit {0}
+IsOfOctets (run_faults.Pairs pairs_faults.TooLong) = Unit {0}
+IsOfOctets (run_faults.Pairs pairs_faults.Read) = ⊥
 IsOfOctets run_faults.Write = ⊥
 
 -- two runs of a job over the same octets that answer a status answer the same, and write the same text

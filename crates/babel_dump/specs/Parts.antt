@@ -40,6 +40,7 @@ HasOtherCause other run_faults.OtherRead = HasFailed other
 HasOtherCause other (run_faults.OtherDump fault) = fault ≢ faults.Memory → IsFaultOfGiven other fault
 HasOtherCause other (run_faults.Ignored tlv) = ⊥
 HasOtherCause other (run_faults.OtherIgnored tlv) = GaveIgnored other tlv
+HasOtherCause other (run_faults.Pairs fault) = ⊥
 HasOtherCause other run_faults.Write = ⊥
 
 -- what reading the other dump alone promises

@@ -45,9 +45,10 @@ const AFTER_SHOW: &str = after_help!(
 const AFTER_LOOKUP: &str = after_help!(
     examples:
     "lookup --from 192.0.2.1 --to 10.1.2.3 --src 0.0.0.0 examples/one-route.dump",
-    "lookup --from 192.0.2.1 --to 10.1.2.3 --src 0.0.0.0 < examples/one-route.dump";
-    "0  the answer is a route",
-    "1  the answer is none or unreachable"
+    "lookup --from 192.0.2.1 --to 10.1.2.3 --src 0.0.0.0 < examples/one-route.dump",
+    "lookup --from 192.0.2.1 --each examples/pairs.txt examples/one-route.dump";
+    "0  each answer is a route",
+    "1  an answer is none or unreachable"
 );
 
 const AFTER_NORMALISE: &str = after_help!(
@@ -101,21 +102,42 @@ fn show<'a>(alloc: Global) -> Result<Command<'a>, AllocError> {
     of_one_dump(alloc, command)?.arg(json(alloc))
 }
 
-/// The command for one answer.
+/// The command for one answer, or for one a pair.
 fn lookup<'a>(alloc: Global) -> Result<Command<'a>, AllocError> {
     let about = "Write the route that a dump gives for a destination and a source, or none";
     let command = Command::new(alloc, "lookup")
         .about(about)
         .after_help(AFTER_LOOKUP);
+    let to = address(alloc, "to", "The destination to look up");
+    let src = address(
+        alloc,
+        "src",
+        "The source to look up, of the destination's family",
+    );
     of_one_dump(alloc, command)?
         .arg(strict(alloc))?
         .arg(json(alloc))?
-        .arg(address(alloc, "to", "The destination to look up"))?
-        .arg(address(
-            alloc,
-            "src",
-            "The source to look up, of the destination's family",
-        ))
+        .arg(unless_each(to)?)?
+        .arg(unless_each(src)?)?
+        .arg(each(alloc)?)
+}
+
+/// An option that is required where pairs are not read from a file.
+fn unless_each(arg: Arg<'_>) -> Result<Arg<'_>, AllocError> {
+    arg.required(false).required_unless_present("each")
+}
+
+/// The option for the pairs to look up.
+fn each<'a>(alloc: Global) -> Result<Arg<'a>, AllocError> {
+    let help =
+        "In place of --to and --src: look up each line of PAIRS, which has a destination and a source; - is standard input";
+    Arg::new(alloc, "each")
+        .long("each")
+        .value_name("PAIRS")
+        .action(ArgAction::Set)
+        .help(help)
+        .conflicts_with("to")?
+        .conflicts_with("src")
 }
 
 /// The command for the canonical octets.

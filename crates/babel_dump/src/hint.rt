@@ -1,4 +1,5 @@
 //! What a user can do where a dump or a word is refused.
+use crate::pairs_fault::PairsFault;
 use crate::run_fault::RunFault;
 use babel_table::Limits;
 use babel_tlv::{Fault, Reason};
@@ -47,7 +48,8 @@ impl Hint {
             RunFault::OtherDump(fault) => Hint::of_dump(fault, limits, other_begins),
             RunFault::Ignored(tlv) => Hint::of_reason(tlv.reason, "--from"),
             RunFault::OtherIgnored(tlv) => Hint::of_reason(tlv.reason, "--other-from"),
-            RunFault::Read | RunFault::OtherRead | RunFault::Write => None,
+            RunFault::Pairs(PairsFault::TooLong) => Some(Hint::Octets(limits.bytes())),
+            RunFault::Pairs(_) | RunFault::Read | RunFault::OtherRead | RunFault::Write => None,
         }
     }
 

@@ -31,6 +31,12 @@ pub enum Job {
         dump: OneDump,
         pair: AddrPair,
     },
+    /// `lookup --each`: what a dump answers for each of the pairs that a file asks for.
+    Each {
+        dump: OneDump,
+        /// Where the pairs are read from: PAIRS.
+        pairs: DumpFile,
+    },
     /// `normalise`: the canonical octets of a dump.
     Normalise {
         dump: OneDump,
@@ -85,7 +91,7 @@ pub struct TwoDumps {
     pub other: DumpFile,
 }
 
-/// Where a dump is read from.
+/// Where a dump, or the pairs of `--each`, are read from.
 #[derive(Debug, Drop)]
 pub enum DumpFile {
     /// Standard input: `-`, or a name that is left out.
@@ -95,25 +101,27 @@ pub enum DumpFile {
 }
 
 impl Job {
-    /// Where the dump is read from that is read first.
+    /// Where the dump is read from, or the first of two.
     pub fn file(&self) -> &DumpFile
         ensures { result.now ≡ first_file self.now }
     {
         match self {
             Job::Show { dump }
             | Job::Lookup { dump, .. }
+            | Job::Each { dump, .. }
             | Job::Normalise { dump, .. }
             | Job::Pairs { dump, .. } => &dump.file,
             Job::Compare { dumps } => &dumps.file,
         }
     }
 
-    /// Where the other dump of a comparison is read from.
+    /// Where the other dump of a comparison is read from, or the pairs of `--each`.
     pub fn other(&self) -> Option<&DumpFile>
         ensures { option_copied result ≡ other_file self.now }
     {
         match self {
             Job::Compare { dumps } => Some(&dumps.other),
+            Job::Each { pairs, .. } => Some(pairs),
             _ => None,
         }
     }

@@ -6,6 +6,7 @@ ghost use Rattle.babel_dump.specs.Run.{output};
 use crate::byte_in::ByteIn;
 use crate::byte_out::ByteOut;
 use crate::compare::compare;
+use crate::each::each;
 use crate::job::{Job, OneDump, TwoDumps};
 use crate::lookup::lookup;
 use crate::normalise::normalise;
@@ -17,7 +18,8 @@ use crate::show::show;
 use babel_table::Limits;
 use std::alloc::Global;
 
-/// Does a job: the run of its command, with the job's own words. A job over one dump leaves the other reader as it was.
+/// Does a job: the run of its command, with the job's own words. The other reader has the other dump of a comparison, or the
+/// pairs of `--each`; each other job leaves it as it was.
 ///
 /// # Errors
 ///
@@ -50,6 +52,10 @@ pub fn run_job<R: ByteIn, S: ByteIn, W: ByteOut>(
         Job::Lookup { dump, pair } => {
             let reading = reading_of(limits, dump);
             lookup(alloc, reading, *pair, dump.format, reader, writer)
+        }
+        Job::Each { dump, .. } => {
+            let reading = reading_of(limits, dump);
+            each(alloc, reading, dump.format, reader, other, writer)
         }
         Job::Normalise { dump, body, hex } => {
             let reading = reading_of(limits, dump);

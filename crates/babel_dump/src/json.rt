@@ -1,7 +1,7 @@
 //! The lines that the runs write as JSON: RFC 8259. No text of an address, a router-id or a reason has a
 //! character that JSON escapes.
 ghost use Rattle.std.specs.Prelude.{◌≡◌, ◌++◌, IfOk, OnOk, string_bytes};
-ghost use Rattle.babel_dump.specs.JsonText.{comma_separated, counts_json, ignored_objects, lookup_json, report_json, verdict_json};
+ghost use Rattle.babel_dump.specs.JsonText.{comma_separated, counts_json, ignored_objects, report_json, verdict_json};
 
 use crate::addr_pair::AddrPair;
 use crate::reason_text::{REASONS, name};
@@ -87,19 +87,22 @@ impl fmt::Display for PairJson {
     }
 }
 
-/// The line of a lookup's answer.
-pub(crate) fn lookup_json(
-    alloc: Global,
-    pair: AddrPair,
-    answer: Option<Held>,
-) -> Result<String, AllocError>
-    ensures { IfOk result (λ text. string_bytes text ≡ lookup_json pair.dst pair.src answer) }
-{
-    let addressed = Addressed(pair.dst, pair.src);
-    let answer = Answer(answer);
-    let mut text = String::new(alloc);
-    writeln!(text, r#"{{{addressed},"answer":{answer}}}"#)?;
-    Ok(text)
+/// What is answered for a destination and a source: a line.
+#[derive(Clone, Copy)]
+pub(crate) struct LookupJson(pub AddrPair, pub Option<Held>);
+
+impl fmt::Display for LookupJson {
+    ghost use Rattle.std.specs.Prelude.{Some};
+    ghost use Rattle.babel_dump.specs.JsonText.{lookup_json};
+
+    ghost output = { λ line. Some (lookup_json line.0.dst line.0.src line.1) };
+
+    fn fmt<W: fmt::Write>(&self, f: &mut fmt::Formatter<W>) -> fmt::Result {
+        let AddrPair { dst, src } = self.0;
+        let addressed = Addressed(dst, src);
+        let answer = Answer(self.1);
+        writeln!(f, r#"{{{addressed},"answer":{answer}}}"#)
+    }
 }
 
 /// The line of a verdict.

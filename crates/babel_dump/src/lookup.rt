@@ -112,7 +112,7 @@ fn read_answer<R: ByteIn>(
 }
 
 /// The status of an answer.
-fn lookup_status(answer: Option<&Held>) -> u8
+pub(crate) fn lookup_status(answer: Option<&Held>) -> u8
     ensures { result ≡ lookup_status (option_copied answer.entry) }
 {
     match answer {

@@ -4,9 +4,9 @@ ghost use Rattle.babel_dump.specs.InFormat.{counts_in, lookup_in, pairs_in, show
 
 use crate::addr_pair::AddrPair;
 use crate::format::Format;
-use crate::json::{PairJson, counts_json, lookup_json, push_report_json, verdict_json};
+use crate::json::{LookupJson, PairJson, counts_json, push_report_json, verdict_json};
 use crate::reason_text::push_report;
-use crate::text::{PairLine, counts_text, lookup_text, verdict_text};
+use crate::text::{EachLine, PairLine, counts_text, lookup_text, verdict_text};
 use babel_canon::Verdict;
 use babel_table::Table;
 use babel_tlv::{Held, Key};
@@ -27,6 +27,24 @@ impl fmt::Display for Line {
         match self.0 {
             Format::Text => PairLine(self.1, self.2).fmt(f),
             Format::Json => PairJson(self.1, self.2).fmt(f),
+        }
+    }
+}
+
+/// What is answered for a destination and a source: a line in a format.
+#[derive(Clone, Copy)]
+pub(crate) struct AnswerLine(pub Format, pub AddrPair, pub Option<Held>);
+
+impl fmt::Display for AnswerLine {
+    ghost use Rattle.std.specs.Prelude.{Some};
+    ghost use Rattle.babel_dump.specs.InFormat.{answer_line_in};
+
+    ghost output = { λ line. Some (answer_line_in line.0 line.1.dst line.1.src line.2) };
+
+    fn fmt<W: fmt::Write>(&self, f: &mut fmt::Formatter<W>) -> fmt::Result {
+        match self.0 {
+            Format::Text => EachLine(self.1, self.2).fmt(f),
+            Format::Json => LookupJson(self.1, self.2).fmt(f),
         }
     }
 }
@@ -112,7 +130,10 @@ pub(crate) fn lookup_output(
 {
     match format {
         Format::Text => lookup_text(alloc, answer.as_ref()),
-        Format::Json => lookup_json(alloc, pair, answer),
+        Format::Json => {
+            let line = LookupJson(pair, answer);
+            format!(in alloc; "{line}")
+        }
     }
 }
 

@@ -2,6 +2,7 @@ ghost use Rattle.std.specs.Prelude.{◌≡◌};
 ghost use Rattle.babel_dump.specs.Run.{exit_status};
 
 use crate::ignored::IgnoredTlv;
+use crate::pairs_fault::PairsFault;
 use crate::write::WriteFailed;
 use babel_tlv::Fault;
 use std::alloc::AllocError;
@@ -28,6 +29,9 @@ pub enum RunFault {
     /// A read of the second dump of a comparison failed.
     #[error("other: read failed")]
     OtherRead,
+    /// The pairs of `--each` are refused.
+    #[error("{0}")]
+    Pairs(PairsFault),
     /// A write or the last flush failed, or a write took nothing.
     #[error("write failed")]
     Write,
@@ -56,6 +60,17 @@ impl From<AllocError> for RunFault {
     }
 }
 
+impl From<PairsFault> for RunFault {
+    ghost use Rattle.std.specs.Prelude.{◌≡◌};
+    ghost use Rattle.babel_dump.specs.declared.run_fault.RunFault.TheVariants as run_faults;
+
+    ghost from_gives = { λ fault run. run ≡ run_faults.Pairs fault };
+
+    fn from(fault: PairsFault) -> RunFault {
+        RunFault::Pairs(fault)
+    }
+}
+
 impl From<WriteFailed> for RunFault {
     ghost use Rattle.std.specs.Prelude.{◌≡◌};
     ghost use Rattle.babel_dump.specs.declared.run_fault.RunFault.TheVariants as run_faults;
@@ -67,8 +82,8 @@ impl From<WriteFailed> for RunFault {
     }
 }
 
-/// The exit status of the program for what a run gave: the run's own, 3 where a dump is refused, 4 where a read or a
-/// write failed, 5 where an allocation was refused.
+/// The exit status of the program for what a run gave: the run's own, 2 where the pairs of `--each` are refused, 3 where a
+/// dump is, 4 where a read or a write failed, 5 where an allocation was refused.
 pub fn status_of(outcome: &Result<u8, RunFault>) -> u8
     ensures { result ≡ exit_status outcome.now }
 {
@@ -77,6 +92,8 @@ pub fn status_of(outcome: &Result<u8, RunFault>) -> u8
         Err(RunFault::Dump(Fault::Memory) | RunFault::OtherDump(Fault::Memory)) => 5,
         Err(RunFault::Dump(_) | RunFault::OtherDump(_)) => 3,
         Err(RunFault::Ignored(_) | RunFault::OtherIgnored(_)) => 3,
+        Err(RunFault::Pairs(PairsFault::NotAPair { .. } | PairsFault::TooLong)) => 2,
+        Err(RunFault::Pairs(PairsFault::Read)) => 4,
         Err(RunFault::Read | RunFault::OtherRead | RunFault::Write) => 4,
     }
 }

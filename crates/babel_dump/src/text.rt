@@ -3,6 +3,7 @@ ghost use Rattle.std.specs.Prelude.{◌≡◌, IfOk, string_bytes};
 ghost use Rattle.std.specs.Option.{option_copied};
 ghost use Rattle.babel_dump.specs.RunText.{counts_text, hex_text, lookup_text, verdict_text};
 
+use crate::addr_pair::AddrPair;
 use babel_canon::Verdict;
 use babel_tlv::{Held, Key};
 use std::alloc::{AllocError, Global};
@@ -65,6 +66,25 @@ impl fmt::Display for PairLine {
         let src = self.0.src();
         let shown = Shown(self.1);
         write!(f, "{dst} from {src} {shown}\n")
+    }
+}
+
+/// What is answered for a destination and a source, as `--each` shows it.
+#[derive(Clone, Copy)]
+pub(crate) struct EachLine(pub AddrPair, pub Option<Held>);
+
+impl fmt::Display for EachLine {
+    ghost use Rattle.std.specs.Prelude.{Some};
+    ghost use Rattle.babel_dump.specs.RunText.{answer_line};
+
+    ghost output = { λ line. Some (answer_line line.0.dst line.0.src line.1) };
+
+    fn fmt<W: fmt::Write>(&self, f: &mut fmt::Formatter<W>) -> fmt::Result {
+        let AddrPair { dst, src } = self.0;
+        match self.1 {
+            Some(held) => write!(f, "{dst} from {src} {}\n", Shown(held)),
+            None => write!(f, "{dst} from {src} none\n"),
+        }
     }
 }
 

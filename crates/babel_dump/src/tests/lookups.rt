@@ -3,7 +3,12 @@ use super::dumps::{
     ALL_RETRACTED, MORE_OMITTED, ONE_IGNORED, ONE_ROUTE, ONE_V6_ROUTE, OTHER_ENCODING, RETRACTED,
     ROUTER_ID_BY_FLAG, SOURCE_LEFT, TWO_ROUTES, TWO_SOURCES, V4, V6,
 };
-use super::{expect_text, job};
+use super::{
+    ONE_BY_ONE, Script, expect_fault, expect_outcome, expect_text, job, octets, scripted_run,
+};
+use crate::pairs_fault::PairsFault;
+use crate::run_fault::RunFault;
+use babel_table::Limits;
 use babel_tlv::Mode;
 use std::alloc::Global;
 use std::process::Abort;
@@ -90,6 +95,62 @@ static WHERE_ROUTES_ARE_RETRACTED: [Lookup<'static>; 12] = [
     (PLAIN, V4, SOURCE_LEFT, "10.1.2.3", "20.0.0.1", B),
     (PLAIN, V4, SOURCE_LEFT, "10.1.2.3", "30.0.0.1", NONE),
 ];
+
+/// The pairs that are looked up in a dump of 10.1.0.0/24 and 10.1.2.0/24, and what is answered.
+#[rattlefmt::skip]
+static OF_EACH: [(&str, Result<u8, RunFault>, &str); 7] = [
+    (
+        "10.1.0.9 0.0.0.0\n#\n\n  # none\n \t10.1.2.9\t 0.0.0.0 \r\n",
+        Ok(0),
+        "10.1.0.9 from 0.0.0.0 via 192.0.2.1 id 0200000000000001 seqno 1 metric 256\n\
+        10.1.2.9 from 0.0.0.0 via 192.0.2.1 id 0200000000000001 seqno 1 metric 512\n",
+    ),
+    (
+        "11.0.0.0 0.0.0.0\n::1 ::\n10.1.2.9 0.0.0.0",
+        Ok(1),
+        "11.0.0.0 from 0.0.0.0 none\n\
+        0:0:0:0:0:0:0:1 from 0:0:0:0:0:0:0:0 none\n\
+        10.1.2.9 from 0.0.0.0 via 192.0.2.1 id 0200000000000001 seqno 1 metric 512\n",
+    ),
+    ("", Ok(0), ""),
+    ("10.1.2.9 0.0.0.0\n10.1.2.9 ::\n", Err(RunFault::Pairs(PairsFault::NotAPair { line: 2 })), ""),
+    ("\n#\n10.1.2.9 0.0.0.0 x\n", Err(RunFault::Pairs(PairsFault::NotAPair { line: 3 })), ""),
+    ("10.1.2.9\n", Err(RunFault::Pairs(PairsFault::NotAPair { line: 1 })), ""),
+    ("10.1.2.9 0.0.0.0/0", Err(RunFault::Pairs(PairsFault::NotAPair { line: 1 })), ""),
+];
+
+#[test]
+fn answers_of_each(rt: HostRuntime) -> Result<(), Fail> {
+    let alloc = rt.alloc();
+    let job = job(alloc, PLAIN, V4, "lookup --each p")?;
+    let dump = octets(alloc, TWO_ROUTES)?;
+    for (pairs, outcome, text) in &OF_EACH {
+        let dumps = (dump.as_slice(), pairs.as_bytes());
+        let ran = scripted_run(alloc, Limits::usual(), &job, dumps, ONE_BY_ONE)?;
+        expect_outcome(&rt, pairs, &job, &ran, *outcome, text.as_bytes());
+    }
+    Ok(())
+}
+
+#[test]
+fn pairs_that_are_not_read(rt: HostRuntime) -> Result<(), Fail> {
+    let alloc = rt.alloc();
+    let job = job(alloc, PLAIN, V4, "lookup --each p")?;
+    let limits = Limits::new(83, 1).ok_or("no limits")?;
+    let blanks = octets(alloc, "20".repeat(alloc, 84)?.as_str())?;
+    let ran = scripted_run(alloc, limits, &job, (b"", &blanks), ONE_BY_ONE)?;
+    let fault = RunFault::Pairs(PairsFault::TooLong);
+    expect_fault(&rt, "", &job, &ran, fault, 2, b"");
+    let script = Script {
+        failing_other_read: 2,
+        ..ONE_BY_ONE
+    };
+    let ran = scripted_run(alloc, limits, &job, (b"", b"# x"), script)?;
+    let fault = RunFault::Pairs(PairsFault::Read);
+    expect_fault(&rt, "", &job, &ran, fault, 4, b"");
+    assert_eq!(rt; ran.reads, 0);
+    Ok(())
+}
 
 /// Each lookup has its answer.
 fn expect_answers(rt: &impl Abort, alloc: Global, lookups: &[Lookup<'_>]) -> Result<(), Fail> {

@@ -72,7 +72,7 @@ const COMPARE: Wanted<'static> = Wanted {
 
 /// Words, and the job that they ask for.
 #[rattlefmt::skip]
-static JOBS: [(&str, Wanted<'static>); 26] = [
+static JOBS: [(&str, Wanted<'static>); 29] = [
     (
         "lookup --from fe80::1 --to 10.1.2.3 --src=0.0.0.0 --hold x",
         Wanted {
@@ -108,6 +108,9 @@ static JOBS: [(&str, Wanted<'static>); 26] = [
     ("lookup --from :: --to :: --src :: --json", Wanted { format: Format::Json, ..LOOKUP }),
     ("pairs --from :: --json", Wanted { format: Format::Json, ..PAIRS }),
     ("compare --from :: --other-from :: --json a b", Wanted { format: Format::Json, ..COMPARE }),
+    ("lookup --from :: --each p d", Wanted { file: Some("d"), other: Some("p"), ..LOOKUP }),
+    ("lookup --from :: --each - --strict d", Wanted { strict: true, file: Some("d"), ..LOOKUP }),
+    ("lookup --from :: --each p --json d", Wanted { format: Format::Json, file: Some("d"), other: Some("p"), ..LOOKUP }),
     ("normalise --from :: --hex", Wanted { hex: true, ..NORMALISE }),
     ("pairs --from :: --count", Wanted { count: true, ..PAIRS }),
     ("normalise --from :: --body 128", Wanted { body: Some(128), ..NORMALISE }),
@@ -136,6 +139,10 @@ fn expect_job(rt: &impl Abort, line: &str, job: &Job, wanted: &Wanted<'_>) -> Re
         Job::Lookup { dump, pair } => {
             expect_address(rt, line, pair.dst, wanted.to)?;
             expect_address(rt, line, pair.src, wanted.src)?;
+            expect_dump(rt, line, "lookup", dump, wanted)
+        }
+        Job::Each { dump, pairs } => {
+            expect_file(rt, line, pairs, wanted.other);
             expect_dump(rt, line, "lookup", dump, wanted)
         }
         Job::Normalise { dump, body, hex } => {
@@ -213,7 +220,7 @@ fn usage(rt: &impl Abort, alloc: Global, line: &str) -> Result<String, Fail> {
 /// Words that are no addresses, and others that go together with no other, with the text that they are refused with. Of
 /// several that are no addresses the first is named, in the order `--from`, `--other-from`, `--to`, `--src`.
 #[rattlefmt::skip]
-static NO_JOBS: [(&str, &str); 13] = [
+static NO_JOBS: [(&str, &str); 14] = [
     ("lookup --src v --to w --from q", "not an address: q\nhint: --from takes an IPv4 or IPv6 address\n"),
     ("lookup --src v --to w --from ::", "not an address: w\nhint: --to takes an IPv4 or IPv6 address\n"),
     ("lookup --src 01.2.3.4 --to :: --from ::", "not an address: 01.2.3.4\nhint: --src takes an IPv4 or IPv6 address\n"),
@@ -226,6 +233,7 @@ static NO_JOBS: [(&str, &str); 13] = [
     ("lookup --from 192.0.2.1 --to 10.0.0.1 --src ::1 x", "--to and --src are of different families\n"),
     ("lookup --from 192.0.2.1 --to ::1 --src 10.0.0.1 x", "--to and --src are of different families\n"),
     ("compare --from :: --other-from :: - -", "both dumps are standard input\n"),
+    ("lookup --from :: --each - -", "the dump and the pairs are standard input\n"),
     ("show --from :: --max-octets 82 --max-routes 1", "--max-octets 82 is less than 83 for each of 1 routes\n"),
 ];
 
@@ -243,12 +251,14 @@ const USAGE: &str = "Usage: babel-dump";
 const BODY: &str = "'--body <OCTETS>'";
 
 /// Words that are refused, and a part of the text.
-static REFUSED: [(&str, &str); 23] = [
+static REFUSED: [(&str, &str); 25] = [
     ("", USAGE),
     ("shows", USAGE),
     ("show x", USAGE),
     ("lookup x", USAGE),
     ("lookup --from :: --to :: x", USAGE),
+    ("lookup --from :: --each p --to ::", USAGE),
+    ("lookup --from :: --each p --src ::", USAGE),
     ("normalise x", USAGE),
     ("pairs x", USAGE),
     ("compare --from :: a b", USAGE),
@@ -365,7 +375,7 @@ const OF_LOOKUP: [&str; 6] = [
     "--to <ADDRESS>         The destination to look up",
     "--src <ADDRESS>        The source to look up, of the destination's family",
     "babel-dump lookup --from",
-    "  1  the answer is none or unreachable",
+    "  1  an answer is none or unreachable",
 ];
 
 const OF_NORMALISE: [&str; 4] = [
