@@ -95,7 +95,12 @@ fn read_answers<R: ByteIn>(
 }
 
 /// The lines of what a table answers for each of these pairs, and the status that they make.
-fn answers(alloc: Global, format: Format, table: &Table, asked: &[AddrPair]) -> Result<(String, u8), AllocError>
+fn answers(
+    alloc: Global,
+    format: Format,
+    table: &Table,
+    asked: &[AddrPair],
+) -> Result<(String, u8), AllocError>
     ensures text { IfOk result (λ answers. string_bytes answers.0 ≡ each_in format table.now asked.now) }
     ensures status { IfOk result (λ answers. answers.1 ≡ each_status table.now asked.now) }
 {
