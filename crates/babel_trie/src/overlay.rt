@@ -61,7 +61,7 @@ impl<V: LawfulOrd> Table<Option<V>> {
         let (low, high) = self.halves(old);
         let low = self.laid(rest.low, width, bits - 1, start, low)?;
         let high = self.laid(rest.high, width, bits - 1, rest.middle, high)?;
-        let whole = self.joined(low, high, old)?;
+        let whole = self.joined(low, high)?;
         Ok(whole)
     }
 
@@ -81,9 +81,9 @@ impl<V: LawfulOrd> Table<Option<V>> {
         ensures keeps { OnOk result (KeepsNodes self.old.nodes.items self.new.nodes.items) }
         ensures overlaid { IfOk result (λ new. (t : Shape (Option V)) → Represents self.old.nodes.items old t → IsOverlaid width width 0 (map row_of rows.now) self.new.nodes.items new t) }
     {
-        let whole = self.opened(old);
-        let new = self.laid(rows, width, width, 0, whole)?;
-        let sources = self.stored(new, old)?;
+        let old = self.opened(old);
+        let new = self.laid(rows, width, width, 0, old)?;
+        let sources = self.stored(new)?;
         Ok(sources)
     }
 }
