@@ -25,12 +25,13 @@ const SPARE: usize = 16;
 type WordRow<W> = (CompactKey<W>, Option<Stored<W>>);
 
 /// What is kept for the keys of the family whose addresses are kept in these words. A router repeats its routes in one
-/// order, whichever it is, so the row behind the one found last is tried before any search.
+/// order, whichever it is, so the row behind the one found last is tried before any search; and what came last may be
+/// retracted at once.
 #[derive(Drop)]
 pub struct FamilyRows<W: Word> {
     /// A row for each key, in the order in which the keys came.
     rows: Vec<WordRow<W>>,
-    /// The place behind the row that was found last.
+    /// The place that is tried first: behind the row that was found last, or of the row that came last.
     next: usize,
     /// So many rows at the front are in the order of their keys.
     rising: usize,
@@ -107,13 +108,14 @@ impl<W: Word> FamilyRows<W> {
             self.count += usize::from(!was);
             return Ok(());
         }
-        if self.rising == self.rows.len() && is_past(&self.rows, &key) {
+        let place = self.rows.len();
+        if self.rising == place && is_past(&self.rows, &key) {
             self.rows.push((key, Some(stored)))?;
             self.rising = self.rows.len();
         } else {
             push_placed(&mut self.rows, &mut self.places, key, stored)?;
         }
-        self.next = self.rows.len();
+        self.next = place;
         self.count += 1;
         self.compact();
         Ok(())

@@ -6,7 +6,7 @@ use Rattle.babel_table.specs.Live.{kept}
 use Rattle.babel_table.specs.Said.{IsPlace, AreAbove}
 use Rattle.babel_table.proofs.SaidLaws.{found, said-length, one_more, byte_small, counted-set, standing-set, counted-front, counted-behind, standing-pushed}
 use Rattle.babel_table.proofs.family_rows.FamilyRows.put.Goals as goal
-use Rattle.babel_table.proofs.family_rows.FamilyRows.put.Goals.{then-self-len+then-is_past+in_ok-push, else-self-len+in_ok-push_placed}
+use Rattle.babel_table.proofs.family_rows.FamilyRows.put.Goals.{then-self-place+then-is_past+in_ok-push, else-self-place+in_ok-push_placed}
 
 -- ---- in its row
 
@@ -40,9 +40,9 @@ pub returns-in_err-push-clause-err : goal.returns-in_err-push-clause-err
 returns-in_err-push-clause-err g c = on_err c.from_residual.result _ (rw c.in_err-push.ensures.items c.self.view_is)
 
 pub overflow_add-self-2 : goal.overflow_add-self-2
-overflow_add-self-2 g c = elim c.if-self-len.branch [
-  | then-self-len+then-is_past+in_ok-push w ↦ rw w.self-inside-is (omega (arith, c.self.invariant.small))
-  | else-self-len+in_ok-push_placed w ↦ rw w.self-inside-is (omega (arith, c.self.invariant.small))
+overflow_add-self-2 g c = elim c.if-self-place.branch [
+  | then-self-place+then-is_past+in_ok-push w ↦ rw w.self-inside-is (omega (arith, c.self.invariant.small))
+  | else-self-place+in_ok-push_placed w ↦ rw w.self-inside-is (omega (arith, c.self.invariant.small))
 ]
 
 pub invariant_of-self-2 : goal.invariant_of-self-2
@@ -50,13 +50,13 @@ invariant_of-self-2 g c =
     let k = c.of-key.result in
     let none : found k c.self.inside.rows.items ≡ None = subst (λ ws. found k ws ≡ None) c.deref.ensures.value c.in_default.ensures in
     let few = one_more _ _ _ _ _ c.self.invariant c.self.view_is c.requires.few in
-    elim c.if-self-len.branch [
-      | then-self-len+then-is_past+in_ok-push w ↦
-          let above : AreAbove k c.self.inside.rows.items = subst (λ ws. AreAbove k ws) w.deref-then-self-len.ensures.value (w.is_past.ensures w.if-is_past.true) in
+    elim c.if-self-place.branch [
+      | then-self-place+then-is_past+in_ok-push w ↦
+          let above : AreAbove k c.self.inside.rows.items = subst (λ ws. AreAbove k ws) w.deref-then-self-place.ensures.value (w.is_past.ensures w.if-is_past.true) in
           rw (w.self-inside-is, w.in_ok-push.ensures.items)
           (counted-front c.self.inside.count c.self.inside.rows.items c.self.inside.rising c.self.inside.places.entries c.self.invariant k none _ w.len-self-inside.result
-          (w.len-self-inside.ensures ∙ w.push.new.self.ok.0 ∙ ap length w.in_ok-push.ensures.items) few (w.if-self-len.true ∙ c.len.ensures ∙ c.self.inside.rows.ok.0) above)
-      | else-self-len+in_ok-push_placed w ↦
+          (w.len-self-inside.ensures ∙ w.push.new.self.ok.0 ∙ ap length w.in_ok-push.ensures.items) few (w.if-self-place.true ∙ c.len-place.ensures ∙ c.self.inside.rows.ok.0) above)
+      | else-self-place+in_ok-push_placed w ↦
           rw (w.self-inside-is, w.in_ok-push_placed.ensures.ok.0, w.in_ok-push_placed.ensures.ok.1)
           (counted-behind c.self.inside.count c.self.inside.rows.items c.self.inside.rising c.self.inside.places.entries c.self.invariant k none _ few)
     ]
@@ -65,11 +65,11 @@ pub returns-clause-ok : goal.returns-clause-ok
 returns-clause-ok g c =
     let k = c.of-key.result in
     let none : found k c.self.inside.rows.items ≡ None = subst (λ ws. found k ws ≡ None) c.deref.ensures.value c.in_default.ensures in
-    c.compact.ensures ∙ elim c.if-self-len.branch [
-      | then-self-len+then-is_past+in_ok-push w ↦
+    c.compact.ensures ∙ elim c.if-self-place.branch [
+      | then-self-place+then-is_past+in_ok-push w ↦
           rw (w.self-inside-is, w.in_ok-push.ensures.items, ← c.self.view_is, ← c.of-key.ensures, ← c.of-held.ensures)
           (standing-pushed c.self.inside.count c.self.inside.rows.items c.self.inside.rising c.self.inside.places.entries c.self.invariant k none _)
-      | else-self-len+in_ok-push_placed w ↦
+      | else-self-place+in_ok-push_placed w ↦
           rw (w.self-inside-is, w.in_ok-push_placed.ensures.ok.0, ← c.self.view_is, ← c.of-key.ensures, ← c.of-held.ensures)
           (standing-pushed c.self.inside.count c.self.inside.rows.items c.self.inside.rising c.self.inside.places.entries c.self.invariant k none _)
     ]
