@@ -8,11 +8,12 @@ ghost use Rattle.babel_prefix.specs.Width.{width_of};
 ghost use Rattle.babel_trie.specs.Cut.{block_from, largest_in};
 ghost use Rattle.babel_trie.specs.Held.{sources_at};
 ghost use Rattle.babel_trie.specs.Interned.{Stands, IsTrie, HasTrie};
-ghost use Rattle.babel_trie.specs.Nested.{entry_at, node_block, leaves, rows_at, rows_of};
+ghost use Rattle.babel_trie.specs.Nested.{HasRowsOf, entry_at, node_block, leaves, rows_at, rows_of};
 ghost use Rattle.babel_trie.specs.Runs.{AreRuns, StartBelow};
 ghost use Rattle.babel_trie.specs.Shape.{Shape};
 ghost use Rattle.babel_trie.specs.Spans.{each_with, run_rows};
 ghost use Rattle.babel_trie.specs.declared.runs.Change.{Change};
+ghost use Rattle.babel_trie.specs.declared.table.Node.{Node};
 ghost use Rattle.babel_trie.specs.declared.table.Sources.{Sources};
 ghost use Rattle.babel_trie.specs.declared.table.Sources.TheVariants.{Constant};
 
@@ -22,7 +23,7 @@ use crate::lawful::LawfulOrd;
 use crate::rows::Row;
 use crate::runs::Change;
 use crate::sink::Sink;
-use crate::table::{Loose, Sources, Table};
+use crate::table::{Loose, Sources, Table, bit_at, fork};
 use babel_prefix::{Addr, Family, Prefix};
 use std::alloc::AllocError;
 
@@ -77,13 +78,40 @@ fn places(family: Family, bits: u8, place: u128) -> (u128, u128)
 }
 
 /// Whether nothing is answered for any source.
-fn answers_nothing<V>(sources: &Sources<Option<V>>) -> bool
-    ensures { result ≡ true → sources.now ≡ Constant None }
+fn answers_nothing<V: Copy>(sources: Sources<Option<V>>) -> bool
+    ensures { result ≡ true → sources ≡ Constant None }
 {
     match sources {
         Sources::Constant(None) => true,
         _ => false,
     }
+}
+
+/// A block that has all rows of this one, with its bits and its place: where nothing is answered beside a path, the
+/// block that the path leads to.
+fn block_with_rows<V: LawfulOrd>(
+    whole: Loose<Option<V>>,
+    family: Family,
+    bits: u8,
+    place: u128,
+) -> (Loose<Option<V>>, u8, u128)
+    requires trie { (nodes : List (Node (Option V))) × IsTrie bits nodes whole }
+    requires bits { bits ≤ width_of family }
+    requires place { place < 2 ^ (width_of family - bits) }
+    ensures bits { result.1 ≤ bits }
+    ensures place { result.2 < 2 ^ (width_of family - result.1) }
+    ensures rows { (nodes : List (Node (Option V))) (t : Shape (Option V)) → Stands nodes whole t → HasRowsOf (width_of family) bits place t nodes result.0 result.1 result.2 }
+{
+    let Loose::Split(node) = whole else {
+        return (whole, bits, place);
+    };
+    if answers_nothing(node.outside) {
+        let block = Loose::Split(fork(node.low, node.high));
+        let left = bits - node.skip;
+        let first = shifted(place, node.skip, family);
+        return (block, left, first + node.path % bit_at(node.skip));
+    }
+    (Loose::Split(node), bits, place)
 }
 
 impl<V: LawfulOrd> Table<Option<V>> {
@@ -103,9 +131,10 @@ impl<V: LawfulOrd> Table<Option<V>> {
         requires place { place < 2 ^ (width_of family - bits) }
         ensures { OnOk result ((t : Shape (Option V)) (rows : List (Entry V)) → Stands self.now.nodes.items whole t → S.has out.old rows → S.has out.new (rows ++ map (entry_at family) (rows_at (block_of dst) (leaves (width_of family) bits place t)))) }
     {
-        let Loose::Same(constant) = whole else {
+        let (block, bits, place) = block_with_rows(whole, family, bits, place);
+        let Loose::Same(constant) = block else {
             let (low_place, high_place) = places(family, bits, place);
-            let (low, high) = self.halves(whole);
+            let (low, high) = self.halves(block);
             self.push_rows(low, family, dst, bits - 1, low_place, out)?;
             self.push_rows(high, family, dst, bits - 1, high_place, out)?;
             return Ok(());
@@ -160,7 +189,7 @@ impl<V: LawfulOrd> Table<Option<V>> {
         let top = last_address(0, family.width());
         let mut rest = runs;
         while let Some((run, later)) = rest.split_first() {
-            if !answers_nothing(&run.sources) {
+            if !answers_nothing(run.sources) {
                 self.push_blocks(run.sources, family, run.start, run_last(top, later), out)?;
             }
             rest = later;
