@@ -10,8 +10,6 @@ pub mod laws;
 mod normal_form;
 mod packing;
 mod sinks;
-#[cfg(test)]
-mod tests;
 mod text;
 mod values;
 mod verdict;

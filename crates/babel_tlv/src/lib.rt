@@ -29,8 +29,6 @@ mod router_id;
 mod state;
 mod step;
 mod sub_tlv;
-#[cfg(test)]
-mod tests;
 mod tlv;
 mod tlvs;
 mod update;

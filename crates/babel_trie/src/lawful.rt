@@ -9,6 +9,12 @@ pub trait LawfulOrd: Ord + Copy {
     ghost exact: { (a b : Self) → Self.cmp a b ≡ Equal → a ≡ b };
 }
 
+impl LawfulOrd for u32 {
+    ghost use Rattle.std.proofs.lemmas.Map.Lookups.{exact_unsigned};
+
+    ghost exact = { exact_unsigned };
+}
+
 impl<V: LawfulOrd> LawfulOrd for Option<V> {
     ghost use Rattle.babel_trie.specs.NodeOrder.{options_exact};
 

@@ -1,0 +1,205 @@
+//! Each read and each write that fails, in turn.
+ghost use Rattle.std.specs.Prelude.{◌<◌};
+
+use super::dumps::{NESTED_SOURCES, ONE_FAMILY, ONE_ROUTE, TWO_FAMILIES, TWO_SOURCES, V4, V6};
+use super::{ONE_BY_ONE, Ran, Script, all_asked, expect_fault, job, octets, scripted_run};
+use babel_dump::{Job, RunFault};
+use babel_table::Limits;
+use babel_tlv::{Fault, Mode};
+use std::alloc::Global;
+use std::process::Abort;
+use std::test::Fail;
+
+const LOOKUP: &str = "lookup --to 10.1.2.3 --src 10.1.2.3";
+
+const LOOKUP_OF_SOURCE: &str = "lookup --to 172.16.0.1 --src 172.16.0.1";
+
+const LOOKUP_OF_HOST: &str = "lookup --to 0.0.0.1 --src 0.0.0.1";
+
+/// A sender, its dump, the other dump of a comparison, and the words of a lookup.
+static GIVEN: [(&str, &str, &str, &str); 4] = [
+    (V4, ONE_ROUTE, NESTED_SOURCES, LOOKUP),
+    (V4, NESTED_SOURCES, ONE_ROUTE, LOOKUP),
+    (V4, TWO_SOURCES, TWO_SOURCES, LOOKUP_OF_SOURCE),
+    (V6, TWO_FAMILIES, ONE_FAMILY, LOOKUP_OF_HOST),
+];
+
+/// How many octets one write takes.
+const TAKEN: usize = 7;
+
+/// The octets come one by one.
+const SCRIPT: Script = Script {
+    written: TAKEN,
+    ..ONE_BY_ONE
+};
+
+/// A run whose script may fail, under the usual limits.
+fn failing_run(alloc: Global, job: &Job, dumps: (&[u8], &[u8]), script: Script) -> Result<Ran, Fail>
+    requires { 0 < script.read }
+{
+    scripted_run(alloc, Limits::usual(), job, dumps, script)
+}
+
+/// The run read the dump, and the other, as often.
+fn expect_reads(rt: &impl Abort, job: &Job, ran: &Ran, reads: u64, other_reads: u64) {
+    assert_eq!(rt; ran.reads, reads, "{job:?}");
+    assert_eq!(rt; ran.other_reads, other_reads, "{job:?}");
+}
+
+#[test]
+fn each_read(rt: HostRuntime) -> Result<(), Fail> {
+    for (sender, dump, other, lookup) in &GIVEN {
+        for asked in &all_asked(lookup) {
+            let job = job(rt.alloc(), Mode::Plain, sender, asked)?;
+            expect_read_faults(&rt, rt.alloc(), &job, dump, other)?;
+        }
+    }
+    Ok(())
+}
+
+/// Each read of the dump, also the one that meets its end, is answered where it fails, before the other dump is read.
+fn expect_read_faults(
+    rt: &impl Abort,
+    alloc: Global,
+    job: &Job,
+    text: &str,
+    other: &str,
+) -> Result<(), Fail> {
+    let dump = octets(alloc, text)?;
+    let other = octets(alloc, other)?;
+    for failing in 1..dump.len() as u64 + 2 {
+        let script = Script {
+            failing_read: failing,
+            failing_other_read: 1,
+            ..SCRIPT
+        };
+        let ran = failing_run(alloc, job, (&dump, &other), script)?;
+        expect_fault(rt, text, job, &ran, RunFault::Read, 4, &[]);
+        expect_reads(rt, job, &ran, failing, 0);
+    }
+    Ok(())
+}
+
+#[test]
+fn each_read_of_the_other_dump(rt: HostRuntime) -> Result<(), Fail> {
+    for (sender, dump, other, _lookup) in &GIVEN {
+        let asked = format!(in rt.alloc(); "compare a b --other-from {sender}")?;
+        let job = job(rt.alloc(), Mode::Plain, sender, asked.as_str())?;
+        expect_other_read_faults(&rt, rt.alloc(), &job, dump, other)?;
+    }
+    Ok(())
+}
+
+/// Each read of the other dump, also the one that meets its end, is answered where it fails, behind all of the dump.
+fn expect_other_read_faults(
+    rt: &impl Abort,
+    alloc: Global,
+    job: &Job,
+    text: &str,
+    other: &str,
+) -> Result<(), Fail> {
+    let dump = octets(alloc, text)?;
+    let other = octets(alloc, other)?;
+    for failing in 1..other.len() as u64 + 2 {
+        let script = Script {
+            failing_other_read: failing,
+            ..SCRIPT
+        };
+        let ran = failing_run(alloc, job, (&dump, &other), script)?;
+        expect_fault(rt, text, job, &ran, RunFault::OtherRead, 4, &[]);
+        expect_reads(rt, job, &ran, dump.len() as u64 + 1, failing);
+    }
+    Ok(())
+}
+
+#[test]
+fn each_write_and_the_flush(rt: HostRuntime) -> Result<(), Fail> {
+    for (sender, dump, other, lookup) in &GIVEN {
+        for asked in &all_asked(lookup) {
+            let job = job(rt.alloc(), Mode::Plain, sender, asked)?;
+            expect_write_faults(&rt, rt.alloc(), &job, dump, other)?;
+        }
+    }
+    Ok(())
+}
+
+/// Each write, and the flush behind them, is answered where it fails, and what was written is a part of the whole.
+fn expect_write_faults(
+    rt: &impl Abort,
+    alloc: Global,
+    job: &Job,
+    text: &str,
+    other: &str,
+) -> Result<(), Fail> {
+    let dump = octets(alloc, text)?;
+    let other = octets(alloc, other)?;
+    let whole = failing_run(alloc, job, (&dump, &other), SCRIPT)?;
+    assert!(rt; whole.outcome.is_ok(), "{job:?} of {text}");
+    let whole = whole.taken.as_slice();
+    for call in 0..whole.len().div_ceil(TAKEN).saturating_add(1) {
+        let script = Script {
+            failing_call: call as u64 + 1,
+            ..SCRIPT
+        };
+        let ran = failing_run(alloc, job, (&dump, &other), script)?;
+        let part = whole.len().min(call.saturating_mul(TAKEN));
+        expect_fault(rt, text, job, &ran, RunFault::Write, 4, &whole[..part]);
+    }
+    Ok(())
+}
+
+#[test]
+fn a_write_that_takes_nothing(rt: HostRuntime) -> Result<(), Fail> {
+    let dump = octets(rt.alloc(), ONE_ROUTE)?;
+    let script = Script {
+        read: 7,
+        written: 0,
+        ..ONE_BY_ONE
+    };
+    for asked in &all_asked(LOOKUP) {
+        let job = job(rt.alloc(), Mode::Plain, V4, asked)?;
+        let ran = failing_run(rt.alloc(), &job, (&dump, &[]), script)?;
+        expect_fault(&rt, ONE_ROUTE, &job, &ran, RunFault::Write, 4, &[]);
+    }
+    Ok(())
+}
+
+#[test]
+fn a_read_behind_octets(rt: HostRuntime) -> Result<(), Fail> {
+    expect_second_read(&rt, rt.alloc(), ONE_ROUTE, 20, RunFault::Read, 4, 2)
+}
+
+#[test]
+fn a_fault_of_octets_before_a_read_that_would_fail(rt: HostRuntime) -> Result<(), Fail> {
+    let bad_version = RunFault::Dump(Fault::BadVersion { at: 0 });
+    expect_second_read(&rt, rt.alloc(), "2a030000", 100, bad_version, 3, 1)
+}
+
+/// Of a dump in pieces of this many octets whose second read fails, all that can be asked ends in this fault behind as
+/// many reads.
+fn expect_second_read(
+    rt: &impl Abort,
+    alloc: Global,
+    text: &str,
+    piece: usize,
+    fault: RunFault,
+    status: u8,
+    reads: u64,
+) -> Result<(), Fail>
+    requires { 0 < piece }
+{
+    let dump = octets(alloc, text)?;
+    let script = Script {
+        read: piece,
+        failing_read: 2,
+        failing_other_read: 1,
+        ..SCRIPT
+    };
+    for asked in &all_asked(LOOKUP) {
+        let job = job(alloc, Mode::Plain, V4, asked)?;
+        let ran = failing_run(alloc, &job, (&dump, &dump), script)?;
+        expect_fault(rt, text, &job, &ran, fault, status, &[]);
+        expect_reads(rt, &job, &ran, reads, 0);
+    }
+    Ok(())
+}

@@ -1,0 +1,256 @@
+//! Dumps that are refused, and the texts and statuses of faults.
+ghost use Rattle.std.specs.Prelude.{◌^◌, ◌<◌};
+
+use super::devices::{EndlessIn, ScriptedIn, ScriptedOut};
+use super::dumps::{ONE_ROUTE, V4};
+use super::{COMPARE_V4, all_asked, answer, expect_fault, expect_outcome, job, octets};
+use babel_dump::{ByteIn, IgnoredTlv, Job, RunFault, run_job, status_of};
+use babel_table::Limits;
+use babel_tlv::{Fault, Mode, Reason};
+use std::alloc::Global;
+use std::process::Abort;
+use std::test::Fail;
+
+/// A packet with no TLVs.
+const PACKET: &[u8] = b"*\x02\0\0";
+
+const LOOKUP: &str = "lookup --to 10.1.2.3 --src 10.1.2.3";
+
+/// Whatever is asked of these dumps, also of a comparison's other, they are refused with these faults.
+fn expect_refusals(
+    rt: &impl Abort,
+    alloc: Global,
+    limits: Limits,
+    mode: Mode,
+    rows: &[(&str, Fault)],
+) -> Result<(), Fail> {
+    for (dump, fault) in rows {
+        for asked in &all_asked(LOOKUP) {
+            let job = job(alloc, mode, V4, asked)?;
+            let ran = answer(alloc, limits, &job, (dump, ONE_ROUTE), 1)?;
+            expect_fault(rt, dump, &job, &ran, RunFault::Dump(*fault), 3, &[]);
+        }
+        let job = job(alloc, mode, V4, COMPARE_V4)?;
+        let ran = answer(alloc, limits, &job, (ONE_ROUTE, dump), 2)?;
+        let fault = RunFault::OtherDump(*fault);
+        expect_fault(rt, dump, &job, &ran, fault, 3, &[]);
+    }
+    Ok(())
+}
+
+/// Dumps that are refused, and their faults.
+static REFUSED: [(&str, Fault); 9] = [
+    (
+        "2a020019 060a0000 0200000000000001 080b010008000640000101000a 2b020000",
+        Fault::BadMagic { at: 29 },
+    ),
+    ("2a030000", Fault::BadVersion { at: 0 }),
+    ("2a020003 040200", Fault::TlvPastEnd { at: 4 }),
+    ("2a020001 04", Fault::TlvPastEnd { at: 4 }),
+    (
+        "2a020019 060a0000 0200000000000001 080b010008000640000101000a 2a0200",
+        Fault::Truncated { at: 29 },
+    ),
+    (
+        "2a020019 060a0000 0200000000000001 080b01000800064000010100",
+        Fault::Truncated { at: 0 },
+    ),
+    (
+        "2a02000d 080b044008000640000101000a",
+        Fault::EncodingSetsRouterId { at: 4 },
+    ),
+    (
+        "2a02000d 080b034008000640000101000a",
+        Fault::EncodingSetsRouterId { at: 4 },
+    ),
+    ("2b030000", Fault::BadMagic { at: 0 }),
+];
+
+#[test]
+fn dumps_that_are_refused(rt: HostRuntime) -> Result<(), Fail> {
+    expect_refusals(&rt, rt.alloc(), Limits::usual(), Mode::Plain, &REFUSED)
+}
+
+/// A route, and the retraction of another.
+const HELD_BEHIND_ONE: &str =
+    "2a020026 060a0000 0200000000000001 080b010008000640000101000a 080b0100080006400000ffff14";
+
+/// Dumps past 83 octets or one route, or with another fault there, and their faults.
+static PAST_LIMITS: [(&str, Fault); 4] = [
+    (
+        "2a020050 0000000000000000000000000000000000000000000000000000000000000000000000000000000000000000000000000000000000000000000000000000000000000000000000000000000000000000",
+        Fault::TooLong,
+    ),
+    (
+        "2b020050 0000000000000000000000000000000000000000000000000000000000000000000000000000000000000000000000000000000000000000000000000000000000000000000000000000000000000000",
+        Fault::BadMagic { at: 0 },
+    ),
+    (
+        "2a020027 060a0000 0200000000000001 080b010008000640000101000a 080b0100080006400001020014 04",
+        Fault::TlvPastEnd { at: 42 },
+    ),
+    (
+        "2a020026 060a0000 0200000000000001 080b010008000640000101000a 080b0100080006400001020014 2b020000",
+        Fault::TooManyRoutes { at: 29 },
+    ),
+];
+
+/// A dump past one route, where a retraction is held.
+static HELD_PAST_LIMITS: [(&str, Fault); 1] = [(HELD_BEHIND_ONE, Fault::TooManyRoutes { at: 29 })];
+
+#[test]
+fn dumps_past_their_limits(rt: HostRuntime) -> Result<(), Fail> {
+    let limits = Limits::new(83, 1).ok_or("limits")?;
+    expect_refusals(&rt, rt.alloc(), limits, Mode::Plain, &PAST_LIMITS)?;
+    expect_refusals(&rt, rt.alloc(), limits, Mode::Hold, &HELD_PAST_LIMITS)
+}
+
+/// Dumps of 83 octets and of one route, and their lines.
+static AT_LIMITS: [(&str, &str); 2] = [
+    (
+        "2a02004f 00000000000000000000000000000000000000000000000000000000000000000000000000000000000000000000000000000000000000000000000000000000000000000000000000000000000000",
+        "tlvs 79\n",
+    ),
+    (
+        HELD_BEHIND_ONE,
+        "10.0.0.0/8 from 0.0.0.0/0 via 192.0.2.1 id 0200000000000001 seqno 1 metric 256\ntlvs 3\n",
+    ),
+];
+
+#[test]
+fn dumps_at_their_limits(rt: HostRuntime) -> Result<(), Fail> {
+    let limits = Limits::new(83, 1).ok_or("limits")?;
+    let job = job(rt.alloc(), Mode::Plain, V4, "show")?;
+    for (dump, lines) in &AT_LIMITS {
+        let ran = answer(rt.alloc(), limits, &job, (dump, ""), 1)?;
+        expect_outcome(&rt, dump, &job, &ran, Ok(0), lines.as_bytes());
+    }
+    Ok(())
+}
+
+/// The job of two readers, one of which has no end, is refused with this fault under narrow limits.
+fn expect_too_long<R: ByteIn, S: ByteIn>(
+    rt: &impl Abort,
+    alloc: Global,
+    job: &Job,
+    reader: &mut R,
+    other: &mut S,
+    fault: RunFault,
+) -> Result<(), Fail>
+    requires reader_failures { (R.state reader.old).failures < 2 ^ 63 }
+    requires reader_reads { (R.state reader.old).reads < 2 ^ 63 }
+    requires reader_ends { (R.state reader.old).ends < 2 ^ 63 }
+    requires other_failures { (S.state other.old).failures < 2 ^ 63 }
+    requires other_reads { (S.state other.old).reads < 2 ^ 63 }
+    requires other_ends { (S.state other.old).ends < 2 ^ 63 }
+{
+    let limits = Limits::new(83, 1).ok_or("limits")?;
+    let mut writer = ScriptedOut::new(alloc, 1, 0);
+    let outcome = run_job(alloc, limits, job, reader, other, &mut writer);
+    assert_eq!(rt; outcome, Err(fault), "{job:?}");
+    assert!(rt; writer.taken().is_empty());
+    Ok(())
+}
+
+#[test]
+fn a_dump_without_end(rt: HostRuntime) -> Result<(), Fail> {
+    for asked in &all_asked(LOOKUP) {
+        let job = job(rt.alloc(), Mode::Plain, V4, asked)?;
+        let mut reader = EndlessIn::new(PACKET);
+        let mut other = ScriptedIn::new(&[], 1, 0);
+        let fault = RunFault::Dump(Fault::TooLong);
+        expect_too_long(&rt, rt.alloc(), &job, &mut reader, &mut other, fault)?;
+        assert!(rt; reader.reads() <= 84 && other.reads() == 0, "{job:?}");
+    }
+    Ok(())
+}
+
+#[test]
+fn another_dump_without_end(rt: HostRuntime) -> Result<(), Fail> {
+    let dump = octets(rt.alloc(), ONE_ROUTE)?;
+    let mut reader = ScriptedIn::new(&dump, 1, 0);
+    let mut other = EndlessIn::new(PACKET);
+    let job = job(rt.alloc(), Mode::Plain, V4, COMPARE_V4)?;
+    let fault = RunFault::OtherDump(Fault::TooLong);
+    expect_too_long(&rt, rt.alloc(), &job, &mut reader, &mut other, fault)?;
+    assert!(rt; other.reads() <= 84);
+    Ok(())
+}
+
+/// Each fault, its status and its text.
+static TEXTS: [(RunFault, u8, &str); 16] = [
+    (
+        RunFault::Dump(Fault::Truncated { at: 29 }),
+        3,
+        "truncated packet at 29",
+    ),
+    (
+        RunFault::Dump(Fault::BadMagic { at: 0 }),
+        3,
+        "bad magic at 0",
+    ),
+    (
+        RunFault::Dump(Fault::BadVersion { at: 7 }),
+        3,
+        "bad version at 7",
+    ),
+    (
+        RunFault::Dump(Fault::TlvPastEnd { at: 4 }),
+        3,
+        "TLV past the end of its packet at 4",
+    ),
+    (
+        RunFault::Dump(Fault::EncodingSetsRouterId { at: 4 }),
+        3,
+        "router-id flag in an unread address encoding at 4",
+    ),
+    (
+        RunFault::Dump(Fault::TooManyRoutes { at: 55 }),
+        3,
+        "too many routes at 55",
+    ),
+    (RunFault::Dump(Fault::TooLong), 3, "dump too long"),
+    (RunFault::Dump(Fault::TooManyPairs), 3, "too many pairs"),
+    (RunFault::Dump(Fault::Memory), 5, "out of memory"),
+    (
+        RunFault::OtherDump(Fault::BadVersion { at: 0 }),
+        3,
+        "other: bad version at 0",
+    ),
+    (
+        RunFault::OtherDump(Fault::Memory),
+        5,
+        "other: out of memory",
+    ),
+    (
+        RunFault::Ignored(IgnoredTlv {
+            at: 198,
+            reason: Reason::Short,
+        }),
+        3,
+        "ignored TLV at 198: short",
+    ),
+    (
+        RunFault::OtherIgnored(IgnoredTlv {
+            at: 29,
+            reason: Reason::BadPlen,
+        }),
+        3,
+        "other: ignored TLV at 29: bad-plen",
+    ),
+    (RunFault::Read, 4, "read failed"),
+    (RunFault::OtherRead, 4, "other: read failed"),
+    (RunFault::Write, 4, "write failed"),
+];
+
+#[test]
+fn texts_and_statuses_of_faults(rt: HostRuntime) -> Result<(), Fail> {
+    for (fault, status, text) in &TEXTS {
+        let shown = format!(in rt.alloc(); "{fault}")?;
+        assert_eq!(rt; shown.as_str(), *text);
+        assert_eq!(rt; status_of(&Err(*fault)), *status);
+    }
+    assert_eq!(rt; status_of(&Ok(0)), 0);
+    assert_eq!(rt; status_of(&Ok(1)), 1);
+    Ok(())
+}

@@ -1,0 +1,176 @@
+//! Each allocation refused in turn, by `./check memory`, which runs each test here once for each of its allocations.
+//! A test here passes where nothing was refused, and fails with `REFUSED` where a refusal was answered with `Memory`.
+ghost use Rattle.std.specs.Prelude.{None};
+
+use super::address;
+use super::devices::ScriptedIn;
+use super::dumps::{NESTED_SOURCES, ONE_FAMILY, TWO_FAMILIES, V4, V6};
+use babel_dump::{AddrPair, ByteOut, DumpFile, Format, Job, OneDump, RunFault, TwoDumps, run_job};
+use babel_canon::Body;
+use babel_table::Limits;
+use babel_tlv::{Fault, Mode};
+use std::alloc::Global;
+use std::io;
+use std::io::ErrorKind;
+use std::test::Fail;
+
+const REFUSED: &str = "memory was refused, and Memory answered";
+
+const OTHER: &str = "neither the known answer nor Memory";
+
+const ROWS: &str =
+    "0.0.0.0/0 from 0.0.0.0/0 via 192.0.2.1 id 0200000000000001 seqno 1 metric 512\n0.0.0.0/0 from 10.0.0.0/8 via 192.0.2.1 id 0200000000000001 seqno 1 metric 256\ntlvs 3\n";
+
+const ANSWER: &str = "via 192.0.2.1 id 0200000000000001 seqno 1 metric 256\n";
+
+const COUNTS: &str = "rows 2\npairs 9\n";
+
+const PAIRS: &str =
+    "255.255.255.255/32 from 0.0.0.1/32 via 192.0.2.1 id 0200000000000001 seqno 1 metric 256\n0:0:0:0:0:0:0:0/0 from 0:0:0:0:0:0:0:0/0 via fe80:0:0:0:0:0:0:1 id 0200000000000001 seqno 1 metric 256\n";
+
+const DIGITS: &str =
+    "2a0200a4060a0000020000000000000107060100c0000201080e0180000006400001020080020500080e0180000006400001020080020708080e018000000640000101008002080a080e018000000640000102008002080b080e018000000640000102008002060c080e0180000006400001020080020410080e0180000006400001020080020320080e0180000006400001020080020240080e0180000006400001020080020180\n";
+
+const DIFFERENCE: &str =
+    "differ 255.255.255.255 from 0.0.0.1\nleft via 192.0.2.1 id 0200000000000001 seqno 1 metric 256\nright none\n";
+
+/// Takes this text alone, and needs no memory.
+#[derive(Drop)]
+struct ExpectingOut<'a> {
+    rest: &'a [u8],
+    failures: u64,
+    flushes: u64,
+}
+
+impl ByteOut for ExpectingOut<'_> {
+    ghost state = { λ d. record { taken = None; failures = d.failures; flushes = d.flushes } };
+
+    fn write(&mut self, buf: &[u8]) -> io::Result<usize> {
+        match self.rest.strip_prefix(buf) {
+            Some(rest) => {
+                self.rest = rest;
+                Ok(buf.len())
+            }
+            None => {
+                self.failures += 1;
+                Err(io::Error::from(ErrorKind::Other))
+            }
+        }
+    }
+
+    fn flush(&mut self) -> io::Result<()> {
+        self.flushes += 1;
+        Ok(())
+    }
+}
+
+/// The run of a job, in pieces of seven octets. At `Memory` nothing was written.
+fn outcome(
+    alloc: Global,
+    job: &Job,
+    dump: &str,
+    other: &str,
+    status: u8,
+    text: &str,
+) -> Result<(), Fail> {
+    let (mut room, mut other_room) = ([0; 64], [0; 64]);
+    let dump = decoded(dump, &mut room)?;
+    let other = decoded(other, &mut other_room)?;
+    let mut reader = ScriptedIn::new(dump, 7, 0);
+    let mut other = ScriptedIn::new(other, 7, 0);
+    let mut writer = ExpectingOut {
+        rest: text.as_bytes(),
+        failures: 0,
+        flushes: 0,
+    };
+    let limits = Limits::usual();
+    let outcome = run_job(alloc, limits, job, &mut reader, &mut other, &mut writer);
+    match outcome {
+        Ok(given) if given.status == status && writer.rest.is_empty() && writer.flushes == 1 => Ok(
+            (),
+        ),
+        Err(RunFault::Dump(Fault::Memory) | RunFault::OtherDump(Fault::Memory))
+            if writer.rest == text.as_bytes() && writer.flushes == 0 => { Err(Fail::from(REFUSED)) }
+        _ => Err(Fail::from(OTHER)),
+    }
+}
+
+/// The octets that hexadecimal digits and spaces spell, without taking memory.
+fn decoded<'a>(text: &str, room: &'a mut [u8; 64]) -> Result<&'a [u8], Fail> {
+    let mut length = 0_usize;
+    for digits in text.split(' ') {
+        let end = length.saturating_add(digits.len() / 2);
+        let part = room.get_mut(length..end).ok_or("too many digits")?;
+        hex::decode_to_slice(digits, part)?;
+        length = end;
+    }
+    Ok(room.get(..length).ok_or("too many digits")?)
+}
+
+/// A dump on standard input, in mode plain.
+fn dump_from(sender: &str) -> Result<OneDump, Fail> {
+    Ok(OneDump {
+        from: address(sender)?,
+        mode: Mode::Plain,
+        strict: false,
+        format: Format::Text,
+        file: DumpFile::StandardInput,
+    })
+}
+
+#[test]
+fn refused_memory_of_show(rt: HostRuntime) -> Result<(), Fail> {
+    let dump = dump_from(V4)?;
+    let job = Job::Show { dump };
+    outcome(rt.alloc(), &job, NESTED_SOURCES, "", 0, ROWS)
+}
+
+#[test]
+fn refused_memory_of_lookup(rt: HostRuntime) -> Result<(), Fail> {
+    let dump = dump_from(V4)?;
+    let dst = address("10.1.2.3")?;
+    let pair = AddrPair { dst, src: dst };
+    let job = Job::Lookup { dump, pair };
+    outcome(rt.alloc(), &job, NESTED_SOURCES, "", 0, ANSWER)
+}
+
+#[test]
+fn refused_memory_of_normalise(rt: HostRuntime) -> Result<(), Fail> {
+    let (dump, body) = (dump_from(V4)?, Body::usual());
+    let job = Job::Normalise {
+        dump,
+        body,
+        hex: true,
+    };
+    outcome(rt.alloc(), &job, NESTED_SOURCES, "", 0, DIGITS)
+}
+
+#[test]
+fn refused_memory_of_pairs(rt: HostRuntime) -> Result<(), Fail> {
+    let dump = dump_from(V6)?;
+    let job = Job::Pairs { dump, count: false };
+    outcome(rt.alloc(), &job, TWO_FAMILIES, "", 0, PAIRS)
+}
+
+#[test]
+fn refused_memory_of_count(rt: HostRuntime) -> Result<(), Fail> {
+    let dump = dump_from(V4)?;
+    let job = Job::Pairs { dump, count: true };
+    outcome(rt.alloc(), &job, NESTED_SOURCES, "", 0, COUNTS)
+}
+
+#[test]
+fn refused_memory_of_compare(rt: HostRuntime) -> Result<(), Fail> {
+    let from = address(V6)?;
+    let dumps = TwoDumps {
+        from,
+        other_from: from,
+        mode: Mode::Plain,
+        strict: false,
+        format: Format::Text,
+        file: DumpFile::StandardInput,
+        other: DumpFile::StandardInput,
+    };
+    let job = Job::Compare { dumps };
+    outcome(rt.alloc(), &job, TWO_FAMILIES, ONE_FAMILY, 1, DIFFERENCE)
+}

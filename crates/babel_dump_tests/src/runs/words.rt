@@ -1,0 +1,448 @@
+//! The program's words: jobs, refusals and help.
+use super::{address, split};
+use babel_dump::{DumpFile, Format, Job, OneDump, Refusal, read_order, read_words};
+use babel_prefix::Addr;
+use babel_tlv::Mode;
+use std::alloc::Global;
+use std::process::Abort;
+use std::test::Fail;
+
+/// What a job is to be, with its addresses as texts. What its command doesn't have is `None` or false.
+#[derive(Clone, Copy)]
+struct Wanted<'a> {
+    command: &'a str,
+    from: &'a str,
+    other_from: Option<&'a str>,
+    to: Option<&'a str>,
+    src: Option<&'a str>,
+    mode: Mode,
+    strict: bool,
+    format: Format,
+    hex: bool,
+    body: Option<u16>,
+    count: bool,
+    file: Option<&'a str>,
+    other: Option<&'a str>,
+}
+
+/// What is to be shown of the dump on standard input that `::` sent.
+const SHOW: Wanted<'static> = Wanted {
+    command: "show",
+    from: "::",
+    other_from: None,
+    to: None,
+    src: None,
+    mode: Mode::Plain,
+    strict: false,
+    format: Format::Text,
+    hex: false,
+    body: None,
+    count: false,
+    file: None,
+    other: None,
+};
+
+const LOOKUP: Wanted<'static> = Wanted {
+    command: "lookup",
+    to: Some("::"),
+    src: Some("::"),
+    ..SHOW
+};
+
+const NORMALISE: Wanted<'static> = Wanted {
+    command: "normalise",
+    body: Some(1024),
+    ..SHOW
+};
+
+const PAIRS: Wanted<'static> = Wanted {
+    command: "pairs",
+    ..SHOW
+};
+
+const COMPARE: Wanted<'static> = Wanted {
+    command: "compare",
+    other_from: Some("::"),
+    file: Some("a"),
+    other: Some("b"),
+    ..SHOW
+};
+
+/// Words, and the job that they ask for.
+#[rattlefmt::skip]
+static JOBS: [(&str, Wanted<'static>); 29] = [
+    (
+        "lookup --from fe80::1 --to 10.1.2.3 --src=0.0.0.0 --hold x",
+        Wanted {
+            from: "fe80::1",
+            to: Some("10.1.2.3"),
+            src: Some("0.0.0.0"),
+            mode: Mode::Hold,
+            file: Some("x"),
+            ..LOOKUP
+        },
+    ),
+    (
+        "compare --other-from ::1 --from=192.0.2.1 a b",
+        Wanted {
+            from: "192.0.2.1",
+            other_from: Some("::1"),
+            ..COMPARE
+        },
+    ),
+    ("show --from 192.0.2.1", Wanted { from: "192.0.2.1", ..SHOW }),
+    ("normalise --from 192.0.2.1", Wanted { from: "192.0.2.1", ..NORMALISE }),
+    ("pairs --from 192.0.2.1", Wanted { from: "192.0.2.1", ..PAIRS }),
+    ("show --from :: --hold", Wanted { mode: Mode::Hold, ..SHOW }),
+    ("lookup --from :: --to :: --src :: --hold", Wanted { mode: Mode::Hold, ..LOOKUP }),
+    ("normalise --from :: --hold", Wanted { mode: Mode::Hold, ..NORMALISE }),
+    ("pairs --from :: --hold", Wanted { mode: Mode::Hold, ..PAIRS }),
+    ("compare --from :: --other-from :: --hold a b", Wanted { mode: Mode::Hold, ..COMPARE }),
+    ("lookup --from :: --to :: --src :: --strict", Wanted { strict: true, ..LOOKUP }),
+    ("normalise --from :: --strict", Wanted { strict: true, ..NORMALISE }),
+    ("pairs --from :: --strict", Wanted { strict: true, ..PAIRS }),
+    ("compare --from :: --other-from :: --strict a b", Wanted { strict: true, ..COMPARE }),
+    ("show --from :: --json", Wanted { format: Format::Json, ..SHOW }),
+    ("lookup --from :: --to :: --src :: --json", Wanted { format: Format::Json, ..LOOKUP }),
+    ("pairs --from :: --json", Wanted { format: Format::Json, ..PAIRS }),
+    ("compare --from :: --other-from :: --json a b", Wanted { format: Format::Json, ..COMPARE }),
+    ("lookup --from :: --each p d", Wanted { file: Some("d"), other: Some("p"), ..LOOKUP }),
+    ("lookup --from :: --each - --strict d", Wanted { strict: true, file: Some("d"), ..LOOKUP }),
+    ("lookup --from :: --each p --json d", Wanted { format: Format::Json, file: Some("d"), other: Some("p"), ..LOOKUP }),
+    ("normalise --from :: --hex", Wanted { hex: true, ..NORMALISE }),
+    ("pairs --from :: --count", Wanted { count: true, ..PAIRS }),
+    ("normalise --from :: --body 128", Wanted { body: Some(128), ..NORMALISE }),
+    ("normalise --from :: --body 1024", Wanted { body: Some(1024), ..NORMALISE }),
+    ("normalise --from :: --body 65535", Wanted { body: Some(65535), ..NORMALISE }),
+    ("show --from :: -", SHOW),
+    ("compare --from :: --other-from :: - b", Wanted { file: None, ..COMPARE }),
+    ("compare --from :: --other-from :: a -", Wanted { other: None, ..COMPARE }),
+];
+
+#[test]
+fn words_of_jobs(rt: HostRuntime) -> Result<(), Fail> {
+    for (line, wanted) in &JOBS {
+        match read_words(rt.alloc(), &split(rt.alloc(), line)?) {
+            Ok(job) => expect_job(&rt, line, &job, wanted)?,
+            Err(_refusal) => assert!(rt; false, "no job of {line}"),
+        }
+    }
+    Ok(())
+}
+
+/// The job that these words ask for is the one that is wanted.
+fn expect_job(rt: &impl Abort, line: &str, job: &Job, wanted: &Wanted<'_>) -> Result<(), Fail> {
+    match job {
+        Job::Show { dump } => expect_dump(rt, line, "show", dump, wanted),
+        Job::Lookup { dump, pair } => {
+            expect_address(rt, line, pair.dst, wanted.to)?;
+            expect_address(rt, line, pair.src, wanted.src)?;
+            expect_dump(rt, line, "lookup", dump, wanted)
+        }
+        Job::Each { dump, pairs } => {
+            expect_file(rt, line, pairs, wanted.other);
+            expect_dump(rt, line, "lookup", dump, wanted)
+        }
+        Job::Normalise { dump, body, hex } => {
+            assert_eq!(rt; Some(body.octets()), wanted.body, "of {line}");
+            assert_eq!(rt; *hex, wanted.hex, "of {line}");
+            expect_dump(rt, line, "normalise", dump, wanted)
+        }
+        Job::Pairs { dump, count } => {
+            assert_eq!(rt; *count, wanted.count, "of {line}");
+            expect_dump(rt, line, "pairs", dump, wanted)
+        }
+        Job::Compare { dumps } => {
+            assert_eq!(rt; "compare", wanted.command, "of {line}");
+            assert_eq!(rt; dumps.mode, wanted.mode, "of {line}");
+            assert_eq!(rt; dumps.strict, wanted.strict, "of {line}");
+            assert_eq!(rt; dumps.format, wanted.format, "of {line}");
+            expect_address(rt, line, dumps.from, Some(wanted.from))?;
+            expect_address(rt, line, dumps.other_from, wanted.other_from)?;
+            expect_file(rt, line, &dumps.file, wanted.file);
+            expect_file(rt, line, &dumps.other, wanted.other);
+            Ok(())
+        }
+    }
+}
+
+/// The command over one dump, and its dump, are those that are wanted.
+fn expect_dump(
+    rt: &impl Abort,
+    line: &str,
+    command: &str,
+    dump: &OneDump,
+    wanted: &Wanted<'_>,
+) -> Result<(), Fail> {
+    assert_eq!(rt; command, wanted.command, "of {line}");
+    assert_eq!(rt; dump.mode, wanted.mode, "of {line}");
+    assert_eq!(rt; dump.strict, wanted.strict, "of {line}");
+    assert_eq!(rt; dump.format, wanted.format, "of {line}");
+    expect_address(rt, line, dump.from, Some(wanted.from))?;
+    expect_file(rt, line, &dump.file, wanted.file);
+    Ok(())
+}
+
+/// The address of a job is the one that is wanted.
+fn expect_address(
+    rt: &impl Abort,
+    line: &str,
+    given: Addr,
+    wanted: Option<&str>,
+) -> Result<(), Fail> {
+    assert_eq!(rt; given, address(wanted.ok_or("no address")?)?, "of {line}");
+    Ok(())
+}
+
+/// The file of a job is the one that is wanted; standard input where none is.
+fn expect_file(rt: &impl Abort, line: &str, given: &DumpFile, wanted: Option<&str>) {
+    let name = match given {
+        DumpFile::StandardInput => None,
+        DumpFile::Named(name) => Some(name.as_str()),
+    };
+    assert!(rt; name == wanted, "{given:?} of {line}");
+}
+
+/// The text that the words of a line are refused with.
+fn usage(rt: &impl Abort, alloc: Global, line: &str) -> Result<String, Fail> {
+    match read_words(alloc, &split(alloc, line)?) {
+        Err(Refusal::Usage(text)) => Ok(text),
+        Err(_refusal) => Err(Fail::from("no usage")),
+        Ok(_job) => {
+            assert!(rt; false, "no refusal of {line}");
+            Err(Fail::from("a job"))
+        }
+    }
+}
+
+/// Words that are no addresses, and others that go together with no other, with the text that they are refused with. Of
+/// several that are no addresses the first is named, in the order `--from`, `--other-from`, `--to`, `--src`.
+#[rattlefmt::skip]
+static NO_JOBS: [(&str, &str); 14] = [
+    ("lookup --src v --to w --from q", "not an address: q\nhint: --from takes an IPv4 or IPv6 address\n"),
+    ("lookup --src v --to w --from ::", "not an address: w\nhint: --to takes an IPv4 or IPv6 address\n"),
+    ("lookup --src 01.2.3.4 --to :: --from ::", "not an address: 01.2.3.4\nhint: --src takes an IPv4 or IPv6 address\n"),
+    ("lookup --src :: --to :: --from ''", "not an address: \nhint: --from takes an IPv4 or IPv6 address\n"),
+    ("compare --other-from w --from q a b", "not an address: q\nhint: --from takes an IPv4 or IPv6 address\n"),
+    ("compare --other-from w --from :: a b", "not an address: w\nhint: --other-from takes an IPv4 or IPv6 address\n"),
+    ("show --from fe80::1%eth0", "not an address: fe80::1%eth0\nhint: --from takes an address without a zone\n"),
+    ("lookup --from :: --to :: --src ::/0", "not an address: ::/0\nhint: --src takes an address without a prefix length\n"),
+    ("show --from \u{7}q", "not an address: \\u{7}q\nhint: --from takes an IPv4 or IPv6 address\n"),
+    ("lookup --from 192.0.2.1 --to 10.0.0.1 --src ::1 x", "--to and --src are of different families\n"),
+    ("lookup --from 192.0.2.1 --to ::1 --src 10.0.0.1 x", "--to and --src are of different families\n"),
+    ("compare --from :: --other-from :: - -", "both dumps are standard input\n"),
+    ("lookup --from :: --each - -", "the dump and the pairs are standard input\n"),
+    ("show --from :: --max-octets 82 --max-routes 1", "--max-octets 82 is less than 83 for each of 1 routes\n"),
+];
+
+#[test]
+fn words_of_no_job(rt: HostRuntime) -> Result<(), Fail> {
+    for (line, text) in &NO_JOBS {
+        let refusal = usage(&rt, rt.alloc(), line)?;
+        assert_eq!(rt; refusal.as_str(), *text, "of {line}");
+    }
+    Ok(())
+}
+
+const USAGE: &str = "Usage: babel-dump";
+
+const BODY: &str = "'--body <OCTETS>'";
+
+/// Words that are refused, and a part of the text.
+static REFUSED: [(&str, &str); 25] = [
+    ("", USAGE),
+    ("shows", USAGE),
+    ("show x", USAGE),
+    ("lookup x", USAGE),
+    ("lookup --from :: --to :: x", USAGE),
+    ("lookup --from :: --each p --to ::", USAGE),
+    ("lookup --from :: --each p --src ::", USAGE),
+    ("normalise x", USAGE),
+    ("pairs x", USAGE),
+    ("compare --from :: a b", USAGE),
+    ("compare --from :: --other-from :: a", USAGE),
+    ("show --from :: x y", USAGE),
+    ("show --from :: --to ::", USAGE),
+    ("show --from :: --hex", USAGE),
+    ("show --from :: --strict", USAGE),
+    ("normalise --from :: --json", USAGE),
+    ("pairs --from :: --body 128", USAGE),
+    ("normalise --from :: --count", USAGE),
+    ("normalise --from :: --body 127", BODY),
+    ("normalise --from :: --body 65536", BODY),
+    ("normalise --from :: --body 0", BODY),
+    ("normalise --from :: --body a", BODY),
+    ("show --from :: --max-routes 0", "'--max-routes <ROUTES>'"),
+    (
+        "show --from :: --max-routes 51746594",
+        "'--max-routes <ROUTES>'",
+    ),
+    (
+        "show --from :: --max-octets 4294967296",
+        "'--max-octets <OCTETS>'",
+    ),
+];
+
+/// Words, and the octets and the routes that they limit a dump to.
+static LIMITS: [(&str, u32, u32); 6] = [
+    ("show --from ::", 33_554_432, 262_144),
+    ("pairs --from :: --max-routes 1", 33_554_432, 1),
+    (
+        "normalise --from :: --max-routes 404271",
+        33_554_493,
+        404_271,
+    ),
+    (
+        "show --from :: --max-routes 51746593",
+        4_294_967_219,
+        51_746_593,
+    ),
+    ("show --from :: --max-octets 83 --max-routes 1", 83, 1),
+    (
+        "compare --from :: --other-from :: --max-octets 4294967295 a b",
+        4_294_967_295,
+        262_144,
+    ),
+];
+
+/// Words, and whether nothing is said of ignored TLVs.
+static QUIET: [(&str, bool); 4] = [
+    ("show --from ::", true),
+    ("show --from :: --quiet", true),
+    ("pairs --from ::", false),
+    ("compare --from :: --other-from :: --quiet a b", true),
+];
+
+#[test]
+fn words_of_quiet(rt: HostRuntime) -> Result<(), Fail> {
+    for (line, quiet) in &QUIET {
+        match read_order(rt.alloc(), &split(rt.alloc(), line)?) {
+            Ok(order) => assert_eq!(rt; order.quiet, *quiet, "of {line}"),
+            Err(_refusal) => assert!(rt; false, "no job of {line}"),
+        }
+    }
+    Ok(())
+}
+
+#[test]
+fn words_of_limits(rt: HostRuntime) -> Result<(), Fail> {
+    for (line, octets, routes) in &LIMITS {
+        match read_order(rt.alloc(), &split(rt.alloc(), line)?) {
+            Ok(order) => {
+                assert_eq!(rt; order.limits.bytes(), *octets, "of {line}");
+                assert_eq!(rt; order.limits.entries(), *routes, "of {line}");
+            }
+            Err(_refusal) => assert!(rt; false, "no job of {line}"),
+        }
+    }
+    Ok(())
+}
+
+#[test]
+fn words_that_are_refused(rt: HostRuntime) -> Result<(), Fail> {
+    for (line, part) in &REFUSED {
+        let text = usage(&rt, rt.alloc(), line)?;
+        assert!(rt; text.contains(*part), "of {line}: {text}");
+    }
+    Ok(())
+}
+
+/// The words of the options that each command over one dump has.
+const OF_ONE_DUMP: [&str; 6] = [
+    "--from <ADDRESS>       The address that the dump's packets were sent from",
+    "--hold                 Keep a retracted route as unreachable, so",
+    "--quiet                Leave out the note on standard error",
+    "--max-routes <ROUTES>  How many routes, and how many canonical pairs, there may be",
+    "--max-octets <OCTETS>  How many octets a dump may have",
+    "[FILE]  The dump; standard input if it is left out, or is -",
+];
+
+const OF_JSON: &str = "--json                 Write one JSON object a line";
+
+const COMMANDS: [&str; 5] = [
+    "  show  ",
+    "  lookup  ",
+    "  normalise  ",
+    "  pairs  ",
+    "  compare  ",
+];
+
+const OF_LOOKUP: [&str; 6] = [
+    OF_JSON,
+    "--strict               Refuse a dump of which a TLV is ignored",
+    "--to <ADDRESS>         The destination to look up",
+    "--src <ADDRESS>        The source to look up, of the destination's family",
+    "babel-dump lookup --from",
+    "  1  an answer is none or unreachable",
+];
+
+const OF_NORMALISE: [&str; 4] = [
+    "--strict               Refuse a dump of which a TLV is ignored",
+    "--body <OCTETS>        How long the body of a packet may be, from 128 to 65535 octets; 1024 if it is left out",
+    "--hex                  Write the octets as lower-case hexadecimal digits on a line",
+    "babel-dump normalise --from",
+];
+
+const OF_PAIRS: [&str; 4] = [
+    OF_JSON,
+    "--strict               Refuse a dump of which a TLV is ignored",
+    "--count                Write only how many rows and how many canonical pairs there are",
+    "babel-dump pairs --from",
+];
+
+const OF_COMPARE: [&str; 9] = [
+    "--json                  Write one JSON object a line",
+    "--strict                Refuse a dump of which a TLV is ignored",
+    "--from <ADDRESS>        The address that the packets of FILE were sent from",
+    "--other-from <ADDRESS>  The address that the packets of OTHER were sent from",
+    "--hold                  Keep a retracted route as unreachable, so",
+    "<FILE>   The first dump; - is standard input",
+    "<OTHER>  The other dump; - is standard input",
+    "babel-dump compare --from",
+    "  1  some destination and source has not",
+];
+
+const ENDS: [&str; 3] = [
+    "\nExamples:\n  babel-dump ",
+    "\nExit statuses:\n  0  ",
+    "\n  5  out of memory",
+];
+
+/// The words that ask for a help text, and its parts beside `ENDS`. Each names its options, each with a sentence, and
+/// has examples and the exit statuses.
+static HELPS: [(&str, &[&str], &[&str]); 7] = [
+    ("--help", &COMMANDS, &["babel-dump lookup --from"]),
+    ("help", &COMMANDS, &["babel-dump lookup --from"]),
+    (
+        "show -h",
+        &OF_ONE_DUMP,
+        &[OF_JSON, "babel-dump show --from"],
+    ),
+    ("lookup --help", &OF_ONE_DUMP, &OF_LOOKUP),
+    ("normalise --help", &OF_ONE_DUMP, &OF_NORMALISE),
+    ("help pairs", &OF_ONE_DUMP, &OF_PAIRS),
+    ("compare --help", &OF_COMPARE, &[]),
+];
+
+#[test]
+fn words_that_ask_for_help(rt: HostRuntime) -> Result<(), Fail> {
+    for (line, parts, own) in &HELPS {
+        match read_words(rt.alloc(), &split(rt.alloc(), line)?) {
+            Err(Refusal::Help(help)) => {
+                expect_parts(&rt, help.as_str(), parts);
+                expect_parts(&rt, help.as_str(), own);
+                expect_parts(&rt, help.as_str(), &ENDS);
+            }
+            Err(_refusal) => assert!(rt; false, "no help of {line}"),
+            Ok(_job) => assert!(rt; false, "no refusal of {line}"),
+        }
+    }
+    Ok(())
+}
+
+/// A help text has these parts.
+fn expect_parts(rt: &impl Abort, help: &str, parts: &[&str]) {
+    for part in parts {
+        assert!(rt; help.contains(*part), "no {part} in {help}");
+    }
+}

@@ -1,0 +1,108 @@
+//! How pairs are packed.
+use super::{addr, octets};
+use babel_canon::{Body, normalise};
+use babel_table::{Limits, read_dump};
+use babel_tlv::Mode;
+use std::alloc::{AllocError, Global};
+use std::process::Abort;
+use std::test::Fail;
+
+/// Routes n.0.0.0 for n from 1 to 77, of length 16 up to this n, and 8 above.
+fn many_routes(alloc: Global, long: u8) -> Result<Vec<u8>, AllocError> {
+    // a Router-Id of 12 octets, and 77 Updates of 13 or 14
+    let len = (1013 + long as u16).to_be_bytes();
+    let mut dump = Vec::new(alloc);
+    dump.extend_from_slice(&[42, 2, len[0], len[1]])?;
+    dump.extend_from_slice(&octets(alloc, "RID")?)?;
+    for n in 1..78u8 {
+        let metric = if n % 2 == 1 { 1 } else { 2 };
+        if n <= long {
+            dump.extend_from_slice(&[8, 12, 1, 0, 16, 0, 6, 64, 0, 1, metric, 0, n, 0])?;
+        } else {
+            dump.extend_from_slice(&[8, 11, 1, 0, 8, 0, 6, 64, 0, 1, metric, 0, n])?;
+        }
+    }
+    Ok(dump)
+}
+
+/// How long the body of each packet is, and how many pairs the packet has.
+fn packets(rt: &impl Abort, alloc: Global, text: &[u8]) -> Result<Vec<(usize, usize)>, AllocError> {
+    let sender = addr(rt, "192.0.2.1");
+    let mut packets = Vec::new(alloc);
+    let mut rest = text;
+    for _ in 0..text.len() {
+        if rest.len() < 4 {
+            break;
+        }
+        let len = u16::from_be_bytes([rest[2], rest[3]]) as usize;
+        let packet = rest.get(..4 + len).unwrap_or(rest);
+        let table = read_dump(alloc, Limits::usual(), Mode::Plain, sender, packet);
+        packets.push((len, table.expect(rt, "no fault").rows().len()))?;
+        rest = rest.get(4 + len..).unwrap_or(&[]);
+    }
+    Ok(packets)
+}
+
+/// The canonical octets of a dump from 192.0.2.1, in packets of this size.
+fn form(rt: &impl Abort, alloc: Global, body: Body, dump: &[u8]) -> Vec<u8> {
+    let sender = addr(rt, "192.0.2.1");
+    normalise(alloc, Limits::usual(), Mode::Plain, body, sender, dump).expect(rt, "no fault")
+}
+
+/// With so many routes of length 16 and bodies of this size: the length of each packet's body and how many pairs it has, and
+/// how many octets there are in all.
+static SIZES: [(u8, u16, &[(usize, usize)], usize); 5] = [
+    (3, 1024, &[(1024, 77)], 1028),
+    (4, 1024, &[(1012, 76), (33, 1)], 1053),
+    (3, 1023, &[(1011, 76), (33, 1)], 1052),
+    (
+        3,
+        128,
+        &[
+            (127, 8),
+            (124, 8),
+            (124, 8),
+            (124, 8),
+            (124, 8),
+            (124, 8),
+            (124, 8),
+            (124, 8),
+            (124, 8),
+            (85, 5),
+        ],
+        1244,
+    ),
+    (4, 1025, &[(1025, 77)], 1029),
+];
+
+#[test]
+fn packet_sizes(rt: HostRuntime) -> Result<(), Fail> {
+    for (long, size, wanted, total) in SIZES {
+        let body = Body::new(size).expect(&rt, "a size");
+        let dump = many_routes(rt.alloc(), long)?;
+        let text = form(&rt, rt.alloc(), body, &dump);
+        assert_eq!(rt; text.len(), total, "with {size}");
+        assert_eq!(rt;
+            packets(&rt, rt.alloc(), &text)?.as_slice(),
+            wanted,
+            "with {size}"
+        );
+        let again = form(&rt, rt.alloc(), body, &text);
+        assert_eq!(rt; again.as_slice(), text.as_slice(), "with {size}");
+        let usual = form(&rt, rt.alloc(), Body::usual(), &text);
+        let whole = form(&rt, rt.alloc(), Body::usual(), &dump);
+        assert_eq!(rt; usual.as_slice(), whole.as_slice(), "with {size}");
+    }
+    Ok(())
+}
+
+#[test]
+fn sizes_of_a_body(rt: HostRuntime) -> Result<(), Fail> {
+    assert!(rt; Body::new(127).is_none());
+    for octets in [128, 65535] {
+        let body = Body::new(octets).expect(&rt, "a size");
+        assert_eq!(rt; body.octets(), octets);
+    }
+    assert_eq!(rt; Body::usual().octets(), 1024);
+    Ok(())
+}

@@ -1,0 +1,52 @@
+//! How tables compare.
+use super::{BOTH_FAMILIES, HALVES, IPV6_ALONE, ONE, ONE_ROUTE, RETRACTED, addr, route, table};
+use babel_canon::{Verdict, compare};
+use babel_tlv::{Held, Mode};
+use std::process::Abort;
+use std::test::Fail;
+
+/// That the least difference is at 255.255.255.255 from 0.0.0.1, where this is answered.
+fn differ(rt: &impl Abort, left: Option<Held>, right: Option<Held>) -> Verdict {
+    Verdict::Differ {
+        dst: addr(rt, "255.255.255.255"),
+        src: addr(rt, "0.0.0.1"),
+        left,
+        right,
+    }
+}
+
+#[test]
+fn least_differences(rt: HostRuntime) -> Result<(), Fail> {
+    let one = table(&rt, rt.alloc(), Mode::Plain, "fe80::1", BOTH_FAMILIES);
+    let other = table(&rt, rt.alloc(), Mode::Plain, "fe80::1", IPV6_ALONE);
+    let verdict = compare(rt.alloc(), &one, &other).expect(&rt, "memory");
+    assert!(rt; verdict == differ(&rt, Some(route(&rt, 256)), None));
+    let verdict = compare(rt.alloc(), &other, &one).expect(&rt, "memory");
+    assert!(rt; verdict == differ(&rt, None, Some(route(&rt, 256))));
+    let verdict = compare(rt.alloc(), &one, &one).expect(&rt, "memory");
+    assert!(rt; verdict == Verdict::Same);
+    let one = table(&rt, rt.alloc(), Mode::Plain, "192.0.2.1", HALVES);
+    let other = table(&rt, rt.alloc(), Mode::Hold, "fe80::1", ONE_ROUTE);
+    let verdict = compare(rt.alloc(), &one, &other).expect(&rt, "memory");
+    assert!(rt; verdict == Verdict::Same);
+    Ok(())
+}
+
+#[test]
+fn unreachable_differs(rt: HostRuntime) -> Result<(), Fail> {
+    let sender = "192.0.2.1";
+    let one = table(&rt, rt.alloc(), Mode::Hold, sender, ONE);
+    let held = table(&rt, rt.alloc(), Mode::Hold, sender, RETRACTED);
+    let differ = Verdict::Differ {
+        dst: addr(&rt, "10.1.0.0"),
+        src: addr(&rt, "0.0.0.0"),
+        left: Some(Held::Unreachable),
+        right: Some(route(&rt, 256)),
+    };
+    let verdict = compare(rt.alloc(), &held, &one).expect(&rt, "memory");
+    assert!(rt; verdict == differ);
+    let plain = table(&rt, rt.alloc(), Mode::Plain, sender, RETRACTED);
+    let verdict = compare(rt.alloc(), &plain, &one).expect(&rt, "memory");
+    assert!(rt; verdict == Verdict::Same);
+    Ok(())
+}

@@ -1,0 +1,14 @@
+//! Tests of the libraries below the runs, by their public calls alone. They stand in a crate of their own, since a crate that
+//! has tests is proved a second time with them.
+#![tactic(auto)]
+
+#[cfg(test)]
+mod canon;
+#[cfg(test)]
+mod prefix;
+#[cfg(test)]
+mod table;
+#[cfg(test)]
+mod tlv;
+#[cfg(test)]
+mod trie;

@@ -1,0 +1,147 @@
+//! Worked dumps, by the public calls. Expected values are those of RFC 8966 and RFC 9079, worked by hand.
+mod changes;
+mod faults;
+mod pieces;
+mod refused_memory;
+mod rows;
+
+ghost use Rattle.std.specs.Prelude.{◌≡◌, ◌<◌, ◌^◌};
+ghost use Rattle.babel_prefix.specs.declared.family.Family.TheVariants.{V4, V6};
+
+use babel_prefix::{Addr, Family, Prefix};
+use babel_table::{Feeder, Limits, Table, read_dump};
+use babel_tlv::{Ann, Fault, Held, Key, Mode};
+use std::alloc::{AllocError, Global};
+use std::test::Fail;
+
+fn digit(octet: u8) -> Option<u8> {
+    match octet {
+        b'0'..=b'9' => Some(octet - b'0'),
+        b'a'..=b'f' => Some(octet - b'a' + 10),
+        _ => None,
+    }
+}
+
+/// The octets that a text spells: digits in pairs, with spaces between. `RID` is the router-id's TLV.
+fn octets(alloc: Global, text: &str) -> Result<Vec<u8>, AllocError> {
+    let mut out = Vec::with_capacity(alloc, text.len())?;
+    let mut high: Option<u8> = None;
+    for octet in text.as_bytes() {
+        if *octet == b'R' {
+            out.extend_from_slice(&[6, 10, 0, 0, 2, 0, 0, 0, 0, 0, 0, 1])?;
+        }
+        if let Some(low) = digit(*octet) {
+            match high {
+                None => high = Some(low),
+                Some(top) => {
+                    out.push((top % 16) * 16 + low % 16)?;
+                    high = None;
+                }
+            }
+        }
+    }
+    Ok(out)
+}
+
+fn v4(bits: u32) -> Addr
+    ensures { result.family ≡ V4 }
+{
+    Addr::new(Family::V4, bits as u128).unwrap()
+}
+
+fn v6(bits: u128) -> Addr
+    ensures { result.family ≡ V6 }
+{
+    Addr::new(Family::V6, bits).unwrap()
+}
+
+/// 192.0.2.1, which sent the dumps.
+fn router() -> Addr {
+    v4(0xc000_0201)
+}
+
+/// fe80::1, which sent those of IPv6 routes.
+fn router_v6() -> Addr {
+    v6(0xfe80_0000_0000_0000_0000_0000_0000_0001)
+}
+
+fn key(dst: u32, len: u8, src: u32, src_len: u8) -> Option<Key> {
+    Key::new(Prefix::new(v4(dst), len)?, Prefix::new(v4(src), src_len)?)
+}
+
+/// What the dumps announce with this metric.
+fn route(metric: u16) -> Option<Held> {
+    Ann::new([2, 0, 0, 0, 0, 0, 0, 1], 1, metric, router()).map(Held::Route)
+}
+
+fn are(table: &Table, want: &[(Option<Key>, Option<Held>)]) -> bool {
+    let rows = table.rows();
+    if rows.len() != want.len() {
+        return false;
+    }
+    for ((key, held), (want_key, want_held)) in rows.zip(want) {
+        if *want_key != Some(key) || *want_held != Some(held) {
+            return false;
+        }
+    }
+    true
+}
+
+fn limits(bytes: u32, entries: u32) -> Limits {
+    Limits::new(bytes, entries).unwrap_or(Limits::usual())
+}
+
+/// The answer of a dump, fed whole.
+fn read(
+    alloc: Global,
+    limits: Limits,
+    mode: Mode,
+    text: &str,
+) -> Result<Result<Table, Fault>, Fail> {
+    let dump = octets(alloc, text)?;
+    Ok(read_dump(alloc, limits, mode, router(), &dump))
+}
+
+fn fed(
+    alloc: Global,
+    limits: Limits,
+    mode: Mode,
+    sender: Addr,
+    pieces: &[&[u8]],
+) -> Result<Table, Fault> {
+    let mut feeder = Feeder::new(alloc, limits, mode, sender)?;
+    for piece in pieces {
+        let _ = feeder.feed(piece);
+    }
+    feeder.finish()
+}
+
+fn fed_by_octet(
+    alloc: Global,
+    limits: Limits,
+    mode: Mode,
+    sender: Addr,
+    dump: &[u8],
+) -> Result<Table, Fault> {
+    let mut feeder = Feeder::new(alloc, limits, mode, sender)?;
+    for octet in dump {
+        let _ = feeder.feed(&[*octet]);
+    }
+    feeder.finish()
+}
+
+/// The same rows in the same order.
+fn same_rows(left: &Table, right: &Table) -> bool {
+    let rows = left.rows();
+    let others = right.rows();
+    rows.len() == others.len() && rows.zip(others).all(|(row, other)| row == other)
+}
+
+/// Equal rows and reports, or equal faults at equal offsets.
+fn same(left: &Result<Table, Fault>, right: &Result<Table, Fault>) -> bool {
+    match (left, right) {
+        (Ok(a), Ok(b)) => same_rows(a, b) && *a.report() == *b.report(),
+        (Err(a), Err(b)) => *a == *b,
+        _ => false,
+    }
+}
