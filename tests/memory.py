@@ -23,7 +23,7 @@ OUT_OF_MEMORY = ["! out of memory\n? 5\n", "! other: out of memory\n? 5\n"]
 # What the crates' tests named so fail with where a refusal was answered as such.
 TESTS = "refused_memory"
 CRATES = ["babel_library_tests", "babel_dump_tests"]
-TEST_REFUSED = re.compile(rb"memory was refused, and Memory answered|error: AllocError")
+TEST_REFUSED = re.compile(rb"memory was refused, and Memory answered|error: AllocError|error: OutOfMemory")
 # Words with one of these are the shell's, and not the program's alone.
 OF_SHELL = re.compile(r"[|&;<>$`(){}*?\\]")
 

@@ -1,6 +1,5 @@
 mod comparisons;
 mod devices;
-mod dumps;
 mod failures;
 mod forms;
 mod lookups;
@@ -14,6 +13,7 @@ mod words;
 ghost use Rattle.std.specs.Prelude.{◌<◌};
 
 use babel_dump::{Job, Outcome, RunFault, read_words, run_job, status_of};
+use babel_library_tests::dumps::octets;
 use babel_prefix::{Addr, parse_addr};
 use babel_table::Limits;
 use babel_tlv::Mode;
@@ -75,18 +75,6 @@ fn all_asked<'a>(lookup: &'a str) -> [&'a str; 7] {
         "pairs --count",
         COMPARE_V4,
     ]
-}
-
-/// The octets that hexadecimal digits and spaces spell.
-fn octets(alloc: Global, text: &str) -> Result<Vec<u8>, Fail> {
-    let mut digits = String::new(alloc);
-    for piece in text.split(' ') {
-        digits.push_str(piece)?;
-    }
-    match hex::decode(alloc, digits.as_str()) {
-        Ok(octets) => Ok(octets),
-        Err(_) => Err(Fail::from("no hexadecimal text")),
-    }
 }
 
 /// The address that a text spells.

@@ -4,6 +4,7 @@
 
 #[cfg(test)]
 mod canon;
+pub mod dumps;
 #[cfg(test)]
 mod prefix;
 #[cfg(test)]

@@ -8,40 +8,12 @@ mod rows;
 ghost use Rattle.std.specs.Prelude.{◌≡◌, ◌<◌, ◌^◌};
 ghost use Rattle.babel_prefix.specs.declared.family.Family.TheVariants.{V4, V6};
 
+use crate::dumps::octets;
 use babel_prefix::{Addr, Family, Prefix};
 use babel_table::{Feeder, Limits, Table, read_dump};
 use babel_tlv::{Ann, Fault, Held, Key, Mode};
 use std::alloc::{AllocError, Global};
 use std::test::Fail;
-
-fn digit(octet: u8) -> Option<u8> {
-    match octet {
-        b'0'..=b'9' => Some(octet - b'0'),
-        b'a'..=b'f' => Some(octet - b'a' + 10),
-        _ => None,
-    }
-}
-
-/// The octets that a text spells: digits in pairs, with spaces between. `RID` is the router-id's TLV.
-fn octets(alloc: Global, text: &str) -> Result<Vec<u8>, AllocError> {
-    let mut out = Vec::with_capacity(alloc, text.len())?;
-    let mut high: Option<u8> = None;
-    for octet in text.as_bytes() {
-        if *octet == b'R' {
-            out.extend_from_slice(&[6, 10, 0, 0, 2, 0, 0, 0, 0, 0, 0, 1])?;
-        }
-        if let Some(low) = digit(*octet) {
-            match high {
-                None => high = Some(low),
-                Some(top) => {
-                    out.push((top % 16) * 16 + low % 16)?;
-                    high = None;
-                }
-            }
-        }
-    }
-    Ok(out)
-}
 
 fn v4(bits: u32) -> Addr
     ensures { result.family ≡ V4 }

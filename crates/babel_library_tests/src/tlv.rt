@@ -1,36 +1,16 @@
 //! Worked dumps, by the public calls: what each of their TLVs says, and where a dump is refused.
+use crate::dumps::{
+    ALL_RETRACTED, FAULTY_SUB_TLVS, LINK_LOCAL, MORE_OMITTED, ONE_IGNORED, ONE_ROUTE, ONE_V6_ROUTE,
+    OTHER_ENCODING, RESERVED_ROUTER_ID, ROUTER_ID_BY_FLAG, SEVEN_REASONS, SOURCE_LEFT, TWO_ROUTES,
+    TWO_ROUTES_FORM, V4, V6, octets,
+};
 use babel_prefix::{Prefix, parse_addr};
 use babel_tlv::{Ann, Event, Fault, Frame, Key, Reason, Route, State, Tlvs, check_body, frame};
 use std::alloc::{AllocError, Global};
 use std::process::Abort;
 
-/// The router-id that `RID` stands for in a dump.
+/// The router-id of most dumps.
 const ROUTER_ID: [u8; 8] = [2, 0, 0, 0, 0, 0, 0, 1];
-
-/// The octets that pairs of hexadecimal digits spell. Spaces are for reading; `RID` is the TLV of `ROUTER_ID`.
-fn octets(alloc: Global, text: &str) -> Result<Vec<u8>, AllocError> {
-    let mut octets = Vec::new(alloc);
-    let mut high: Option<u8> = None;
-    for character in text.as_bytes() {
-        let digit = match *character {
-            b'R' => {
-                octets.extend_from_slice(&[6, 10, 0, 0, 2, 0, 0, 0, 0, 0, 0, 1])?;
-                continue;
-            }
-            digit @ b'0'..=b'9' => digit - b'0',
-            digit @ b'a'..=b'f' => digit - b'a' + 10,
-            _ => continue,
-        };
-        match high {
-            None => high = Some(digit),
-            Some(first) => {
-                octets.push(first % 16 * 16 + digit % 16)?;
-                high = None;
-            }
-        }
-    }
-    Ok(octets)
-}
 
 fn prefix(rt: &impl Abort, (addr, len): (&str, u8)) -> Prefix {
     let addr = parse_addr(addr).expect(rt, "an address");
@@ -50,7 +30,7 @@ fn announce(rt: &impl Abort, key: Key, router_id: [u8; 8], metric: u16, next_hop
 /// A route for all IPv4 sources, with the router-id `ROUTER_ID` and the next hop 192.0.2.1.
 fn route(rt: &impl Abort, dst: &str, len: u8, metric: u16) -> Event {
     let key = key(rt, (dst, len), ("0.0.0.0", 0));
-    announce(rt, key, ROUTER_ID, metric, "192.0.2.1")
+    announce(rt, key, ROUTER_ID, metric, V4)
 }
 
 /// What the TLVs of a dump of this sender say, each at its offset, but for those that say nothing.
@@ -102,8 +82,8 @@ fn compression(rt: HostRuntime) {
     says(
         &rt,
         rt.alloc(),
-        "192.0.2.1",
-        "2a02002a RID 080d01001800064000010100 0a0100 080d01001800064000010200 0a0102",
+        V4,
+        TWO_ROUTES,
         &[
             (16, route(&rt, "10.1.0.0", 24, 256)),
             (31, route(&rt, "10.1.2.0", 24, 512)),
@@ -113,7 +93,7 @@ fn compression(rt: HostRuntime) {
         &rt,
         rt.alloc(),
         "198.51.100.7",
-        "2a020030 RID 07060100c0000201 080d01801800064000010100 0a0100 080b01801802064000010200 02",
+        TWO_ROUTES_FORM,
         &[
             (24, route(&rt, "10.1.0.0", 24, 256)),
             (39, route(&rt, "10.1.2.0", 24, 512)),
@@ -123,8 +103,8 @@ fn compression(rt: HostRuntime) {
     says(
         &rt,
         rt.alloc(),
-        "192.0.2.1",
-        "2a020027 RID 080d01801800064000010100 0a0102 080a01000803064000010200",
+        V4,
+        MORE_OMITTED,
         &[
             (16, route(&rt, "10.1.2.0", 24, 256)),
             (31, route(&rt, "10.0.0.0", 8, 512)),
@@ -138,8 +118,8 @@ fn state_within_a_packet(rt: HostRuntime) {
     says(
         &rt,
         rt.alloc(),
-        "192.0.2.1",
-        "2a02002a RID 080f01801800064000010100 0a0100 8100 080b01001802064000010200 02",
+        V4,
+        ONE_IGNORED,
         &[
             (16, Event::Ignored(Reason::UnknownMandatory)),
             (33, route(&rt, "10.1.2.0", 24, 512)),
@@ -150,13 +130,10 @@ fn state_within_a_packet(rt: HostRuntime) {
     says(
         &rt,
         rt.alloc(),
-        "fe80::1",
-        "2a02001c 081a02408000064000010100 20010db8000000000200000000000007 2a02000c 080a02000000064000010100",
+        V6,
+        ROUTER_ID_BY_FLAG,
         &[
-            (
-                4,
-                announce(&rt, host, [2, 0, 0, 0, 0, 0, 0, 7], 256, "fe80::1"),
-            ),
+            (4, announce(&rt, host, [2, 0, 0, 0, 0, 0, 0, 7], 256, V6)),
             (36, Event::Ignored(Reason::NoRouterId)),
         ],
     );
@@ -165,11 +142,11 @@ fn state_within_a_packet(rt: HostRuntime) {
     says(
         &rt,
         rt.alloc(),
-        "192.0.2.1",
+        V4,
         "2a02000f 080d01401800064000010100 0a0102",
         &[(
             4,
-            announce(&rt, network, [0, 0, 0, 0, 10, 1, 2, 0], 256, "192.0.2.1"),
+            announce(&rt, network, [0, 0, 0, 0, 10, 1, 2, 0], 256, V4),
         )],
     );
 }
@@ -186,8 +163,8 @@ fn next_hops(rt: HostRuntime) {
     says(
         &rt,
         rt.alloc(),
-        "192.0.2.1",
-        "2a02005f RID 07060100c6336401 080b010008000640000101000a 0712020020010db8000000000000000000000001
+        V4,
+        "2a02005f 060a0000 0200000000000001 07060100c6336401 080b010008000640000101000a 0712020020010db8000000000000000000000001
          080e02002000064000010100 20010db8 070a03000000000000000009 080c02001000064000010200 2001",
         &[
             (24, announce(&rt, eight, ROUTER_ID, 256, next_hop)),
@@ -199,8 +176,8 @@ fn next_hops(rt: HostRuntime) {
     says(
         &rt,
         rt.alloc(),
-        "192.0.2.1",
-        "2a020049 RID 07020000 07020400 07050100c00002 070101 060400000200 07080100c63364018000
+        V4,
+        "2a020049 060a0000 0200000000000001 07020000 07020400 07050100c00002 070101 060400000200 07080100c63364018000
          080b010008000640000101000a 07060100c6336402 07040300 fe80",
         &[
             (16, Event::Ignored(Reason::UnknownEncoding)),
@@ -217,17 +194,14 @@ fn next_hops(rt: HostRuntime) {
     says(
         &rt,
         rt.alloc(),
-        "fe80::1",
-        "2a020019 RID 080b010008000640000101000a",
+        V6,
+        ONE_ROUTE,
         &[(16, Event::Ignored(Reason::NoNextHop))],
     );
-    let one_address = "2a020028 RID 081a02008000064000010100 20010db8000000000000000000000001";
+    let one_address = ONE_V6_ROUTE;
     let host = key(&rt, ("2001:db8::1", 128), ("::", 0));
-    let host = announce(&rt, host, ROUTER_ID, 256, "fe80::1");
-    for (sender, event) in [
-        ("fe80::1", host),
-        ("192.0.2.1", Event::Ignored(Reason::NoNextHop)),
-    ] {
+    let host = announce(&rt, host, ROUTER_ID, 256, V6);
+    for (sender, event) in [(V6, host), (V4, Event::Ignored(Reason::NoNextHop))] {
         says(&rt, rt.alloc(), sender, one_address, &[(16, event)]);
     }
 }
@@ -237,9 +211,8 @@ fn sub_tlvs(rt: HostRuntime) {
     says(
         &rt,
         rt.alloc(),
-        "192.0.2.1",
-        "2a020057 RID 081301000800064000010100 0a 8002080a 80020814 080e01000800064000010100 0a 800100
-         081301000800064000010100 0a 8006210a00000000 080f01000800064000010100 0a 8005080a",
+        V4,
+        FAULTY_SUB_TLVS,
         &[
             (16, Event::Ignored(Reason::TwoSources)),
             (37, Event::Ignored(Reason::BadSource)),
@@ -251,11 +224,11 @@ fn sub_tlvs(rt: HostRuntime) {
     says(
         &rt,
         rt.alloc(),
-        "192.0.2.1",
-        "2a020037 RID 080b010008000640000101000a 080f010008000640000102000a 80020814 080b0100080006400000ffff0a",
+        V4,
+        SOURCE_LEFT,
         &[
             (16, route(&rt, "10.0.0.0", 8, 256)),
-            (29, announce(&rt, specific, ROUTER_ID, 512, "192.0.2.1")),
+            (29, announce(&rt, specific, ROUTER_ID, 512, V4)),
             (
                 46,
                 Event::Retract(key(&rt, ("10.0.0.0", 8), ("0.0.0.0", 0))),
@@ -269,9 +242,8 @@ fn retractions(rt: HostRuntime) {
     says(
         &rt,
         rt.alloc(),
-        "192.0.2.1",
-        "2a02004b RID 080b0100080006400001ffff0a 080b010008000640000101000a 080a0000000006400000ffff
-         080b0100080006400001010014 080a0000080006400000ffff",
+        V4,
+        ALL_RETRACTED,
         &[
             (
                 16,
@@ -290,9 +262,8 @@ fn reasons(rt: HostRuntime) {
     says(
         &rt,
         rt.alloc(),
-        "192.0.2.1",
-        "2a02005f RID 080b010021000640000101000a 080b010008050640000101000a 080a01000801064000010100
-         080b010018000640000101000a 08020100 080a00000000064000010100 080e0000000006400001ffff 8002080a",
+        V4,
+        SEVEN_REASONS,
         &[
             (16, Event::Ignored(Reason::BadPlen)),
             (29, Event::Ignored(Reason::BadOmitted)),
@@ -306,19 +277,19 @@ fn reasons(rt: HostRuntime) {
     says(
         &rt,
         rt.alloc(),
-        "192.0.2.1",
-        "2a020019 060a0000ffffffffffffffff 080b010008000640000101000a",
+        V4,
+        RESERVED_ROUTER_ID,
         &[(16, Event::Ignored(Reason::ReservedRouterId))],
     );
     for dump in [
-        "2a02000d 080b030008000640000101000a",
-        "2a02000d 080b040008000640000101000a",
+        LINK_LOCAL,
+        OTHER_ENCODING,
         "2a02000d 080bff0008000640000101000a",
     ] {
         says(
             &rt,
             rt.alloc(),
-            "192.0.2.1",
+            V4,
             dump,
             &[(4, Event::Ignored(Reason::UnknownEncoding))],
         );
@@ -331,7 +302,7 @@ fn router_id_flag_in_an_unread_encoding(rt: HostRuntime) {
         let body = octets(rt.alloc(), text).expect(&rt, "memory");
         assert!(rt; body.len() < 65536);
         assert_eq!(rt; check_body(&body, 4), Ok(()));
-        let mut state = State::new(parse_addr("192.0.2.1").expect(&rt, "an address"));
+        let mut state = State::new(parse_addr(V4).expect(&rt, "an address"));
         let mut route = Route::unwritten();
         for tlv in Tlvs::new(&body, 4) {
             assert_eq!(rt;

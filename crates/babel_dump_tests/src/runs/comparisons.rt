@@ -1,6 +1,8 @@
 //! How the answers of two dumps compare.
-use super::dumps::{ONE_FAMILY, ONE_ROUTE, ONE_ROUTE_AGAIN, RETRACTED, TWO_FAMILIES, V4, V6};
 use super::{expect_text, job};
+use babel_library_tests::dumps::{
+    ONE_FAMILY, ONE_ROUTE, ONE_ROUTE_FORM, RETRACTED, TWO_FAMILIES, V4, V6,
+};
 use babel_tlv::Mode;
 use std::test::Fail;
 
@@ -29,7 +31,7 @@ static VERDICTS: [(Mode, &str, &str, &str, &str, u8, &str); 8] = [
     (PLAIN, V6, ONE_FAMILY, V6, TWO_FAMILIES, 1, ROUTE_RIGHT),
     (HOLD, V4, RETRACTED, V4, ONE_ROUTE, 1, UNREACHABLE_LEFT),
     (PLAIN, V4, RETRACTED, V4, ONE_ROUTE, 0, SAME),
-    (PLAIN, V4, ONE_ROUTE, V6, ONE_ROUTE_AGAIN, 0, SAME),
+    (PLAIN, V4, ONE_ROUTE, V6, ONE_ROUTE_FORM, 0, SAME),
     (PLAIN, V4, ONE_ROUTE, V6, ONE_ROUTE, 1, NO_NEXT_HOP),
     (PLAIN, V4, "", V6, "", 0, SAME),
 ];

@@ -1,9 +1,11 @@
 //! Each read and each write that fails, in turn.
 ghost use Rattle.std.specs.Prelude.{◌<◌};
 
-use super::dumps::{NESTED_SOURCES, ONE_FAMILY, ONE_ROUTE, TWO_FAMILIES, TWO_SOURCES, V4, V6};
-use super::{ONE_BY_ONE, Ran, Script, all_asked, expect_fault, job, octets, scripted_run};
+use super::{ONE_BY_ONE, Ran, Script, all_asked, expect_fault, job, scripted_run};
 use babel_dump::{Job, RunFault};
+use babel_library_tests::dumps::{
+    NESTED_SOURCES, ONE_FAMILY, ONE_ROUTE, TWO_FAMILIES, TWO_SOURCES, V4, V6, octets,
+};
 use babel_table::Limits;
 use babel_tlv::{Fault, Mode};
 use std::alloc::Global;

@@ -1,12 +1,10 @@
 //! The lines of lookups, and their statuses.
-use super::dumps::{
-    ALL_RETRACTED, MORE_OMITTED, ONE_IGNORED, ONE_ROUTE, ONE_V6_ROUTE, OTHER_ENCODING, RETRACTED,
-    ROUTER_ID_BY_FLAG, SOURCE_LEFT, TWO_ROUTES, TWO_SOURCES, V4, V6,
-};
-use super::{
-    ONE_BY_ONE, Script, expect_fault, expect_outcome, expect_text, job, octets, scripted_run,
-};
+use super::{ONE_BY_ONE, Script, expect_fault, expect_outcome, expect_text, job, scripted_run};
 use babel_dump::{PairsFault, RunFault};
+use babel_library_tests::dumps::{
+    ALL_RETRACTED, MORE_OMITTED, ONE_IGNORED, ONE_ROUTE, ONE_V6_ROUTE, OTHER_ENCODING, RETRACTED,
+    ROUTER_ID_BY_FLAG, SOURCE_LEFT, TWO_ROUTES, TWO_SOURCES, V4, V6, octets,
+};
 use babel_table::Limits;
 use babel_tlv::Mode;
 use std::alloc::Global;

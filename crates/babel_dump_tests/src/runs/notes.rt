@@ -1,14 +1,14 @@
 //! What is said of ignored TLVs, and dumps that are refused for them.
-use super::dumps::{ONE_ROUTE, V4, V6};
 use super::{answer, expect_fault, expect_outcome, job};
 use babel_dump::{IgnoredTlv, Note, RunFault};
+use babel_library_tests::dumps::{ONE_ROUTE, V4, V6};
 use babel_table::{Limits, Report};
 use babel_tlv::{Fault, Mode, Reason};
 use std::alloc::Global;
 use std::process::Abort;
 use std::test::Fail;
 
-/// A Router-Id, a route, an Update of length 33, one with 5 octets omitted, one of 2 octets, and another of length 33.
+/// A Router-Id, a route, an Update of length 33, one with 5 octets omitted, one of 2 and another of length 33.
 const VAIN: &str =
     "2a020044 060a0000 0200000000000001 080b010008000640000101000a 080b010021000640000101000a 080b010008050640000101000a 08020100 080b010021000640000101000a";
 

@@ -2,9 +2,9 @@
 ghost use Rattle.std.specs.Prelude.{◌^◌, ◌<◌};
 
 use super::devices::{EndlessIn, ScriptedIn, ScriptedOut};
-use super::dumps::{ONE_ROUTE, V4};
-use super::{COMPARE_V4, all_asked, answer, expect_fault, expect_outcome, job, octets};
+use super::{COMPARE_V4, all_asked, answer, expect_fault, expect_outcome, job};
 use babel_dump::{ByteIn, IgnoredTlv, Job, RunFault, run_job, status_of};
+use babel_library_tests::dumps::{HELD_AFTER_ONE, ONE_ROUTE, V4, octets};
 use babel_table::Limits;
 use babel_tlv::{Fault, Mode, Reason};
 use std::alloc::Global;
@@ -71,10 +71,6 @@ fn dumps_that_are_refused(rt: HostRuntime) -> Result<(), Fail> {
     expect_refusals(&rt, rt.alloc(), Limits::usual(), Mode::Plain, &REFUSED)
 }
 
-/// A route, and the retraction of another.
-const HELD_BEHIND_ONE: &str =
-    "2a020026 060a0000 0200000000000001 080b010008000640000101000a 080b0100080006400000ffff14";
-
 /// Dumps past 83 octets or one route, or with another fault there, and their faults.
 static PAST_LIMITS: [(&str, Fault); 4] = [
     (
@@ -96,7 +92,7 @@ static PAST_LIMITS: [(&str, Fault); 4] = [
 ];
 
 /// A dump past one route, where a retraction is held.
-static HELD_PAST_LIMITS: [(&str, Fault); 1] = [(HELD_BEHIND_ONE, Fault::TooManyRoutes { at: 29 })];
+static HELD_PAST_LIMITS: [(&str, Fault); 1] = [(HELD_AFTER_ONE, Fault::TooManyRoutes { at: 29 })];
 
 #[test]
 fn dumps_past_their_limits(rt: HostRuntime) -> Result<(), Fail> {
@@ -112,7 +108,7 @@ static AT_LIMITS: [(&str, &str); 2] = [
         "tlvs 79\n",
     ),
     (
-        HELD_BEHIND_ONE,
+        HELD_AFTER_ONE,
         "10.0.0.0/8 from 0.0.0.0/0 via 192.0.2.1 id 0200000000000001 seqno 1 metric 256\ntlvs 3\n",
     ),
 ];

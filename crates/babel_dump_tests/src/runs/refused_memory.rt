@@ -4,9 +4,9 @@ ghost use Rattle.std.specs.Prelude.{None};
 
 use super::address;
 use super::devices::ScriptedIn;
-use super::dumps::{NESTED_SOURCES, ONE_FAMILY, TWO_FAMILIES, V4, V6};
-use babel_dump::{AddrPair, ByteOut, DumpFile, Format, Job, OneDump, RunFault, TwoDumps, run_job};
 use babel_canon::Body;
+use babel_dump::{AddrPair, ByteOut, DumpFile, Format, Job, OneDump, RunFault, TwoDumps, run_job};
+use babel_library_tests::dumps::{NESTED_SOURCES, ONE_FAMILY, TWO_FAMILIES, V4, V6};
 use babel_table::Limits;
 use babel_tlv::{Fault, Mode};
 use std::alloc::Global;

@@ -1,9 +1,10 @@
 //! The lines of tables and reports.
-use super::dumps::{
-    ALL_RETRACTED, FAULTY_SUB_TLVS, MORE_OMITTED, ONE_IGNORED, ONE_ROUTE, ONE_ROUTE_AGAIN,
-    ONLY_RETRACTED, OTHER_ENCODING, ROUTER_ID_BY_FLAG, SOURCE_LEFT, V4, V6,
-};
 use super::{Row, expect_texts};
+use babel_library_tests::dumps::{
+    ALL_RETRACTED, FAULTY_SUB_TLVS, LINK_LOCAL, MORE_OMITTED, ONE_IGNORED, ONE_ROUTE,
+    ONE_ROUTE_FORM, ONLY_RETRACTED, OTHER_ENCODING, RESERVED_ROUTER_ID, ROUTER_ID_BY_FLAG,
+    SEVEN_REASONS, SOURCE_LEFT, V4, V6,
+};
 use babel_tlv::Mode;
 use std::test::Fail;
 
@@ -11,17 +12,8 @@ const PLAIN: Mode = Mode::Plain;
 
 const HOLD: Mode = Mode::Hold;
 
-/// Updates that are ignored for seven reasons.
-const SEVEN_REASONS: &str =
-    "2a02005f 060a0000 0200000000000001 080b0100210006400001 01000a 080b0100080506400001 01000a 080a0100080106400001 0100 080b0100180006400001 01000a 0802 0100 080a0000000006400001 0100 080e0000000006400001 ffff 8002080a";
-
 const SEVEN_LINES: &str =
     "tlvs 8\nignored short 1 first 67\nignored wildcard-finite 1 first 71\nignored bad-plen 1 first 16\nignored bad-omitted 1 first 29\nignored no-default 1 first 42\nignored short-prefix 1 first 54\nignored wildcard-source 1 first 83\n";
-
-const RESERVED_ROUTER_ID: &str = "2a020019 060a0000 ffffffffffffffff 080b010008000640000101000a";
-
-/// A route in address encoding 3.
-const LINK_LOCAL: &str = "2a02000d 080b030008000640000101000a";
 
 const ONE_ROW: &str =
     "10.0.0.0/8 from 0.0.0.0/0 via 192.0.2.1 id 0200000000000001 seqno 1 metric 256\ntlvs 3\n";
@@ -35,9 +27,9 @@ const ROW_OF_SOURCE: &str =
 /// The lines of dumps whose TLVs are all read.
 static OF_ROWS: [Row<'static>; 6] = [
     (PLAIN, V4, "", "tlvs 0\n"),
-    (PLAIN, V4, ONE_ROUTE_AGAIN, ONE_ROW),
-    (PLAIN, "198.51.100.7", ONE_ROUTE_AGAIN, ONE_ROW),
-    (PLAIN, V6, ONE_ROUTE_AGAIN, ONE_ROW),
+    (PLAIN, V4, ONE_ROUTE_FORM, ONE_ROW),
+    (PLAIN, "198.51.100.7", ONE_ROUTE_FORM, ONE_ROW),
+    (PLAIN, V6, ONE_ROUTE_FORM, ONE_ROW),
     (PLAIN, V4, MORE_OMITTED, TWO_ROWS),
     (PLAIN, V4, SOURCE_LEFT, ROW_OF_SOURCE),
 ];

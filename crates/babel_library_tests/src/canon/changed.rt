@@ -1,5 +1,6 @@
 //! Dumps with one octet changed.
-use super::{FAULTY_SUB_TLVS, ID_BY_FLAG, SOURCES, addr, octets};
+use super::addr;
+use crate::dumps::{FAULTY_SUB_TLVS, NESTED_SOURCES, ROUTER_ID_BY_FLAG, octets};
 use babel_canon::{Body, normalise};
 use babel_prefix::Addr;
 use babel_table::{Limits, read_dump};
@@ -45,13 +46,13 @@ fn are_settled(alloc: Global, mode: Mode, sender: Addr, text: &str) -> Result<bo
 fn changed_octets(rt: HostRuntime) -> Result<(), Fail> {
     let alloc = rt.alloc();
     for mode in [Mode::Plain, Mode::Hold] {
-        for text in [SOURCES, FAULTY_SUB_TLVS] {
+        for text in [NESTED_SOURCES, FAULTY_SUB_TLVS] {
             assert!(rt;
                 are_settled(alloc, mode, addr(&rt, "192.0.2.1"), text)?,
                 "{text}"
             );
         }
-        assert!(rt; are_settled(alloc, mode, addr(&rt, "fe80::1"), ID_BY_FLAG)?);
+        assert!(rt; are_settled(alloc, mode, addr(&rt, "fe80::1"), ROUTER_ID_BY_FLAG)?);
     }
     Ok(())
 }

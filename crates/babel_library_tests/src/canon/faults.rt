@@ -1,17 +1,14 @@
 //! Dumps that have no canonical form, and limits at their value.
-use super::{FOUR_PAIRS, ONE, ONE_ROUTE, THREE, addr, octets};
+use super::addr;
+use crate::dumps::{
+    HELD_AFTER_ONE, MORE_PAIRS, ONE_ROUTE, ONE_ROUTE_FORM, THREE_ROUTES, THREE_ROUTES_FORM, octets,
+};
 use babel_canon::{Body, normalise};
 use babel_table::Limits;
 use babel_tlv::{Fault, Mode};
 use std::alloc::Global;
 use std::process::Abort;
 use std::test::Fail;
-
-const THREE_FORM: &str =
-    "2a02003b RID NH 080b018008000640000101000a 080b0180080006400001020014 080b018008000640000103001e";
-
-/// A route and the retraction of another.
-const NEW_ONE: &str = "2a020026 RID 080b010008000640000101000a 080b0100080006400000ffff14";
 
 /// What a dump from 192.0.2.1 is normalised to under these limits.
 fn form(
@@ -36,18 +33,18 @@ fn form(
 fn faults_of_dumps(rt: HostRuntime) -> Result<(), Fail> {
     let rows = [
         (
-            "2a020019 RID 080b010008000640000101000a 2b020000",
+            "2a020019 060a0000 0200000000000001 080b010008000640000101000a 2b020000",
             Fault::BadMagic { at: 29 },
         ),
         ("2a030000", Fault::BadVersion { at: 0 }),
         ("2a020003 040200", Fault::TlvPastEnd { at: 4 }),
         ("2a020001 04", Fault::TlvPastEnd { at: 4 }),
         (
-            "2a020019 RID 080b010008000640000101000a 2a0200",
+            "2a020019 060a0000 0200000000000001 080b010008000640000101000a 2a0200",
             Fault::Truncated { at: 29 },
         ),
         (
-            "2a020019 RID 080b01000800064000010100",
+            "2a020019 060a0000 0200000000000001 080b01000800064000010100",
             Fault::Truncated { at: 0 },
         ),
         (
@@ -70,17 +67,20 @@ fn faults_of_dumps(rt: HostRuntime) -> Result<(), Fail> {
 #[test]
 fn limits_of_rows(rt: HostRuntime) -> Result<(), Fail> {
     let four =
-        "2a020040 RID 080b010008000640000101000a 080b0100080006400001020014 080b010008000640000103001e 080b0100080006400001040028";
+        "2a020040 060a0000 0200000000000001 080b010008000640000101000a 080b0100080006400001020014 080b010008000640000103001e 080b0100080006400001040028";
     let dump = octets(rt.alloc(), four)?;
     let refused = form(&rt, rt.alloc(), (249, 3), Mode::Plain, &dump);
     assert!(rt; refused.err() == Some(Fault::TooManyRoutes { at: 55 }));
-    let dump = octets(rt.alloc(), NEW_ONE)?;
+    let dump = octets(rt.alloc(), HELD_AFTER_ONE)?;
     let refused = form(&rt, rt.alloc(), (83, 1), Mode::Hold, &dump);
     assert!(rt; refused.err() == Some(Fault::TooManyRoutes { at: 29 }));
-    for dump in [ONE, NEW_ONE] {
+    for dump in [ONE_ROUTE, HELD_AFTER_ONE] {
         let dump = octets(rt.alloc(), dump)?;
         let text = form(&rt, rt.alloc(), (83, 1), Mode::Plain, &dump).expect(&rt, "one row");
-        assert_eq!(rt; text.as_slice(), octets(rt.alloc(), ONE_ROUTE)?.as_slice());
+        assert_eq!(rt;
+            text.as_slice(),
+            octets(rt.alloc(), ONE_ROUTE_FORM)?.as_slice()
+        );
     }
     Ok(())
 }
@@ -111,13 +111,13 @@ fn limits_of_octets(rt: HostRuntime) -> Result<(), Fail> {
 
 #[test]
 fn limits_of_pairs(rt: HostRuntime) -> Result<(), Fail> {
-    let wanted = octets(rt.alloc(), THREE_FORM)?;
-    for dump in [THREE, THREE_FORM] {
+    let wanted = octets(rt.alloc(), THREE_ROUTES_FORM)?;
+    for dump in [THREE_ROUTES, THREE_ROUTES_FORM] {
         let dump = octets(rt.alloc(), dump)?;
         let text = form(&rt, rt.alloc(), (249, 3), Mode::Plain, &dump).expect(&rt, "three pairs");
         assert_eq!(rt; text.as_slice(), wanted.as_slice());
     }
-    let dump = octets(rt.alloc(), FOUR_PAIRS)?;
+    let dump = octets(rt.alloc(), MORE_PAIRS)?;
     for (limits, fault) in [
         ((249, 3), Some(Fault::TooManyPairs)),
         ((332, 3), Some(Fault::TooManyPairs)),

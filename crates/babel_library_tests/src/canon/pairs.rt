@@ -1,6 +1,8 @@
 //! The canonical pairs of tables.
-use super::{
-    FOUR_PAIRS, FROM_TWENTY, HALVES, RETRACTED, SOURCES, check_stays, key, route_by, table,
+use super::{check_stays, key, route_by, table};
+use crate::dumps::{
+    DEEPEST, HALVES, MERGED, MORE_OMITTED, MORE_PAIRS, NESTED_SOURCES, RETRACTED, SOURCE_LEFT,
+    TWO_SOURCES,
 };
 use babel_canon::{Body, canonical};
 use babel_table::Limits;
@@ -8,18 +10,6 @@ use babel_tlv::{Held, Mode};
 use std::alloc::Global;
 use std::process::Abort;
 use std::test::Fail;
-
-const DEEPEST: &str =
-    "2a020034 RID 080a02000000064000010100 081a0200800006400001020020010db8000000000000000000000001";
-
-const PAST_THE_LONGEST: &str =
-    "2a020030 RID 081201001800064000010300 c00002 80030cac10 080e01000000064000010100 8002080a";
-
-/// Halves of 10.0.0.0/8 that differ at one source.
-const ONE_SOURCE: &str =
-    "2a02003d RID 080c010009000640000101000a00 080c010009000640000101000a80 0813010009000640000102000a80 800520c0000201";
-
-const MORE_OMITTED: &str = "2a020027 RID 080d018018000640000101000a0102 080a01000803064000010200";
 
 /// At this place stands the pair of these prefixes, with a route of this metric or with none.
 type Line = (usize, (&'static str, u8), (&'static str, u8), Option<u16>);
@@ -53,7 +43,7 @@ fn of_one_destination(rt: HostRuntime) -> Result<(), Fail> {
     let all = ("0.0.0.0", 0);
     let ten = ("10.0.0.0", 8);
     let lines = [(0, ten, all, Some(256))];
-    check(&rt, rt.alloc(), Mode::Plain, "192.0.2.1", HALVES, 1, &lines)?;
+    check(&rt, rt.alloc(), Mode::Plain, "192.0.2.1", MERGED, 1, &lines)?;
     let lines = [
         (0, all, ("0.0.0.0", 5), Some(512)),
         (1, all, ("8.0.0.0", 7), Some(512)),
@@ -70,7 +60,7 @@ fn of_one_destination(rt: HostRuntime) -> Result<(), Fail> {
         rt.alloc(),
         Mode::Plain,
         "192.0.2.1",
-        SOURCES,
+        NESTED_SOURCES,
         9,
         &lines,
     )?;
@@ -80,7 +70,7 @@ fn of_one_destination(rt: HostRuntime) -> Result<(), Fail> {
         rt.alloc(),
         Mode::Plain,
         "192.0.2.1",
-        FROM_TWENTY,
+        SOURCE_LEFT,
         1,
         &lines,
     )
@@ -122,7 +112,7 @@ fn of_several_destinations(rt: HostRuntime) -> Result<(), Fail> {
         rt.alloc(),
         Mode::Plain,
         "192.0.2.1",
-        PAST_THE_LONGEST,
+        TWO_SOURCES,
         26,
         &lines,
     )?;
@@ -137,7 +127,7 @@ fn of_several_destinations(rt: HostRuntime) -> Result<(), Fail> {
         rt.alloc(),
         Mode::Plain,
         "192.0.2.1",
-        ONE_SOURCE,
+        HALVES,
         34,
         &lines,
     )?;
@@ -167,7 +157,7 @@ fn of_several_destinations(rt: HostRuntime) -> Result<(), Fail> {
         rt.alloc(),
         Mode::Plain,
         "192.0.2.1",
-        FOUR_PAIRS,
+        MORE_PAIRS,
         4,
         &lines,
     )
@@ -213,7 +203,7 @@ fn of_unreachable_rows(rt: HostRuntime) -> Result<(), Fail> {
         rt.alloc(),
         Mode::Hold,
         "192.0.2.1",
-        FROM_TWENTY,
+        SOURCE_LEFT,
         9,
         &lines,
     )

@@ -1,13 +1,15 @@
 //! Each allocation refused in turn, by `./check memory`, which runs each test here once for each of its allocations.
 //! A test here passes where nothing was refused, and fails with `REFUSED` where a refusal was answered with `Memory`.
-use super::{
-    BOTH_FAMILIES, ID_BY_FLAG, ID_WRITTEN, IPV6_ALONE, NINE_SOURCES, ONE, ONE_ROUTE, SOURCES, addr,
-    octets, route,
+use super::{addr, route};
+use crate::dumps::{
+    BY_FLAG_FORM, NESTED_SOURCES, NESTED_SOURCES_FORM, ONE_FAMILY, ONE_ROUTE, ONE_ROUTE_FORM,
+    ROUTER_ID_BY_FLAG, TWO_FAMILIES, octets,
 };
 use babel_canon::{Body, Verdict, compare, normalise};
 use babel_prefix::Addr;
 use babel_table::{Limits, Table, read_dump};
 use babel_tlv::{Fault, Mode};
+use hex::FromHexError;
 use std::alloc::{AllocError, Global};
 use std::test::Fail;
 
@@ -16,7 +18,7 @@ const REFUSED: &str = "memory was refused, and Memory answered";
 const OTHER: &str = "neither the known answer nor Memory";
 
 /// The octets of two texts.
-fn both(alloc: Global, one: &str, other: &str) -> Result<(Vec<u8>, Vec<u8>), AllocError> {
+fn both(alloc: Global, one: &str, other: &str) -> Result<(Vec<u8>, Vec<u8>), FromHexError> {
     Ok((octets(alloc, one)?, octets(alloc, other)?))
 }
 
@@ -53,17 +55,32 @@ fn verdict_of(alloc: Global, sender: Addr, one: &str, other: &str) -> Result<Ver
 
 #[test]
 fn refused_memory_of_one_route(rt: HostRuntime) -> Result<(), Fail> {
-    form_is(rt.alloc(), addr(&rt, "192.0.2.1"), ONE, ONE_ROUTE)
+    form_is(
+        rt.alloc(),
+        addr(&rt, "192.0.2.1"),
+        ONE_ROUTE,
+        ONE_ROUTE_FORM,
+    )
 }
 
 #[test]
 fn refused_memory_of_two_sources(rt: HostRuntime) -> Result<(), Fail> {
-    form_is(rt.alloc(), addr(&rt, "192.0.2.1"), SOURCES, NINE_SOURCES)
+    form_is(
+        rt.alloc(),
+        addr(&rt, "192.0.2.1"),
+        NESTED_SOURCES,
+        NESTED_SOURCES_FORM,
+    )
 }
 
 #[test]
 fn refused_memory_of_a_router_id_set_by_a_flag(rt: HostRuntime) -> Result<(), Fail> {
-    form_is(rt.alloc(), addr(&rt, "fe80::1"), ID_BY_FLAG, ID_WRITTEN)
+    form_is(
+        rt.alloc(),
+        addr(&rt, "fe80::1"),
+        ROUTER_ID_BY_FLAG,
+        BY_FLAG_FORM,
+    )
 }
 
 #[test]
@@ -74,7 +91,7 @@ fn refused_memory_of_a_comparison(rt: HostRuntime) -> Result<(), Fail> {
         left: Some(route(&rt, 256)),
         right: None,
     };
-    match verdict_of(rt.alloc(), addr(&rt, "fe80::1"), BOTH_FAMILIES, IPV6_ALONE) {
+    match verdict_of(rt.alloc(), addr(&rt, "fe80::1"), TWO_FAMILIES, ONE_FAMILY) {
         Ok(verdict) if verdict == differ => Ok(()),
         Err(Fault::Memory) => Err(Fail::from(REFUSED)),
         _ => Err(Fail::from(OTHER)),

@@ -1,19 +1,21 @@
 //! How pairs are packed.
-use super::{addr, octets};
+use super::addr;
+use crate::dumps::octets;
 use babel_canon::{Body, normalise};
 use babel_table::{Limits, read_dump};
 use babel_tlv::Mode;
+use hex::FromHexError;
 use std::alloc::{AllocError, Global};
 use std::process::Abort;
 use std::test::Fail;
 
 /// Routes n.0.0.0 for n from 1 to 77, of length 16 up to this n, and 8 above.
-fn many_routes(alloc: Global, long: u8) -> Result<Vec<u8>, AllocError> {
-    // a Router-Id of 12 octets, and 77 Updates of 13 or 14
+fn many_routes(alloc: Global, long: u8) -> Result<Vec<u8>, FromHexError> {
+    // a Router-Id of 12 and 77 Updates of 13 or 14
     let len = (1013 + long as u16).to_be_bytes();
     let mut dump = Vec::new(alloc);
     dump.extend_from_slice(&[42, 2, len[0], len[1]])?;
-    dump.extend_from_slice(&octets(alloc, "RID")?)?;
+    dump.extend_from_slice(&octets(alloc, "060a0000 0200000000000001")?)?;
     for n in 1..78u8 {
         let metric = if n % 2 == 1 { 1 } else { 2 };
         if n <= long {

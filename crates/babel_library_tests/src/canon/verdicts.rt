@@ -1,5 +1,6 @@
 //! How tables compare.
-use super::{BOTH_FAMILIES, HALVES, IPV6_ALONE, ONE, ONE_ROUTE, RETRACTED, addr, route, table};
+use super::{addr, route, table};
+use crate::dumps::{MERGED, ONE_FAMILY, ONE_ROUTE, ONE_ROUTE_FORM, RETRACTED, TWO_FAMILIES};
 use babel_canon::{Verdict, compare};
 use babel_tlv::{Held, Mode};
 use std::process::Abort;
@@ -17,16 +18,16 @@ fn differ(rt: &impl Abort, left: Option<Held>, right: Option<Held>) -> Verdict {
 
 #[test]
 fn least_differences(rt: HostRuntime) -> Result<(), Fail> {
-    let one = table(&rt, rt.alloc(), Mode::Plain, "fe80::1", BOTH_FAMILIES);
-    let other = table(&rt, rt.alloc(), Mode::Plain, "fe80::1", IPV6_ALONE);
+    let one = table(&rt, rt.alloc(), Mode::Plain, "fe80::1", TWO_FAMILIES);
+    let other = table(&rt, rt.alloc(), Mode::Plain, "fe80::1", ONE_FAMILY);
     let verdict = compare(rt.alloc(), &one, &other).expect(&rt, "memory");
     assert!(rt; verdict == differ(&rt, Some(route(&rt, 256)), None));
     let verdict = compare(rt.alloc(), &other, &one).expect(&rt, "memory");
     assert!(rt; verdict == differ(&rt, None, Some(route(&rt, 256))));
     let verdict = compare(rt.alloc(), &one, &one).expect(&rt, "memory");
     assert!(rt; verdict == Verdict::Same);
-    let one = table(&rt, rt.alloc(), Mode::Plain, "192.0.2.1", HALVES);
-    let other = table(&rt, rt.alloc(), Mode::Hold, "fe80::1", ONE_ROUTE);
+    let one = table(&rt, rt.alloc(), Mode::Plain, "192.0.2.1", MERGED);
+    let other = table(&rt, rt.alloc(), Mode::Hold, "fe80::1", ONE_ROUTE_FORM);
     let verdict = compare(rt.alloc(), &one, &other).expect(&rt, "memory");
     assert!(rt; verdict == Verdict::Same);
     Ok(())
@@ -35,7 +36,7 @@ fn least_differences(rt: HostRuntime) -> Result<(), Fail> {
 #[test]
 fn unreachable_differs(rt: HostRuntime) -> Result<(), Fail> {
     let sender = "192.0.2.1";
-    let one = table(&rt, rt.alloc(), Mode::Hold, sender, ONE);
+    let one = table(&rt, rt.alloc(), Mode::Hold, sender, ONE_ROUTE);
     let held = table(&rt, rt.alloc(), Mode::Hold, sender, RETRACTED);
     let differ = Verdict::Differ {
         dst: addr(&rt, "10.1.0.0"),

@@ -1,37 +1,13 @@
-//! Dumps that omit octets, of other senders and in other encodings; and a dump with one octet changed.
-use super::rows::{IPV6_ROUTE, ONE_ROUTE};
-use super::{are, key, octets, read, route, router, router_v6, v4};
+//! Dumps that omit of other senders and in other encodings; and a dump with one octet changed.
+use super::{are, key, read, route, router, router_v6, v4};
+use crate::dumps::{
+    LINK_LOCAL, MORE_OMITTED, ONE_IGNORED, ONE_ROUTE, ONE_ROUTE_FORM, ONE_V6_ROUTE, OTHER_ENCODING,
+    RESERVED_ROUTER_ID, TWO_ROUTES, TWO_ROUTES_FORM, octets,
+};
 use babel_table::{Limits, read_dump};
 use babel_tlv::{Ann, Fault, Held, Mode, Reason};
 use std::alloc::Global;
 use std::test::Fail;
-
-/// 10.1.0.0/24 and 10.1.2.0/24, with all octets.
-pub const SPELLED_OUT: &str =
-    "2a02002a RID 080d01001800064000010100 0a0100 080d01001800064000010200 0a0102";
-
-/// The same two, of which the second omits the octets that they share.
-pub const COMPRESSED: &str =
-    "2a020030 RID 07060100c0000201 080d01801800064000010100 0a0100 080b01801802064000010200 02";
-
-/// 10.1.2.0/24, which omits octets of an Update that is ignored.
-pub const FROM_IGNORED: &str =
-    "2a02002a RID 080f01801800064000010100 0a0100 8100 080b01001802064000010200 02";
-
-/// 10.1.2.0/24, and 10.0.0.0/8, which omits three octets.
-pub const MORE_OMITTED: &str =
-    "2a020027 RID 080d01801800064000010100 0a0102 080a01000803064000010200";
-
-/// 10.0.0.0/8, with its next hop.
-pub const NEXT_HOP: &str = "2a020021 RID 07060100c0000201 080b018008000640000101000a";
-
-/// 10.0.0.0/8, with a router-id of one bits.
-pub const RESERVED: &str = "2a020019 060a0000ffffffffffffffff 080b010008000640000101000a";
-
-/// An Update of AE 4, and one of AE 3, without the flag that would set the router-id.
-pub const V4_VIA_V6: &str = "2a02000d 080b040008000640000101000a";
-
-pub const LINK_LOCAL: &str = "2a02000d 080b030008000640000101000a";
 
 #[test]
 fn omitted_octets(rt: HostRuntime) -> Result<(), Fail> {
@@ -39,11 +15,11 @@ fn omitted_octets(rt: HostRuntime) -> Result<(), Fail> {
     let usual = Limits::usual();
     let first = (key(0x0a01_0000, 24, 0, 0), route(256));
     let second = (key(0x0a01_0200, 24, 0, 0), route(512));
-    for text in [SPELLED_OUT, COMPRESSED] {
+    for text in [TWO_ROUTES, TWO_ROUTES_FORM] {
         let table = read(alloc, usual, Mode::Plain, text)?;
         assert!(rt; table.is_ok_and(|t| are(&t, &[first, second])), "{text}");
     }
-    let table = read(alloc, usual, Mode::Plain, FROM_IGNORED)?;
+    let table = read(alloc, usual, Mode::Plain, ONE_IGNORED)?;
     assert!(rt;
         table.is_ok_and(|t| {
             are(&t, &[second]) && t.report().ignored(Reason::UnknownMandatory) == Some((1, 16))
@@ -60,17 +36,17 @@ fn omitted_octets(rt: HostRuntime) -> Result<(), Fail> {
 fn senders_and_encodings(rt: HostRuntime) -> Result<(), Fail> {
     let alloc = rt.alloc();
     let row = (key(0x0a00_0000, 8, 0, 0), route(256));
-    let dump = octets(alloc, NEXT_HOP)?;
+    let dump = octets(alloc, ONE_ROUTE_FORM)?;
     for sender in [router(), v4(0xc633_6407), router_v6()] {
         let table = read_dump(alloc, Limits::usual(), Mode::Plain, sender, &dump);
         assert!(rt; table.is_ok_and(|t| are(&t, &[row])));
     }
     for (sender, text, reason, first) in [
         (router_v6(), ONE_ROUTE, Reason::NoNextHop, 16),
-        (router(), RESERVED, Reason::ReservedRouterId, 16),
-        (router(), V4_VIA_V6, Reason::UnknownEncoding, 4),
+        (router(), RESERVED_ROUTER_ID, Reason::ReservedRouterId, 16),
+        (router(), OTHER_ENCODING, Reason::UnknownEncoding, 4),
         (router(), LINK_LOCAL, Reason::UnknownEncoding, 4),
-        (router(), IPV6_ROUTE, Reason::NoNextHop, 16),
+        (router(), ONE_V6_ROUTE, Reason::NoNextHop, 16),
     ] {
         let dump = octets(alloc, text)?;
         let table = read_dump(alloc, Limits::usual(), Mode::Plain, sender, &dump);

@@ -1,30 +1,27 @@
 //! Which fault a dump has, where, and that it stays; limits at their values and past them.
-use super::rows::ONE_ROUTE;
-use super::{limits, octets, read, router};
+use super::{limits, read, router};
+use crate::dumps::{HELD_AFTER_ONE, ONE_ROUTE, THREE_ROUTES, octets};
 use babel_table::{Feeder, Limits, read_dump};
 use babel_tlv::{Fault, Mode};
 use std::alloc::Global;
 use std::test::Fail;
 
-pub const THREE: &str =
-    "2a020033 RID 080b010008000640000101000a 080b0100080006400001020014 080b010008000640000103001e";
-
 pub const FOUR: &str =
-    "2a020040 RID 080b010008000640000101000a 080b0100080006400001020014 080b010008000640000103001e 080b0100080006400001040028";
+    "2a020040 060a0000 0200000000000001 080b010008000640000101000a 080b0100080006400001020014 080b010008000640000103001e 080b0100080006400001040028";
 
-pub const NEW_ONE: &str = "2a020026 RID 080b010008000640000101000a 080b0100080006400000ffff14";
+pub const PAST_END: &str =
+    "2a020027 060a0000 0200000000000001 080b010008000640000101000a 080b0100080006400001020014 04";
 
-pub const PAST_END: &str = "2a020027 RID 080b010008000640000101000a 080b0100080006400001020014 04";
-
-pub const TWO: &str = "2a020026 RID 080b010008000640000101000a 080b0100080006400001020014";
+pub const TWO: &str =
+    "2a020026 060a0000 0200000000000001 080b010008000640000101000a 080b0100080006400001020014";
 
 pub const TOO_MANY: &str =
-    "2a020026 RID 080b010008000640000101000a 080b0100080006400001020014 2b020000";
+    "2a020026 060a0000 0200000000000001 080b010008000640000101000a 080b0100080006400001020014 2b020000";
 
 /// Dumps with a fault other than that they end too early.
 pub const FAULTY: [(&str, Fault); 9] = [
     (
-        "2a020019 RID 080b010008000640000101000a 2b020000",
+        "2a020019 060a0000 0200000000000001 080b010008000640000101000a 2b020000",
         Fault::BadMagic { at: 29 },
     ),
     ("2a030000", Fault::BadVersion { at: 0 }),
@@ -43,22 +40,22 @@ pub const FAULTY: [(&str, Fault); 9] = [
         Fault::TlvPastEnd { at: 17 },
     ),
     (
-        "2a020018 RID 080b010008000640000101000a",
+        "2a020018 060a0000 0200000000000001 080b010008000640000101000a",
         Fault::TlvPastEnd { at: 16 },
     ),
     (
-        "2a020019 RID 080a010008000640000101000a",
+        "2a020019 060a0000 0200000000000001 080a010008000640000101000a",
         Fault::TlvPastEnd { at: 28 },
     ),
 ];
 
 pub const CUT: [(&str, Fault); 3] = [
     (
-        "2a020019 RID 080b010008000640000101000a 2a0200",
+        "2a020019 060a0000 0200000000000001 080b010008000640000101000a 2a0200",
         Fault::Truncated { at: 29 },
     ),
     (
-        "2a020019 RID 080b01000800064000010100",
+        "2a020019 060a0000 0200000000000001 080b01000800064000010100",
         Fault::Truncated { at: 0 },
     ),
     ("2a", Fault::Truncated { at: 0 }),
@@ -93,10 +90,15 @@ fn limits_on_entries(rt: HostRuntime) -> Result<(), Fail> {
     let alloc = rt.alloc();
     let one = limits(83, 1);
     let three = limits(249, 3);
-    assert!(rt; read(alloc, three, Mode::Plain, THREE)?.is_ok_and(|t| t.rows().len() == 3));
+    assert!(rt; read(alloc, three, Mode::Plain, THREE_ROUTES)?.is_ok_and(|t| t.rows().len() == 3));
     for (limits, mode, text, fault) in [
         (three, Mode::Plain, FOUR, Fault::TooManyRoutes { at: 55 }),
-        (one, Mode::Hold, NEW_ONE, Fault::TooManyRoutes { at: 29 }),
+        (
+            one,
+            Mode::Hold,
+            HELD_AFTER_ONE,
+            Fault::TooManyRoutes { at: 29 },
+        ),
         (one, Mode::Plain, PAST_END, Fault::TlvPastEnd { at: 42 }),
         (one, Mode::Plain, TWO, Fault::TooManyRoutes { at: 29 }),
         (one, Mode::Plain, TOO_MANY, Fault::TooManyRoutes { at: 29 }),
@@ -106,7 +108,7 @@ fn limits_on_entries(rt: HostRuntime) -> Result<(), Fail> {
             "{text}"
         );
     }
-    assert!(rt; read(alloc, one, Mode::Plain, NEW_ONE)?.is_ok_and(|t| t.rows().len() == 1));
+    assert!(rt; read(alloc, one, Mode::Plain, HELD_AFTER_ONE)?.is_ok_and(|t| t.rows().len() == 1));
     Ok(())
 }
 

@@ -1,13 +1,12 @@
 //! How a dump is cut into pieces makes no difference.
-use super::changes::{
-    COMPRESSED, FROM_IGNORED, LINK_LOCAL, MORE_OMITTED, NEXT_HOP, RESERVED, SPELLED_OUT, V4_VIA_V6,
+use super::faults::{CUT, FAULTY, FOUR, PAST_END, TOO_MANY};
+use super::{fed, fed_by_octet, limits, router, router_v6, same};
+use crate::dumps::{
+    ALL_RETRACTED, FAULTY_SUB_TLVS, HELD_AFTER_ONE, LINK_LOCAL, MORE_OMITTED, MORE_PAIRS,
+    NESTED_SOURCES, ONE_IGNORED, ONE_RETRACTED, ONE_ROUTE, ONE_ROUTE_FORM, ONE_V6_ROUTE,
+    ONLY_RETRACTED, OTHER_ENCODING, RESERVED_ROUTER_ID, RETRACTED, ROUTER_ID_BY_FLAG,
+    SEVEN_REASONS, SOURCE_LEFT, THREE_ROUTES, TWO_ROUTES, TWO_ROUTES_FORM, TWO_SOURCES, octets,
 };
-use super::faults::{CUT, FAULTY, FOUR, NEW_ONE, PAST_END, THREE, TOO_MANY};
-use super::rows::{
-    BETWEEN, HELD, ID_BY_FLAG, IPV6_ROUTE, ONE_ROUTE, OVERLAPPING, PAST_THE_LONGEST, REASONS,
-    RETRACTIONS, SOURCES, SUB_TLVS, TWO_SOURCES, UNKNOWN,
-};
-use super::{fed, fed_by_octet, limits, octets, router, router_v6, same};
 use babel_prefix::Addr;
 use babel_table::{Limits, read_dump};
 use babel_tlv::{Fault, Mode};
@@ -16,31 +15,31 @@ use std::test::Fail;
 
 const DUMPS: [&str; 26] = [
     ONE_ROUTE,
+    NESTED_SOURCES,
     TWO_SOURCES,
-    PAST_THE_LONGEST,
-    SPELLED_OUT,
-    COMPRESSED,
-    FROM_IGNORED,
-    ID_BY_FLAG,
-    RETRACTIONS,
-    SUB_TLVS,
-    V4_VIA_V6,
+    TWO_ROUTES,
+    TWO_ROUTES_FORM,
+    ONE_IGNORED,
+    ROUTER_ID_BY_FLAG,
+    ALL_RETRACTED,
+    FAULTY_SUB_TLVS,
+    OTHER_ENCODING,
     LINK_LOCAL,
-    THREE,
+    THREE_ROUTES,
     FOUR,
-    OVERLAPPING,
-    NEXT_HOP,
-    SOURCES,
-    REASONS,
-    RESERVED,
+    MORE_PAIRS,
+    ONE_ROUTE_FORM,
+    SOURCE_LEFT,
+    SEVEN_REASONS,
+    RESERVED_ROUTER_ID,
     MORE_OMITTED,
-    IPV6_ROUTE,
+    ONE_V6_ROUTE,
     PAST_END,
     TOO_MANY,
-    HELD,
-    UNKNOWN,
-    BETWEEN,
-    NEW_ONE,
+    RETRACTED,
+    ONLY_RETRACTED,
+    ONE_RETRACTED,
+    HELD_AFTER_ONE,
 ];
 
 /// Whether the dump, cut in two at each place, and octet by octet, gives what it gives whole.
@@ -86,7 +85,7 @@ fn every_cut_at_the_limit(rt: HostRuntime) -> Result<(), Fail> {
 #[test]
 fn cut_off(rt: HostRuntime) -> Result<(), Fail> {
     let alloc = rt.alloc();
-    let dump = octets(alloc, ID_BY_FLAG)?;
+    let dump = octets(alloc, ROUTER_ID_BY_FLAG)?;
     assert!(rt; dump.len() == 48);
     for len in 0..48usize {
         let rows = match len {
@@ -173,10 +172,10 @@ fn agrees_changed(alloc: Global, mode: Mode, sender: Addr, text: &str) -> Result
 fn changed_octets(rt: HostRuntime) -> Result<(), Fail> {
     let alloc = rt.alloc();
     for mode in [Mode::Plain, Mode::Hold] {
-        for text in [ONE_ROUTE, TWO_SOURCES, SUB_TLVS] {
+        for text in [ONE_ROUTE, NESTED_SOURCES, FAULTY_SUB_TLVS] {
             assert!(rt; agrees_changed(alloc, mode, router(), text)?, "{text}");
         }
-        assert!(rt; agrees_changed(alloc, mode, router_v6(), ID_BY_FLAG)?);
+        assert!(rt; agrees_changed(alloc, mode, router_v6(), ROUTER_ID_BY_FLAG)?);
     }
     Ok(())
 }

@@ -1,11 +1,14 @@
 //! Each allocation refused in turn, by `./check memory`, which runs each test here once for each of its allocations.
 //! A test here passes where nothing was refused, and fails with `REFUSED` where a refusal was answered with `Memory`.
-use super::changes::{COMPRESSED, SPELLED_OUT};
-use super::rows::{ID_BY_FLAG, RETRACTIONS, TWO_SOURCES, key_v6, route_v6};
-use super::{are, key, octets, route, router, router_v6};
+use super::rows::{key_v6, route_v6};
+use super::{are, key, route, router, router_v6};
+use crate::dumps::{
+    ALL_RETRACTED, NESTED_SOURCES, ROUTER_ID_BY_FLAG, TWO_ROUTES, TWO_ROUTES_FORM, octets,
+};
 use babel_prefix::Addr;
 use babel_table::{Feeder, Limits, Table, read_dump};
 use babel_tlv::{Fault, Held, Key, Mode};
+use hex::FromHexError;
 use std::alloc::{AllocError, Global};
 use std::test::Fail;
 
@@ -76,8 +79,8 @@ fn compressed() -> [Row; 2] {
 }
 
 /// A dump of 24 routes, n.0.0.0/8 for each n from 1 on: more than one node of a map holds.
-fn dump_of_many(alloc: Global) -> Result<Vec<u8>, AllocError> {
-    let mut dump = octets(alloc, "2a020144 RID")?;
+fn dump_of_many(alloc: Global) -> Result<Vec<u8>, FromHexError> {
+    let mut dump = octets(alloc, "2a020144 060a0000 0200000000000001")?;
     for n in 1..25 {
         dump.extend_from_slice(&[8, 11, 1, 0, 8, 0, 6, 64, 0, 1, 1, 0, n])?;
     }
@@ -94,14 +97,20 @@ fn refused_memory_of_two_sources(rt: HostRuntime) -> Result<(), Fail> {
         rt.alloc(),
         Mode::Plain,
         router(),
-        TWO_SOURCES,
+        NESTED_SOURCES,
         &two_sources(),
     )
 }
 
 #[test]
 fn refused_memory_of_omitted_octets(rt: HostRuntime) -> Result<(), Fail> {
-    read_whole(rt.alloc(), Mode::Plain, router(), COMPRESSED, &compressed())
+    read_whole(
+        rt.alloc(),
+        Mode::Plain,
+        router(),
+        TWO_ROUTES_FORM,
+        &compressed(),
+    )
 }
 
 #[test]
@@ -110,7 +119,13 @@ fn refused_memory_of_a_router_id_set_by_a_flag(rt: HostRuntime) -> Result<(), Fa
         key_v6(0x2001_0db8_0000_0000_0200_0000_0000_0007),
         route_v6(7),
     );
-    read_whole(rt.alloc(), Mode::Plain, router_v6(), ID_BY_FLAG, &[row])
+    read_whole(
+        rt.alloc(),
+        Mode::Plain,
+        router_v6(),
+        ROUTER_ID_BY_FLAG,
+        &[row],
+    )
 }
 
 #[test]
@@ -121,14 +136,14 @@ fn refused_memory_of_held_retractions(rt: HostRuntime) -> Result<(), Fail> {
         rt.alloc(),
         Mode::Hold,
         router(),
-        RETRACTIONS,
+        ALL_RETRACTED,
         &[lost, twenty],
     )
 }
 
 #[test]
 fn refused_memory_octet_by_octet(rt: HostRuntime) -> Result<(), Fail> {
-    for text in [SPELLED_OUT, COMPRESSED] {
+    for text in [TWO_ROUTES, TWO_ROUTES_FORM] {
         match octets(rt.alloc(), text) {
             Ok(dump) => read_by_octet(rt.alloc(), router(), &dump, &compressed())?,
             Err(_) => return Err(Fail::from(REFUSED)),

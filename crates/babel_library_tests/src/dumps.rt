@@ -1,4 +1,17 @@
-//! Dumps that several tests read, and how they are sent. Where nothing is said a route's next hop is its sender.
+//! Worked dumps, their canonical octets, and how they are sent. They come from RFC 8966 and RFC 9079, worked by hand. The
+//! first TLV of most sets the router-id 0200000000000001; where nothing is said a route's next hop is its sender.
+
+use hex::FromHexError;
+use std::alloc::Global;
+
+/// The octets that pairs of hexadecimal digits spell. Spaces between them are for reading.
+pub fn octets(alloc: Global, text: &str) -> Result<Vec<u8>, FromHexError> {
+    let mut digits = String::new(alloc);
+    for piece in text.split_whitespace() {
+        digits.push_str(piece)?;
+    }
+    hex::decode(alloc, digits.as_str())
+}
 
 pub const V4: &str = "192.0.2.1";
 
@@ -8,7 +21,7 @@ pub const V6: &str = "fe80::1";
 pub const ONE_ROUTE: &str = "2a020019 060a0000 0200000000000001 080b010008000640000101000a";
 
 /// The canonical octets of ONE_ROUTE from 192.0.2.1.
-pub const ONE_ROUTE_AGAIN: &str =
+pub const ONE_ROUTE_FORM: &str =
     "2a020021 060a0000 0200000000000001 07060100 c0000201 080b018008000640000101000a";
 
 /// 10.0.0.0/9 and 10.128.0.0/9, both with metric 256.
@@ -96,3 +109,57 @@ pub const ONLY_RETRACTED: &str = "2a02000d 080b0100080006400007ffff0a";
 /// 10.0.0.0/8 and 30.0.0.0/8 with metric 256, and between them a retraction of 20.0.0.0/8.
 pub const ONE_RETRACTED: &str =
     "2a020033 060a0000 0200000000000001 080b010008000640000101000a 080b0100080006400000ffff14 080b010008000640000101001e";
+
+/// Nine pairs, which differ in their sources.
+pub const NESTED_SOURCES_FORM: &str =
+    "2a0200a4 060a0000 0200000000000001 07060100 c0000201 080e01800000064000010200 80020500 080e01800000064000010200 80020708 080e01800000064000010100 8002080a 080e01800000064000010200 8002080b 080e01800000064000010200 8002060c 080e01800000064000010200 80020410 080e01800000064000010200 80020320 080e01800000064000010200 80020240 080e01800000064000010200 80020180";
+
+/// The canonical octets of HIDDEN_DEFAULT.
+pub const DEFAULT_FORM: &str =
+    "2a020020 060a0000 0200000000000001 07060100 c0000201 080a01800000064000010200";
+
+/// The same two, of which the second omits the octets that they share.
+pub const TWO_ROUTES_FORM: &str =
+    "2a020030 060a0000 0200000000000001 07060100 c0000201 080d01801800064000010100 0a0100 080b01801802064000010200 02";
+
+/// The canonical octets of ONE_IGNORED.
+pub const ONE_IGNORED_FORM: &str =
+    "2a020023 060a0000 0200000000000001 07060100 c0000201 080d01801800064000010200 0a0102";
+
+/// What these are normalised to.
+pub const BY_FLAG_FORM: &str =
+    "2a020034 060a0000 0200000000000007 070a0300 0000000000000001 081a02808000064000010100 20010db8000000000200000000000007";
+
+/// The canonical octets of ALL_RETRACTED, where retracted routes are dropped.
+pub const ONE_LEFT_FORM: &str =
+    "2a020021 060a0000 0200000000000001 07060100 c0000201 080b0180080006400001010014";
+
+/// The canonical octets of ALL_RETRACTED, where retracted routes are held.
+pub const ONE_HELD_FORM: &str =
+    "2a02002e 080b0180080006400000ffff0a 060a0000 0200000000000001 07060100 c0000201 080b0180080006400001010014";
+
+/// The canonical octets of THREE_ROUTES.
+pub const THREE_ROUTES_FORM: &str =
+    "2a02003b 060a0000 0200000000000001 07060100 c0000201 080b018008000640000101000a 080b0180080006400001020014 080b018008000640000103001e";
+
+/// The canonical octets of ONLY_RETRACTED, where retracted routes are held.
+pub const UNREACHABLE_FORM: &str = "2a02000d 080b0180080006400000ffff0a";
+
+/// The canonical octets of ONE_RETRACTED, where retracted routes are held.
+pub const ONE_RETRACTED_FORM: &str =
+    "2a02003b 060a0000 0200000000000001 07060100 c0000201 080b018008000640000101000a 080b0180080006400000ffff14 080b018008000640000101001e";
+
+/// A route, and the retraction of another.
+pub const HELD_AFTER_ONE: &str =
+    "2a020026 060a0000 0200000000000001 080b010008000640000101000a 080b0100080006400000ffff14";
+
+/// Updates that are ignored for seven reasons.
+pub const SEVEN_REASONS: &str =
+    "2a02005f 060a0000 0200000000000001 080b0100210006400001 01000a 080b0100080506400001 01000a 080a0100080106400001 0100 080b0100180006400001 01000a 0802 0100 080a0000000006400001 0100 080e0000000006400001 ffff 8002080a";
+
+/// 10.0.0.0/8, with a router-id of one bits.
+pub const RESERVED_ROUTER_ID: &str =
+    "2a020019 060a0000 ffffffffffffffff 080b010008000640000101000a";
+
+/// A route in address encoding 3.
+pub const LINK_LOCAL: &str = "2a02000d 080b030008000640000101000a";
