@@ -1,7 +1,6 @@
 //! The program's words: jobs, refusals and help.
 use super::{address, split};
 use babel_dump::{DumpFile, Format, Job, OneDump, Refusal, read_order, read_words};
-use babel_library_tests::dumps::octets;
 use babel_prefix::Addr;
 use babel_tlv::Mode;
 use std::alloc::Global;
@@ -327,10 +326,10 @@ fn words_of_quiet(rt: HostRuntime) -> Result<(), Fail> {
 
 #[test]
 fn words_of_limits(rt: HostRuntime) -> Result<(), Fail> {
-    for (line, routes) in &LIMITS {
+    for (line, octets, routes) in &LIMITS {
         match read_order(rt.alloc(), &split(rt.alloc(), line)?) {
             Ok(order) => {
-                assert_eq!(rt; order.limits.bytes(), *"of {line}");
+                assert_eq!(rt; order.limits.bytes(), *octets, "of {line}");
                 assert_eq!(rt; order.limits.entries(), *routes, "of {line}");
             }
             Err(_refusal) => assert!(rt; false, "no job of {line}"),
