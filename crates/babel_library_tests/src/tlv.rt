@@ -1,4 +1,6 @@
 //! Worked dumps, by the public calls: what each of their TLVs says, and where a dump is refused.
+mod captured;
+
 use crate::dumps::{
     ALL_RETRACTED, FAULTY_SUB_TLVS, LINK_LOCAL, MORE_OMITTED, ONE_IGNORED, ONE_ROUTE, ONE_V6_ROUTE,
     OTHER_ENCODING, RESERVED_ROUTER_ID, ROUTER_ID_BY_FLAG, SEVEN_REASONS, SOURCE_LEFT, TWO_ROUTES,
@@ -17,7 +19,7 @@ fn prefix(rt: &impl Abort, (addr, len): (&str, u8)) -> Prefix {
     Prefix::new(addr, len).expect(rt, "a length within the width")
 }
 
-pub(crate) fn key(rt: &impl Abort, dst: (&str, u8), src: (&str, u8)) -> Key {
+fn key(rt: &impl Abort, dst: (&str, u8), src: (&str, u8)) -> Key {
     Key::new(prefix(rt, dst), prefix(rt, src)).expect(rt, "one family")
 }
 
@@ -34,7 +36,7 @@ fn route(rt: &impl Abort, dst: &str, len: u8, metric: u16) -> Event {
 }
 
 /// What the TLVs of a dump of this sender say, each at its offset, but for those that say nothing.
-pub(crate) fn said(rt: &impl Abort, alloc: Global, sender: &str, dump: &str) -> Vec<(u64, Event)> {
+fn said(rt: &impl Abort, alloc: Global, sender: &str, dump: &str) -> Vec<(u64, Event)> {
     let sender = parse_addr(sender).expect(rt, "an address");
     let octets = octets(alloc, dump).expect(rt, "memory");
     let mut said = Vec::new(alloc);
@@ -66,13 +68,7 @@ pub(crate) fn said(rt: &impl Abort, alloc: Global, sender: &str, dump: &str) -> 
 }
 
 /// The TLVs of a dump of this sender that say something say what is expected, each at its offset.
-pub(crate) fn says(
-    rt: &impl Abort,
-    alloc: Global,
-    sender: &str,
-    dump: &str,
-    expected: &[(u64, Event)],
-) {
+fn says(rt: &impl Abort, alloc: Global, sender: &str, dump: &str, expected: &[(u64, Event)]) {
     let said = said(rt, alloc, sender, dump);
     assert_eq!(rt; said.as_slice(), expected);
 }
@@ -344,5 +340,29 @@ fn framing(rt: HostRuntime) {
         let body = octets(rt.alloc(), text).expect(&rt, "memory");
         assert!(rt; body.len() < 65536);
         assert_eq!(rt; check_body(&body, 4), answer, "at {text}");
+    }
+}
+
+#[test]
+fn texts_of_faults(rt: HostRuntime) {
+    for (fault, text) in [
+        (Fault::Truncated { at: 29 }, "truncated packet at 29"),
+        (Fault::BadMagic { at: 0 }, "bad magic at 0"),
+        (Fault::BadVersion { at: 7 }, "bad version at 7"),
+        (
+            Fault::TlvPastEnd { at: 4 },
+            "TLV past the end of its packet at 4",
+        ),
+        (
+            Fault::EncodingSetsRouterId { at: 4 },
+            "router-id flag in an unread address encoding at 4",
+        ),
+        (Fault::TooManyRoutes { at: 55 }, "too many routes at 55"),
+        (Fault::TooLong, "dump too long"),
+        (Fault::TooManyPairs, "too many pairs"),
+        (Fault::Memory, "out of memory"),
+    ] {
+        let printed = fault.to_string(rt.alloc()).expect(&rt, "memory");
+        assert_eq!(rt; printed.as_str(), text);
     }
 }

@@ -7,8 +7,6 @@
 
 mod address;
 mod ann;
-#[cfg(test)]
-mod captured;
 mod encoding;
 mod event;
 mod fault;

@@ -1,7 +1,7 @@
 //! Packets that routers sent, against what their neighbours made of them.
-use crate::tests::{key, said, says};
-use crate::{Ann, Event, Reason};
+use super::{key, said, says};
 use babel_prefix::parse_addr;
+use babel_tlv::{Ann, Event, Reason};
 use std::process::Abort;
 
 /// A packet of babeld 1.12.1 at fe80::5eff:fe00:c601.
