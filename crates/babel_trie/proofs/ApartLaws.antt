@@ -79,7 +79,8 @@ no_sources = Stored (record { 0 = 0 })
 
 -- what two lists of changes answer, by what they say
 module _ {V : Type 0} (w : ℕ) (none : Sources (Option V)) where
-  answers-at : (sources : List (Node (Option V))) (list : List (Change (Sources (Option V)))) (d : ℕ) (says : Sources (Option V)) → said_at none list d ≡ says → (h : HasTrie w sources says) → run_answers w sources none list d ≡ value_at h.trie w
+  -- what they answer for a destination is what the trie of what they say there does
+  pub answers-at : (sources : List (Node (Option V))) (list : List (Change (Sources (Option V)))) (d : ℕ) (says : Sources (Option V)) → said_at none list d ≡ says → (h : HasTrie w sources says) → run_answers w sources none list d ≡ value_at h.trie w
   answers-at sources list d says is h = ap (λ (n : Sources (Option V)). value_at (sources_at w sources n) w) is ∙ ap (λ t. value_at t w) (sources_at-stands w sources says h)
 
   module _ (sources others : List (Node (Option V))) (left right : List (Change (Sources (Option V)))) (here there : Sources (Option V)) (h : HasTrie w sources here) (k : HasTrie w others there) (at : ℕ)

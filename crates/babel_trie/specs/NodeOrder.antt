@@ -1,13 +1,17 @@
 -- Sources, and options of values, that compare as equal are one: what the order of a grid's values must show. This
 -- project's own.
 use Rattle.std.specs.Prelude.{◌≡◌, ℕ, Option, Some, None, refl}
-use Rattle.std.specs.Ordering.{nat_cmp}
+use Rattle.std.specs.Ordering.{nat_cmp, ordering_then}
 use Rattle.std.specs.Option.{option_cmp}
 use Rattle.std.specs.declared.cmp.Ordering.{Ordering}
 use Rattle.std.specs.declared.cmp.Ordering.TheVariants.{Less, Equal, Greater}
 use Rattle.std.proofs.Common.{ap}
 use Rattle.std.proofs.lemmas.Map.Lookups.{exact_pairs, exact_unsigned}
 use Rattle.babel_trie.specs.Sound.{node_cmp}
+use Rattle.babel_trie.specs.declared.differing.Differing.{Differing}
+use Rattle.babel_trie.specs.declared.known.Both.{Both}
+use Rattle.babel_trie.specs.declared.table.Loose.{Loose}
+use Rattle.babel_trie.specs.declared.table.Loose.TheVariants.{Same, Split}
 use Rattle.babel_trie.specs.declared.table.Node.{Node}
 use Rattle.babel_trie.specs.declared.table.NodeNumber.{NodeNumber}
 use Rattle.babel_trie.specs.declared.table.Sources.{Sources}
@@ -47,3 +51,28 @@ nodes_exact {V} cmp exact a b e =
     (a.skip, (a.path, (a.outside, (a.low, a.high)))) (b.skip, (b.path, (b.outside, (b.low, b.high)))) e in
     ap (λ (p : ℕ × (ℕ × (Sources V × (Sources V × Sources V)))).
     let n : Node V = record { skip = p.0; path = p.1.0; outside = p.1.1.0; low = p.1.1.1.0; high = p.1.1.1.1 } in n) all
+
+module _ {V : Type 0} where
+  -- tries of one value each, whose values compare as equal only where they are one
+  pub same_exact : (cmp : V → V → Ordering) → ((a b : V) → cmp a b ≡ Equal → a ≡ b) → (v w : V) → cmp v w ≡ Equal →
+      let a : Loose V = Same v in let b : Loose V = Same w in a ≡ b
+  same_exact cmp exact v w e = ap Same (exact v w e)
+
+  -- tries that are nodes, which compare as equal only where they are one
+  pub split_exact : (cmp : Node V → Node V → Ordering) → ((a b : Node V) → cmp a b ≡ Equal → a ≡ b) → (k m : Node V) →
+      cmp k m ≡ Equal → let a : Loose V = Split k in let b : Loose V = Split m in a ≡ b
+  split_exact cmp exact k m e = ap Split (exact k m e)
+
+  -- two answers each
+  pub differing_exact : (cmp : Option V → Option V → Ordering) → ((a b : Option V) → cmp a b ≡ Equal → a ≡ b) →
+      (a b : Differing V) → ordering_then (cmp a.left b.left) (cmp a.right b.right) ≡ Equal → a ≡ b
+  differing_exact cmp exact a b e =
+      ap (λ (p : Option V × Option V). let d : Differing V = record { left = p.0; right = p.1 } in d)
+      (exact_pairs cmp cmp exact exact (a.left, a.right) (b.left, b.right) e)
+
+-- two that are compared each
+pub both_exact : {T : Type 0} (cmp : T → T → Ordering) → ((a b : T) → cmp a b ≡ Equal → a ≡ b) → (a b : Both T) →
+    ordering_then (cmp a.left b.left) (cmp a.right b.right) ≡ Equal → a ≡ b
+both_exact {T} cmp exact a b e =
+    ap (λ (p : T × T). let c : Both T = record { left = p.0; right = p.1 } in c)
+    (exact_pairs cmp cmp exact exact (a.left, a.right) (b.left, b.right) e)

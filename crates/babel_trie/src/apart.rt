@@ -14,7 +14,7 @@ use crate::table::{Sources, Table};
 use babel_prefix::{Addr, Family};
 
 /// The changes behind an address, and what is said there.
-fn behind<V: Copy>(
+pub fn behind<V: Copy>(
     list: &[Change<Sources<V>>],
     at: u128,
     before: Sources<V>,
@@ -36,7 +36,7 @@ fn behind<V: Copy>(
 }
 
 /// The last address before the next change.
-fn last_before<V>(list: &[Change<Sources<V>>], at: u128) -> u128
+pub fn last_before<V>(list: &[Change<Sources<V>>], at: u128) -> u128
     requires runs { AreRuns list.now }
     requires behind { StartBehind at list.now }
     ensures from { at ≤ result }
@@ -49,7 +49,7 @@ fn last_before<V>(list: &[Change<Sources<V>>], at: u128) -> u128
 }
 
 /// The lesser of two addresses.
-fn nearer(end: u128, other: u128) -> u128
+pub fn nearer(end: u128, other: u128) -> u128
     ensures first { result ≤ end }
     ensures second { result ≤ other }
     ensures from { (at : ℕ) → at ≤ end → at ≤ other → at ≤ result }

@@ -41,7 +41,7 @@ fn in_upper_half(at: u128, bits: u8) -> u128
 }
 
 /// Whether the two are one.
-fn are_one<V: LawfulOrd>(whole: Loose<V>, other: Loose<V>) -> bool
+pub fn are_one<V: LawfulOrd>(whole: Loose<V>, other: Loose<V>) -> bool
     ensures { IsTrue result → whole ≡ other }
 {
     match (whole, other) {
@@ -52,7 +52,7 @@ fn are_one<V: LawfulOrd>(whole: Loose<V>, other: Loose<V>) -> bool
 }
 
 /// The two values, where both are one value for all sources.
-fn both_same<V: Copy>(whole: Loose<V>, other: Loose<V>) -> Option<(V, V)>
+pub fn both_same<V: Copy>(whole: Loose<V>, other: Loose<V>) -> Option<(V, V)>
     ensures constants { IfSome result (λ p. (whole ≡ Same p.0) × (other ≡ Same p.1)) }
     ensures fork { IfNone result ((bits : ℕ) (nodes others : List (Node V)) → IsTrie bits nodes whole → IsTrie bits others other → 0 < bits) }
 {

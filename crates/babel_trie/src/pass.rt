@@ -33,7 +33,7 @@ fn ends_with<F: LawfulOrd>(list: &[Change<F>], sources: F) -> bool
 }
 
 /// Says what is answered from an address on, behind all that was said.
-fn say<F: LawfulOrd>(out: &mut Vec<Change<F>>, change: Change<F>) -> Result<(), AllocError>
+pub fn say<F: LawfulOrd>(out: &mut Vec<Change<F>>, change: Change<F>) -> Result<(), AllocError>
     requires runs { AreRuns out.old.items }
     requires below { StartBelow change.start out.old.items }
     ensures filled { OnOk result ((to : ℕ) → change.start < to → IsFilled change.start to change.sources out.old.items out.new.items) }

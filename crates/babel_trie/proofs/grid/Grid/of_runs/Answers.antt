@@ -1,0 +1,58 @@
+-- The rows of the changes are the boxes of their answers.
+use Rattle.std.proofs.Common.{ℕ, ◌^◌, List, length, sym, ◌∙◌, ap, subst, Option}
+use Rattle.babel_prefix.specs.Best.{answer}
+use Rattle.babel_prefix.specs.Entries.{answers_in}
+use Rattle.babel_prefix.specs.Width.{width_of}
+use Rattle.babel_prefix.proofs.Members.{Listed}
+use Rattle.babel_trie.specs.Counts.{capped}
+use Rattle.babel_trie.specs.Sound.{IsBelow}
+use Rattle.babel_trie.specs.Spans.{spans, counted_rows, run_rows}
+use Rattle.babel_trie.specs.declared.runs.Change.{Change}
+use Rattle.babel_trie.specs.declared.table.Sources.{Sources}
+use Rattle.babel_trie.proofs.BoxLaws.{SameAnswers-sym}
+use Rattle.babel_trie.proofs.NumberLaws.{form_from_sound}
+use Rattle.babel_trie.proofs.FormLaws.{Represents-in}
+use Rattle.babel_trie.proofs.RowCounts.{counted_spans}
+use Rattle.babel_trie.proofs.RunBoxes.{span_trie, change_trie, run_boxes, run_rows_answer}
+use Rattle.babel_trie.proofs.RunLaws.{runs-same}
+use Rattle.babel_trie.proofs.grid.Grid.of_runs.Goals as goal
+
+pub row_count-count-requires-clause-counts : goal.row_count-count-requires-clause-counts
+row_count-count-requires-clause-counts g c x t =
+    let w = width_of c.args.family in
+    let sources = c.args.sources.nodes.items in
+    let list = c.args.runs.items in
+    let f = c.requires.runs.0 in
+    let h = change_trie w sources list f c.requires.runs.1 x (subst (λ (xs : List (Change (Sources (Option g.row.V.Denot)))). Listed xs x) c.deref.ensures.value t) in
+    subst (λ (n : ℕ). IsBelow n x.sources) (sym (ap length c.deref-2.ensures.value ∙ c.in_ok-counts.ensures.len)) (Represents-in sources x.sources h.trie h.stands)
+
+pub invariant_of-result : goal.invariant_of-result
+invariant_of-result g c =
+    let w = width_of c.args.family in
+    let sources = c.args.sources.nodes.items in
+    let list = c.args.runs.items in
+    let counts = c.in_ok-counts.counts.items in
+    let f = c.requires.runs.0 in
+    let p = c.requires.runs.1 in
+    let form = form_from_sound _ sources c.args.sources.numbers c.requires.sound in
+    record {
+      runs = runs-same w sources list f (answer w (run_rows w sources list)) (SameAnswers-sym w _ _ (run_rows_answer w sources list f p form)) p;
+      count_is =
+          c.row_count-count.ensures
+          ∙ ap (λ (n : ℕ). capped (counted_rows n c.deref-2.result.now (spans (2 ^ n) c.deref.result.now))) c.width.ensures
+          ∙ ap (λ (xs : List (Change (Sources (Option g.row.V.Denot)))). capped (counted_rows w c.deref-2.result.now (spans (2 ^ w) xs))) c.deref.ensures.value
+          ∙ ap (λ (ns : List ℕ). capped (counted_rows w ns (spans (2 ^ w) list))) c.deref-2.ensures.value
+          ∙ counted_spans w sources counts c.in_ok-counts.ensures (spans (2 ^ w) list) (span_trie w sources list f p);
+    }
+
+pub returns-clause-answers : goal.returns-clause-answers
+returns-clause-answers g c f p =
+    let sources = c.args.sources.nodes.items in
+    let form = form_from_sound _ sources c.args.sources.numbers c.requires.sound in
+    run_rows_answer (width_of c.args.family) sources c.args.runs.items f p form
+
+pub returns-clause-boxes : goal.returns-clause-boxes
+returns-clause-boxes g c f p =
+    let sources = c.args.sources.nodes.items in
+    let form = form_from_sound _ sources c.args.sources.numbers c.requires.sound in
+    run_boxes (width_of c.args.family) sources c.args.runs.items f p form

@@ -1,0 +1,29 @@
+//! What two tables answer where they differ.
+ghost use Rattle.babel_trie.specs.Differences.{TellsApart};
+
+use crate::lawful::{LawfulOrd, are_same};
+
+/// The two answers for a destination and a source that two tables answer differently. `None` where a
+/// table has no row with both addresses.
+#[derive(Clone, Copy, PartialEq, Eq, PartialOrd, Ord)]
+pub struct Differing<V> {
+    pub left: Option<V>,
+    pub right: Option<V>,
+}
+
+impl<V: LawfulOrd> LawfulOrd for Differing<V> {
+    ghost use Rattle.babel_trie.specs.NodeOrder.{options_exact, differing_exact};
+    ghost use Rattle.std.specs.Option.{option_cmp};
+
+    ghost exact = { differing_exact (option_cmp V.cmp) (options_exact V.cmp V.exact) };
+}
+
+/// Two answers where they differ, and nothing where they are one.
+pub fn told_apart<V: LawfulOrd>(left: Option<V>, right: Option<V>) -> Option<Differing<V>>
+    ensures { TellsApart left right result }
+{
+    if are_same(left, right) {
+        return None;
+    }
+    Some(Differing { left, right })
+}
