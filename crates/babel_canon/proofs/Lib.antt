@@ -17,3 +17,6 @@ mod Normal
 mod Numbered
 mod ValueLists
 mod SinkLaws
+mod MappedBoxes
+mod PackedDifferences
+mod DifferenceLists

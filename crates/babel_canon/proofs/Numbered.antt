@@ -67,7 +67,7 @@ module _ (values : List Held) where
   says_one (Some n) (Some h) None a b = absurd b
   says_one (Some n) (Some h) (Some k) a b = ap Some (sym a.restores ∙ b.restores)
 
-  said_once : AreDistinct values → (n m : Option PackedValue) (h : Option Held) → Says n h → Says m h → n ≡ m
+  pub said_once : AreDistinct values → (n m : Option PackedValue) (h : Option Held) → Says n h → Says m h → n ≡ m
   said_once distinct None None h a b = refl
   said_once distinct None (Some m) None a b = absurd b
   said_once distinct None (Some m) (Some h) a b = absurd a

@@ -12,3 +12,5 @@ pub mod NumberOrder
 pub mod Values
 pub mod Sinks
 pub mod OneOutcome
+pub mod Differences
+pub mod PackedDifferences

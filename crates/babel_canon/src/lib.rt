@@ -5,6 +5,7 @@
 mod body;
 mod canon;
 mod comparison;
+mod every_difference;
 mod grids;
 pub mod laws;
 mod normal_form;
@@ -17,5 +18,6 @@ mod verdict;
 pub use body::Body;
 pub use canon::{Canon, canonical, canonical_octets, canonical_pairs, pair_count};
 pub use comparison::compare;
+pub use every_difference::{Difference, difference_count, differences};
 pub use normal_form::normalise;
 pub use verdict::Verdict;
