@@ -20,3 +20,4 @@ mod SinkLaws
 mod MappedBoxes
 mod PackedDifferences
 mod DifferenceLists
+mod DifferenceLaws

@@ -12,7 +12,7 @@ use Rattle.babel_table.specs.Rows.{entries_of}
 use Rattle.babel_canon.specs.Verdict.{IsLower, IsFirstDifference, IsFirstInFamily, IsLeastInFamily, SameInFamily}
 
 module _ (rows others : List Pair) where
-  same_for : (d s : Address) → SameInFamily d.family rows others → IsAddress d → IsAddress s → d.family ≡ s.family → answer_for (entries_of rows) d s ≡ answer_for (entries_of others) d s
+  pub same_for : (d s : Address) → SameInFamily d.family rows others → IsAddress d → IsAddress s → d.family ≡ s.family → answer_for (entries_of rows) d s ≡ answer_for (entries_of others) d s
   same_for d s same d_fits s_fits one_family = same d.bits s.bits d_fits (subst (λ (f : Family). s.bits < 2 ^ width_of f) (sym one_family) s_fits)
 
   -- the least difference in a family, where the families before it answer the same

@@ -1,6 +1,7 @@
 //! Laws of the definitions.
 ghost use Rattle.babel_canon.specs.RoundTrip.{TextReadsBack};
 ghost use Rattle.babel_canon.specs.Boxes.{BoxesAnswer, BoxesTellApart};
+ghost use Rattle.babel_canon.specs.Differences.{DifferencesAreFewest, NoneWhereSame};
 ghost use Rattle.babel_canon.specs.Fewest.{BoxesAreFewest};
 ghost use Rattle.babel_canon.specs.Packing.{TextIsOne};
 ghost use Rattle.babel_canon.specs.Headline.{Headline};
@@ -46,4 +47,11 @@ pub fn normal_form_is_one()
 /// Two tables have at most one verdict.
 pub fn verdict_is_one()
     ensures { VerdictIsOne }
+{}
+
+/// Two tables have no difference exactly where they give every destination and source the same answer; and no
+/// disjoint lists of rows, one of each family, that tell the same differences are together shorter.
+pub fn differences_are_boxes()
+    ensures none { NoneWhereSame }
+    ensures fewest { DifferencesAreFewest }
 {}
