@@ -14,3 +14,4 @@ pub mod Group
 pub mod Writing
 pub mod News
 pub mod Verdicts
+pub mod Views

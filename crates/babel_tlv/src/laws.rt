@@ -1,9 +1,10 @@
-//! Laws about the orders of this crate's types.
+//! Laws about the orders of this crate's types, and about views.
 ghost use Rattle.std.specs.Prelude.{◌≡◌, ◌↔◌};
 ghost use Rattle.std.specs.Cmp.{IsTotalOrder};
 ghost use Rattle.std.specs.declared.cmp.Ordering.TheVariants.{Equal};
 ghost use Rattle.babel_tlv.specs.declared.held.Held.{Held as HeldValue};
 ghost use Rattle.babel_tlv.specs.Pair.{held_cmp};
+ghost use Rattle.babel_tlv.specs.Views.{AllIsSeen, SeenFits, SeenTellsApart, SeenTwiceIsSeen};
 ghost use Rattle.babel_tlv.specs.Route.{RouteKey, key_cmp, Announcement, announcement_cmp};
 
 use crate::ann::Ann;
@@ -39,4 +40,14 @@ pub fn equal_are_one()
     ensures keys { (a b : RouteKey) → (key_cmp a b ≡ Equal) ↔ (a ≡ b) }
     ensures announcements { (a b : Announcement) → (announcement_cmp a b ≡ Equal) ↔ (a ≡ b) }
     ensures held { (a b : HeldValue) → (held_cmp a b ≡ Equal) ↔ (a ≡ b) }
+{}
+
+/// What a view sees of two values of one key is equal exactly where these are both unreachable, or both routes whose kept
+/// fields are equal. The view that keeps every field changes nothing; what is seen is seen so again, and fits its key.
+#[tactic(auto, using(crate::proofs::ViewLaws::seen_tells_apart, crate::proofs::ViewLaws::all_is_seen, crate::proofs::ViewLaws::seen_twice_is_seen, crate::proofs::ViewLaws::seen_fits))]
+pub fn views_tell()
+    ensures tells_apart { SeenTellsApart }
+    ensures all { AllIsSeen }
+    ensures twice { SeenTwiceIsSeen }
+    ensures fits { SeenFits }
 {}

@@ -31,6 +31,7 @@ mod tlv;
 mod tlvs;
 mod update;
 mod verdict;
+mod view;
 mod wire;
 mod writing;
 
@@ -49,5 +50,6 @@ pub use state::State;
 pub use tlv::{Tlv, check_body};
 pub use tlvs::Tlvs;
 pub use verdict::Verdict;
+pub use view::View;
 pub use wire::{MAGIC, VERSION};
 pub use writing::Writing;
