@@ -11,3 +11,4 @@ pub mod OneOutcome
 pub mod Compact
 pub mod Left
 pub mod Said
+pub mod Seen

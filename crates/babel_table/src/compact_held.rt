@@ -1,8 +1,9 @@
 ghost use Rattle.std.specs.Prelude.{◌≡◌};
+ghost use Rattle.babel_tlv.specs.Views.{seen};
 ghost use Rattle.babel_table.specs.Compact.{FitsFamily};
 
 use crate::word::Word;
-use babel_tlv::{Ann, Held};
+use babel_tlv::{Ann, Held, View};
 use std::marker::Model;
 
 /// The metric of what holds no route: RFC 8966, 4.6.9.
@@ -53,12 +54,21 @@ impl<W: Word> CompactHeld<W> {
 
     /// What is held.
     pub fn held(&self) -> Held
-        ensures { result ≡ self.now }
+        ensures value { result ≡ self.now }
+        ensures fits { FitsFamily W.family self.now }
     {
         let next_hop = self.next_hop.addr();
         match Ann::new(self.router_id, self.seqno, self.metric, next_hop) {
             Some(ann) => Held::Route(ann),
             None => Held::Unreachable,
         }
+    }
+
+    /// Puts what the view sees in place of what is held.
+    #[tactic(auto, using(crate::proofs::SeenLaws::fits_family))]
+    pub fn see(&mut self, view: View)
+        ensures { self.new ≡ seen view self.old }
+    {
+        *self = CompactHeld::of(view.seen(self.held()));
     }
 }

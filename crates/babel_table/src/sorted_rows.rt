@@ -2,13 +2,15 @@ ghost use Rattle.std.specs.Prelude.{◌≡◌, MatchOption};
 ghost use Rattle.babel_table.specs.BestMatch.{HasBestMatch, HasNoMatch};
 ghost use Rattle.babel_table.specs.Left.{rows_left};
 ghost use Rattle.babel_table.specs.Rows.{AreRows};
+ghost use Rattle.babel_table.specs.Seen.{seen_rows};
 
 use crate::compact_row::CompactRow;
 use crate::halves::Halves;
 use crate::lookup::best_match;
 use crate::table_rows::TableRows;
+use crate::word::Word;
 use babel_prefix::{Addr, Family};
-use babel_tlv::Held;
+use babel_tlv::{Held, View};
 use std::marker::Model;
 
 /// Rows in rising order: of IPv4, then of IPv6.
@@ -54,5 +56,25 @@ impl SortedRows {
             Family::V4 => best_match(&self.v4, dst, src),
             Family::V6 => best_match(&self.v6, dst, src),
         }
+    }
+
+    /// The same keys, with what the view sees of what they hold.
+    #[tactic(auto, using(crate::proofs::SeenLaws::seen_are_rows, crate::proofs::SeenLaws::seen_are_of, crate::proofs::SeenLaws::seen_append))]
+    pub fn seen(self, view: View) -> SortedRows
+        ensures { result ≡ seen_rows view self }
+    {
+        let SortedRows { mut v4, mut v6 } = self;
+        see_rows(&mut v4, view);
+        see_rows(&mut v6, view);
+        SortedRows { v4, v6 }
+    }
+}
+
+/// Puts what the view sees in place of what each row holds.
+fn see_rows<W: Word>(rows: &mut [CompactRow<W>], view: View)
+    ensures { rows.new ≡ seen_rows view rows.old }
+{
+    for row in rows.iter_mut() {
+        row.1.see(view);
     }
 }

@@ -9,7 +9,7 @@ pub returns-in-Ok : goal.returns-in-Ok
 returns-in-Ok g c =
     let at = c.in-Ok.ensures.position (λ row. row.0) (answers_always _ _ _ (λ f a r q k. search rules)) in
     let rows = c.args.rows.now in
-    rw c.held.ensures
+    rw c.held.ensures.value
     (subst (λ key. StandsFor rows key (Some (get_or rows c.in-Ok.place c.index-rows-place.result).1)) c.new-key.ensures
     (key-found rows c.new-key.result c.in-Ok.place c.index-rows-place.result c.requires c.in-Ok.ensures.bound at))
 
