@@ -1,9 +1,9 @@
 -- The headline, from what the boxes of rows answer and what their text is read as.
-use Rattle.std.proofs.Common.{◌≡◌, ℕ, List, [], ◌∷◌, map, refl, sym, ap, subst, ◌∙◌, arith, inl, inr, Contains}
+use Rattle.std.proofs.Common.{◌≡◌, ◌↔◌, ℕ, ◌≤◌, List, [], ◌∷◌, length, map, refl, sym, ap, subst, ◌∙◌, arith, inl, inr, Contains}
 use Rattle.std.specs.List.{AllByRecursion}
 use Rattle.babel_prefix.specs.declared.family.Family.TheVariants.{V4}
 use Rattle.babel_prefix.specs.Address.{Address}
-use Rattle.babel_prefix.proofs.Members.{Listed, Contains-from_Listed}
+use Rattle.babel_prefix.proofs.Members.{Listed, Contains-from_Listed, Listed-from_Contains}
 use Rattle.babel_tlv.specs.declared.held.Held.{Held}
 use Rattle.babel_tlv.specs.declared.held.Held.TheVariants as helds
 use Rattle.babel_tlv.specs.declared.mode.Mode.{Mode}
@@ -25,7 +25,7 @@ use Rattle.babel_canon.specs.Headline.{Normalises, Sent, DumpsAnswerTheSame, Tel
 use Rattle.babel_canon.proofs.NoFault.{oks_one}
 use Rattle.babel_canon.proofs.PairRows.{rising-apart}
 use Rattle.babel_canon.proofs.RoundTrip.{text_reads_back}
-use Rattle.babel_canon.proofs.Boxes.{same_back, same_on, boxes_one, boxes_answer, boxes_too, box_held}
+use Rattle.babel_canon.proofs.Boxes.{all_in, same_back, same_on, boxes_one, boxes_answer, boxes_too, box_held}
 use Rattle.babel_table.proofs.ReadingLaws.{framed_one}
 use Rattle.babel_canon.proofs.Tables.{table_of_pairs}
 use Rattle.babel_canon.proofs.OneOutcome.{rows_one, texts_one, normal_form_is_one, normal_form_has_no_fault}
@@ -36,16 +36,21 @@ each_is : (P : Pair → Type 0) (pairs : List Pair) → ((pair : Pair) → Liste
 each_is P [] all = tt
 each_is P (pair ∷ pairs) all = (all pair (inl refl), each_is P pairs (λ other at. all other (inr at)))
 
-readable : (limits : Bounds) (mode : Mode) (sender : Address) (dump : List ℕ) (table : Routes) (boxes : List Pair) → IsTableOf limits mode sender dump table → AreBoxes table.rows boxes
-    → AreReadableIn mode boxes
-readable limits modes.Hold sender dump table boxes is_table are = tt
-readable limits modes.Plain sender dump table boxes is_table are = each_is (λ (pair : Pair). IsRoute pair.1) boxes (λ box at.
-    let by = box_held table.rows boxes are box (Contains-from_Listed boxes box at) in
-    subst IsRoute by.fits_too (route by.pair.1 by.pair.0 by.member))
+-- in mode Plain each row of a dump is a route
+pub rows_readable : (limits : Bounds) (mode : Mode) (sender : Address) (dump : List ℕ) (table : Routes) → IsTableOf limits mode sender dump table → AreReadableIn mode table.rows
+rows_readable limits modes.Hold sender dump table is_table = tt
+rows_readable limits modes.Plain sender dump table is_table =
+    each_is (λ (pair : Pair). IsRoute pair.1) table.rows (λ row at. route row.1 row.0 (Contains-from_Listed table.rows row at))
   where
     route : (held : Held) (key : RouteKey) → Contains table.rows (key, held) → IsRoute held
     route (helds.Route ann) key c = tt
     route helds.Unreachable key c = is_table.rows.held key helds.Unreachable c
+
+pub readable : (mode : Mode) (rows boxes : List Pair) → AreReadableIn mode rows → AreBoxes rows boxes → AreReadableIn mode boxes
+readable modes.Hold rows boxes reads are = tt
+readable modes.Plain rows boxes reads are = each_is (λ (pair : Pair). IsRoute pair.1) boxes (λ box at.
+    let by = box_held rows boxes are box (Contains-from_Listed boxes box at) in
+    subst IsRoute by.fits_too (all_in (λ (pair : Pair). IsRoute pair.1) rows by.pair reads (Listed-from_Contains rows by.pair by.member)))
 
 -- ---- equal octets are the text of equal pairs
 
@@ -85,53 +90,74 @@ pairs_one : (body : ℕ) (ps qs : List Pair) (octets : List ℕ) → IsBodySize 
 pairs_one body ps qs octets size p_rows q_rows p_text q_text =
     told_one any_sender octets ps qs (back modes.Hold body ps octets any_sender size p_rows tt p_text).tells (back modes.Hold body qs octets any_sender size q_rows tt q_text).tells
 
+-- ---- equal octets are of equal answers
+
+pub forms_tell : (body : ℕ) → IsBodySize body → (rows others boxes other_boxes : List Pair) (octets other_octets : List ℕ) → AreBoxes rows boxes → AreBoxes others other_boxes
+    → IsText body boxes octets → IsText body other_boxes other_octets → (octets ≡ other_octets) ↔ AnswerTheSame rows others
+forms_tell body size rows others boxes other_boxes octets other_octets are other_are text other_text = (answers_same, octets_same)
+  where
+    octets_same : AnswerTheSame rows others → octets ≡ other_octets
+    octets_same same = texts_one body boxes other_boxes octets other_octets (boxes_one rows others boxes other_boxes same are other_are) text other_text
+
+    answers_same : octets ≡ other_octets → AnswerTheSame rows others
+    answers_same same =
+        let boxes_are : boxes ≡ other_boxes =
+        pairs_one body boxes other_boxes other_octets size are.are_rows other_are.are_rows (subst (λ (o : List ℕ). IsText body boxes o) same text) other_text in
+        same_on rows boxes others (same_back boxes rows (boxes_answer rows boxes are))
+        (subst (λ (l : List Pair). AnswerTheSame l others) (sym boxes_are) (boxes_answer others other_boxes other_are))
+
+-- ---- the text of boxes is its own canonical form
+
+-- the octets are a dump with these rows, and its canonical form
+pub record IsItsOwn (limits : Bounds) (mode : Mode) (body : ℕ) (boxes : List Pair) (octets : List ℕ) (any : Address) : Type 0 where
+  pub again : Normalises limits mode body any octets octets
+  pub rows_are : again.table.rows ≡ boxes
+  pub boxes_are : again.boxes ≡ boxes
+
+pub its_own : (limits : Bounds) (mode : Mode) (body : ℕ) → AreBounds limits → IsBodySize body → (rows boxes : List Pair) (octets : List ℕ) → AreBoxes rows boxes → AreReadableIn mode boxes
+    → length boxes ≤ limits.entries → IsText body boxes octets → (any : Address) → IsItsOwn limits mode body boxes octets any
+its_own limits mode body bounds size rows boxes octets are reads few text any =
+    let read = back mode body boxes octets any size are.are_rows reads text in
+    record {
+      again = record {
+        no_fault = read.no_fault limits few (omega (arith, few, bounds.room));
+        table = _;
+        is_table = table_of_pairs limits mode any octets boxes are.are_rows.rising reads few read.tells;
+        boxes = boxes;
+        are_boxes = boxes_too rows boxes boxes (same_back boxes rows (boxes_answer rows boxes are)) are;
+        few = few;
+        text = text;
+      };
+      rows_are = refl;
+      boxes_are = refl;
+    }
+
 -- ---- the headline
 
 tells_apart : (limits : Bounds) (mode : Mode) (body : ℕ) → IsBodySize body → (one : Sent) (octets : List ℕ) → Normalises limits mode body one.sender one.dump octets → TellsApart limits mode body one octets
-tells_apart limits mode body size sent octets one other_sent other_octets other = (answers_same, octets_same)
+tells_apart limits mode body size sent octets one other_sent other_octets other =
+    let tell = forms_tell body size one.table.rows other.table.rows one.boxes other.boxes octets other_octets one.are_boxes other.are_boxes one.text other.text in
+    (answers_same tell.0, (λ same. tell.1 (same one.table other.table one.is_table other.is_table)))
   where
-    octets_same : DumpsAnswerTheSame limits mode sent other_sent → octets ≡ other_octets
-    octets_same same =
-        texts_one body one.boxes other.boxes octets other_octets
-        (boxes_one one.table.rows other.table.rows one.boxes other.boxes (same one.table other.table one.is_table other.is_table) one.are_boxes other.are_boxes) one.text other.text
-
-    tables_same : octets ≡ other_octets → AnswerTheSame one.table.rows other.table.rows
-    tables_same same =
-        let boxes_are : one.boxes ≡ other.boxes =
-        pairs_one body one.boxes other.boxes other_octets size one.are_boxes.are_rows other.are_boxes.are_rows (subst (λ (o : List ℕ). IsText body one.boxes o) same one.text) other.text in
-        same_on one.table.rows one.boxes other.table.rows (same_back one.boxes one.table.rows (boxes_answer one.table.rows one.boxes one.are_boxes))
-        (subst (λ (l : List Pair). AnswerTheSame l other.table.rows) (sym boxes_are) (boxes_answer other.table.rows other.boxes other.are_boxes))
-
-    answers_same : octets ≡ other_octets → DumpsAnswerTheSame limits mode sent other_sent
-    answers_same same table other_table is_table is_other =
+    answers_same : (octets ≡ other_octets → AnswerTheSame one.table.rows other.table.rows) → octets ≡ other_octets → DumpsAnswerTheSame limits mode sent other_sent
+    answers_same tables_same same table other_table is_table is_other =
         subst (λ (l : List Pair). AnswerTheSame l other_table.rows) (rows_one limits mode sent.sender sent.dump one.table table one.is_table is_table)
         (subst (λ (l : List Pair). AnswerTheSame one.table.rows l) (rows_one limits mode other_sent.sender other_sent.dump other.table other_table other.is_table is_other) (tables_same same))
 
 stays_itself : (limits : Bounds) (mode : Mode) (body : ℕ) → AreBounds limits → IsBodySize body → (one : Sent) (octets : List ℕ) → Normalises limits mode body one.sender one.dump octets
     → (any : Address) → ReadsAgain limits mode body one octets any
 stays_itself limits mode body bounds size sent octets one any =
-    let reads = readable limits mode sent.sender sent.dump one.table one.boxes one.is_table one.are_boxes in
-    let read = back mode body one.boxes octets any size one.are_boxes.are_rows reads one.text in
-    let fine = read.no_fault limits one.few (omega (arith, one.few, bounds.room)) in
-    let is_table = table_of_pairs limits mode any octets one.boxes one.are_boxes.are_rows.rising reads one.few read.tells in
+    let reads = readable mode one.table.rows one.boxes (rows_readable limits mode sent.sender sent.dump one.table one.is_table) one.are_boxes in
+    let own = its_own limits mode body bounds size one.table.rows one.boxes octets one.are_boxes reads one.few one.text any in
     let same : AnswerTheSame one.boxes one.table.rows = boxes_answer one.table.rows one.boxes one.are_boxes in
-    let again : Normalises limits mode body any octets octets = record {
-      no_fault = fine;
-      table = _;
-      is_table = is_table;
-      boxes = one.boxes;
-      are_boxes = boxes_too one.table.rows one.boxes one.boxes (same_back one.boxes one.table.rows same) one.are_boxes;
-      few = one.few;
-      text = one.text;
-    } in
     record {
-      no_fault = fine;
+      no_fault = own.again.no_fault;
       answers = λ table other_table a b.
-          subst (λ (l : List Pair). AnswerTheSame l other_table.rows) (rows_one limits mode any octets _ table is_table a)
+          subst (λ (l : List Pair). AnswerTheSame l other_table.rows) (sym own.rows_are ∙ rows_one limits mode any octets own.again.table table own.again.is_table a)
           (subst (λ (l : List Pair). AnswerTheSame one.boxes l) (rows_one limits mode sent.sender sent.dump one.table other_table one.is_table b) same);
-      again = again;
-      unchanged = λ other normal. normal_form_is_one limits mode body any octets other octets normal again;
-      only_memory = λ fault faulty. normal_form_has_no_fault limits mode body any octets octets fault again faulty;
+      again = own.again;
+      unchanged = λ other normal. normal_form_is_one limits mode body any octets other octets normal own.again;
+      only_memory = λ fault faulty. normal_form_has_no_fault limits mode body any octets octets fault own.again faulty;
     }
 
 pub headline : Headline

@@ -21,3 +21,4 @@ mod MappedBoxes
 mod PackedDifferences
 mod DifferenceLists
 mod DifferenceLaws
+pub mod Views

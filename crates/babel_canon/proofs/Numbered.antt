@@ -16,7 +16,7 @@ use Rattle.babel_canon.specs.NumberOrder.{same_packed}
 -- ---- the best row depends on prefixes alone
 
 module _ {A B : Type 0} (h : A → B) where
-  abbrev revalued : Row A → Row B
+  abbrev pub revalued : Row A → Row B
   revalued row = record { dst = row.dst; src = row.src; value = h row.value }
 
   found-map : (test : Row B → Bool) (rows : List (Row A)) → find test (map revalued rows) ≡ option_map revalued (find (λ row. test (revalued row)) rows)
@@ -36,7 +36,7 @@ module _ {A B : Type 0} (h : A → B) where
   value-map None = refl
   value-map (Some row) = refl
 
-  answer-map : (w : ℕ) (rows : List (Row A)) (d s : ℕ) → answer w (map revalued rows) d s ≡ option_map h (answer w rows d s)
+  pub answer-map : (w : ℕ) (rows : List (Row A)) (d s : ℕ) → answer w (map revalued rows) d s ≡ option_map h (answer w rows d s)
   answer-map w rows d s =
       ap (option_map (λ (row : Row B). row.value)) (
       found-map (is_best w (map revalued rows) d s) rows

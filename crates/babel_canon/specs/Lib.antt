@@ -14,3 +14,4 @@ pub mod Sinks
 pub mod OneOutcome
 pub mod Differences
 pub mod PackedDifferences
+pub mod Views

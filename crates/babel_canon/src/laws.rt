@@ -5,6 +5,7 @@ ghost use Rattle.babel_canon.specs.Differences.{DifferencesAreFewest, NoneWhereS
 ghost use Rattle.babel_canon.specs.Fewest.{BoxesAreFewest};
 ghost use Rattle.babel_canon.specs.Packing.{TextIsOne};
 ghost use Rattle.babel_canon.specs.Headline.{Headline};
+ghost use Rattle.babel_canon.specs.Views.{AllNormalises, HeadlineUnder, SeenAnswersTell};
 ghost use Rattle.babel_canon.specs.OneOutcome.{NormalFormIsOne, NormaliseFaultIsOne, NormalFormHasNoFault, VerdictIsOne};
 
 /// Pairs have exactly one canonical text for each size of a body.
@@ -34,6 +35,14 @@ pub fn boxes_are_fewest()
 /// with any sender, give those answers again, and are their own canonical form, from which nothing but want of memory keeps them.
 pub fn canonical_octets_tell_answers()
     ensures { Headline }
+{}
+
+/// The same for every view; tables answer the same under a view exactly where what the view sees of them answers the same;
+/// and under the view that keeps every field the canonical octets are those without a view.
+pub fn canonical_octets_tell_answers_under()
+    ensures headline { HeadlineUnder }
+    ensures seen { SeenAnswersTell }
+    ensures all { AllNormalises }
 {}
 
 /// A dump has at most one canonical text for each size of a body; want of memory aside, at most one fault that keeps it from

@@ -19,5 +19,5 @@ pub use body::Body;
 pub use canon::{Canon, canonical, canonical_octets, canonical_pairs, pair_count};
 pub use comparison::compare;
 pub use every_difference::{Difference, difference_count, differences};
-pub use normal_form::normalise;
+pub use normal_form::{normalise, normalise_under};
 pub use verdict::Verdict;

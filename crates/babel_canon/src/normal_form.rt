@@ -3,12 +3,13 @@ ghost use Rattle.babel_prefix.specs.Address.{Address};
 ghost use Rattle.babel_canon.specs.Canonical.{NormaliseFault};
 ghost use Rattle.babel_canon.specs.Fewest.{SaysFewest};
 ghost use Rattle.babel_canon.specs.Headline.{Normalises, TellsApart, ReadsAgain};
+ghost use Rattle.babel_canon.specs.Views.{NormaliseFaultUnder, NormalisesUnder, ReadsAgainUnder, SaysFewestUnder, TellsApartUnder};
 
 use crate::body::Body;
 use crate::canon::canonical_octets;
 use babel_prefix::Addr;
 use babel_table::{Limits, read_dump};
-use babel_tlv::{Fault, Mode};
+use babel_tlv::{Fault, Mode, View};
 use std::alloc::Global;
 
 /// The canonical octets of a dump that this sender sent, in packets with bodies of at most this many octets.
@@ -33,8 +34,40 @@ pub fn normalise(
     ensures reads_again { IfOk result (λ text. (any : Address) → ReadsAgain limits mode body (record { sender = sender; dump = dump.now }) text.items any) }
     ensures fewest { IfOk result (λ text. SaysFewest limits mode body sender dump.now text.items) }
 {
+    let _sizes = (limits.entries(), body.octets());
+    normalise_under(alloc, limits, mode, body, View::all(), sender, dump)
+}
+
+/// The canonical octets of a dump under a view: those of what the view sees of the dump's answers.
+///
+/// The canonical octets of two dumps under a view, with the same limits, mode and body size, are equal exactly where the
+/// dumps give every destination and source the same answer under the view: none, unreachable, or routes whose kept fields
+/// are equal. Read with any sender, they give the answers under the view again, and normalising them, with the view or
+/// without, gives them back, unless memory is wanting. They say the fewest pairs that do not overlap and have what the
+/// view sees of the answers.
+///
+/// The faults are those of the dump, then `TooManyPairs` if its canonical pairs under the view are more than the entries
+/// of the limits, and `Memory`.
+pub fn normalise_under(
+    alloc: Global,
+    limits: Limits,
+    mode: Mode,
+    body: Body,
+    view: View,
+    sender: Addr,
+    dump: &[u8],
+) -> Result<Vec<u8>, Fault>
+    ensures ok { IfOk result (λ text. NormalisesUnder view limits mode body sender dump.now text.items) }
+    ensures err { IfErr result (NormaliseFaultUnder view limits mode sender dump.now) }
+    ensures tells_apart { IfOk result (λ text.
+        TellsApartUnder view limits mode body (record { sender = sender; dump = dump.now }) text.items) }
+    ensures reads_again { IfOk result (λ text. (any : Address)
+        → ReadsAgainUnder view limits mode body (record { sender = sender; dump = dump.now }) text.items any) }
+    ensures fewest { IfOk result (λ text. SaysFewestUnder view limits mode body sender dump.now text.items) }
+{
     let _valid = (limits.entries(), body.octets());
     let table = read_dump(alloc, limits, mode, sender, dump)?;
-    let octets = canonical_octets(alloc, limits, body, &table)?;
+    let seen = table.seen(view);
+    let octets = canonical_octets(alloc, limits, body, &seen)?;
     Ok(octets)
 }

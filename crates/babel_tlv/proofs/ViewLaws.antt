@@ -74,11 +74,11 @@ seen_fits view key (helds.Route ann) fits = (
 seen_fits view key helds.Unreachable fits = tt
 
 pub seen_tells_apart : SeenTellsApart
-seen_tells_apart view key (helds.Route ann) (helds.Route other) fits other_fits = (seen_equal, equal_seen)
+seen_tells_apart view family (helds.Route ann) (helds.Route other) fits other_fits = (seen_equal, equal_seen)
   where
     seen_equal : AgreeUnder view ann other → seen view (helds.Route ann) ≡ seen view (helds.Route other)
     seen_equal agree =
-        let families : no_address ann.next_hop.family ≡ no_address other.next_hop.family = ap no_address (fits.1 ∙ sym other_fits.1) in
+        let families : no_address ann.next_hop.family ≡ no_address other.next_hop.family = ap no_address (fits ∙ sym other_fits) in
         same_held _ _ _ _ _ _ _ _ (kept_same view.router_id ann.router_id other.router_id stated_id stated_id refl agree.router_id)
         (kept_same view.seqno ann.seqno other.seqno 0 0 refl agree.seqno)
         (kept_same view.metric ann.metric other.metric 0 0 refl agree.metric)
@@ -93,6 +93,6 @@ seen_tells_apart view key (helds.Route ann) (helds.Route other) fits other_fits 
           seqno = same_kept view.seqno ann.seqno other.seqno _ _ (ap (λ (a : Announcement). a.seqno) anns);
           metric = same_kept view.metric ann.metric other.metric _ _ (ap (λ (a : Announcement). a.metric) anns);
         }
-seen_tells_apart view key (helds.Route ann) helds.Unreachable fits other_fits = ((λ never. absurd never), (λ equal. absurd cc))
-seen_tells_apart view key helds.Unreachable (helds.Route other) fits other_fits = ((λ never. absurd never), (λ equal. absurd cc))
-seen_tells_apart view key helds.Unreachable helds.Unreachable fits other_fits = ((λ _. refl), (λ _. tt))
+seen_tells_apart view family (helds.Route ann) helds.Unreachable fits other_fits = ((λ never. absurd never), (λ equal. absurd cc))
+seen_tells_apart view family helds.Unreachable (helds.Route other) fits other_fits = ((λ never. absurd never), (λ equal. absurd cc))
+seen_tells_apart view family helds.Unreachable helds.Unreachable fits other_fits = ((λ _. refl), (λ _. tt))

@@ -55,10 +55,15 @@ abbrev pub seen : View → Held → Held
 seen view (helds.Route ann) = helds.Route (seen_announcement view ann)
 seen view helds.Unreachable = helds.Unreachable
 
--- of one key two values are the same under a view exactly where what is seen of them is equal
+-- a route's next hop is of the family
+abbrev pub HopIsOf : Family → Held → Type 0
+HopIsOf family (helds.Route ann) = ann.next_hop.family ≡ family
+HopIsOf family helds.Unreachable = Unit {0}
+
+-- with next hops of one family two values are the same under a view exactly where what is seen of them is equal
 abbrev pub SeenTellsApart : Type 0
 SeenTellsApart =
-    (view : View) (key : RouteKey) (held other : Held) → FitsKey key held → FitsKey key other
+    (view : View) (family : Family) (held other : Held) → HopIsOf family held → HopIsOf family other
     → HeldTheSame view held other ↔ (seen view held ≡ seen view other)
 
 -- the view that keeps all changes nothing

@@ -42,8 +42,8 @@ pub fn equal_are_one()
     ensures held { (a b : HeldValue) → (held_cmp a b ≡ Equal) ↔ (a ≡ b) }
 {}
 
-/// What a view sees of two values of one key is equal exactly where these are both unreachable, or both routes whose kept
-/// fields are equal. The view that keeps every field changes nothing; what is seen is seen so again, and fits its key.
+/// What a view sees of two values with next hops of one family is equal exactly where these are both unreachable, or both
+/// routes whose kept fields are equal. The view that keeps every field changes nothing; what is seen is seen so again, and fits its key.
 #[tactic(auto, using(crate::proofs::ViewLaws::seen_tells_apart, crate::proofs::ViewLaws::all_is_seen, crate::proofs::ViewLaws::seen_twice_is_seen, crate::proofs::ViewLaws::seen_fits))]
 pub fn views_tell()
     ensures tells_apart { SeenTellsApart }
