@@ -1,5 +1,5 @@
 -- What lines ask for, one line more at a time, and that it is one.
-use Rattle.std.proofs.Common.{◌≡◌, refl, suc, Bor, ℕ, ◌+◌, ◌<◌, Bool, true, false, not, List, [], ◌∷◌, ◌++◌, length, map, filter, take, drop, get_or, ap, sym, subst, ◌∙◌, add-one, append-nil, arith}
+use Rattle.std.proofs.Common.{◌≡◌, refl, suc, Bor, ℕ, ◌+◌, ◌<◌, Bool, false, not, List, [], ◌∷◌, ◌++◌, length, map, take, drop, get_or, ap, sym, subst, ◌∙◌, add-one, append-nil, arith}
 use Rattle.std.specs.List.{AllZip, flat_map, list_any}
 use Rattle.std.proofs.lemmas.List.{get_or-map, length-map, length-take-le, map-append}
 use Rattle.std.proofs.lemmas.List.Elements.{filter-append}
@@ -7,7 +7,7 @@ use Rattle.std.proofs.Math.Seq.{split_at, take-suc}
 use Rattle.babel_prefix.specs.Address.{Address}
 use Rattle.babel_prefix.specs.Text.{AddressText}
 use Rattle.babel_prefix.proofs.TextLaws.{one_address}
-use Rattle.babel_dump.specs.AskedPairs.{AskFor, AsksBy, IsFirstWrong, SaysPair, asking, is_passed_over, lines_of, words_of}
+use Rattle.babel_dump.specs.AskedPairs.{AskFor, AsksBy, IsFirstWrong, SaysPair, asking, is_passed_over, words_of}
 use Rattle.babel_dump.specs.declared.addr_pair.AddrPair.{AddrPair}
 use Rattle.babel_dump.specs.declared.asked_pairs.Asked.{Asked}
 use Rattle.babel_dump.specs.declared.asked_pairs.Asked.TheVariants as asks

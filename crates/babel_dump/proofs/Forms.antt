@@ -1,25 +1,35 @@
 -- What the canonical octets, and the canonical pairs, of a reader's dump are.
-use Rattle.std.proofs.Common.{◌≡◌, ℕ, Bool, List, arith}
+use Rattle.std.proofs.Common.{◌≡◌, ℕ, Bool, List, ap, subst, ◌∙◌, arith, inl, inr}
+use Rattle.std.specs.Prelude.{◌≢◌}
+use Rattle.babel_tlv.specs.declared.fault.Fault.{Fault}
+use Rattle.babel_tlv.specs.declared.fault.Fault.TheVariants as faults
+use Rattle.babel_tlv.specs.declared.view.View.{View}
 use Rattle.babel_tlv.specs.Pair.{Pair}
+use Rattle.babel_tlv.specs.Views.{keeps_all}
 use Rattle.babel_table.specs.Bounds.{Bounds, AreBounds}
 use Rattle.babel_table.specs.Rows.{Routes}
+use Rattle.babel_table.specs.Seen.{seen_rows, seen_table}
+use Rattle.babel_table.proofs.SeenLaws.{all_rows}
 use Rattle.babel_canon.specs.Sizes.{IsBodySize}
-use Rattle.babel_canon.specs.Canonical.{AreCanonical, SaysCanonical}
-use Rattle.babel_canon.specs.Fewest.{SaysFewest}
-use Rattle.babel_canon.specs.Headline.{Headline, Normalises}
+use Rattle.babel_canon.specs.Canonical.{AreCanonical, CanonicalFault, HasManyBoxes, SaysCanonical}
+use Rattle.babel_canon.specs.Fewest.{AreFewest, SaysFewest}
+use Rattle.babel_canon.specs.Headline.{Headline, Normalises, Sent}
 use Rattle.babel_canon.specs.Packing.{TextIsOne}
-use Rattle.babel_dump.specs.Given.{GaveNormal, GaveTable, Input}
+use Rattle.babel_canon.specs.Views.{AllNormalises, HeadlineUnder, NormalisesUnder, SaysFewestUnder}
+use Rattle.babel_dump.specs.Given.{GaveNormal, GaveTable, Input, IsFaultOfForm, IsNormal}
 use Rattle.babel_dump.specs.InFormat.{pairs_or_counts_in}
 use Rattle.babel_dump.specs.Parts.{SaysPairs}
 use Rattle.babel_dump.specs.declared.format.Format.{Format}
 
--- the canonical octets of the table are those of the dump
-pub gave_normal : Headline → (reader : Input) (body : ℕ) (table : Routes) (octets : List ℕ) → AreBounds reader.reading.limits
-    → IsBodySize body → GaveTable reader table → SaysCanonical reader.reading.limits body table.rows octets → GaveNormal reader body octets
-gave_normal headline reader body table octets bounds size given says =
+-- the canonical octets of what is seen of the table are those of the dump under the view
+pub gave_normal : Headline → HeadlineUnder → AllNormalises → (reader : Input) (body : ℕ) (table seen : Routes) (octets : List ℕ) → AreBounds reader.reading.limits
+    → IsBodySize body → GaveTable reader table → seen ≡ seen_table reader.reading.view table → SaysCanonical reader.reading.limits body seen.rows octets → GaveNormal reader body octets
+gave_normal headline under all reader body table seen octets bounds size given seen_is says_seen =
     let reading = reader.reading in
     let gave = given.given in
-    let normal : Normalises reading.limits reading.mode body reading.sender gave.dump octets = record {
+    let sent : Sent = record { sender = reading.sender; dump = gave.dump } in
+    let says : SaysCanonical reading.limits body (seen_rows reading.view table.rows) octets = subst (λ (t : Routes). SaysCanonical reading.limits body t.rows octets) seen_is says_seen in
+    let normal : NormalisesUnder reading.view reading.limits reading.mode body reading.sender gave.dump octets = record {
       no_fault = gave.accepted;
       table = table;
       is_table = gave.is_table;
@@ -28,16 +38,30 @@ gave_normal headline reader body table octets bounds size given says =
       few = says.are_canonical.few;
       text = says.text;
     } in
-    let fewest : SaysFewest reading.limits reading.mode body reading.sender gave.dump octets =
+    let fewest : SaysFewestUnder reading.view reading.limits reading.mode body reading.sender gave.dump octets =
     record { table = table; is_table = gave.is_table; pairs = says.pairs; fewest = says.are_canonical.fewest; text = says.text } in
-    let told = headline reading.limits reading.mode body bounds size (record { sender = reading.sender; dump = gave.dump }) octets normal in
-    record { table = table; gave = given; normalises = normal; fewest = fewest; tells_apart = told.0; reads_again = told.1 }
+    let told = under reading.view reading.limits reading.mode body bounds size sent octets normal in
+    let whole : reading.view ≡ keeps_all → IsNormal reading body gave.dump octets = λ keeps.
+    let plain : Normalises reading.limits reading.mode body reading.sender gave.dump octets = (all reading.limits reading.mode body reading.sender gave.dump octets).0
+    (subst (λ (view : View). NormalisesUnder view reading.limits reading.mode body reading.sender gave.dump octets) keeps normal) in
+    let rows : seen_rows reading.view table.rows ≡ table.rows = ap (λ (view : View). seen_rows view table.rows) keeps ∙ all_rows table.rows in
+    let plain_fewest : SaysFewest reading.limits reading.mode body reading.sender gave.dump octets =
+    record { table = table; is_table = gave.is_table; pairs = says.pairs; fewest = subst (λ (l : List Pair). AreFewest l says.pairs) rows says.are_canonical.fewest; text = says.text } in
+    let plain_told = headline reading.limits reading.mode body bounds size sent octets plain in
+    record { normalises = plain; fewest = plain_fewest; tells_apart = plain_told.0; reads_again = plain_told.1 } in
+    record {
+      table = table;
+      gave = given;
+      under = record { normalises = normal; fewest = fewest; tells_apart = told.0; reads_again = told.1 };
+      whole = whole;
+    }
 
 -- the canonical pairs have a text
-pub says_pairs : TextIsOne → (limits : Bounds) (count : Bool) (format : Format) (rows pairs : List Pair) (text : List ℕ) → AreCanonical limits rows pairs
-    → text ≡ pairs_or_counts_in format count rows pairs → SaysPairs limits count format rows text
-says_pairs one limits count format rows pairs text are text_is =
+pub says_pairs : TextIsOne → (limits : Bounds) (view : View) (count : Bool) (format : Format) (table seen : Routes) (pairs : List Pair) (text : List ℕ) → seen ≡ seen_table view table
+    → AreCanonical limits seen.rows pairs → text ≡ pairs_or_counts_in format view count table.rows pairs → SaysPairs limits view count format table.rows text
+says_pairs one limits view count format table seen pairs text seen_is are_seen text_is =
     let size : IsBodySize 1024 = record { room = omega arith; said = omega arith } in
+    let are : AreCanonical limits (seen_rows view table.rows) pairs = subst (λ (t : Routes). AreCanonical limits t.rows pairs) seen_is are_seen in
     let whole = one 1024 pairs size are.boxes.are_rows.each in
     record {
       canon = record { pairs = pairs; octets = whole.text };
@@ -45,3 +69,10 @@ says_pairs one limits count format rows pairs text are text_is =
       fewest = are.fewest;
       text_is = text_is;
     }
+
+-- more pairs than the limit, or want of memory
+pub refused_form : (reader : Input) (table seen : Routes) (fault : Fault) → GaveTable reader table → seen ≡ seen_table reader.reading.view table
+    → CanonicalFault reader.reading.limits seen.rows fault → fault ≢ faults.Memory → IsFaultOfForm reader fault
+refused_form reader table seen fault gave seen_is (inl (is, many)) not_memory =
+    inr (is, (table, gave, subst (λ (t : Routes). HasManyBoxes reader.reading.limits t.rows) seen_is many))
+refused_form reader table seen fault gave seen_is (inr memory) not_memory = absurd (not_memory memory)

@@ -9,13 +9,15 @@ use Rattle.babel_tlv.specs.Pair.{Pair}
 use Rattle.babel_table.specs.Bounds.{Bounds}
 use Rattle.babel_table.specs.DumpFault.{DumpFault, HasNoFault, IsTableOf, IsTruncated}
 use Rattle.babel_table.specs.Rows.{Routes}
+use Rattle.babel_table.specs.Seen.{seen_rows}
 use Rattle.babel_table.proofs.OutcomeLaws.{fault_is_one, fault_stays, table_is_one}
 use Rattle.babel_canon.specs.Boxes.{AreBoxes}
 use Rattle.babel_canon.specs.Canonical.{HasManyBoxes}
-use Rattle.babel_canon.specs.Headline.{Normalises}
 use Rattle.babel_canon.specs.Verdict.{IsVerdict}
+use Rattle.babel_canon.specs.Views.{NormalisesUnder}
 use Rattle.babel_canon.specs.declared.verdict.Verdict.{Verdict}
-use Rattle.babel_canon.proofs.OneOutcome.{boxes_same, normal_form_is_one}
+use Rattle.babel_canon.proofs.OneOutcome.{boxes_same}
+use Rattle.babel_canon.proofs.Views.{normal_form_is_one}
 use Rattle.babel_canon.proofs.OneVerdict.{verdict_is_one}
 use Rattle.babel_dump.specs.Command.{Compares, InTurn, ListsPairs, LooksUp, Shows, WritesNormal}
 use Rattle.babel_dump.specs.AskedPairs.{AskFor, IsFirstWrong, asking, lines_of}
@@ -158,7 +160,7 @@ pub record NormalSays (reading : Reading) (body : ℕ) (hex : Bool) (dump : List
   pub octets : List ℕ
   pub table : Routes
   pub sound : IsSound reading dump table
-  pub normal : Normalises reading.limits reading.mode body reading.sender dump octets
+  pub normal : NormalisesUnder reading.view reading.limits reading.mode body reading.sender dump octets
   pub text_is : text ≡ form_text hex octets
   pub status_is : status ≡ 0
 
@@ -166,9 +168,9 @@ pub record PairsSay (reading : Reading) (count : Bool) (format : Format) (dump :
   pub table : Routes
   pub sound : IsSound reading dump table
   pub pairs : List Pair
-  pub boxes : AreBoxes table.rows pairs
+  pub boxes : AreBoxes (seen_rows reading.view table.rows) pairs
   pub few : length pairs ≤ reading.limits.entries
-  pub text_is : text ≡ pairs_or_counts_in format count table.rows pairs
+  pub text_is : text ≡ pairs_or_counts_in format reading.view count table.rows pairs
   pub status_is : status ≡ 0
 
 pub record TablesSay (reading other_reading : Reading) (format : Format) (dump other : List ℕ) (text : List ℕ) (status : ℕ) : Type 0 where
@@ -177,8 +179,8 @@ pub record TablesSay (reading other_reading : Reading) (format : Format) (dump o
   pub other_table : Routes
   pub other_sound : IsSound other_reading other other_table
   pub verdict : Verdict
-  pub is_verdict : IsVerdict table.rows other_table.rows verdict
-  pub text_is : text ≡ verdict_in format verdict
+  pub is_verdict : IsVerdict (seen_rows reading.view table.rows) (seen_rows reading.view other_table.rows) verdict
+  pub text_is : text ≡ verdict_in format reading.view verdict
   pub status_is : status ≡ verdict_status verdict
 
 -- a text asks for these pairs, and is no longer than a dump may be
@@ -222,7 +224,7 @@ abbrev pub FaultOfNormal : Reading → List ℕ → RunFault → Type 0
 FaultOfNormal reading dump fault =
     FaultOfTable reading dump fault
     ⊎ ((fault ≡ run_faults.Dump faults.TooManyPairs)
-    × ((table : Routes) × IsSound reading dump table × HasManyBoxes reading.limits table.rows))
+    × ((table : Routes) × IsSound reading dump table × HasManyBoxes reading.limits (seen_rows reading.view table.rows)))
 
 -- the fault is that of the first dump, or, where that has none, of the other
 abbrev pub FaultOfTables : Reading → Reading → List ℕ → List ℕ → RunFault → Type 0
@@ -264,15 +266,16 @@ normal_says_one : (reading : Reading) (body : ℕ) (hex : Bool) (dump text text_
     → NormalSays reading body hex dump text status → NormalSays reading body hex dump text_too status_too
     → (text ≡ text_too) × (status ≡ status_too)
 normal_says_one reading body hex dump text text_too status status_too one two =
-    let same = normal_form_is_one _ _ body _ dump one.octets two.octets one.normal two.normal in
+    let same = normal_form_is_one reading.view _ _ body _ dump one.octets two.octets one.normal two.normal in
     (one.text_is ∙ ap (form_text hex) same ∙ sym two.text_is, one.status_is ∙ sym two.status_is)
 
 pairs_say_one : (reading : Reading) (count : Bool) (format : Format) (dump text text_too : List ℕ) (status status_too : ℕ)
     → PairsSay reading count format dump text status → PairsSay reading count format dump text_too status_too → (text ≡ text_too) × (status ≡ status_too)
 pairs_say_one reading count format dump text text_too status status_too one two =
     let rows = ap (λ (t : Routes). t.rows) (sound_one reading dump one.table two.table one.sound two.sound) in
-    let pairs = boxes_same one.table.rows two.table.rows one.pairs two.pairs rows one.boxes two.boxes in
-    (one.text_is ∙ ap (λ (r : List Pair). pairs_or_counts_in format count r one.pairs) rows ∙ ap (pairs_or_counts_in format count two.table.rows) pairs ∙ sym two.text_is, one.status_is ∙ sym two.status_is)
+    let view = reading.view in
+    let pairs = boxes_same (seen_rows view one.table.rows) (seen_rows view two.table.rows) one.pairs two.pairs (ap (seen_rows view) rows) one.boxes two.boxes in
+    (one.text_is ∙ ap (λ (r : List Pair). pairs_or_counts_in format view count r one.pairs) rows ∙ ap (pairs_or_counts_in format view count two.table.rows) pairs ∙ sym two.text_is, one.status_is ∙ sym two.status_is)
 
 tables_say_one : (reading other_reading : Reading) (format : Format) (dump other text text_too : List ℕ) (status status_too : ℕ)
     → TablesSay reading other_reading format dump other text status → TablesSay reading other_reading format dump other text_too status_too
@@ -280,10 +283,11 @@ tables_say_one : (reading other_reading : Reading) (format : Format) (dump other
 tables_say_one reading other_reading format dump other text text_too status status_too one two =
     let left = ap (λ (t : Routes). t.rows) (sound_one reading dump one.table two.table one.sound two.sound) in
     let right = ap (λ (t : Routes). t.rows) (sound_one other_reading other one.other_table two.other_table one.other_sound two.other_sound) in
-    let moved = subst (λ (r : List Pair). IsVerdict two.table.rows r one.verdict) right
-    (subst (λ (r : List Pair). IsVerdict r one.other_table.rows one.verdict) left one.is_verdict) in
-    let same = verdict_is_one two.table.rows two.other_table.rows one.verdict two.verdict moved two.is_verdict in
-    (one.text_is ∙ ap (verdict_in format) same ∙ sym two.text_is, one.status_is ∙ ap verdict_status same ∙ sym two.status_is)
+    let view = reading.view in
+    let moved = subst (λ (r : List Pair). IsVerdict (seen_rows view two.table.rows) (seen_rows view r) one.verdict) right
+    (subst (λ (r : List Pair). IsVerdict (seen_rows view r) (seen_rows view one.other_table.rows) one.verdict) left one.is_verdict) in
+    let same = verdict_is_one (seen_rows view two.table.rows) (seen_rows view two.other_table.rows) one.verdict two.verdict moved two.is_verdict in
+    (one.text_is ∙ ap (verdict_in format view) same ∙ sym two.text_is, one.status_is ∙ ap verdict_status same ∙ sym two.status_is)
 
 each_says_one : (reading : Reading) (format : Format) (dump pairs text text_too : List ℕ) (status status_too : ℕ)
     → EachSays reading format dump pairs text status → EachSays reading format dump pairs text_too status_too → (text ≡ text_too) × (status ≡ status_too)
@@ -332,11 +336,11 @@ says_no_fault limits (jobs.Each given pairs) dump other text status fault says (
 says_no_fault limits (jobs.Normalise given body hex) dump other text status fault says (inl has) = sound_no_fault _ _ _ dump says.table fault says.sound has
 says_no_fault limits (jobs.Normalise given body hex) dump other text status fault says (inr (many, (table, is, boxes))) =
     let same = table_is_one limits given.mode given.from dump says.normal.table table says.normal.is_table is.whole.is_table in
-    not_many limits says.normal.table.rows table.rows says.normal.boxes (ap (λ (t : Routes). t.rows) same) says.normal.are_boxes says.normal.few boxes
+    not_many limits (seen_rows given.view says.normal.table.rows) (seen_rows given.view table.rows) says.normal.boxes (ap (λ (t : Routes). seen_rows given.view t.rows) same) says.normal.are_boxes says.normal.few boxes
 says_no_fault limits (jobs.Pairs given count) dump other text status fault says (inl has) = sound_no_fault _ _ _ dump says.table fault says.sound has
 says_no_fault limits (jobs.Pairs given count) dump other text status fault says (inr (many, (table, is, boxes))) =
     let same = sound_one (reading_of limits given) dump says.table table says.sound is in
-    not_many limits says.table.rows table.rows says.pairs (ap (λ (t : Routes). t.rows) same) says.boxes says.few boxes
+    not_many limits (seen_rows given.view says.table.rows) (seen_rows given.view table.rows) says.pairs (ap (λ (t : Routes). seen_rows given.view t.rows) same) says.boxes says.few boxes
 says_no_fault limits (jobs.Compare dumps) dump other text status fault says (inl has) = sound_no_fault _ _ _ dump says.table fault says.sound has
 says_no_fault limits (jobs.Compare dumps) dump other text status fault says (inr (first, has)) = sound_no_fault _ _ _ other says.other_table fault says.other_sound has
 
@@ -417,7 +421,7 @@ normalises reader body hex dump text status has says =
       octets = says.octets;
       table = says.gave.table;
       sound = sound reader dump says.gave.table has says.gave.gave;
-      normal = subst (λ (d : List ℕ). Normalises reader.reading.limits reader.reading.mode body reader.reading.sender d says.octets) same says.gave.normalises;
+      normal = subst (λ (d : List ℕ). NormalisesUnder reader.reading.view reader.reading.limits reader.reading.mode body reader.reading.sender d says.octets) same says.gave.under.normalises;
       text_is = says.text_is;
       status_is = says.status_is;
     }

@@ -1,5 +1,5 @@
 -- Hexadecimal digits are text.
-use Rattle.std.proofs.Common.{ℕ, ◌<◌, List, [], ◌∷◌, refl, rules}
+use Rattle.std.proofs.Common.{ℕ, ◌<◌, List, [], ◌∷◌, refl, rules, ◌≡◌, Bool, true, false, if◌then◌else◌, Some}
 use Rattle.std.proofs.lemmas.Str.{IsUtf8-from_ascii}
 use Rattle.std.proofs.lemmas.Str.Ascii.{IsAscii-nil, IsAscii-cons}
 use Rattle.std.specs.List.{AllByRecursion}
@@ -25,3 +25,8 @@ is_ok_unless P Q (Err e) cases refuted = absurd (refuted e cases)
 pub at_ok : {T E : Type 0} (P : Type 0) (r : Result T E) → OnOk r P → IsOk r → P
 at_ok P (Ok t) holds ok = holds
 at_ok P (Err e) holds ok = absurd cc
+
+-- one of two texts is a text
+pub either_text : (b : Bool) (x y : List ℕ) → (if b then Some x else Some y) ≡ Some (if b then x else y)
+either_text true x y = refl
+either_text false x y = refl

@@ -39,14 +39,14 @@ pub record ListsPairs (reader : Input) (count : Bool) (format : Format) (text : 
   pub table : Routes
   pub canon : Canonical
   pub gave : GavePairs reader table canon
-  pub text_is : text ≡ pairs_or_counts_in format count table.rows canon.pairs
+  pub text_is : text ≡ pairs_or_counts_in format reader.reading.view count table.rows canon.pairs
   pub status_is : status ≡ 0
 
 -- `compare`: how the answers of the dumps' tables compare
 pub record Compares (reader other : Input) (format : Format) (text : List ℕ) (status : ℕ) : Type 0 where
   pub verdict : Verdict
   pub gave : GaveVerdict reader other verdict
-  pub text_is : text ≡ verdict_in format verdict
+  pub text_is : text ≡ verdict_in format reader.reading.view verdict
   pub status_is : status ≡ verdict_status verdict
 
 abbrev pub RanShow : Input → Format → Output → Result ℕ RunFault → Type 0

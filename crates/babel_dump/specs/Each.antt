@@ -11,7 +11,6 @@ use Rattle.babel_dump.specs.Run.{FewCalls, HasFailed, NoFailure, Output, Ran}
 use Rattle.babel_dump.specs.RunText.{each_status}
 use Rattle.babel_dump.specs.declared.addr_pair.AddrPair.{AddrPair}
 use Rattle.babel_dump.specs.declared.format.Format.{Format}
-use Rattle.babel_dump.specs.declared.pairs_fault.PairsFault.{PairsFault}
 use Rattle.babel_dump.specs.declared.pairs_fault.PairsFault.TheVariants as pairs_faults
 use Rattle.babel_dump.specs.declared.run_fault.RunFault.{RunFault}
 use Rattle.babel_dump.specs.declared.run_fault.RunFault.TheVariants as run_faults

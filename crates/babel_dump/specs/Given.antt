@@ -5,13 +5,16 @@ use Rattle.babel_prefix.specs.Address.{Address}
 use Rattle.babel_tlv.specs.declared.fault.Fault.{Fault}
 use Rattle.babel_tlv.specs.declared.fault.Fault.TheVariants as faults
 use Rattle.babel_tlv.specs.declared.mode.Mode.{Mode}
+use Rattle.babel_tlv.specs.Views.{keeps_all}
 use Rattle.babel_table.specs.Bounds.{Bounds}
 use Rattle.babel_table.specs.DumpFault.{DumpFault, HasNoFault, IsTableOf}
 use Rattle.babel_table.specs.Rows.{Routes}
+use Rattle.babel_table.specs.Seen.{seen_rows}
 use Rattle.babel_canon.specs.Canonical.{Canonical, HasManyBoxes, IsCanonical}
 use Rattle.babel_canon.specs.Fewest.{AreFewest, SaysFewest}
 use Rattle.babel_canon.specs.Headline.{Normalises, TellsApart, ReadsAgain}
 use Rattle.babel_canon.specs.Verdict.{IsVerdict}
+use Rattle.babel_canon.specs.Views.{NormalisesUnder, ReadsAgainUnder, SaysFewestUnder, TellsApartUnder}
 use Rattle.babel_canon.specs.declared.verdict.Verdict.{Verdict}
 use Rattle.babel_dump.specs.Device.{InputState}
 use Rattle.babel_dump.specs.Ignored.{IgnoresNone, first_ignored}
@@ -27,9 +30,10 @@ pub record Input : Type 0 where
 abbrev pub read_from : InputState → InputState → Reading → Input
 read_from old new reading = record { reading = reading; old = old; new = new }
 
--- a reader whose dump may have ignored TLVs
+-- a reader whose dump may have ignored TLVs, and is seen whole
 abbrev pub input : Bounds → Mode → Address → InputState → InputState → Input
-input limits mode sender old new = read_from old new (record { limits = limits; mode = mode; sender = sender; strict = false })
+input limits mode sender old new =
+    read_from old new (record { limits = limits; mode = mode; sender = sender; strict = false; view = keeps_all })
 
 -- the reader gave these octets, all that it had, and met its end
 pub record GaveAll (reader : Input) (dump : List ℕ) : Type 0 where
@@ -77,34 +81,53 @@ pub record IsFaultOfGiven (reader : Input) (fault : Fault) : Type 0 where
   pub whole : IsOfWhole fault → GaveAll reader given
   pub not_pairs : fault ≢ faults.TooManyPairs
 
--- the fault is that of the octets that the reader gave; or, where they have none, that the boxes of what their table
--- answers are more than the limit
+-- the fault is that of the octets that the reader gave; or, where they have none, that the boxes of what the view sees of
+-- their table's answers are more than the limit
 abbrev pub IsFaultOfForm : Input → Fault → Type 0
 IsFaultOfForm reader fault =
     IsFaultOfGiven reader fault
-    ⊎ ((fault ≡ faults.TooManyPairs) × ((table : Routes) × GaveTable reader table × HasManyBoxes reader.reading.limits table.rows))
+    ⊎ ((fault ≡ faults.TooManyPairs) × ((table : Routes) × GaveTable reader table
+    × HasManyBoxes reader.reading.limits (seen_rows reader.reading.view table.rows)))
 
--- The reader gave a dump, all that it had, and these are its canonical octets: they tell the dump apart from each that
--- answers otherwise, and, read with any sender, answer as it does; and no list of pairs that says as much is shorter.
+-- These are the canonical octets of a dump that is read so: they tell the dump apart from each that answers otherwise,
+-- and, read with any sender, answer as it does; and no list of pairs that says as much is shorter.
+pub record IsNormal (reading : Reading) (body : ℕ) (dump octets : List ℕ) : Type 0 where
+  pub normalises : Normalises reading.limits reading.mode body reading.sender dump octets
+  pub fewest : SaysFewest reading.limits reading.mode body reading.sender dump octets
+  pub tells_apart : TellsApart reading.limits reading.mode body (record { sender = reading.sender; dump = dump }) octets
+  pub reads_again : (any : Address)
+      → ReadsAgain reading.limits reading.mode body (record { sender = reading.sender; dump = dump }) octets any
+
+-- the same of the view of the reading
+pub record IsNormalUnder (reading : Reading) (body : ℕ) (dump octets : List ℕ) : Type 0 where
+  pub normalises : NormalisesUnder reading.view reading.limits reading.mode body reading.sender dump octets
+  pub fewest : SaysFewestUnder reading.view reading.limits reading.mode body reading.sender dump octets
+  pub tells_apart :
+      TellsApartUnder reading.view reading.limits reading.mode body (record { sender = reading.sender; dump = dump }) octets
+  pub reads_again : (any : Address)
+      → ReadsAgainUnder reading.view reading.limits reading.mode body (record { sender = reading.sender; dump = dump }) octets any
+
+-- the reader gave a dump, all that it had, and these are its canonical octets under the view; and, if that keeps every
+-- field, its canonical octets
 pub record GaveNormal (reader : Input) (body : ℕ) (octets : List ℕ) : Type 0 where
   pub table : Routes
   pub gave : GaveTable reader table
-  pub normalises : Normalises reader.reading.limits reader.reading.mode body reader.reading.sender gave.given.dump octets
-  pub fewest : SaysFewest reader.reading.limits reader.reading.mode body reader.reading.sender gave.given.dump octets
-  pub tells_apart : TellsApart reader.reading.limits reader.reading.mode body (record { sender = reader.reading.sender; dump = gave.given.dump }) octets
-  pub reads_again : (any : Address)
-      → ReadsAgain reader.reading.limits reader.reading.mode body (record { sender = reader.reading.sender; dump = gave.given.dump }) octets any
+  pub under : IsNormalUnder reader.reading body gave.given.dump octets
+  pub whole : reader.reading.view ≡ keeps_all → IsNormal reader.reading body gave.given.dump octets
 
--- the reader gave a dump, all that it had, and these are its table and the canonical form of that, with the fewest pairs
+-- the reader gave a dump, all that it had, and these are its table and the canonical form of what the view sees of it, with
+-- the fewest pairs
 pub record GavePairs (reader : Input) (table : Routes) (canon : Canonical) : Type 0 where
   pub gave : GaveTable reader table
-  pub is_canon : IsCanonical reader.reading.limits 1024 table.rows canon
-  pub fewest : AreFewest table.rows canon.pairs
+  pub is_canon : IsCanonical reader.reading.limits 1024 (seen_rows reader.reading.view table.rows) canon
+  pub fewest : AreFewest (seen_rows reader.reading.view table.rows) canon.pairs
 
--- two readers gave a dump each, all that they had, and this is how the answers of the dumps' tables compare
+-- two readers gave a dump each, all that they had, and this is how the answers of the dumps' tables compare, as the view of
+-- the first sees both
 pub record GaveVerdict (reader other : Input) (verdict : Verdict) : Type 0 where
   pub table : Routes
   pub gave : GaveTable reader table
   pub other_table : Routes
   pub other_gave : GaveTable other other_table
-  pub is_verdict : IsVerdict table.rows other_table.rows verdict
+  pub is_verdict :
+      IsVerdict (seen_rows reader.reading.view table.rows) (seen_rows reader.reading.view other_table.rows) verdict

@@ -3,7 +3,9 @@ use Rattle.std.specs.Prelude.{ℕ, Bool, if◌then◌else◌, List, ◌++◌, le
 use Rattle.std.specs.List.{flat_map}
 use Rattle.babel_prefix.specs.Address.{Address}
 use Rattle.babel_tlv.specs.declared.held.Held.{Held}
+use Rattle.babel_tlv.specs.declared.view.View.{View}
 use Rattle.babel_tlv.specs.Route.{RouteKey}
+use Rattle.babel_tlv.specs.Views.{keeps_all}
 use Rattle.babel_table.specs.Counts.{Counts}
 use Rattle.babel_table.specs.Rows.{Routes}
 use Rattle.babel_canon.specs.declared.verdict.Verdict.{Verdict}
@@ -18,29 +20,30 @@ abbrev pub in_format : Format → (text json : List ℕ) → List ℕ
 in_format formats.Text text json = text
 in_format formats.Json text json = json
 
-abbrev pub line_in : Format → RouteKey × Held → List ℕ
-line_in format pair = in_format format (pair_line pair) (pair_json pair)
+abbrev pub line_in : Format → View → RouteKey × Held → List ℕ
+line_in format view pair = in_format format (pair_line view pair) (pair_json view pair)
 
 -- a line for each pair
-abbrev pub pairs_in : Format → List (RouteKey × Held) → List ℕ
-pairs_in format pairs = flat_map (line_in format) pairs
+abbrev pub pairs_in : Format → View → List (RouteKey × Held) → List ℕ
+pairs_in format view pairs = flat_map (line_in format view) pairs
 
 abbrev pub counts_in : Format → (rows pairs : ℕ) → List ℕ
 counts_in format rows pairs = in_format format (counts_text rows pairs) (counts_json rows pairs)
 
 -- the lines of the pairs, or how many rows and pairs there are
-abbrev pub pairs_or_counts_in : Format → Bool → (rows pairs : List (RouteKey × Held)) → List ℕ
-pairs_or_counts_in format count rows pairs = if count then counts_in format (length rows) (length pairs) else pairs_in format pairs
+abbrev pub pairs_or_counts_in : Format → View → Bool → (rows pairs : List (RouteKey × Held)) → List ℕ
+pairs_or_counts_in format view count rows pairs =
+    if count then counts_in format (length rows) (length pairs) else pairs_in format view pairs
 
 abbrev pub report_in : Format → Counts → List ℕ
 report_in format counts = in_format format (report_text counts) (report_json counts)
 
 -- a line for each row, and the report
 abbrev pub show_in : Format → Routes → List ℕ
-show_in format table = pairs_in format table.rows ++ report_in format table.report
+show_in format table = pairs_in format keeps_all table.rows ++ report_in format table.report
 
 abbrev pub lookup_in : Format → (dst src : Address) → Option Held → List ℕ
-lookup_in format dst src answer = in_format format (lookup_text answer) (lookup_json dst src answer)
+lookup_in format dst src answer = in_format format (lookup_text keeps_all answer) (lookup_json dst src answer)
 
 abbrev pub answer_line_in : Format → (dst src : Address) → Option Held → List ℕ
 answer_line_in format dst src answer = in_format format (answer_line dst src answer) (lookup_json dst src answer)
@@ -49,5 +52,5 @@ answer_line_in format dst src answer = in_format format (answer_line dst src ans
 abbrev pub each_in : Format → Routes → List AddrPair → List ℕ
 each_in format table pairs = flat_map (λ pair. answer_line_in format pair.dst pair.src (answer_in table pair.dst pair.src)) pairs
 
-abbrev pub verdict_in : Format → Verdict → List ℕ
-verdict_in format verdict = in_format format (verdict_text verdict) (verdict_json verdict)
+abbrev pub verdict_in : Format → View → Verdict → List ℕ
+verdict_in format view verdict = in_format format (verdict_text view verdict) (verdict_json view verdict)

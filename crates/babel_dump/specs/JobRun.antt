@@ -15,14 +15,17 @@ use Rattle.babel_dump.specs.declared.run_fault.RunFault.{RunFault}
 
 -- how the dump of a command that reads one is read
 abbrev pub reading_of : Bounds → OneDump → Reading
-reading_of limits dump = record { limits = limits; mode = dump.mode; sender = dump.from; strict = dump.strict }
+reading_of limits dump =
+    record { limits = limits; mode = dump.mode; sender = dump.from; strict = dump.strict; view = dump.view }
 
 -- how the first dump of a comparison is read, and how the other is
 abbrev pub left_reading : Bounds → TwoDumps → Reading
-left_reading limits dumps = record { limits = limits; mode = dumps.mode; sender = dumps.from; strict = dumps.strict }
+left_reading limits dumps =
+    record { limits = limits; mode = dumps.mode; sender = dumps.from; strict = dumps.strict; view = dumps.view }
 
 abbrev pub right_reading : Bounds → TwoDumps → Reading
-right_reading limits dumps = record { limits = limits; mode = dumps.mode; sender = dumps.other_from; strict = dumps.strict }
+right_reading limits dumps =
+    record { limits = limits; mode = dumps.mode; sender = dumps.other_from; strict = dumps.strict; view = dumps.view }
 
 -- how the first dump of a job is read
 abbrev pub first_reading : Bounds → Job → Reading

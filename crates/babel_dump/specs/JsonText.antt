@@ -1,6 +1,6 @@
 -- The lines that the runs write as JSON (RFC 8259): one object a line, with the members in the order that is shown here. No
 -- string has a character that needs an escape. These are this project's own.
-use Rattle.std.specs.Prelude.{ℕ, List, ◌++◌, codes, Option, Some, None}
+use Rattle.std.specs.Prelude.{Bool, if◌then◌else◌, ℕ, List, ◌++◌, codes, Option, Some, None}
 use Rattle.std.specs.List.{filter_map, join_by}
 use Rattle.std.specs.Option.{option_map}
 use Rattle.std.specs.Fmt.{decimal}
@@ -9,38 +9,50 @@ use Rattle.babel_prefix.specs.Text.{printed, printed_prefix}
 use Rattle.babel_tlv.specs.declared.reason.Reason.{Reason}
 use Rattle.babel_tlv.specs.declared.held.Held.{Held}
 use Rattle.babel_tlv.specs.declared.held.Held.TheVariants as helds
+use Rattle.babel_tlv.specs.declared.view.View.{View}
 use Rattle.babel_tlv.specs.Route.{RouteKey, Announcement}
+use Rattle.babel_tlv.specs.Views.{keeps_all}
 use Rattle.babel_table.specs.Counts.{Counts, all_reasons, reason_place, count_at}
 use Rattle.babel_canon.specs.declared.verdict.Verdict.{Verdict}
 use Rattle.babel_canon.specs.declared.verdict.Verdict.TheVariants as verdicts
 use Rattle.babel_dump.specs.RunText.{hex_digits, newline, reason_name}
 
+-- `"TEXT"`
+abbrev pub quoted : List ℕ → List ℕ
+quoted text = codes "\"" ++ text ++ codes "\""
+
+-- the value of a field, or `null` where it is ignored
+abbrev pub kept_json : (kept : Bool) → List ℕ → List ℕ
+kept_json kept value = if kept then value else codes "null"
+
 -- `{"next_hop":"ADDRESS","router_id":"ROUTERID","seqno":N,"metric":N}`
-abbrev pub announcement_json : Announcement → List ℕ
-announcement_json ann =
-    codes "{\"next_hop\":\"" ++ printed ann.next_hop ++ codes "\",\"router_id\":\"" ++ hex_digits ann.router_id
-    ++ codes "\",\"seqno\":" ++ decimal ann.seqno ++ codes ",\"metric\":" ++ decimal ann.metric ++ codes "}"
+abbrev pub announcement_json : View → Announcement → List ℕ
+announcement_json view ann =
+    codes "{\"next_hop\":" ++ kept_json view.next_hop (quoted (printed ann.next_hop))
+    ++ codes ",\"router_id\":" ++ kept_json view.router_id (quoted (hex_digits ann.router_id))
+    ++ codes ",\"seqno\":" ++ kept_json view.seqno (decimal ann.seqno)
+    ++ codes ",\"metric\":" ++ kept_json view.metric (decimal ann.metric) ++ codes "}"
 
 -- the announcement, `"unreachable"`, or `null`
-abbrev pub answer_json : Option Held → List ℕ
-answer_json None = codes "null"
-answer_json (Some (helds.Route ann)) = announcement_json ann
-answer_json (Some helds.Unreachable) = codes "\"unreachable\""
+abbrev pub answer_json : View → Option Held → List ℕ
+answer_json view None = codes "null"
+answer_json view (Some (helds.Route ann)) = announcement_json view ann
+answer_json view (Some helds.Unreachable) = codes "\"unreachable\""
 
 -- `"destination":"DST","source":"SRC"`, of their texts
 abbrev pub addressed_json : (dst src : List ℕ) → List ℕ
 addressed_json dst src = codes "\"destination\":\"" ++ dst ++ codes "\",\"source\":\"" ++ src ++ codes "\""
 
 -- `{"destination":"DST","source":"SRC","answer":ANSWER}`
-abbrev pub answered_line : (dst src : List ℕ) → Option Held → List ℕ
-answered_line dst src answer =
-    codes "{" ++ addressed_json dst src ++ codes ",\"answer\":" ++ answer_json answer ++ codes "}" ++ newline
+abbrev pub answered_line : View → (dst src : List ℕ) → Option Held → List ℕ
+answered_line view dst src answer =
+    codes "{" ++ addressed_json dst src ++ codes ",\"answer\":" ++ answer_json view answer ++ codes "}" ++ newline
 
-abbrev pub pair_json : RouteKey × Held → List ℕ
-pair_json pair = answered_line (printed_prefix pair.0.dst) (printed_prefix pair.0.src) (Some pair.1)
+abbrev pub pair_json : View → RouteKey × Held → List ℕ
+pair_json view pair = answered_line view (printed_prefix pair.0.dst) (printed_prefix pair.0.src) (Some pair.1)
 
 abbrev pub lookup_json : (dst src : Address) → Option Held → List ℕ
-lookup_json dst src answer = answered_line (printed dst) (printed src) answer
+lookup_json dst src answer = answered_line keeps_all (printed dst) (printed src) answer
 
 -- `{"rows":N,"pairs":N}`
 abbrev pub counts_json : ℕ → ℕ → List ℕ
@@ -67,8 +79,8 @@ report_json counts =
     codes "{\"tlvs\":" ++ decimal counts.tlvs ++ codes ",\"ignored\":[" ++ comma_separated (ignored_objects counts all_reasons) ++ codes "]}" ++ newline
 
 -- `{"same":true}`, or `{"same":false,"destination":"DST","source":"SRC","left":ANSWER,"right":ANSWER}`
-abbrev pub verdict_json : Verdict → List ℕ
-verdict_json verdicts.Same = codes "{\"same\":true}" ++ newline
-verdict_json (verdicts.Differ dst src left right) =
-    codes "{\"same\":false," ++ addressed_json (printed dst) (printed src) ++ codes ",\"left\":" ++ answer_json left
-    ++ codes ",\"right\":" ++ answer_json right ++ codes "}" ++ newline
+abbrev pub verdict_json : View → Verdict → List ℕ
+verdict_json view verdicts.Same = codes "{\"same\":true}" ++ newline
+verdict_json view (verdicts.Differ dst src left right) =
+    codes "{\"same\":false," ++ addressed_json (printed dst) (printed src) ++ codes ",\"left\":" ++ answer_json view left
+    ++ codes ",\"right\":" ++ answer_json view right ++ codes "}" ++ newline

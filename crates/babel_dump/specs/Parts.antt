@@ -3,8 +3,10 @@ use Rattle.std.specs.Prelude.{ℕ, Bool, ◌≡◌, ◌≢◌, ◌+◌, ◌<◌,
 use Rattle.std.specs.Io.KnownBytes.{Appends}
 use Rattle.babel_tlv.specs.declared.fault.Fault.{Fault}
 use Rattle.babel_tlv.specs.declared.fault.Fault.TheVariants as faults
+use Rattle.babel_tlv.specs.declared.view.View.{View}
 use Rattle.babel_tlv.specs.Pair.{Pair}
 use Rattle.babel_table.specs.Bounds.{Bounds}
+use Rattle.babel_table.specs.Seen.{seen_rows}
 use Rattle.babel_table.specs.Feeding.{Progress, HasRead}
 use Rattle.babel_canon.specs.Canonical.{Canonical, IsCanonical}
 use Rattle.babel_canon.specs.Fewest.{AreFewest}
@@ -60,12 +62,12 @@ pub record WroteText {T E : Type 0} (writer : Output) (text : List ℕ) (result 
   pub one_failure : writer.new.failures ≤ writer.old.failures + 1
   pub one_flush : writer.new.flushes ≤ writer.old.flushes + 1
 
--- the text is that of the canonical pairs of rows, or of their count
-pub record SaysPairs (limits : Bounds) (count : Bool) (format : Format) (rows : List Pair) (text : List ℕ) : Type 0 where
+-- the text is that of the canonical pairs of what a view sees of rows, or of their count
+pub record SaysPairs (limits : Bounds) (view : View) (count : Bool) (format : Format) (rows : List Pair) (text : List ℕ) : Type 0 where
   pub canon : Canonical
-  pub is_canon : IsCanonical limits 1024 rows canon
-  pub fewest : AreFewest rows canon.pairs
-  pub text_is : text ≡ pairs_or_counts_in format count rows canon.pairs
+  pub is_canon : IsCanonical limits 1024 (seen_rows view rows) canon
+  pub fewest : AreFewest (seen_rows view rows) canon.pairs
+  pub text_is : text ≡ pairs_or_counts_in format view count rows canon.pairs
 
 -- what was found says this, and has the reports of the dumps
 abbrev pub SaysSo : Input → Option Input → (List ℕ → ℕ → Type 0) → Found → Type 0

@@ -157,6 +157,7 @@ fn normalise<'a>(alloc: Global) -> Result<Command<'a>, AllocError> {
         );
     of_one_dump(alloc, command)?
         .arg(strict(alloc))?
+        .arg(ignore(alloc))?
         .arg(body)?
         .arg(flag(
             alloc,
@@ -179,6 +180,7 @@ fn pairs<'a>(alloc: Global) -> Result<Command<'a>, AllocError> {
     );
     of_one_dump(alloc, command)?
         .arg(strict(alloc))?
+        .arg(ignore(alloc))?
         .arg(json(alloc))?
         .arg(count)
 }
@@ -203,6 +205,7 @@ fn compare<'a>(alloc: Global) -> Result<Command<'a>, AllocError> {
         .arg(other_from)?;
     with_settings(alloc, command)?
         .arg(strict(alloc))?
+        .arg(ignore(alloc))?
         .arg(json(alloc))?
         .arg(dump(alloc, "file", "FILE", "The first dump; - is standard input"))?
         .arg(dump(
@@ -287,6 +290,17 @@ fn flag<'a>(alloc: Global, id: &'a str, help: &'a str) -> Arg<'a> {
 fn strict<'a>(alloc: Global) -> Arg<'a> {
     let help = "Refuse a dump of which a TLV is ignored";
     flag(alloc, "strict", help)
+}
+
+/// The option for the fields that do not count.
+fn ignore<'a>(alloc: Global) -> Arg<'a> {
+    Arg::new(alloc, "ignore")
+        .long("ignore")
+        .value_name("LIST")
+        .action(ArgAction::Set)
+        .help(
+            "Fields of a route that do not count: next-hop, router-id, seqno, metric, with a comma between each two",
+        )
 }
 
 /// The option that has the output be read by programs.

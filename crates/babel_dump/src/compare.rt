@@ -18,7 +18,7 @@ use crate::run_fault::RunFault;
 use babel_canon::Verdict;
 use babel_prefix::Addr;
 use babel_table::{Limits, Table};
-use babel_tlv::Mode;
+use babel_tlv::{Mode, View};
 use std::alloc::Global;
 
 /// Reads two dumps, each that its sender sent, the first to its end before the other, and writes `same`, or the least
@@ -56,6 +56,7 @@ pub fn run_compare<R: ByteIn, S: ByteIn, W: ByteOut>(
         mode,
         sender,
         strict: false,
+        view: View::all(),
     };
     let other_reading = Reading {
         sender: other_sender,
@@ -94,7 +95,8 @@ pub(crate) fn compare<R: ByteIn, S: ByteIn, W: ByteOut>(
     finish(writer, found)
 }
 
-/// Reads two dumps, the first to its end before the other, and makes the lines of how their answers compare.
+/// Reads two dumps, the first to its end before the other, and makes the lines of how their answers compare, as the view of
+/// the first sees both.
 fn read_verdict<R: ByteIn, S: ByteIn>(
     alloc: Global,
     reading: Reading,
@@ -115,10 +117,12 @@ fn read_verdict<R: ByteIn, S: ByteIn>(
     ensures in_turn { IfErr result (InTurn (read_from (R.state reader.old) (R.state reader.new) reading)
         (read_from (S.state other.old) (S.state other.new) other_reading) (other.new ≡ other.old)) }
 {
-    let left = read_table(alloc, reading, reader)?;
-    let right = read_other(alloc, other_reading, other)?;
+    let table = read_table(alloc, reading, reader)?;
+    let other_table = read_other(alloc, other_reading, other)?;
+    let left = table.seen(reading.view);
+    let right = other_table.seen(reading.view);
     let verdict = babel_canon::compare(alloc, &left, &right)?;
-    let text = verdict_output(alloc, format, &verdict)?.into_bytes();
+    let text = verdict_output(alloc, format, reading.view, &verdict)?.into_bytes();
     let outcome = Outcome {
         status: verdict_status(&verdict),
         report: *left.report(),

@@ -7,7 +7,7 @@ use crate::format::Format;
 use babel_canon::Body;
 use babel_prefix::Addr;
 use babel_table::Limits;
-use babel_tlv::Mode;
+use babel_tlv::{Mode, View};
 use std::alloc::AllocError;
 
 /// What the program's words ask for: a job, the limits that it is done within, and whether notes come after its output.
@@ -68,6 +68,9 @@ pub struct OneDump {
     pub strict: bool,
     /// How what was found is written: `--json`. What `normalise` writes are octets, whatever the format.
     pub format: Format,
+    /// Which fields of what is announced count: those that `--ignore` does not name. What `show` and `lookup` write is
+    /// whole, whatever the view.
+    pub view: View,
     /// Where the dump is read from: FILE.
     pub file: DumpFile,
 }
@@ -85,6 +88,8 @@ pub struct TwoDumps {
     pub strict: bool,
     /// How what was found is written: `--json`.
     pub format: Format,
+    /// Which fields of what is announced count, in both: those that `--ignore` does not name.
+    pub view: View,
     /// Where the first dump is read from: FILE.
     pub file: DumpFile,
     /// Where the other dump is read from: OTHER.

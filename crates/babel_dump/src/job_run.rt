@@ -81,6 +81,7 @@ fn reading_of(limits: Limits, dump: &OneDump) -> Reading
         mode: dump.mode,
         sender: dump.from,
         strict: dump.strict,
+        view: dump.view,
     }
 }
 
@@ -93,6 +94,7 @@ fn left_reading(limits: Limits, dumps: &TwoDumps) -> Reading
         mode: dumps.mode,
         sender: dumps.from,
         strict: dumps.strict,
+        view: dumps.view,
     }
 }
 

@@ -8,45 +8,80 @@ use crate::reason_text::{REASONS, name};
 use crate::text::RouterId;
 use babel_canon::Verdict;
 use babel_table::Report;
-use babel_tlv::{Ann, Held, Key, Reason};
+use babel_tlv::{Ann, Held, Key, Reason, View};
 use std::alloc::{AllocError, Global};
 use std::fmt;
 
-/// The route that is announced: an object.
+/// The text of a value: a string.
 #[derive(Clone, Copy)]
-struct Announced(Ann);
+struct Quoted<T>(T);
+
+impl<T: fmt::Display> fmt::Display for Quoted<T> {
+    ghost use Rattle.std.specs.Option.{option_map};
+    ghost use Rattle.babel_dump.specs.JsonText.{quoted};
+
+    ghost output = { λ value. option_map quoted (T.output value.0) };
+
+    fn fmt<W: fmt::Write>(&self, f: &mut fmt::Formatter<W>) -> fmt::Result {
+        let text = &self.0;
+        write!(f, r#""{text}""#)
+    }
+}
+
+/// The value of a field that is kept, or `null`.
+#[derive(Clone, Copy)]
+struct Kept<T>(bool, T);
+
+impl<T: fmt::Display> fmt::Display for Kept<T> {
+    ghost use Rattle.std.specs.Prelude.{Some, codes, if◌then◌else◌};
+
+    ghost output = { λ kept. if kept.0 then T.output kept.1 else Some (codes "null") };
+
+    fn fmt<W: fmt::Write>(&self, f: &mut fmt::Formatter<W>) -> fmt::Result {
+        if self.0 {
+            self.1.fmt(f)
+        } else {
+            f.write_str("null")
+        }
+    }
+}
+
+/// The route that is announced, under a view: an object.
+#[derive(Clone, Copy)]
+struct Announced(View, Ann);
 
 impl fmt::Display for Announced {
     ghost use Rattle.std.specs.Prelude.{Some};
     ghost use Rattle.babel_dump.specs.JsonText.{announcement_json};
 
-    ghost output = { λ announced. Some (announcement_json announced.0) };
+    ghost output = { λ announced. Some (announcement_json announced.0 announced.1) };
 
     fn fmt<W: fmt::Write>(&self, f: &mut fmt::Formatter<W>) -> fmt::Result {
-        let next_hop = self.0.next_hop();
-        let id = RouterId(self.0.router_id());
-        let seqno = self.0.seqno();
-        let metric = self.0.metric();
+        let Announced(view, ann) = *self;
+        let next_hop = Kept(view.next_hop, Quoted(ann.next_hop()));
+        let id = Kept(view.router_id, Quoted(RouterId(ann.router_id())));
+        let seqno = Kept(view.seqno, ann.seqno());
+        let metric = Kept(view.metric, ann.metric());
         write!(
             f,
-            r#"{{"next_hop":"{next_hop}","router_id":"{id}","seqno":{seqno},"metric":{metric}}}"#
+            r#"{{"next_hop":{next_hop},"router_id":{id},"seqno":{seqno},"metric":{metric}}}"#
         )
     }
 }
 
-/// What is answered: the object of a route, `"unreachable"`, or `null`.
+/// What is answered, under a view: the object of a route, `"unreachable"`, or `null`.
 #[derive(Clone, Copy)]
-struct Answer(Option<Held>);
+struct Answer(View, Option<Held>);
 
 impl fmt::Display for Answer {
     ghost use Rattle.std.specs.Prelude.{Some};
     ghost use Rattle.babel_dump.specs.JsonText.{answer_json};
 
-    ghost output = { λ answer. Some (answer_json answer.0) };
+    ghost output = { λ answer. Some (answer_json answer.0 answer.1) };
 
     fn fmt<W: fmt::Write>(&self, f: &mut fmt::Formatter<W>) -> fmt::Result {
-        match self.0 {
-            Some(Held::Route(ann)) => Announced(ann).fmt(f),
+        match self.1 {
+            Some(Held::Route(ann)) => Announced(self.0, ann).fmt(f),
             Some(Held::Unreachable) => f.write_str(r#""unreachable""#),
             None => f.write_str("null"),
         }
@@ -72,17 +107,17 @@ impl<A: fmt::Display> fmt::Display for Addressed<A> {
 
 /// A row of a table: a line.
 #[derive(Clone, Copy)]
-pub(crate) struct PairJson(pub Key, pub Held);
+pub(crate) struct PairJson(pub View, pub Key, pub Held);
 
 impl fmt::Display for PairJson {
     ghost use Rattle.std.specs.Prelude.{Some};
     ghost use Rattle.babel_dump.specs.JsonText.{pair_json};
 
-    ghost output = { λ line. Some (pair_json (line.0, line.1)) };
+    ghost output = { λ line. Some (pair_json line.0 (line.1, line.2)) };
 
     fn fmt<W: fmt::Write>(&self, f: &mut fmt::Formatter<W>) -> fmt::Result {
-        let addressed = Addressed(self.0.dst(), self.0.src());
-        let answer = Answer(Some(self.1));
+        let addressed = Addressed(self.1.dst(), self.1.src());
+        let answer = Answer(self.0, Some(self.2));
         writeln!(f, r#"{{{addressed},"answer":{answer}}}"#)
     }
 }
@@ -100,14 +135,18 @@ impl fmt::Display for LookupJson {
     fn fmt<W: fmt::Write>(&self, f: &mut fmt::Formatter<W>) -> fmt::Result {
         let AddrPair { dst, src } = self.0;
         let addressed = Addressed(dst, src);
-        let answer = Answer(self.1);
+        let answer = Answer(View::all(), self.1);
         writeln!(f, r#"{{{addressed},"answer":{answer}}}"#)
     }
 }
 
-/// The line of a verdict.
-pub(crate) fn verdict_json(alloc: Global, verdict: &Verdict) -> Result<String, AllocError>
-    ensures { IfOk result (λ text. string_bytes text ≡ verdict_json verdict.now) }
+/// The line of a verdict, under a view.
+pub(crate) fn verdict_json(
+    alloc: Global,
+    view: View,
+    verdict: &Verdict,
+) -> Result<String, AllocError>
+    ensures { IfOk result (λ text. string_bytes text ≡ verdict_json view verdict.now) }
 {
     let mut text = String::new(alloc);
     match verdict {
@@ -119,7 +158,7 @@ pub(crate) fn verdict_json(alloc: Global, verdict: &Verdict) -> Result<String, A
             right,
         } => {
             let addressed = Addressed(*dst, *src);
-            let (left, right) = (Answer(*left), Answer(*right));
+            let (left, right) = (Answer(view, *left), Answer(view, *right));
             writeln!(
                 text,
                 r#"{{"same":false,{addressed},"left":{left},"right":{right}}}"#

@@ -19,7 +19,7 @@ use crate::reading::Reading;
 use crate::run_fault::RunFault;
 use babel_prefix::Addr;
 use babel_table::Limits;
-use babel_tlv::{Held, Mode};
+use babel_tlv::{Held, Mode, View};
 use std::alloc::Global;
 
 /// Reads a dump that this sender sent, and writes what it answers for a destination and a source of one family, or
@@ -52,6 +52,7 @@ pub fn run_lookup<R: ByteIn, W: ByteOut>(
         mode,
         sender,
         strict: false,
+        view: View::all(),
     };
     let outcome = lookup(
         alloc,

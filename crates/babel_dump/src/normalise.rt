@@ -15,7 +15,7 @@ use crate::text::hex_text;
 use babel_canon::Body;
 use babel_prefix::Addr;
 use babel_table::Limits;
-use babel_tlv::Mode;
+use babel_tlv::{Mode, View};
 use std::alloc::Global;
 
 /// Reads a dump that this sender sent, and writes its canonical octets, in packets with bodies of at most this many
@@ -51,6 +51,7 @@ pub fn run_normalise<R: ByteIn, W: ByteOut>(
         mode,
         sender,
         strict: false,
+        view: View::all(),
     };
     let outcome = normalise(alloc, reading, body, hex, reader, writer)?;
     Ok(outcome.status)

@@ -1,5 +1,6 @@
 //! What the runs write, in the format that is asked for.
 ghost use Rattle.std.specs.Prelude.{◌≡◌, IfOk, string_bytes};
+ghost use Rattle.babel_tlv.specs.Views.{keeps_all};
 ghost use Rattle.babel_dump.specs.InFormat.{counts_in, lookup_in, pairs_in, show_in, verdict_in};
 
 use crate::addr_pair::AddrPair;
@@ -9,24 +10,24 @@ use crate::reason_text::push_report;
 use crate::text::{EachLine, PairLine, counts_text, lookup_text, verdict_text};
 use babel_canon::Verdict;
 use babel_table::Table;
-use babel_tlv::{Held, Key};
+use babel_tlv::{Held, Key, View};
 use std::alloc::{AllocError, Global};
 use std::fmt;
 
 /// A row of a table: a line in a format.
 #[derive(Clone, Copy)]
-struct Line(Format, Key, Held);
+struct Line(Format, View, Key, Held);
 
 impl fmt::Display for Line {
     ghost use Rattle.std.specs.Prelude.{Some};
     ghost use Rattle.babel_dump.specs.InFormat.{line_in};
 
-    ghost output = { λ line. Some (line_in line.0 (line.1, line.2)) };
+    ghost output = { λ line. Some (line_in line.0 line.1 (line.2, line.3)) };
 
     fn fmt<W: fmt::Write>(&self, f: &mut fmt::Formatter<W>) -> fmt::Result {
         match self.0 {
-            Format::Text => PairLine(self.1, self.2).fmt(f),
-            Format::Json => PairJson(self.1, self.2).fmt(f),
+            Format::Text => PairLine(self.1, self.2, self.3).fmt(f),
+            Format::Json => PairJson(self.1, self.2, self.3).fmt(f),
         }
     }
 }
@@ -63,13 +64,14 @@ impl Format {
 pub(crate) fn pairs_output(
     alloc: Global,
     format: Format,
+    view: View,
     pairs: &[(Key, Held)],
 ) -> Result<String, AllocError>
-    ensures { IfOk result (λ text. string_bytes text ≡ pairs_in format pairs.now) }
+    ensures { IfOk result (λ text. string_bytes text ≡ pairs_in format view pairs.now) }
 {
     let mut text = String::with_capacity(alloc, pairs.len().saturating_mul(format.line_room()))?;
     for pair in pairs {
-        let line = Line(format, pair.0, pair.1);
+        let line = Line(format, view, pair.0, pair.1);
         write!(text, "{line}")?;
     }
     Ok(text)
@@ -77,12 +79,12 @@ pub(crate) fn pairs_output(
 
 /// The lines of the rows.
 fn rows_output(alloc: Global, format: Format, table: &Table) -> Result<String, AllocError>
-    ensures { IfOk result (λ text. string_bytes text ≡ pairs_in format table.now.rows) }
+    ensures { IfOk result (λ text. string_bytes text ≡ pairs_in format keeps_all table.now.rows) }
 {
     let rows = table.rows();
     let mut text = String::with_capacity(alloc, rows.len().saturating_mul(format.line_room()))?;
     for (key, held) in rows {
-        let line = Line(format, key, held);
+        let line = Line(format, View::all(), key, held);
         write!(text, "{line}")?;
     }
     Ok(text)
@@ -129,7 +131,7 @@ pub(crate) fn lookup_output(
     ensures { IfOk result (λ text. string_bytes text ≡ lookup_in format pair.dst pair.src answer) }
 {
     match format {
-        Format::Text => lookup_text(alloc, answer.as_ref()),
+        Format::Text => lookup_text(alloc, View::all(), answer.as_ref()),
         Format::Json => {
             let line = LookupJson(pair, answer);
             format!(in alloc; "{line}")
@@ -141,12 +143,13 @@ pub(crate) fn lookup_output(
 pub(crate) fn verdict_output(
     alloc: Global,
     format: Format,
+    view: View,
     verdict: &Verdict,
 ) -> Result<String, AllocError>
-    ensures { IfOk result (λ text. string_bytes text ≡ verdict_in format verdict.now) }
+    ensures { IfOk result (λ text. string_bytes text ≡ verdict_in format view verdict.now) }
 {
     match format {
-        Format::Text => verdict_text(alloc, verdict),
-        Format::Json => verdict_json(alloc, verdict),
+        Format::Text => verdict_text(alloc, view, verdict),
+        Format::Json => verdict_json(alloc, view, verdict),
     }
 }

@@ -1,4 +1,5 @@
 ghost use Rattle.std.specs.Prelude.{◌^◌, ◌<◌, None, IfOk, IfErr, string_bytes};
+ghost use Rattle.babel_table.specs.Seen.{seen_rows};
 ghost use Rattle.babel_canon.specs.Canonical.{CanonicalFault};
 ghost use Rattle.babel_dump.specs.Command.{ListsPairs, RanPairs};
 ghost use Rattle.babel_dump.specs.Given.{IsFaultOfForm, input, read_from};
@@ -19,7 +20,7 @@ use babel_canon::laws::text_is_one;
 use babel_canon::{canonical_pairs, pair_count};
 use babel_prefix::Addr;
 use babel_table::{Limits, Table};
-use babel_tlv::{Fault, Mode};
+use babel_tlv::{Fault, Mode, View};
 use std::alloc::Global;
 
 /// Reads a dump that this sender sent, and writes a line for each of its canonical pairs, or, with `count`, how many
@@ -51,6 +52,7 @@ pub fn run_pairs<R: ByteIn, W: ByteOut>(
         mode,
         sender,
         strict: false,
+        view: View::all(),
     };
     let outcome = pairs(alloc, reading, count, Format::Text, reader, writer)?;
     Ok(outcome.status)
@@ -94,7 +96,7 @@ fn read_pairs<R: ByteIn>(
 {
     let table = read_table(alloc, reading, reader)?;
     let report = *table.report();
-    let text = lines(alloc, reading.limits, count, format, table)?.into_bytes();
+    let text = lines(alloc, reading.limits, reading.view, count, format, table)?.into_bytes();
     let outcome = Outcome {
         status: 0,
         report,
@@ -103,26 +105,29 @@ fn read_pairs<R: ByteIn>(
     Ok(Found { text, outcome })
 }
 
-/// The lines of a table's canonical pairs, or of how many rows and pairs there are, for which no pair is made. The table is
+/// The lines of a table's canonical pairs under a view, or of how many rows and pairs there are, for which no pair is made. The table is
 /// gone before the lines of pairs are made.
 fn lines(
     alloc: Global,
     limits: Limits,
+    view: View,
     count: bool,
     format: Format,
     table: Table,
 ) -> Result<String, Fault>
-    ensures ok { IfOk result (λ text. SaysPairs limits count format table.rows (string_bytes text)) }
-    ensures err { IfErr result (CanonicalFault limits table.rows) }
+    ensures ok { IfOk result (λ text. SaysPairs limits view count format table.rows (string_bytes text)) }
+    ensures err { IfErr result (CanonicalFault limits (seen_rows view table.rows)) }
 {
     text_is_one();
+    let rows = table.rows().len();
+    let seen = table.seen(view);
     if count {
-        let pairs = pair_count(alloc, limits, &table)?;
-        let text = counts_output(alloc, format, table.rows().len(), pairs)?;
+        let pairs = pair_count(alloc, limits, &seen)?;
+        let text = counts_output(alloc, format, rows, pairs)?;
         return Ok(text);
     }
-    let pairs = canonical_pairs(alloc, limits, &table)?;
-    drop(table);
-    let text = pairs_output(alloc, format, &pairs)?;
+    let pairs = canonical_pairs(alloc, limits, &seen)?;
+    drop(seen);
+    let text = pairs_output(alloc, format, view, &pairs)?;
     Ok(text)
 }

@@ -1,6 +1,6 @@
 use babel_prefix::Addr;
 use babel_table::Limits;
-use babel_tlv::Mode;
+use babel_tlv::{Mode, View};
 
 /// How a dump is read.
 #[derive(Clone, Copy)]
@@ -13,4 +13,6 @@ pub(crate) struct Reading {
     pub sender: Addr,
     /// Whether a dump is refused of which a TLV is ignored.
     pub strict: bool,
+    /// Which fields of what is announced count, where answers are compared or put into canonical form.
+    pub view: View,
 }

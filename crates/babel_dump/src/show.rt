@@ -16,7 +16,7 @@ use crate::reading::Reading;
 use crate::run_fault::RunFault;
 use babel_prefix::Addr;
 use babel_table::Limits;
-use babel_tlv::Mode;
+use babel_tlv::{Mode, View};
 use std::alloc::Global;
 
 /// Reads a dump that this sender sent, and writes a line for each row of its table, how many TLVs it has, and a line for
@@ -46,6 +46,7 @@ pub fn run_show<R: ByteIn, W: ByteOut>(
         mode,
         sender,
         strict: false,
+        view: View::all(),
     };
     let outcome = show(alloc, reading, Format::Text, reader, writer)?;
     Ok(outcome.status)

@@ -5,7 +5,7 @@ ghost use Rattle.babel_dump.specs.RunText.{counts_text, hex_text, lookup_text, v
 
 use crate::addr_pair::AddrPair;
 use babel_canon::Verdict;
-use babel_tlv::{Held, Key};
+use babel_tlv::{Held, Key, View};
 use std::alloc::{AllocError, Global};
 use std::{fmt, str};
 
@@ -27,23 +27,42 @@ impl fmt::Display for RouterId {
     }
 }
 
-/// What stands for a key, as the runs show it.
+/// The text of a field that is kept, or `-`.
 #[derive(Clone, Copy)]
-struct Shown(Held);
+struct Kept<T>(bool, T);
+
+impl<T: fmt::Display> fmt::Display for Kept<T> {
+    ghost use Rattle.std.specs.Prelude.{Some, codes, if◌then◌else◌};
+
+    ghost output = { λ kept. if kept.0 then T.output kept.1 else Some (codes "-") };
+
+    fn fmt<W: fmt::Write>(&self, f: &mut fmt::Formatter<W>) -> fmt::Result {
+        if self.0 {
+            self.1.fmt(f)
+        } else {
+            f.write_str("-")
+        }
+    }
+}
+
+/// What stands for a key, as the runs show it under a view.
+#[derive(Clone, Copy)]
+struct Shown(View, Held);
 
 impl fmt::Display for Shown {
     ghost use Rattle.std.specs.Prelude.{Some};
     ghost use Rattle.babel_dump.specs.RunText.{held_text};
 
-    ghost output = { λ shown. Some (held_text shown.0) };
+    ghost output = { λ shown. Some (held_text shown.0 shown.1) };
 
     fn fmt<W: fmt::Write>(&self, f: &mut fmt::Formatter<W>) -> fmt::Result {
-        match self.0 {
+        let view = self.0;
+        match self.1 {
             Held::Route(ann) => {
-                let next_hop = ann.next_hop();
-                let id = RouterId(ann.router_id());
-                let seqno = ann.seqno();
-                let metric = ann.metric();
+                let next_hop = Kept(view.next_hop, ann.next_hop());
+                let id = Kept(view.router_id, RouterId(ann.router_id()));
+                let seqno = Kept(view.seqno, ann.seqno());
+                let metric = Kept(view.metric, ann.metric());
                 write!(f, "via {next_hop} id {id} seqno {seqno} metric {metric}")
             }
             Held::Unreachable => f.write_str("unreachable"),
@@ -53,18 +72,18 @@ impl fmt::Display for Shown {
 
 /// A row of a table, as the runs show it.
 #[derive(Clone, Copy)]
-pub(crate) struct PairLine(pub Key, pub Held);
+pub(crate) struct PairLine(pub View, pub Key, pub Held);
 
 impl fmt::Display for PairLine {
     ghost use Rattle.std.specs.Prelude.{Some};
     ghost use Rattle.babel_dump.specs.RunText.{pair_line};
 
-    ghost output = { λ line. Some (pair_line (line.0, line.1)) };
+    ghost output = { λ line. Some (pair_line line.0 (line.1, line.2)) };
 
     fn fmt<W: fmt::Write>(&self, f: &mut fmt::Formatter<W>) -> fmt::Result {
-        let dst = self.0.dst();
-        let src = self.0.src();
-        let shown = Shown(self.1);
+        let dst = self.1.dst();
+        let src = self.1.src();
+        let shown = Shown(self.0, self.2);
         write!(f, "{dst} from {src} {shown}\n")
     }
 }
@@ -82,28 +101,36 @@ impl fmt::Display for EachLine {
     fn fmt<W: fmt::Write>(&self, f: &mut fmt::Formatter<W>) -> fmt::Result {
         let AddrPair { dst, src } = self.0;
         match self.1 {
-            Some(held) => write!(f, "{dst} from {src} {}\n", Shown(held)),
+            Some(held) => write!(f, "{dst} from {src} {}\n", Shown(View::all(), held)),
             None => write!(f, "{dst} from {src} none\n"),
         }
     }
 }
 
-/// The line of a lookup's answer.
-pub(crate) fn lookup_text(alloc: Global, answer: Option<&Held>) -> Result<String, AllocError>
-    ensures { IfOk result (λ text. string_bytes text ≡ lookup_text (option_copied answer.entry)) }
+/// The line of a lookup's answer, under a view.
+pub(crate) fn lookup_text(
+    alloc: Global,
+    view: View,
+    answer: Option<&Held>,
+) -> Result<String, AllocError>
+    ensures { IfOk result (λ text. string_bytes text ≡ lookup_text view (option_copied answer.entry)) }
 {
     match answer {
         Some(held) => {
-            let shown = Shown(*held);
+            let shown = Shown(view, *held);
             format!(in alloc; "{shown}\n")
         }
         None => String::from_str(alloc, "none\n"),
     }
 }
 
-/// The lines of a verdict.
-pub(crate) fn verdict_text(alloc: Global, verdict: &Verdict) -> Result<String, AllocError>
-    ensures { IfOk result (λ text. string_bytes text ≡ verdict_text verdict.now) }
+/// The lines of a verdict, under a view.
+pub(crate) fn verdict_text(
+    alloc: Global,
+    view: View,
+    verdict: &Verdict,
+) -> Result<String, AllocError>
+    ensures { IfOk result (λ text. string_bytes text ≡ verdict_text view verdict.now) }
 {
     match verdict {
         Verdict::Same => String::from_str(alloc, "same\n"),
@@ -114,9 +141,9 @@ pub(crate) fn verdict_text(alloc: Global, verdict: &Verdict) -> Result<String, A
             right,
         } => {
             let mut text = format!(in alloc; "differ {dst} from {src}\n")?;
-            let left = lookup_text(alloc, left.as_ref())?;
+            let left = lookup_text(alloc, view, left.as_ref())?;
             write!(text, "left {left}")?;
-            let right = lookup_text(alloc, right.as_ref())?;
+            let right = lookup_text(alloc, view, right.as_ref())?;
             write!(text, "right {right}")?;
             Ok(text)
         }

@@ -114,6 +114,7 @@ fn dump_from(sender: &str) -> Result<OneDump, Fail> {
         mode: Mode::Plain,
         strict: false,
         format: Format::Text,
+        view: View::all(),
         file: DumpFile::StandardInput,
     })
 }
@@ -168,6 +169,7 @@ fn refused_memory_of_compare(rt: HostRuntime) -> Result<(), Fail> {
         mode: Mode::Plain,
         strict: false,
         format: Format::Text,
+        view: View::all(),
         file: DumpFile::StandardInput,
         other: DumpFile::StandardInput,
     };

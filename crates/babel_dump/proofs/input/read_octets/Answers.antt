@@ -1,16 +1,27 @@
 use Rattle.std.proofs.Common.{rules}
-use Rattle.babel_dump.proofs.Forms.{gave_normal}
+use Rattle.std.proofs.lemmas.Result.{err_from_is_err_and}
+use Rattle.babel_dump.proofs.Forms.{gave_normal, refused_form}
 use Rattle.babel_dump.proofs.input.read_octets.Goals as goal
 
 pub returns : goal.returns
 returns g c = record {
   made = (
     (c.in_ok-table.table, c.in_ok-table.ensures.made, search rules),
-    gave_normal c.canonical_octets_tell_answers.ensures _ c.args.body c.in_ok-table.table c.in_ok-octets.octets.items c.entries.ensures.valid c.octets.ensures.valid
-        c.in_ok-table.ensures.made c.in_ok-octets.ensures.ok,
+    gave_normal c.canonical_octets_tell_answers.ensures c.canonical_octets_tell_answers_under.ensures.headline c.canonical_octets_tell_answers_under.ensures.all _ c.args.body
+        c.in_ok-table.table c.seen-seen.result c.in_ok-octets.octets.items c.entries.ensures.valid c.octets.ensures.valid c.in_ok-table.ensures.made c.seen-seen.ensures c.in_ok-octets.ensures.ok,
   );
   no_failure = search rules;
   cause = search rules;
   few_calls = search rules;
   few_other_calls = search rules;
 }
+
+pub returns-in_err-octets : goal.returns-in_err-octets
+returns-in_err-octets g c =
+    let exit = err_from_is_err_and c.from_residual-in_err-octets.result c.from_residual-in_err-octets.ensures.1 in record {
+      made = search rules;
+      no_failure = search rules;
+      cause = rw (exit.1, exit.2) (refused_form _ c.in_ok-table.table c.seen-seen.result c.in_err-octets.field-0.0 c.in_ok-table.ensures.made c.seen-seen.ensures c.in_err-octets.ensures.err);
+      few_calls = search rules;
+      few_other_calls = search rules;
+    }

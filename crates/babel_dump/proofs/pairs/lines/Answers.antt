@@ -10,18 +10,18 @@ returns-then-count-clause-ok c =
     let rows = c.args.table.rows in
     let format = c.args.format in
     let counted = c.in_ok-pairs.ensures.ok in
-    says_pairs c.text_is_one.ensures c.args.limits c.args.count format rows counted.pairs (string_bytes c.in_ok-text.text) counted.are_canonical
+    says_pairs c.text_is_one.ensures c.args.limits c.args.view c.args.count format c.args.table c.seen-seen.result counted.pairs (string_bytes c.in_ok-text.text) c.seen-seen.ensures counted.are_canonical
     (c.in_ok-text.ensures
-    ∙ ap (λ (n : ℕ). counts_in format n c.in_ok-pairs.pairs) c.len.ensures
+    ∙ ap (λ (n : ℕ). counts_in format n c.in_ok-pairs.pairs) c.len-rows.ensures
     ∙ ap (λ (rs : List Pair). counts_in format (length rs) c.in_ok-pairs.pairs) c.rows.ensures.value
     ∙ ap (λ (n : ℕ). counts_in format (length rows) n) counted.count_is
-    ∙ sym (ap (λ (b : Bool). pairs_or_counts_in format b rows counted.pairs) c.if-count.true))
+    ∙ sym (ap (λ (b : Bool). pairs_or_counts_in format c.args.view b rows counted.pairs) c.if-count.true))
 
 pub returns-clause-ok : goal.returns-clause-ok
 returns-clause-ok c =
     let rows = c.args.table.rows in
     let format = c.args.format in
-    says_pairs c.text_is_one.ensures c.args.limits c.args.count format rows c.in_ok-pairs-2.pairs.items (string_bytes c.in_ok-text-2.text) c.in_ok-pairs-2.ensures.ok
+    says_pairs c.text_is_one.ensures c.args.limits c.args.view c.args.count format c.args.table c.seen-seen.result c.in_ok-pairs-2.pairs.items (string_bytes c.in_ok-text-2.text) c.seen-seen.ensures c.in_ok-pairs-2.ensures.ok
     (c.in_ok-text-2.ensures
-    ∙ ap (λ (ps : List Pair). pairs_in format ps) c.deref.ensures.value
-    ∙ sym (ap (λ (b : Bool). pairs_or_counts_in format b rows c.in_ok-pairs-2.pairs.items) c.if-count.false))
+    ∙ ap (λ (ps : List Pair). pairs_in format c.args.view ps) c.deref.ensures.value
+    ∙ sym (ap (λ (b : Bool). pairs_or_counts_in format c.args.view b rows c.in_ok-pairs-2.pairs.items) c.if-count.false))
