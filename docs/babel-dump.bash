@@ -6,9 +6,9 @@ _babel_dump() {
     case $command in
         show) options=${options/ --strict/} ;;
         lookup) options="$options --to --src --each" ;;
-        pairs) options="$options --count" ;;
-        normalise) options="${options/ --json/} --hex --body" ;;
-        compare) options="$options --other-from" ;;
+        pairs) options="$options --count --ignore" ;;
+        normalise) options="${options/ --json/} --hex --body --ignore" ;;
+        compare) options="$options --other-from --ignore" ;;
         *) options="show lookup pairs normalise compare help --help --version" ;;
     esac
     if [[ $COMP_CWORD -gt 1 && $word != -* ]]; then
