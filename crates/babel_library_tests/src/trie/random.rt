@@ -1,5 +1,5 @@
 //! Random rows in sixteen addresses, against the definition of boxes and of the least difference.
-use super::rows::{Line, Rows, last, wanted_at};
+use super::rows::{Line, Rows, in_one, last, wanted_at};
 use babel_prefix::Family;
 use std::alloc::{AllocError, Global};
 use std::process::Abort;
@@ -105,10 +105,24 @@ fn parent(prefix: (u128, u8)) -> (u128, u8) {
     }
 }
 
-/// The boxes of rows that lie in the first eight addresses, by their definition.
-fn boxes(alloc: Global, lines: &[Line]) -> Result<Vec<Line>, AllocError> {
+/// What sixteen destinations are answered for sixteen sources differently, both answers as one number.
+fn differing(lines: &[Line], others: &[Line]) -> Answers {
+    let mut differing = [[None; 16]; 16];
+    for (dst, row) in differing.iter_mut().enumerate() {
+        for (src, answer) in row.iter_mut().enumerate() {
+            let left = wanted_at(lines, 32, dst as u128, src as u128);
+            let right = wanted_at(others, 32, dst as u128, src as u128);
+            if left != right {
+                *answer = Some(in_one(left, right));
+            }
+        }
+    }
+    differing
+}
+
+/// The boxes of answers for the first eight addresses, by their definition.
+fn boxes(alloc: Global, answers: Answers) -> Result<Vec<Line>, AllocError> {
     let mut boxes = Vec::new(alloc);
-    let answers = answers(lines);
     for dst in PREFIXES {
         let wide = parent(dst);
         if is_uniform(&answers, dst.0, dst.1) && !is_uniform(&answers, wide.0, wide.1) {
@@ -158,7 +172,7 @@ fn check_boxes(rt: &impl Abort, alloc: Global, family: Family, seed: u64) -> Res
     let mut random = Random { state: seed };
     for _ in 0..1000 {
         let mut lines = random.lines(alloc)?;
-        let mut wanted = boxes(alloc, &lines)?;
+        let mut wanted = boxes(alloc, answers(&lines))?;
         if family == Family::V6 {
             lines = among_v6(alloc, &lines)?;
             wanted = among_v6(alloc, &wanted)?;
@@ -205,6 +219,22 @@ fn least_differences(rt: HostRuntime) -> Result<(), Fail> {
             .first_difference(&right.grid(rt.alloc())?)
             .map(|(dst, src)| (dst.bits(), src.bits()));
         assert_eq!(rt; found, wanted);
+    }
+    Ok(())
+}
+
+#[test]
+fn differences_by_definition(rt: HostRuntime) -> Result<(), Fail> {
+    let mut random = Random { state: 5 };
+    for _ in 0..1000 {
+        let lines = random.lines(rt.alloc())?;
+        let others = random.lines(rt.alloc())?;
+        let wanted = boxes(rt.alloc(), differing(&lines, &others))?;
+        let left = Rows::of(rt.alloc(), Family::V4, &lines)?;
+        let right = Rows::of(rt.alloc(), Family::V4, &others)?;
+        let (found, count) = left.differences(rt.alloc(), &right)?;
+        assert_eq!(rt; found.as_slice(), wanted.as_slice());
+        assert_eq!(rt; count, wanted.len() as u64);
     }
     Ok(())
 }

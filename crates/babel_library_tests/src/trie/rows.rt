@@ -3,7 +3,7 @@ ghost use Rattle.std.specs.Prelude.{◌≡◌, All, IfOk, IsTrue};
 ghost use Rattle.babel_prefix.specs.Entries.{AreOfFamily, HasDistinctPrefixes};
 
 use babel_prefix::{Addr, Family, Prefix};
-use babel_trie::{Grid, least_difference};
+use babel_trie::{Grid, differences, least_difference};
 use std::alloc::{AllocError, Global};
 use std::test::Fail;
 
@@ -69,6 +69,20 @@ impl Rows {
         Ok(found.map(|(dst, src)| (dst.bits(), src.bits())))
     }
 
+    /// The boxes of what these rows and others answer differently, each with both answers as one number, and how many there
+    /// are.
+    pub fn differences(&self, alloc: Global, other: &Rows) -> Result<(Vec<Line>, u64), AllocError>
+        requires { self.now.family ≡ other.now.family }
+    {
+        let grid = differences(alloc, self.family, &self.rows, &other.rows)?;
+        let mut lines = Vec::new(alloc);
+        for (dst, src, both) in grid.pairs(alloc)? {
+            let line = Rows::line(&(dst, src, in_one(both.left, both.right)));
+            lines.push(line)?;
+        }
+        Ok((lines, grid.count()))
+    }
+
     /// A pair as numbers.
     pub fn line(row: &Row) -> Line {
         (
@@ -84,6 +98,19 @@ impl Rows {
     pub fn lines(alloc: Global, rows: &[Row]) -> Result<Vec<Line>, AllocError> {
         rows.iter().map(|row| Rows::line(row)).collect(alloc)
     }
+}
+
+/// One answer as a digit.
+fn digit(answer: Option<u32>) -> u32 {
+    match answer {
+        None => 0,
+        Some(value) => value.wrapping_add(1),
+    }
+}
+
+/// Two answers as one number.
+pub fn in_one(left: Option<u32>, right: Option<u32>) -> u32 {
+    digit(left).wrapping_mul(16).wrapping_add(digit(right))
 }
 
 /// Whether no row has the two prefixes of this one.
