@@ -1,9 +1,9 @@
 -- What two tables answer (RFC 9079, 4) differently, as boxes of both families: this project's own.
-use Rattle.std.specs.Prelude.{◌≡◌, ◌↔◌, ◌⊎◌, ℕ, ◌+◌, ◌<◌, ◌≤◌, List, [], ◌++◌, length, map}
+use Rattle.std.specs.Prelude.{◌≡◌, ◌↔◌, ◌⊎◌, ℕ, ◌+◌, ◌<◌, ◌≤◌, List, [], ◌∷◌, ◌++◌, length, map, Option}
 use Rattle.babel_prefix.specs.declared.family.Family.{Family}
 use Rattle.babel_prefix.specs.declared.family.Family.TheVariants.{V4, V6}
 use Rattle.babel_prefix.specs.Width.{width_of}
-use Rattle.babel_prefix.specs.Address.{prefix_of}
+use Rattle.babel_prefix.specs.Address.{Address, prefix_of}
 use Rattle.babel_prefix.specs.Best.{Row}
 use Rattle.babel_prefix.specs.Entries.{answers_in}
 use Rattle.babel_trie.specs.Boxes.{Answers}
@@ -18,6 +18,8 @@ use Rattle.babel_tlv.specs.Pair.{Pair}
 use Rattle.babel_table.specs.Bounds.{Bounds}
 use Rattle.babel_table.specs.Rows.{entries_of}
 use Rattle.babel_canon.specs.Boxes.{AnswerTheSame}
+use Rattle.babel_canon.specs.Fewest.{CoversBoth}
+use Rattle.babel_canon.specs.Verdict.{IsLeastDifference}
 use Rattle.babel_canon.specs.declared.every_difference.Difference.{Difference}
 
 -- a box of a family as a difference
@@ -68,3 +70,10 @@ DifferencesAreFewest =
     → (v4 v6 : List (Row (Differing Held)))
     → IsDisjointTable (width_of V4) (told V4) v4 → IsDisjointTable (width_of V6) (told V6) v6
     → length differences ≤ length v4 + length v6
+
+-- the first one has the least pair of addresses at which the answers differ
+abbrev pub FirstHasLeast : Type 0
+FirstHasLeast =
+    (rows others : List Pair) (first : Difference) (rest : List Difference) → AreDifferences rows others (first ∷ rest)
+    → (dst src : Address) (left right : Option Held) → IsLeastDifference rows others dst src left right
+    → CoversBoth first.key dst src

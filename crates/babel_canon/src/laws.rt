@@ -1,7 +1,7 @@
 //! Laws of the definitions.
 ghost use Rattle.babel_canon.specs.RoundTrip.{TextReadsBack};
 ghost use Rattle.babel_canon.specs.Boxes.{BoxesAnswer, BoxesTellApart};
-ghost use Rattle.babel_canon.specs.Differences.{DifferencesAreFewest, NoneWhereSame};
+ghost use Rattle.babel_canon.specs.Differences.{DifferencesAreFewest, FirstHasLeast, NoneWhereSame};
 ghost use Rattle.babel_canon.specs.Fewest.{BoxesAreFewest};
 ghost use Rattle.babel_canon.specs.Packing.{TextIsOne};
 ghost use Rattle.babel_canon.specs.Headline.{Headline};
@@ -58,9 +58,10 @@ pub fn verdict_is_one()
     ensures { VerdictIsOne }
 {}
 
-/// Two tables have no difference exactly where they give every destination and source the same answer; and no
-/// disjoint lists of rows, one of each family, that tell the same differences are together shorter.
+/// Two tables have no difference exactly where they give every destination and source the same answer; the first one
+/// has the least pair of addresses at which they differ; and no disjoint lists of rows, one of each family, that tell the same differences are together shorter.
 pub fn differences_are_boxes()
     ensures none { NoneWhereSame }
+    ensures first { FirstHasLeast }
     ensures fewest { DifferencesAreFewest }
 {}
