@@ -1,3 +1,4 @@
+-- The address with its low bits cleared is a prefix.
 use Rattle.std.proofs.Common.{arith}
 use Rattle.babel_prefix.proofs.BlockLaws.{IsBlock-block_at}
 use Rattle.babel_prefix.proofs.prefix.Prefix.new.Goals as goal
