@@ -15,3 +15,4 @@ pub mod Writing
 pub mod News
 pub mod Verdicts
 pub mod Views
+pub mod Reading

@@ -82,7 +82,8 @@ pub(crate) fn completed(
     requires few { omitted + length octets.now ≤ octet_count family }
     requires of_family { IsOfFamily family default }
     requires has_default { 0 < omitted → IsSome default }
-    ensures { result ≡ address_of family (padded (octet_count family) (take omitted (default_octets default) ++ octets.now)) }
+    ensures { result ≡ address_of family
+        (padded (octet_count family) (take omitted (default_octets default) ++ octets.now)) }
 {
     let front = omitted_octets(default, omitted);
     let number = number_after(front, octets);

@@ -1,5 +1,6 @@
-ghost use Rattle.std.specs.Prelude.{◌≡◌, ◌+◌, drop, slice_index, MatchResult, Ok, Err};
-ghost use Rattle.babel_tlv.specs.Forming.{hop_len, next_hop_in};
+ghost use Rattle.std.specs.Prelude.{◌≡◌, MatchResult, Ok, Err};
+ghost use Rattle.babel_tlv.specs.Forming.{next_hop_in};
+ghost use Rattle.babel_tlv.specs.Reading.{hop_sub_tlvs};
 
 use crate::address::{address, link_local_address};
 use crate::encoding::Encoding;
@@ -17,7 +18,7 @@ impl<'a> NextHop<'a> {
     /// Reads a Next Hop's body.
     pub fn read(body: &'a [u8]) -> Result<NextHop<'a>, Reason>
         ensures { MatchResult result
-            (λ read. (next_hop_in body.now ≡ Ok read.addr) × (read.sub_tlvs.now ≡ drop (2 + hop_len (slice_index body.now 0)) body.now))
+            (λ read. (next_hop_in body.now ≡ Ok read.addr) × (read.sub_tlvs.now ≡ hop_sub_tlvs body.now))
             (λ reason. next_hop_in body.now ≡ Err reason) }
     {
         let [encoding, _, octets @ ..] = body else {

@@ -13,7 +13,8 @@ pub(crate) struct RouterId<'a> {
 impl<'a> RouterId<'a> {
     /// Reads a Router-Id's body; `None` if it is too short.
     pub fn read(body: &'a [u8]) -> Option<RouterId<'a>>
-        ensures { MatchOption result (length body.now < 10) (λ read. (read.router_id ≡ router_id_in body.now) × (read.sub_tlvs.now ≡ drop 10 body.now)) }
+        ensures { MatchOption result (length body.now < 10)
+            (λ read. (read.router_id ≡ router_id_in body.now) × (read.sub_tlvs.now ≡ drop 10 body.now)) }
     {
         let [_, _, a, b, c, d, e, f, g, h, sub_tlvs @ ..] = body else {
             return None;

@@ -1,12 +1,13 @@
-ghost use Rattle.std.specs.Prelude.{◌≡◌, ◌≢◌, ◌≤◌, ◌<◌, ◌+◌, length, drop, take, ◌++◌, IsSome, IfOk, OnOk, MatchOption, MatchResult, Some, None};
+ghost use Rattle.std.specs.Prelude.{◌≡◌, ◌≢◌, ◌≤◌, ◌<◌, ◌+◌, length, IsSome, IfOk, OnOk, MatchOption, MatchResult, Some, None};
 ghost use Rattle.babel_prefix.specs.Width.{octet_count, width_of};
 ghost use Rattle.babel_tlv.specs.Context.{IsOfFamily};
-ghost use Rattle.babel_tlv.specs.Forming.{default_octets, field_len, formed, omitted, prefix_from, prefix_len, sets_default, sets_router_id, update_encoding};
+ghost use Rattle.babel_tlv.specs.Forming.{field_len, formed, omitted, prefix_from, prefix_len, sets_default, sets_router_id, update_encoding};
 ghost use Rattle.babel_tlv.specs.Pair.{EventFits};
 ghost use Rattle.babel_tlv.specs.Says.{wildcard_event};
 ghost use Rattle.babel_tlv.specs.Encodings.{IsNamedBy};
 ghost use Rattle.babel_tlv.specs.Fields.{AreUpdateFields};
 ghost use Rattle.babel_tlv.specs.Framing.{tlvs_of};
+ghost use Rattle.babel_tlv.specs.Reading.{joined_octets, update_sub_tlvs};
 ghost use Rattle.babel_tlv.specs.SubTlv.{sub_fault, source_of};
 ghost use Rattle.babel_tlv.specs.Verdicts.{event_of};
 ghost use Rattle.babel_tlv.specs.declared.place.Place.TheVariants as places;
@@ -98,7 +99,7 @@ impl<'a> Update<'a> {
         requires few { omitted self.now.body.now ≤ octet_count family }
         requires has_default { 0 < omitted self.now.body.now → IsSome default }
         ensures value { result ≡ prefix_from family (prefix_len self.now.body.now)
-            (take (omitted self.now.body.now) (default_octets default) ++ take (field_len self.now.body.now) (drop 10 self.now.body.now)) }
+            (joined_octets default self.now.body.now) }
         ensures family { result.address.family ≡ family }
     {
         let field = &self.body[FIXED_LEN..FIXED_LEN + self.brought];
@@ -109,10 +110,10 @@ impl<'a> Update<'a> {
     /// The source prefix of a route in this family, or what is wrong with the sub-TLVs: RFC 9079, 7.2.
     pub fn source(&self, family: Family) -> Result<Prefix, Reason>
         requires { 10 + field_len self.now.body.now ≤ length self.now.body.now }
-        ensures fault { MatchResult result
-            (λ _. sub_fault (places.InUpdate family) (drop (10 + field_len self.now.body.now) self.now.body.now) ≡ None)
-            (λ reason. sub_fault (places.InUpdate family) (drop (10 + field_len self.now.body.now) self.now.body.now) ≡ Some reason) }
-        ensures value { IfOk result (λ source. source ≡ source_of family (tlvs_of 0 (drop (10 + field_len self.now.body.now) self.now.body.now))) }
+        ensures fault { MatchResult result (λ _. sub_fault (places.InUpdate family) (update_sub_tlvs self.now.body.now) ≡ None)
+            (λ reason. sub_fault (places.InUpdate family) (update_sub_tlvs self.now.body.now) ≡ Some reason) }
+        ensures value { IfOk result (λ source. source
+            ≡ source_of family (tlvs_of 0 (update_sub_tlvs self.now.body.now))) }
         ensures family { IfOk result (λ source. source.address.family ≡ family) }
     {
         let sub_tlvs = self.sub_tlvs();
@@ -126,7 +127,7 @@ impl<'a> Update<'a> {
     /// The sub-TLVs, behind the prefix.
     fn sub_tlvs(&self) -> &'a [u8]
         requires { 10 + field_len self.now.body.now ≤ length self.now.body.now }
-        ensures { result.now ≡ drop (10 + field_len self.now.body.now) self.now.body.now }
+        ensures { result.now ≡ update_sub_tlvs self.now.body.now }
     {
         &self.body[FIXED_LEN + self.brought..]
     }

@@ -1,3 +1,4 @@
+-- The octets of a whole address are a number of its width.
 use Rattle.std.proofs.Common.{arith, length}
 use Rattle.babel_tlv.proofs.FormLaws.{whole_fits}
 use Rattle.babel_tlv.proofs.address.address.Goals as goal

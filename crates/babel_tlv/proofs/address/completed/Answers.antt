@@ -1,3 +1,4 @@
+-- The omitted octets, those behind them and zeros are the number of the address.
 use Rattle.std.proofs.Common.{◌≡◌, ℕ, ◌+◌, ◌-◌, ◌*◌, ◌^◌, ◌≤◌, ◌∙◌, length, take, ap, sym, arith, rules}
 use Rattle.std.specs.Int.Digits.{number_from_digits, number_from_digits_after}
 use Rattle.babel_prefix.specs.Width.{octet_count}

@@ -1,3 +1,4 @@
+-- A shift by 8 bits an octet leaves the number of the first octets.
 use Rattle.babel_tlv.proofs.FormLaws.{leading-is, leading-fits}
 use Rattle.babel_tlv.proofs.address.leading_octets.Goals as goal
 

@@ -1,3 +1,4 @@
+-- A shift by 8 bits an octet is the product, and fits the family.
 use Rattle.babel_tlv.proofs.FormLaws.{moved_up-is, moved_up-fits}
 use Rattle.babel_tlv.proofs.address.moved_up.Goals as goal
 

@@ -1,3 +1,4 @@
+-- Each octet goes on the number, which has room for all of them.
 use Rattle.std.proofs.Common.{◌≡◌, ◌<◌, ◌+◌, ◌*◌, ◌^◌, ◌∙◌, length, get_or, ap, sym, subst, arith, ℕ}
 use Rattle.babel_tlv.proofs.FormLaws.{number_after-room, number_after-more, number_after-below}
 use Rattle.babel_tlv.proofs.address.number_after.Goals as goal

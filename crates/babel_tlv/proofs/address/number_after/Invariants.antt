@@ -1,3 +1,4 @@
+-- The number is that of the octets so far.
 use Rattle.std.proofs.Common.{◌≡◌, take}
 use Rattle.std.specs.Int.Digits.{number_from_digits_after}
 use Rattle.babel_tlv.proofs.address.number_after.Given as goal

@@ -1,3 +1,4 @@
+-- Without a default prefix no octet is omitted, and the number is 0.
 use Rattle.babel_tlv.proofs.FormLaws.{pow_256-pos}
 use Rattle.babel_tlv.proofs.address.omitted_octets.Goals as goal
 

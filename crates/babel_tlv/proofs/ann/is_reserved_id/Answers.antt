@@ -1,3 +1,4 @@
+-- Eight octets are all one exactly if their number is the greatest.
 use Rattle.std.proofs.Common.{rules}
 use Rattle.babel_tlv.proofs.IdLaws.{reserved_else}
 use Rattle.babel_tlv.proofs.ann.is_reserved_id.Goals as goal

@@ -1,3 +1,4 @@
+-- Each sub-TLV without a fault goes on what was read; the first with one gives the reason.
 use Rattle.std.proofs.Common.{Some, rules, ◌≡◌, ℕ, subst, arith}
 use Rattle.std.specs.Prelude.{is_some}
 use Rattle.babel_tlv.specs.SubTlv.{sub_fault}

@@ -1,3 +1,4 @@
+-- The state that the flags set is what the Update gives; without a prefix it gives nothing.
 use Rattle.std.proofs.Common.{◌∙◌, Option, sym, ap}
 use Rattle.babel_prefix.specs.Address.{Address}
 use Rattle.babel_tlv.specs.Forming.{formed}

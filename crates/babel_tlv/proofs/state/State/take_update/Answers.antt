@@ -1,3 +1,4 @@
+-- An Update of a family's encoding says what its prefix event says.
 use Rattle.std.proofs.Common.{◌≡◌, ◌∙◌, sym, ap, rules}
 use Rattle.babel_tlv.specs.Forming.{encoding, update_encoding}
 use Rattle.babel_tlv.specs.Frames.{tlv_value}

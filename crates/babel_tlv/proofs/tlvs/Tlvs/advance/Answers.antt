@@ -1,3 +1,4 @@
+-- The first TLV that is left is then read.
 use Rattle.std.proofs.Common.{refl}
 use Rattle.babel_tlv.proofs.Reading.{tlvs_of-begins}
 use Rattle.babel_tlv.proofs.LeftLaws.{read-next}

@@ -1,3 +1,4 @@
+-- What is read, and what is left of it, are the whole body.
 use Rattle.babel_tlv.proofs.LeftLaws.{checked-whole, checked-past_end}
 use Rattle.babel_tlv.proofs.tlvs.Tlvs.check_rest.Goals as goal
 

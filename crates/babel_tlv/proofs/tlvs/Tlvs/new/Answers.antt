@@ -1,3 +1,4 @@
+-- Nothing is read of the body at its start.
 use Rattle.std.proofs.Common.{[], arith, refl}
 use Rattle.babel_tlv.proofs.tlvs.Tlvs.new.Goals as goal
 

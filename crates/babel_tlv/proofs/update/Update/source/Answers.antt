@@ -1,3 +1,4 @@
+-- The source prefix, or that of length 0, is of the family.
 use Rattle.std.proofs.Common.{◌≡◌, ◌∙◌, refl, ap}
 use Rattle.std.specs.Prelude.{unwrap_or}
 use Rattle.babel_prefix.specs.Address.{AddressPrefix, whole_family}

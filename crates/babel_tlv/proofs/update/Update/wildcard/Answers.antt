@@ -1,3 +1,4 @@
+-- With a metric of 65535 and no prefix, the sub-TLVs decide.
 use Rattle.std.proofs.Common.{◌∙◌, ℕ, List, Option, sym, ap, arith}
 use Rattle.babel_tlv.specs.declared.event.Event.TheVariants as events
 use Rattle.babel_tlv.specs.declared.place.Place.TheVariants as places

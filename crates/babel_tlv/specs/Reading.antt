@@ -1,0 +1,34 @@
+-- What the readings of one TLV give: RFC 8966, 4.6.8, 4.6.9; RFC 9079, 7.2.
+use Rattle.std.specs.Prelude.{ℕ, ◌+◌, ◌++◌, List, drop, take, slice_index, Option}
+use Rattle.babel_prefix.specs.declared.family.Family.{Family}
+use Rattle.babel_prefix.specs.Address.{Address}
+use Rattle.babel_tlv.specs.declared.event.Event.{Event}
+use Rattle.babel_tlv.specs.Context.{Context, default_in}
+use Rattle.babel_tlv.specs.Forming.{default_octets, field_len, formed, hop_len, omitted}
+use Rattle.babel_tlv.specs.Framing.{TlvAt}
+use Rattle.babel_tlv.specs.Route.{Announcement}
+use Rattle.babel_tlv.specs.Says.{prefix_event}
+
+-- a TLV of this type, wherever it lies
+abbrev pub unplaced : ℕ → List ℕ → TlvAt
+unplaced kind body = record { at = 0; kind = kind; body = body }
+
+-- the sub-TLVs of a Next Hop's body, and of an Update's
+abbrev pub hop_sub_tlvs : List ℕ → List ℕ
+hop_sub_tlvs body = drop (2 + hop_len (slice_index body 0)) body
+
+abbrev pub update_sub_tlvs : List ℕ → List ℕ
+update_sub_tlvs body = drop (10 + field_len body) body
+
+-- the octets of an Update's prefix: those omitted, of the default prefix, and those that it brings
+abbrev pub joined_octets : Option Address → List ℕ → List ℕ
+joined_octets default body = take (omitted body) (default_octets default) ++ take (field_len body) (drop 10 body)
+
+-- what an Update of the family says
+abbrev pub family_event : Family → Context → List ℕ → Event
+family_event family context body = prefix_event family context body (formed family (default_in family context) body)
+
+-- a route by the fields of its announcement
+abbrev pub announced : List ℕ → ℕ → ℕ → Address → Announcement
+announced router_id seqno metric next_hop =
+    record { router_id = router_id; seqno = seqno; metric = metric; next_hop = next_hop }
