@@ -1,13 +1,20 @@
 -- What the readings of one TLV give: RFC 8966, 4.6.8, 4.6.9; RFC 9079, 7.2.
-use Rattle.std.specs.Prelude.{ℕ, ◌+◌, ◌++◌, List, drop, take, slice_index, Option}
+use Rattle.std.specs.Prelude.{◌≡◌, ℕ, ◌+◌, ◌++◌, List, drop, take, slice_index, Option, Some, None, Result, Ok, MatchResult}
 use Rattle.babel_prefix.specs.declared.family.Family.{Family}
 use Rattle.babel_prefix.specs.Address.{Address}
 use Rattle.babel_tlv.specs.declared.event.Event.{Event}
+use Rattle.babel_tlv.specs.declared.event.Event.TheVariants as events
+use Rattle.babel_tlv.specs.declared.next_hop.NextHop.{NextHop}
+use Rattle.babel_tlv.specs.declared.reason.Reason.{Reason}
+use Rattle.babel_tlv.specs.declared.route.Route.{Route}
+use Rattle.babel_tlv.specs.declared.router_id.RouterId.{RouterId}
+use Rattle.babel_tlv.specs.declared.verdict.Verdict.{Verdict}
 use Rattle.babel_tlv.specs.Context.{Context, default_in}
-use Rattle.babel_tlv.specs.Forming.{default_octets, field_len, formed, hop_len, omitted}
+use Rattle.babel_tlv.specs.Forming.{default_octets, field_len, formed, hop_len, next_hop_in, omitted, router_id_in}
 use Rattle.babel_tlv.specs.Framing.{TlvAt}
 use Rattle.babel_tlv.specs.Route.{Announcement}
 use Rattle.babel_tlv.specs.Says.{prefix_event}
+use Rattle.babel_tlv.specs.Verdicts.{event_of}
 
 -- a TLV of this type, wherever it lies
 abbrev pub unplaced : ℕ → List ℕ → TlvAt
@@ -32,3 +39,20 @@ family_event family context body = prefix_event family context body (formed fami
 abbrev pub announced : List ℕ → ℕ → ℕ → Address → Announcement
 announced router_id seqno metric next_hop =
     record { router_id = router_id; seqno = seqno; metric = metric; next_hop = next_hop }
+
+-- a reading has no fault, or this one
+abbrev pub HasFault : {X : Type 0} → Option Reason → Result X Reason → Type 0
+HasFault fault result = MatchResult result (λ _. fault ≡ None) (λ reason. fault ≡ Some reason)
+
+-- a reading and a route say this, or it is the reason to ignore the TLV
+abbrev pub GivesEvent : Event → Route → Result Verdict Reason → Type 0
+GivesEvent event route result =
+    MatchResult result (λ verdict. event ≡ event_of verdict route) (λ reason. event ≡ events.Ignored reason)
+
+-- RFC 8966, 4.6.7: the router-id, and the sub-TLVs behind it
+abbrev pub IsRouterIdIn : List ℕ → RouterId → Type 0
+IsRouterIdIn body read = (read.router_id ≡ router_id_in body) × (read.sub_tlvs.now ≡ drop 10 body)
+
+-- RFC 8966, 4.6.8: the next hop, and the sub-TLVs behind it
+abbrev pub IsNextHopIn : List ℕ → NextHop → Type 0
+IsNextHopIn body read = (next_hop_in body ≡ Ok read.addr) × (read.sub_tlvs.now ≡ hop_sub_tlvs body)

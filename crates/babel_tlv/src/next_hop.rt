@@ -1,6 +1,6 @@
-ghost use Rattle.std.specs.Prelude.{◌≡◌, MatchResult, Ok, Err};
+ghost use Rattle.std.specs.Prelude.{◌≡◌, MatchResult, Err};
 ghost use Rattle.babel_tlv.specs.Forming.{next_hop_in};
-ghost use Rattle.babel_tlv.specs.Reading.{hop_sub_tlvs};
+ghost use Rattle.babel_tlv.specs.Reading.{IsNextHopIn};
 
 use crate::address::{address, link_local_address};
 use crate::encoding::Encoding;
@@ -17,8 +17,7 @@ pub(crate) struct NextHop<'a> {
 impl<'a> NextHop<'a> {
     /// Reads a Next Hop's body.
     pub fn read(body: &'a [u8]) -> Result<NextHop<'a>, Reason>
-        ensures { MatchResult result
-            (λ read. (next_hop_in body.now ≡ Ok read.addr) × (read.sub_tlvs.now ≡ hop_sub_tlvs body.now))
+        ensures { MatchResult result (IsNextHopIn body.now)
             (λ reason. next_hop_in body.now ≡ Err reason) }
     {
         let [encoding, _, octets @ ..] = body else {

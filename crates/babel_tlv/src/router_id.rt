@@ -1,5 +1,6 @@
-ghost use Rattle.std.specs.Prelude.{◌≡◌, ◌<◌, length, drop, MatchOption};
-ghost use Rattle.babel_tlv.specs.Forming.{id_of, router_id_in};
+ghost use Rattle.std.specs.Prelude.{◌≡◌, ◌<◌, length, MatchOption};
+ghost use Rattle.babel_tlv.specs.Forming.{id_of};
+ghost use Rattle.babel_tlv.specs.Reading.{IsRouterIdIn};
 
 use babel_prefix::{Addr, Family};
 
@@ -13,8 +14,7 @@ pub(crate) struct RouterId<'a> {
 impl<'a> RouterId<'a> {
     /// Reads a Router-Id's body; `None` if it is too short.
     pub fn read(body: &'a [u8]) -> Option<RouterId<'a>>
-        ensures { MatchOption result (length body.now < 10)
-            (λ read. (read.router_id ≡ router_id_in body.now) × (read.sub_tlvs.now ≡ drop 10 body.now)) }
+        ensures { MatchOption result (length body.now < 10) (IsRouterIdIn body.now) }
     {
         let [_, _, a, b, c, d, e, f, g, h, sub_tlvs @ ..] = body else {
             return None;

@@ -1,4 +1,4 @@
-ghost use Rattle.std.specs.Prelude.{◌≡◌, ◌≢◌, ◌≤◌, ◌<◌, ◌+◌, length, IsSome, IfOk, OnOk, MatchOption, MatchResult, Some, None};
+ghost use Rattle.std.specs.Prelude.{◌≡◌, ◌≤◌, ◌<◌, ◌+◌, length, IsSome, IfOk, OnOk, MatchOption};
 ghost use Rattle.babel_prefix.specs.Width.{octet_count, width_of};
 ghost use Rattle.babel_tlv.specs.Context.{IsOfFamily};
 ghost use Rattle.babel_tlv.specs.Forming.{field_len, formed, omitted, prefix_from, prefix_len, sets_default, sets_router_id, update_encoding};
@@ -7,7 +7,7 @@ ghost use Rattle.babel_tlv.specs.Says.{wildcard_event};
 ghost use Rattle.babel_tlv.specs.Encodings.{IsNamedBy};
 ghost use Rattle.babel_tlv.specs.Fields.{AreUpdateFields};
 ghost use Rattle.babel_tlv.specs.Framing.{tlvs_of};
-ghost use Rattle.babel_tlv.specs.Reading.{joined_octets, update_sub_tlvs};
+ghost use Rattle.babel_tlv.specs.Reading.{HasFault, joined_octets, update_sub_tlvs};
 ghost use Rattle.babel_tlv.specs.SubTlv.{sub_fault, source_of};
 ghost use Rattle.babel_tlv.specs.Verdicts.{event_of};
 ghost use Rattle.babel_tlv.specs.declared.place.Place.TheVariants as places;
@@ -110,8 +110,8 @@ impl<'a> Update<'a> {
     /// The source prefix of a route in this family, or what is wrong with the sub-TLVs: RFC 9079, 7.2.
     pub fn source(&self, family: Family) -> Result<Prefix, Reason>
         requires { 10 + field_len self.now.body.now ≤ length self.now.body.now }
-        ensures fault { MatchResult result (λ _. sub_fault (places.InUpdate family) (update_sub_tlvs self.now.body.now) ≡ None)
-            (λ reason. sub_fault (places.InUpdate family) (update_sub_tlvs self.now.body.now) ≡ Some reason) }
+        ensures fault { HasFault
+            (sub_fault (places.InUpdate family) (update_sub_tlvs self.now.body.now)) result }
         ensures value { IfOk result (λ source. source
             ≡ source_of family (tlvs_of 0 (update_sub_tlvs self.now.body.now))) }
         ensures family { IfOk result (λ source. source.address.family ≡ family) }
