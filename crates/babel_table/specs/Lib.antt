@@ -5,6 +5,7 @@ pub mod Rows
 pub mod Live
 pub mod DumpFault
 pub mod Feeding
+pub mod Streams
 pub mod BestMatch
 pub mod Lookup
 pub mod OneOutcome

@@ -25,9 +25,11 @@ impl<W: Word> Model for CompactHeld<W> {
 
     ghost Value = { HeldValue };
 
-    ghost view = { λ h. held_by (announced h.router_id h.seqno h.metric W.family (W.number h.next_hop)) };
+    ghost view = { λ h. held_by
+        (announced h.router_id h.seqno h.metric W.family (W.number h.next_hop)) };
 
-    ghost invariant = { λ h. IsHeldBy (announced h.router_id h.seqno h.metric W.family (W.number h.next_hop)) };
+    ghost invariant = { λ h. IsHeldBy
+        (announced h.router_id h.seqno h.metric W.family (W.number h.next_hop)) };
 }
 
 impl<W: Word> CompactHeld<W> {

@@ -26,7 +26,8 @@ impl<W: Word> Model for CompactKey<W> {
 
     ghost view = { λ k. key_in W.family (W.number k.dst) k.dst_len (W.number k.src) k.src_len };
 
-    ghost invariant = { λ k. IsKey (key_in W.family (W.number k.dst) k.dst_len (W.number k.src) k.src_len) };
+    ghost invariant = { λ k. IsKey
+        (key_in W.family (W.number k.dst) k.dst_len (W.number k.src) k.src_len) };
 }
 
 impl<W: Word> PartialEq for CompactKey<W> {

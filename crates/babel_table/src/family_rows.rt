@@ -94,8 +94,10 @@ impl<W: Word> FamilyRows<W> {
         requires family { key.now.dst.address.family ≡ W.family }
         requires fits { FitsFamily W.family held }
         requires few { length self.old < 2 ^ 62 }
-        ensures ok { OnOk result (self.new ≡ insert_entry key_cmp self.old key.now (kept held wipes)) }
-        ensures len { OnOk result (length self.new ≡ length self.old + (if is_some (lookup (is_at (key_cmp key.now)) self.old) then 0 else 1)) }
+        ensures ok { OnOk result
+            (self.new ≡ insert_entry key_cmp self.old key.now (kept held wipes)) }
+        ensures len { OnOk result (length self.new ≡ length self.old
+            + (if is_some (lookup (is_at (key_cmp key.now)) self.old) then 0 else 1)) }
         ensures err { OnErr result (self.new ≡ self.old) }
     {
         let key = CompactKey::of(key);
@@ -186,7 +188,8 @@ fn find<W: Word>(
     key: &CompactKey<W>,
 ) -> Option<usize>
     requires { AreIndexed (keys_of rows.now) rising places.now.entries }
-    ensures { MatchOption result (lookup (is_at (key_cmp key.now)) rows.now ≡ None) (IsPlace (keys_of rows.now) key.now) }
+    ensures { MatchOption result (lookup (is_at (key_cmp key.now)) rows.now ≡ None)
+        (IsPlace (keys_of rows.now) key.now) }
 {
     if next < rows.len() && rows[next].0 == *key {
         return Some(next);
@@ -215,8 +218,11 @@ fn push_placed<W: Word>(
     key: CompactKey<W>,
     stored: Stored<W>,
 ) -> Result<(), AllocError>
-    ensures ok { OnOk result ((rows.new.items ≡ rows.old.items ++ (key, Some stored) ∷ []) × (places.new.entries ≡ insert_entry key_cmp places.old.entries key (length rows.old.items))) }
-    ensures err { OnErr result ((rows.new.items ≡ rows.old.items) × (places.new.entries ≡ places.old.entries)) }
+    ensures ok { OnOk result ((rows.new.items ≡ rows.old.items ++ (key, Some stored) ∷ [])
+        × (places.new.entries
+        ≡ insert_entry key_cmp places.old.entries key (length rows.old.items))) }
+    ensures err { OnErr result ((rows.new.items ≡ rows.old.items)
+        × (places.new.entries ≡ places.old.entries)) }
 {
     let place = rows.len();
     rows.push((key.copied(), Some(stored)))?;

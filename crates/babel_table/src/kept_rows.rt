@@ -69,8 +69,10 @@ impl KeptRows {
     pub fn put(&mut self, key: &Key, held: Held, wipes: u64) -> Result<(), AllocError>
         requires pair { IsPair (key.now, held) }
         requires few { length self.old < 2 ^ 62 }
-        ensures ok { OnOk result (self.new ≡ insert_entry key_cmp self.old key.now (kept held wipes)) }
-        ensures len { OnOk result (length self.new ≡ length self.old + (if is_some (lookup (is_at (key_cmp key.now)) self.old) then 0 else 1)) }
+        ensures ok { OnOk result
+            (self.new ≡ insert_entry key_cmp self.old key.now (kept held wipes)) }
+        ensures len { OnOk result (length self.new ≡ length self.old
+            + (if is_some (lookup (is_at (key_cmp key.now)) self.old) then 0 else 1)) }
         ensures err { OnErr result (self.new ≡ self.old) }
     {
         match key.dst().family() {

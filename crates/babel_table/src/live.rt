@@ -6,7 +6,7 @@ ghost use Rattle.babel_tlv.specs.Pair.{EventFits, IsPair};
 ghost use Rattle.babel_tlv.specs.Route.{key_cmp};
 ghost use Rattle.babel_tlv.specs.Verdicts.{event_of};
 ghost use Rattle.babel_tlv.specs.declared.event.Event.TheVariants as events;
-ghost use Rattle.babel_table.specs.Live.{unreachable};
+ghost use Rattle.babel_table.specs.Live.{IsNotHeld, KeepsAllButRows, unreachable};
 ghost use Rattle.babel_table.specs.Rows.{AreRows};
 ghost use Rattle.babel_table.specs.Feeding.{Follows, IsRefused};
 
@@ -31,7 +31,12 @@ impl Model for LiveRows {
 
     ghost Value = { Live };
 
-    ghost view = { λ r. record { mode = r.mode; entries = r.entries; wipes = r.wipes; rows = live_rows r.wipes r.kept } };
+    ghost view = { λ r. record {
+      mode = r.mode;
+      entries = r.entries;
+      wipes = r.wipes;
+      rows = live_rows r.wipes r.kept;
+    } };
 
     ghost invariant = { λ r. AreKept r.wipes r.kept × (length r.kept ≤ r.entries) };
 }
@@ -52,9 +57,9 @@ impl LiveRows {
     /// Holds this for the key, if a row may be added for it.
     fn put(&mut self, key: &Key, held: Held, at: u64) -> Result<(), Fault>
         requires { IsPair (key.now, held) }
-        ensures settings { (self.new.mode ≡ self.old.mode) × (self.new.entries ≡ self.old.entries) × (self.new.wipes ≡ self.old.wipes) }
+        ensures settings { KeepsAllButRows self.old self.new }
         ensures ok { OnOk result (self.new.rows ≡ insert_entry key_cmp self.old.rows key.now held) }
-        ensures refused { IfErr result (λ fault. ((fault ≡ Fault.TooManyRoutes at) × (self.old.entries < length (insert_entry key_cmp self.old.rows key.now held))) ⊎ (fault ≡ Fault.Memory)) }
+        ensures refused { IfErr result (IsNotHeld self.old at key.now held) }
     {
         if self.kept.len() >= self.entries as usize && !self.kept.has(key) {
             return Err(Fault::TooManyRoutes { at });
@@ -67,7 +72,7 @@ impl LiveRows {
 
     /// Holds nothing for the key.
     fn forget(&mut self, key: &Key)
-        ensures settings { (self.new.mode ≡ self.old.mode) × (self.new.entries ≡ self.old.entries) × (self.new.wipes ≡ self.old.wipes) }
+        ensures settings { KeepsAllButRows self.old self.new }
         ensures rows { self.new.rows ≡ remove_entry (is_at (key_cmp key.now)) self.old.rows }
     {
         self.kept.forget(key);
@@ -75,7 +80,7 @@ impl LiveRows {
 
     /// Holds nothing for any key.
     fn clear(&mut self)
-        ensures settings { (self.new.mode ≡ self.old.mode) × (self.new.entries ≡ self.old.entries) × (self.new.wipes ≡ self.old.wipes) }
+        ensures settings { KeepsAllButRows self.old self.new }
         ensures rows { self.new.rows ≡ [] }
     {
         self.kept.clear();
@@ -84,7 +89,8 @@ impl LiveRows {
     /// Makes each row unreachable.
     fn wipe(&mut self)
         requires { self.old.wipes + 1 < 2 ^ 64 }
-        ensures settings { (self.new.mode ≡ self.old.mode) × (self.new.entries ≡ self.old.entries) × (self.new.wipes ≡ self.old.wipes + 1) }
+        ensures settings { (self.new.mode ≡ self.old.mode) × (self.new.entries ≡ self.old.entries)
+            × (self.new.wipes ≡ self.old.wipes + 1) }
         ensures rows { self.new.rows ≡ map unreachable self.old.rows }
     {
         self.wipes += 1;
@@ -107,9 +113,11 @@ impl LiveRows {
     /// Takes an announcement, said at this offset, into the rows.
     fn announce(&mut self, key: &Key, ann: &Ann, at: u64) -> Result<(), Fault>
         requires { EventFits (events.Announce key.now ann.now) }
-        ensures settings { (self.new.mode ≡ self.old.mode) × (self.new.entries ≡ self.old.entries) × (self.new.wipes ≡ self.old.wipes) }
-        ensures ok { OnOk result (Follows self.old.mode (events.Announce key.now ann.now) self.old.rows self.new.rows) }
-        ensures refused { IfErr result (IsRefused self.old.mode self.old.entries at (events.Announce key.now ann.now) self.old.rows) }
+        ensures settings { KeepsAllButRows self.old self.new }
+        ensures ok { OnOk result
+            (Follows self.old.mode (events.Announce key.now ann.now) self.old.rows self.new.rows) }
+        ensures refused { IfErr result (IsRefused self.old.mode self.old.entries at
+            (events.Announce key.now ann.now) self.old.rows) }
     {
         self.put(key, Held::Route(*ann), at)
     }
@@ -117,9 +125,11 @@ impl LiveRows {
     /// Takes a retraction of one key into the rows.
     fn retract(&mut self, key: &Key, at: u64) -> Result<(), Fault>
         requires { EventFits (events.Retract key.now) }
-        ensures settings { (self.new.mode ≡ self.old.mode) × (self.new.entries ≡ self.old.entries) × (self.new.wipes ≡ self.old.wipes) }
-        ensures ok { OnOk result (Follows self.old.mode (events.Retract key.now) self.old.rows self.new.rows) }
-        ensures refused { IfErr result (IsRefused self.old.mode self.old.entries at (events.Retract key.now) self.old.rows) }
+        ensures settings { KeepsAllButRows self.old self.new }
+        ensures ok { OnOk result
+            (Follows self.old.mode (events.Retract key.now) self.old.rows self.new.rows) }
+        ensures refused { IfErr result (IsRefused self.old.mode self.old.entries at
+            (events.Retract key.now) self.old.rows) }
     {
         match self.mode {
             Mode::Plain => {
@@ -133,7 +143,8 @@ impl LiveRows {
     /// Takes a retraction of all keys into the rows.
     fn retract_all(&mut self)
         requires { self.old.wipes + 1 < 2 ^ 64 }
-        ensures settings { (self.new.mode ≡ self.old.mode) × (self.new.entries ≡ self.old.entries) × (self.new.wipes ≤ self.old.wipes + 1) }
+        ensures settings { (self.new.mode ≡ self.old.mode) × (self.new.entries ≡ self.old.entries)
+            × (self.new.wipes ≤ self.old.wipes + 1) }
         ensures rows { Follows self.old.mode events.RetractAll self.old.rows self.new.rows }
     {
         match self.mode {
@@ -146,13 +157,16 @@ impl LiveRows {
     pub fn take(&mut self, verdict: Verdict, route: &Route, at: u64) -> Result<(), Fault>
         requires fits { EventFits (event_of verdict route.now) }
         requires room { self.old.wipes + 1 < 2 ^ 64 }
-        ensures settings { (self.new.mode ≡ self.old.mode) × (self.new.entries ≡ self.old.entries) × (self.new.wipes ≤ self.old.wipes + 1) }
+        ensures settings { (self.new.mode ≡ self.old.mode) × (self.new.entries ≡ self.old.entries)
+            × (self.new.wipes ≤ self.old.wipes + 1) }
 
         // The rows of events are then those of these events and this one.
-        ensures ok { OnOk result (Follows self.old.mode (event_of verdict route.now) self.old.rows self.new.rows) }
+        ensures ok { OnOk result
+            (Follows self.old.mode (event_of verdict route.now) self.old.rows self.new.rows) }
 
         // It is refused where there would be more rows than may be, or for want of memory.
-        ensures refused { IfErr result (IsRefused self.old.mode self.old.entries at (event_of verdict route.now) self.old.rows) }
+        ensures refused { IfErr result (IsRefused self.old.mode self.old.entries at
+            (event_of verdict route.now) self.old.rows) }
     {
         match verdict {
             Verdict::Announce => self.announce(&route.key, &route.ann, at),

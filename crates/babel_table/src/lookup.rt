@@ -18,7 +18,8 @@ pub(crate) fn best_match<W: Word>(rows: &[CompactRow<W>], dst: &Addr, src: &Addr
     requires rows { AreRows rows.now }
     requires family { dst.now.family ≡ W.family }
     requires one_family { dst.now.family ≡ src.now.family }
-    ensures { MatchOption result (HasNoMatch rows.now dst.now src.now) (HasBestMatch rows.now dst.now src.now) }
+    ensures { MatchOption result (HasNoMatch rows.now dst.now src.now)
+        (HasBestMatch rows.now dst.now src.now) }
 {
     for len in (0..=dst.family().width()).rev() {
         let prefix = Prefix::new(*dst, len)?;
@@ -39,7 +40,8 @@ fn longest_source<W: Word>(
     requires rows { AreRows rows.now }
     requires family { src.now.family ≡ W.family }
     requires one_family { dst.now.address.family ≡ src.now.family }
-    ensures { MatchOption result (HasNoSource rows.now dst.now src.now) (HasLongestSource rows.now dst.now src.now) }
+    ensures { MatchOption result (HasNoSource rows.now dst.now src.now)
+        (HasLongestSource rows.now dst.now src.now) }
 {
     if !has_destination(rows, dst) {
         return None;

@@ -79,7 +79,8 @@ impl Pending {
         requires { IsPartial self.old }
         ensures whole { self.new ++ result.now ≡ self.old ++ octets.now }
         ensures one { HasHeader self.new → length self.new ≤ 4 + body_len self.new }
-        ensures full { result.now ≢ [] → HasHeader self.new × (length self.new ≡ 4 + body_len self.new) }
+        ensures full { result.now ≢ []
+            → HasHeader self.new × (length self.new ≡ 4 + body_len self.new) }
     {
         let rest = self.add_up_to(HEADER, octets);
         if self.octets.len() < HEADER {

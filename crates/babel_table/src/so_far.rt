@@ -1,12 +1,10 @@
-ghost use Rattle.std.specs.Prelude.{◌≡◌, ◌⊎◌, ◌≤◌, ◌<◌, ◌+◌, ◌^◌, ◌++◌, ◌∷◌, [], List, length, drop, OnOk, IfOk, IfErr};
-ghost use Rattle.babel_table.specs.Feeding.{IsRefused, StandsBehind, Takes, Fails, TookPackets, TookSome, StopsBehind, IsPartial, routes, event_at};
+ghost use Rattle.std.specs.Prelude.{◌≡◌, ◌≤◌, ◌<◌, ◌+◌, ◌^◌, ◌∷◌, [], length, drop, OnOk, IfOk, IfErr};
+ghost use Rattle.babel_table.specs.Feeding.{IsRefused, IsPartial, event_at};
 ghost use Rattle.babel_tlv.specs.Pair.{EventFits};
 ghost use Rattle.babel_tlv.specs.Verdicts.{event_of};
-ghost use Rattle.babel_tlv.specs.Says.{Saying, sayings_behind};
-ghost use Rattle.babel_tlv.specs.Framing.{Parts, TlvAt, TlvPastEndAt, tlvs_of};
+ghost use Rattle.babel_tlv.specs.Says.{sayings_behind};
+ghost use Rattle.babel_tlv.specs.Framing.{Parts, tlvs_of};
 ghost use Rattle.babel_tlv.specs.Frames.{tlv_value};
-ghost use Rattle.babel_prefix.specs.Address.{Address};
-ghost use Rattle.babel_table.specs.Rows.{Routes};
 
 use crate::live::LiveRows;
 use crate::report::Report;
@@ -24,6 +22,9 @@ pub struct SoFar {
 }
 
 impl SoFar {
+    ghost use Rattle.babel_table.specs.Streams.{FailsAtTlv, FailsInBody, StopsInPackets};
+    ghost use Rattle.babel_table.specs.Streams.{TakesPackets, TakesSayings, TakesTlv};
+
     /// Takes what a TLV says of a route, at this offset.
     pub fn take(&mut self, verdict: Verdict, route: &Route, at: u64) -> Result<(), Fault>
         requires fits { EventFits (event_of verdict route.now) }
@@ -33,9 +34,10 @@ impl SoFar {
         ensures tlvs { self.new.report.tlvs ≡ self.old.report.tlvs + 1 }
 
         // The table behind some TLVs is then that behind these and this one.
-        ensures ok { OnOk result ((said : List Saying) → StandsBehind self.old.rows.mode self.old.rows.entries (routes self.old.rows.rows self.old.report) said
-            → StandsBehind self.old.rows.mode self.old.rows.entries (routes self.new.rows.rows self.new.report) (said ++ event_at at (event_of verdict route.now) ∷ [])) }
-        ensures refused { IfErr result (IsRefused self.old.rows.mode self.old.rows.entries at (event_of verdict route.now) self.old.rows.rows) }
+        ensures ok { OnOk result
+            (TakesSayings self.old (event_at at (event_of verdict route.now) ∷ []) self.new) }
+        ensures refused { IfErr result (IsRefused self.old.rows.mode self.old.rows.entries at
+            (event_of verdict route.now) self.old.rows.rows) }
     {
         self.report.count(verdict, at);
         let taken = self.rows.take(verdict, route, at);
@@ -51,12 +53,9 @@ impl SoFar {
         ensures tlvs { self.new.report.tlvs ≤ self.old.report.tlvs + 1 }
 
         // Where it is the next TLV of its packet, it is then taken, or it fails.
-        ensures ok { OnOk result ((sender : Address) (old : Routes) (all left : List TlvAt)
-            → TookSome self.old.rows.mode self.old.rows.entries sender old all (routes self.old.rows.rows self.old.report) state.old (tlv_value tlv.now ∷ left)
-            → TookSome self.old.rows.mode self.old.rows.entries sender old all (routes self.new.rows.rows self.new.report) state.new left) }
-        ensures fails { IfErr result (λ fault. (sender : Address) (old : Routes) (all left : List TlvAt)
-            → TookSome self.old.rows.mode self.old.rows.entries sender old all (routes self.old.rows.rows self.old.report) state.old (tlv_value tlv.now ∷ left)
-            → Fails self.old.rows.mode self.old.rows.entries (sayings_behind sender [] all) old fault) }
+        ensures ok { OnOk result
+            (TakesTlv self.old state.old (tlv_value tlv.now) self.new state.new) }
+        ensures fails { IfErr result (FailsAtTlv self.old state.old (tlv_value tlv.now)) }
     {
         let verdict = state.step(tlv, route)?;
         self.take(verdict, route, tlv.at)
@@ -73,10 +72,9 @@ impl SoFar {
 
         // The table behind some TLVs is then that behind these and those of the body.
         ensures whole { OnOk result (Parts at body.now (tlvs_of at body.now)) }
-        ensures ok { OnOk result (Takes self.old.rows.mode self.old.rows.entries (sayings_behind sender [] (tlvs_of at body.now))
-            (routes self.old.rows.rows self.old.report) (routes self.new.rows.rows self.new.report)) }
-        ensures fails { IfErr result (λ fault. TlvPastEndAt at body.now fault ⊎ (Parts at body.now (tlvs_of at body.now)
-            × Fails self.old.rows.mode self.old.rows.entries (sayings_behind sender [] (tlvs_of at body.now)) (routes self.old.rows.rows self.old.report) fault)) }
+        ensures ok { OnOk result
+            (TakesSayings self.old (sayings_behind sender [] (tlvs_of at body.now)) self.new) }
+        ensures fails { IfErr result (FailsInBody self.old sender at body.now) }
     {
         let mut state = State::new(sender);
         let mut route = Route::unwritten();
@@ -96,12 +94,12 @@ impl SoFar {
         requires room { self.old.report.tlvs + length octets.now < 2 ^ 64 }
         ensures mode { self.new.rows.mode ≡ self.old.rows.mode }
         ensures entries { self.new.rows.entries ≡ self.old.rows.entries }
-        ensures took { IfOk result (λ used. TookPackets self.old.rows.mode self.old.rows.entries sender at octets.now
-            (routes self.old.rows.rows self.old.report) (routes self.new.rows.rows self.new.report) (drop used octets.now) (at + used)) }
+        ensures took { IfOk result (λ used. TakesPackets
+            self.old sender at octets.now self.new (drop used octets.now) (at + used)) }
         ensures used { IfOk result (λ used. used ≤ length octets.now) }
         ensures tlvs { IfOk result (λ used. self.new.report.tlvs ≤ self.old.report.tlvs + used) }
         ensures partial { IfOk result (λ used. IsPartial (drop used octets.now)) }
-        ensures stops { IfErr result (StopsBehind self.old.rows.mode self.old.rows.entries sender at octets.now (routes self.old.rows.rows self.old.report)) }
+        ensures stops { IfErr result (StopsInPackets self.old sender at octets.now) }
     {
         let mut rest = octets;
         let mut place = at;

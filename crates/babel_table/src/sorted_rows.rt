@@ -31,7 +31,8 @@ impl Model for SortedRows {
 
     ghost view = { λ r. r.v4.items ++ r.v6.items };
 
-    ghost invariant = { λ r. AreOf V4 r.v4.items × AreOf V6 r.v6.items × AreRows (r.v4.items ++ r.v6.items) };
+    ghost invariant = { λ r. AreOf V4 r.v4.items × AreOf V6 r.v6.items
+        × AreRows (r.v4.items ++ r.v6.items) };
 }
 
 impl SortedRows {
@@ -50,7 +51,8 @@ impl SortedRows {
     pub fn lookup(&self, dst: &Addr, src: &Addr) -> Option<Held>
         requires one_family { dst.now.family ≡ src.now.family }
         ensures valid { AreRows self.now }
-        ensures best { MatchOption result (HasNoMatch self.now dst.now src.now) (HasBestMatch self.now dst.now src.now) }
+        ensures best { MatchOption result (HasNoMatch self.now dst.now src.now)
+            (HasBestMatch self.now dst.now src.now) }
     {
         match dst.family() {
             Family::V4 => best_match(&self.v4, dst, src),

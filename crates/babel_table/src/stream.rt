@@ -1,5 +1,6 @@
 ghost use Rattle.std.specs.Prelude.{◌≡◌, ◌≢◌, ◌≤◌, ◌<◌, ◌+◌, ◌-◌, ◌^◌, ◌++◌, [], length, take, OnOk, IfOk, IfErr};
-ghost use Rattle.babel_table.specs.Feeding.{IsPartial, IsReady, StopsBehind, StopsWithin, TookPackets, routes};
+ghost use Rattle.babel_table.specs.Feeding.{IsPartial, IsReady};
+ghost use Rattle.babel_table.specs.Streams.{KeepsSettings, StopsInLimit, StopsInOctets, TakesOctets};
 
 use crate::pending::Pending;
 use crate::so_far::SoFar;
@@ -25,13 +26,11 @@ impl Stream {
         requires none { self.old.pending ≡ [] }
         requires counted { self.old.so_far.report.tlvs ≤ self.old.at }
         requires fits { self.old.at + length octets.now < 2 ^ 64 }
-        ensures settings { (self.new.so_far.rows.mode ≡ self.old.so_far.rows.mode) × (self.new.so_far.rows.entries ≡ self.old.so_far.rows.entries) × (self.new.sender ≡ self.old.sender) }
+        ensures settings { KeepsSettings self.old self.new }
         ensures counted { OnOk result (self.new.so_far.report.tlvs ≤ self.new.at) }
         ensures partial { OnOk result (IsPartial self.new.pending) }
-        ensures took { OnOk result (TookPackets self.old.so_far.rows.mode self.old.so_far.rows.entries self.old.sender self.old.at octets.now
-            (routes self.old.so_far.rows.rows self.old.so_far.report) (routes self.new.so_far.rows.rows self.new.so_far.report) self.new.pending self.new.at) }
-        ensures stops { IfErr result (StopsBehind self.old.so_far.rows.mode self.old.so_far.rows.entries self.old.sender self.old.at octets.now
-            (routes self.old.so_far.rows.rows self.old.so_far.report)) }
+        ensures took { OnOk result (TakesOctets self.old octets.now self.new self.new.pending) }
+        ensures stops { IfErr result (StopsInOctets self.old octets.now) }
     {
         let used = self.so_far.take_packets(self.sender, octets, self.at)?;
         self.at += used as u64;
@@ -44,16 +43,15 @@ impl Stream {
         requires partial { IsPartial self.old.pending }
         requires counted { self.old.so_far.report.tlvs ≤ self.old.at }
         requires fits { self.old.at + (length self.old.pending + length octets.now) < 2 ^ 64 }
-        ensures settings { (self.new.so_far.rows.mode ≡ self.old.so_far.rows.mode) × (self.new.so_far.rows.entries ≡ self.old.so_far.rows.entries) × (self.new.sender ≡ self.old.sender) }
+        ensures settings { KeepsSettings self.old self.new }
         ensures counted { IfOk result (λ rest. self.new.so_far.report.tlvs ≤ self.new.at) }
         ensures partial { IfOk result (λ rest. IsPartial self.new.pending) }
 
         // Octets are given back only behind a whole packet.
         ensures whole { IfOk result (λ rest. rest.now ≢ [] → self.new.pending ≡ []) }
-        ensures took { IfOk result (λ rest. TookPackets self.old.so_far.rows.mode self.old.so_far.rows.entries self.old.sender self.old.at (self.old.pending ++ octets.now)
-            (routes self.old.so_far.rows.rows self.old.so_far.report) (routes self.new.so_far.rows.rows self.new.so_far.report) (self.new.pending ++ rest.now) self.new.at) }
-        ensures stops { IfErr result (StopsBehind self.old.so_far.rows.mode self.old.so_far.rows.entries self.old.sender self.old.at (self.old.pending ++ octets.now)
-            (routes self.old.so_far.rows.rows self.old.so_far.report)) }
+        ensures took { IfOk result (λ rest. TakesOctets
+            self.old (self.old.pending ++ octets.now) self.new (self.new.pending ++ rest.now)) }
+        ensures stops { IfErr result (StopsInOctets self.old (self.old.pending ++ octets.now)) }
     {
         let rest = self.pending.fill(octets);
         let used = self
@@ -72,13 +70,12 @@ impl Stream {
         requires partial { IsPartial self.old.pending }
         requires counted { self.old.so_far.report.tlvs ≤ self.old.at }
         requires fits { self.old.at + (length self.old.pending + length octets.now) < 2 ^ 64 }
-        ensures settings { (self.new.so_far.rows.mode ≡ self.old.so_far.rows.mode) × (self.new.so_far.rows.entries ≡ self.old.so_far.rows.entries) × (self.new.sender ≡ self.old.sender) }
+        ensures settings { KeepsSettings self.old self.new }
         ensures counted { OnOk result (self.new.so_far.report.tlvs ≤ self.new.at) }
         ensures partial { OnOk result (IsPartial self.new.pending) }
-        ensures took { OnOk result (TookPackets self.old.so_far.rows.mode self.old.so_far.rows.entries self.old.sender self.old.at (self.old.pending ++ octets.now)
-            (routes self.old.so_far.rows.rows self.old.so_far.report) (routes self.new.so_far.rows.rows self.new.so_far.report) self.new.pending self.new.at) }
-        ensures stops { IfErr result (StopsBehind self.old.so_far.rows.mode self.old.so_far.rows.entries self.old.sender self.old.at (self.old.pending ++ octets.now)
-            (routes self.old.so_far.rows.rows self.old.so_far.report)) }
+        ensures took { OnOk result
+            (TakesOctets self.old (self.old.pending ++ octets.now) self.new self.new.pending) }
+        ensures stops { IfErr result (StopsInOctets self.old (self.old.pending ++ octets.now)) }
     {
         if self.pending.octets().is_empty() {
             return self.take_in_place(octets);
@@ -93,12 +90,12 @@ impl Stream {
     /// Takes the next octets, but for those past this many in all, which aren't looked at.
     pub fn take_within(&mut self, bytes: u32, octets: &[u8]) -> Result<(), Fault>
         requires { IsReady bytes self.old.so_far.report.tlvs self.old.at self.old.pending }
-        ensures settings { (self.new.so_far.rows.mode ≡ self.old.so_far.rows.mode) × (self.new.so_far.rows.entries ≡ self.old.so_far.rows.entries) × (self.new.sender ≡ self.old.sender) }
-        ensures ready { OnOk result (IsReady bytes self.new.so_far.report.tlvs self.new.at self.new.pending) }
-        ensures took { OnOk result (TookPackets self.old.so_far.rows.mode self.old.so_far.rows.entries self.old.sender self.old.at (self.old.pending ++ octets.now)
-            (routes self.old.so_far.rows.rows self.old.so_far.report) (routes self.new.so_far.rows.rows self.new.so_far.report) self.new.pending self.new.at) }
-        ensures stops { IfErr result (StopsWithin bytes self.old.so_far.rows.mode self.old.so_far.rows.entries self.old.sender self.old.at self.old.pending octets.now
-            (routes self.old.so_far.rows.rows self.old.so_far.report)) }
+        ensures settings { KeepsSettings self.old self.new }
+        ensures ready { OnOk result
+            (IsReady bytes self.new.so_far.report.tlvs self.new.at self.new.pending) }
+        ensures took { OnOk result
+            (TakesOctets self.old (self.old.pending ++ octets.now) self.new self.new.pending) }
+        ensures stops { IfErr result (StopsInLimit bytes self.old octets.now) }
     {
         let room = (bytes as u64 - (self.at + self.pending.octets().len() as u64)) as usize;
         if octets.len() <= room {
