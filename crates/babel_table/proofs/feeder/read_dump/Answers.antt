@@ -1,3 +1,4 @@
+-- What feeding and finishing say of the octets is said of the dump.
 use Rattle.std.proofs.Common.{ℕ, List, [], subst, ◌∙◌}
 use Rattle.std.proofs.lemmas.List.{append-nil}
 use Rattle.std.proofs.lemmas.Result.{err_from_is_err_and}

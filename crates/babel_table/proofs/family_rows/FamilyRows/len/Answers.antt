@@ -1,3 +1,4 @@
+-- The keys that are listed rise.
 use Rattle.babel_table.proofs.SaidLaws.{sorted-standing}
 use Rattle.babel_table.proofs.family_rows.FamilyRows.len.Goals as goal
 

@@ -1,3 +1,4 @@
+-- No rows stand at no places.
 use Rattle.babel_table.proofs.SaidLaws.{counted-nothing}
 use Rattle.babel_table.proofs.family_rows.FamilyRows.new.Goals as goal
 

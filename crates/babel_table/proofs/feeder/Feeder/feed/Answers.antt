@@ -1,3 +1,4 @@
+-- A fault stays; without one, the stream takes the octets or stops within them.
 use Rattle.std.proofs.Common.{◌≡◌, ◌≢◌, ◌++◌, ℕ, List, Some, arith, refl, sym, ap, subst, ◌∙◌}
 use Rattle.babel_tlv.specs.declared.fault.Fault.TheVariants as faults
 use Rattle.babel_table.specs.DumpFault.{DumpFault, MayGoOn}

@@ -1,3 +1,4 @@
+-- A fault was the dump's before; without one, what is pending decides.
 use Rattle.std.proofs.Common.{◌≡◌, ◌⊎◌, ℕ, List, Some, sym, ap, subst, ◌∙◌}
 use Rattle.std.specs.Prelude.{IfOk, IfErr}
 use Rattle.babel_tlv.specs.declared.fault.Fault.TheVariants as faults

@@ -1,3 +1,4 @@
+-- A feeder that was fed nothing has taken nothing, by its settings.
 use Rattle.std.proofs.Common.{refl, ap}
 use Rattle.babel_table.specs.Live.{Live}
 use Rattle.babel_table.proofs.FeedLaws.{taken-none}

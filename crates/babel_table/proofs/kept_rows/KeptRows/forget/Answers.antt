@@ -1,3 +1,4 @@
+-- The rows of the key's family lose it, and the others stay.
 use Rattle.std.proofs.Common.{◌≡◌, sym}
 use Rattle.babel_prefix.specs.declared.family.Family.TheVariants.{V4, V6}
 use Rattle.babel_table.proofs.KeptLaws.{of-remove, remove-v4, remove-v6}

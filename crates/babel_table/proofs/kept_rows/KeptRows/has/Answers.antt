@@ -1,3 +1,4 @@
+-- A key is looked up among the rows of its family.
 use Rattle.std.proofs.Common.{◌≡◌}
 use Rattle.babel_prefix.specs.declared.family.Family.TheVariants.{V4, V6}
 use Rattle.babel_table.proofs.KeptLaws.{lookup-v4, lookup-v6}

@@ -1,3 +1,4 @@
+-- The keys of IPv4 rise, and those of IPv6 come after them.
 use Rattle.babel_table.proofs.KeptLaws.{rising-both}
 use Rattle.babel_table.proofs.kept_rows.KeptRows.len.Goals as goal
 

@@ -1,3 +1,4 @@
+-- The rows of both families, one after the other, are the rows in order.
 use Rattle.std.proofs.Common.{◌++◌}
 use Rattle.babel_prefix.specs.declared.family.Family.TheVariants.{V4, V6}
 use Rattle.babel_table.specs.Live.{live_rows}

@@ -1,3 +1,4 @@
+-- The rows of the key's family change, and the others stay.
 use Rattle.std.proofs.Common.{◌≡◌}
 use Rattle.babel_prefix.specs.declared.family.Family.TheVariants.{V4, V6}
 use Rattle.babel_table.specs.Live.{kept}

@@ -1,3 +1,4 @@
+-- The keys kept rise, and what is kept fits them.
 use Rattle.babel_table.proofs.LiveLaws.{pairs-live_rows, rising-live_rows}
 use Rattle.babel_table.proofs.live.LiveRows.are_rows.Goals as goal
 

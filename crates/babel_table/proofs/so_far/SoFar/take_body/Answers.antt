@@ -1,3 +1,4 @@
+-- Each TLV is taken; behind one that fails, the rest of the body may still be no TLVs.
 use Rattle.std.proofs.Common.{◌≤◌, length, arith, refl, inl, inr}
 use Rattle.std.proofs.lemmas.Result.{err_from_is_err_and}
 use Rattle.babel_tlv.specs.Framing.{tlvs_of}

@@ -1,3 +1,4 @@
+-- What the state says of the TLV is taken, or makes the packet fail.
 use Rattle.std.proofs.Common.{sym}
 use Rattle.std.proofs.lemmas.Result.{err_from_is_err_and}
 use Rattle.babel_tlv.specs.Frames.{tlv_value}

@@ -1,3 +1,4 @@
+-- The best match among the rows of the addresses' family is that among all.
 use Rattle.std.proofs.Common.{◌≡◌}
 use Rattle.babel_prefix.specs.declared.family.Family.TheVariants.{V4, V6}
 use Rattle.babel_table.proofs.KeptLaws.{rows-left, rows-right, match-v4, match-v6}

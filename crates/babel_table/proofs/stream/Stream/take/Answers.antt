@@ -1,3 +1,4 @@
+-- The pending packet and those behind it are taken, one after the other.
 use Rattle.std.proofs.Common.{◌≢◌, ◌++◌, [], ℕ, List, arith, sym, ap, subst, ◌∙◌}
 use Rattle.std.proofs.lemmas.List.{append-nil, length-append}
 use Rattle.babel_table.specs.Feeding.{TookPackets, routes}

@@ -1,3 +1,4 @@
+-- Octets up to the limit leave a stream within it.
 use Rattle.std.proofs.Common.{length, arith, ap}
 use Rattle.babel_table.proofs.DumpLaws.{ready-next}
 use Rattle.babel_table.proofs.stream.Stream.take_within.Goals as goal
