@@ -1,0 +1,17 @@
+//! Captures of packets, as tcpdump and Wireshark write them (draft-ietf-opsawg-pcap, draft-ietf-opsawg-pcapng): who sent
+//! Babel datagrams, and the dump of one sender.
+//!
+//! This crate knows nothing of files and streams, nor of what the TLVs of a packet say.
+#![tactic(auto)]
+
+mod block;
+mod context;
+mod fault;
+mod frame;
+mod layout;
+mod length;
+mod link;
+mod order;
+mod seen;
+
+pub use fault::Fault;
