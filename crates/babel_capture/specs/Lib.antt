@@ -1,5 +1,7 @@
+pub mod Blocks
 pub mod Contents
 pub mod Context
+pub mod Findings
 pub mod Frame
 pub mod Lengths
 pub mod Link

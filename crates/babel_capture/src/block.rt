@@ -1,7 +1,7 @@
 ghost use Rattle.std.specs.Prelude.{◌≡◌, ◌≤◌, ◌<◌, ◌+◌, ◌^◌, length, ◌-◌, ◌==◌, IfOk, IfErr, Ok, Err};
 ghost use Rattle.babel_capture.specs.Numbers.{number_at};
 ghost use Rattle.babel_capture.specs.Lengths.{header_len};
-ghost use Rattle.babel_capture.specs.Contents.{content_of, enhanced_said, file_said, interface_said, kept_len, layout_said, packet_said, pcapng_said, section_said, simple_said, typed_said};
+ghost use Rattle.babel_capture.specs.Contents.{block_said, content_of, enhanced_said, file_said, interface_said, kept_len, packet_said, pcapng_said, section_said, simple_said, typed_said};
 
 use crate::context::Context;
 use crate::fault::Fault;
@@ -21,7 +21,7 @@ const ENHANCED_PACKET: u32 = 6;
 #[derive(Clone, Copy)]
 pub struct Packet<'a> {
     /// The number of its interface in the capture.
-    pub interface: usize,
+    pub interface: u64,
     /// The interface's link type.
     pub link: Link,
     /// The octets that were kept.
@@ -63,7 +63,7 @@ fn read_packet<'a>(before: &Context, at: u64, interface: usize, frame: &'a [u8],
     };
     match Link::of(described.link) {
         Some(link) => Ok(Block::Packet(Packet {
-            interface,
+            interface: interface as u64,
             link,
             frame,
             whole_len,
@@ -202,10 +202,11 @@ fn read_pcapng<'a>(before: &Context, at: u64, order: Order, block: &'a [u8]) -> 
 }
 
 /// What a whole block says, which begins at this offset.
+#[tactic(auto, unfolding(crate::specs::Contents::block_said))]
 pub fn read_block<'a>(before: &Context, at: u64, block: &'a [u8]) -> Result<Block<'a>, Fault>
     requires { header_len before.now.layout ≤ length block.now }
-    ensures ok { IfOk result (λ said. layout_said before.now.layout before.now at block.now ≡ Ok (content_of said)) }
-    ensures err { IfErr result (λ fault. layout_said before.now.layout before.now at block.now ≡ Err fault) }
+    ensures ok { IfOk result (λ said. block_said before.now at block.now ≡ Ok (content_of said)) }
+    ensures err { IfErr result (λ fault. block_said before.now at block.now ≡ Err fault) }
 {
     match before.layout() {
         Layout::Start => match pcap_order(block) {

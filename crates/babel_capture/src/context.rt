@@ -1,4 +1,6 @@
-ghost use Rattle.std.specs.Prelude.{◌≡◌, ◌≤◌, ◌+◌, ◌^◌, ◌<◌, [], length, slice_get, nat_le, OnOk, IfErr};
+ghost use Rattle.std.specs.Prelude.{◌≡◌, ◌≤◌, ◌+◌, ◌^◌, ◌<◌, [], length, slice_get, nat_le, OnOk, IfOk, IfErr, IfSome, IfNone, Err};
+ghost use Rattle.babel_capture.specs.Blocks.{BeginsBlock, HasHeader, IsPartial, header_of};
+ghost use Rattle.babel_capture.specs.Lengths.{block_len};
 ghost use Rattle.babel_capture.specs.Contents.{content_of, context_after};
 ghost use Rattle.babel_capture.specs.declared.layout.Layout.TheVariants as layouts;
 
@@ -28,7 +30,7 @@ impl Model for Context {
 
     ghost view = { λ c. record { limit = c.limit; layout = c.layout; first = c.first; interfaces = c.interfaces.items } };
 
-    ghost invariant = { λ c. (c.first ≤ 65536) × (length c.interfaces.items ≤ 65536) };
+    ghost invariant = { λ c. c.first ≤ length c.interfaces.items };
 }
 
 impl Context {
@@ -61,7 +63,7 @@ impl Context {
     /// The number of the section's first interface.
     pub fn first(&self) -> usize
         ensures value { result ≡ self.now.first }
-        ensures small { result ≤ 65536 }
+        ensures small { result < 2 ^ 63 }
     {
         self.first
     }
@@ -78,5 +80,45 @@ impl Context {
         ensures { result ≡ nat_le 65536 (length self.now.interfaces) }
     {
         self.interfaces.len() >= MOST_INTERFACES
+    }
+
+    /// The octets of the whole block that these octets, at this offset, begin with; `None` if they are less than a block.
+    #[tactic(auto, unfolding(crate::specs::Lengths::block_len))]
+    pub fn first_block<'a>(&self, at: u64, octets: &'a [u8]) -> Result<Option<&'a [u8]>, Fault>
+        ensures whole { IfOk result (λ found. IfSome found (λ block. BeginsBlock self.now at octets.now block.now)) }
+        ensures less { IfOk result (λ found. IfNone found (IsPartial self.now at octets.now)) }
+        ensures err { IfErr result (λ fault. HasHeader self.now octets.now × (block_len self.now at (header_of self.now octets.now) ≡ Err fault)) }
+    {
+        let header_len = self.layout.header_len();
+        if octets.len() < header_len {
+            return Ok(None);
+        }
+        let len = self.layout.block_len(&octets[..header_len], at)?;
+        if self.limit.saturating_sub(at) < len as u64 {
+            return Err(Fault::TooLong { at });
+        }
+        if octets.len() < len as usize {
+            return Ok(None);
+        }
+        Ok(Some(&octets[..len as usize]))
+    }
+
+    /// Takes what a block says.
+    pub fn take(&mut self, said: Block<'_>) -> Result<(), AllocError>
+        ensures { OnOk result (self.new ≡ context_after self.old (content_of said.entry)) }
+    {
+        match said {
+            Block::File { order, interface } => {
+                self.layout = Layout::Pcap(order);
+                self.interfaces.push(interface)?;
+            }
+            Block::Section(order) => {
+                self.layout = Layout::Section(order);
+                self.first = self.interfaces.len();
+            }
+            Block::Interface(interface) => self.interfaces.push(interface)?,
+            Block::Packet(_) | Block::Other => (),
+        }
+        Ok(())
     }
 }

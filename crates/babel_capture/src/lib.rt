@@ -7,11 +7,14 @@
 mod block;
 mod context;
 mod fault;
+mod finding;
 mod frame;
 mod layout;
 mod length;
 mod link;
 mod order;
+mod reason;
 mod seen;
+mod wanted;
 
 pub use fault::Fault;
