@@ -1,2 +1,4 @@
+pub mod CountLaws
 pub mod FindingLaws
+pub mod GatherLaws
 pub mod NumberLaws

@@ -1,8 +1,10 @@
 pub mod Blocks
 pub mod Contents
 pub mod Context
+pub mod Counts
 pub mod Findings
 pub mod Frame
+pub mod Gathering
 pub mod Lengths
 pub mod Link
 pub mod Numbers

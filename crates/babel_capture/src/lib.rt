@@ -9,11 +9,13 @@ mod context;
 mod fault;
 mod finding;
 mod frame;
+mod gathered;
 mod layout;
 mod length;
 mod link;
 mod order;
 mod reason;
+mod report;
 mod seen;
 mod wanted;
 
