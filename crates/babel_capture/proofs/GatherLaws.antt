@@ -11,6 +11,7 @@ use Rattle.babel_capture.specs.declared.wanted.Wanted.TheVariants as wanteds
 use Rattle.babel_capture.specs.Blocks.{Sighting}
 use Rattle.babel_capture.specs.Counts.{Made, counts_of, counted_with, reason_of}
 use Rattle.babel_capture.specs.Findings.{Found, passed, left, snapped, found, Finds}
+use Rattle.babel_capture.specs.Sight.{Sight}
 use Rattle.babel_capture.specs.Gathering.{AreMade, Gathering, IsGathered, octets_found, dump_of, dump_with}
 use Rattle.babel_capture.proofs.CountLaws.{counts-push}
 
@@ -75,3 +76,7 @@ module _ (before : List Sighting) (next : Sighting) (old new : Gathering) (findi
   found-push interface sender packet is same dump report gathered number finds =
       gathered-push before next old new (found interface sender packet) same dump report (λ e. cc) gathered number
       (subst (Finds old.wanted next.interface next.what) is finds)
+
+pub finds-at : (wanted here : Wanted) (interface : ℕ) (sight seen : Sight) (finding : Found) → wanted ≡ here → sight ≡ seen → Finds wanted interface sight finding → Finds here interface seen finding
+finds-at wanted here interface sight seen finding is_wanted is_seen finds =
+    subst (λ (w : Wanted). Finds w interface seen finding) is_wanted (subst (λ (s : Sight). Finds wanted interface s finding) is_seen finds)

@@ -2,3 +2,5 @@ pub mod CountLaws
 pub mod FindingLaws
 pub mod GatherLaws
 pub mod NumberLaws
+pub mod ReadingLaws
+pub mod StreamLaws

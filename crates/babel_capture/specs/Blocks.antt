@@ -72,12 +72,16 @@ pub record Sighting : Type 0 where
   pub interface : ℕ
   pub what : Sight
 
+-- what the frame of a packet is, which had at least the octets that were kept
+abbrev pub sight_in : Captured → Sight
+sight_in packet = frame_sight packet.link packet.frame (max packet.whole_len (length packet.frame))
+
 abbrev pub sighting_of : ℕ → ℕ → Captured → Sighting
 sighting_of number at packet = record {
   number = number;
   at = at;
   interface = packet.interface;
-  what = frame_sight packet.link packet.frame (max packet.whole_len (length packet.frame));
+  what = sight_in packet;
 }
 
 abbrev pub sightings_in : ℕ → ℕ → Content → List Sighting

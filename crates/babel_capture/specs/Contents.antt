@@ -2,6 +2,7 @@
 use Rattle.std.specs.Prelude.{◌≡◌, ℕ, ◌+◌, ◌-◌, ◌%◌, min, ◌==◌, nat_lt, nat_le, if◌then◌else◌, List, [], ◌∷◌, ◌++◌, length, slice_get, slice_range, Option, Some, None, Result, Ok, Err}
 use Rattle.babel_capture.specs.declared.block.Block.{Block}
 use Rattle.babel_capture.specs.declared.block.Block.TheVariants as blocks
+use Rattle.babel_capture.specs.declared.block.Packet.{Packet}
 use Rattle.babel_capture.specs.declared.fault.Fault.{Fault}
 use Rattle.babel_capture.specs.declared.fault.Fault.TheVariants as faults
 use Rattle.babel_capture.specs.declared.layout.Interface.{Interface}
@@ -133,11 +134,18 @@ layout_said (layouts.Section order) before at block = pcapng_said before at orde
 unfoldable pub block_said : Before → ℕ → List ℕ → Result Content Fault
 block_said before at block = layout_said before.layout before at block
 
--- what the code makes of a block
+-- what the code makes of a packet, and of a block
+abbrev pub captured_of : Packet → Captured
+captured_of packet = record {
+  interface = packet.interface;
+  link = packet.link;
+  frame = packet.frame.now;
+  whole_len = packet.whole_len;
+}
+
 abbrev pub content_of : Block → Content
 content_of (blocks.File order interface) = file order interface
 content_of (blocks.Section order) = section order
 content_of (blocks.Interface interface) = describes interface
-content_of (blocks.Packet packet) =
-    holds (record { interface = packet.interface; link = packet.link; frame = packet.frame.now; whole_len = packet.whole_len })
+content_of (blocks.Packet packet) = holds (captured_of packet)
 content_of blocks.Other = nothing

@@ -5,7 +5,8 @@ use Rattle.babel_capture.specs.declared.fault.Fault.{Fault}
 use Rattle.babel_capture.specs.declared.fault.Fault.TheVariants as faults
 use Rattle.babel_capture.specs.declared.wanted.Wanted.{Wanted}
 use Rattle.babel_capture.specs.declared.wanted.Wanted.TheVariants as wanteds
-use Rattle.babel_capture.specs.Blocks.{Sighting}
+use Rattle.babel_capture.specs.Blocks.{Sighting, sight_in}
+use Rattle.babel_capture.specs.Contents.{Content, file, section, describes, holds, nothing}
 use Rattle.babel_capture.specs.Counts.{Counts, Made, counts_of}
 use Rattle.babel_capture.specs.Findings.{Found, passed, left, snapped, found, Finds}
 
@@ -46,6 +47,10 @@ pub record IsGathered (sightings : List Sighting) (gathering : Gathering) : Type
   pub dump : gathering.dump ≡ dump_of gathering.wanted made
   pub report : gathering.report ≡ counts_of made
 
--- the packet in the block at this offset can't be taken: its datagram was cut by the recorder
-abbrev pub IsRefused : Wanted → Sighting → Fault → Type 0
-IsRefused wanted sighting fault = (fault ≡ faults.Snapped sighting.at) × Finds wanted sighting.interface sighting.what snapped
+-- the datagram of a sender whose dump is wanted, in the block at this offset, was cut by the recorder
+abbrev pub IsRefused : Wanted → ℕ → Content → Fault → Type 0
+IsRefused wanted at (file order interface) fault = ⊥
+IsRefused wanted at (section order) fault = ⊥
+IsRefused wanted at (describes interface) fault = ⊥
+IsRefused wanted at (holds packet) fault = (fault ≡ faults.Snapped at) × Finds wanted packet.interface (sight_in packet) snapped
+IsRefused wanted at nothing fault = ⊥

@@ -8,4 +8,5 @@ pub mod Gathering
 pub mod Lengths
 pub mod Link
 pub mod Numbers
+pub mod Reading
 pub mod Sight

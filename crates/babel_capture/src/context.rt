@@ -1,4 +1,4 @@
-ghost use Rattle.std.specs.Prelude.{◌≡◌, ◌≤◌, ◌+◌, ◌^◌, ◌<◌, [], length, slice_get, nat_le, OnOk, IfOk, IfErr, IfSome, IfNone, Err};
+ghost use Rattle.std.specs.Prelude.{◌≡◌, ◌≤◌, ◌+◌, ◌-◌, ◌^◌, ◌<◌, [], length, slice_get, nat_le, OnOk, IfOk, IfErr, IfSome, IfNone, Err};
 ghost use Rattle.babel_capture.specs.Blocks.{BeginsBlock, HasHeader, IsPartial, header_of};
 ghost use Rattle.babel_capture.specs.Lengths.{block_len};
 ghost use Rattle.babel_capture.specs.Contents.{content_of, context_after};
@@ -86,6 +86,8 @@ impl Context {
     #[tactic(auto, unfolding(crate::specs::Lengths::block_len))]
     pub fn first_block<'a>(&self, at: u64, octets: &'a [u8]) -> Result<Option<&'a [u8]>, Fault>
         ensures whole { IfOk result (λ found. IfSome found (λ block. BeginsBlock self.now at octets.now block.now)) }
+        ensures room { IfOk result (λ found. IfSome found (λ block. (12 ≤ length block.now) × (length block.now ≤ self.now.limit - at))) }
+        ensures fits { IfOk result (λ found. IfSome found (λ block. at + length block.now < 2 ^ 64)) }
         ensures less { IfOk result (λ found. IfNone found (IsPartial self.now at octets.now)) }
         ensures err { IfErr result (λ fault. HasHeader self.now octets.now × (block_len self.now at (header_of self.now octets.now) ≡ Err fault)) }
     {
@@ -104,19 +106,20 @@ impl Context {
     }
 
     /// Takes what a block says.
-    pub fn take(&mut self, said: Block<'_>) -> Result<(), AllocError>
-        ensures { OnOk result (self.new ≡ context_after self.old (content_of said.entry)) }
+    pub fn take(&mut self, said: &Block<'_>) -> Result<(), AllocError>
+        ensures limit { self.new.limit ≡ self.old.limit }
+        ensures ok { OnOk result (self.new ≡ context_after self.old (content_of said.now)) }
     {
         match said {
             Block::File { order, interface } => {
-                self.layout = Layout::Pcap(order);
-                self.interfaces.push(interface)?;
+                self.layout = Layout::Pcap(*order);
+                self.interfaces.push(*interface)?;
             }
             Block::Section(order) => {
-                self.layout = Layout::Section(order);
+                self.layout = Layout::Section(*order);
                 self.first = self.interfaces.len();
             }
-            Block::Interface(interface) => self.interfaces.push(interface)?,
+            Block::Interface(interface) => self.interfaces.push(*interface)?,
             Block::Packet(_) | Block::Other => (),
         }
         Ok(())

@@ -1,13 +1,15 @@
-ghost use Rattle.std.specs.Prelude.{◌≡◌, ◌+◌, ◌^◌, ◌<◌, ◌++◌, ◌∷◌, [], ◌⊎◌, List, OnOk, IfErr};
-ghost use Rattle.babel_capture.specs.Blocks.{Sighting};
-ghost use Rattle.babel_capture.specs.Findings.{Finds, finding_of, snapped};
-ghost use Rattle.babel_capture.specs.Gathering.{IsGathered, dump_with};
+ghost use Rattle.std.specs.Prelude.{◌≡◌, ◌+◌, ◌^◌, ◌<◌, ◌≤◌, ◌++◌, ◌∷◌, [], ◌⊎◌, List, OnOk, IfErr};
+ghost use Rattle.babel_capture.specs.Blocks.{Sighting, sighting_of, sightings_in};
+ghost use Rattle.babel_capture.specs.Contents.{captured_of, content_of, holds};
+ghost use Rattle.babel_capture.specs.Gathering.{IsGathered, IsRefused, dump_with};
 
+use crate::block::{Block, Packet};
 use crate::fault::Fault;
 use crate::finding::Finding;
-use crate::reason::Reason;
+use crate::frame::look;
 use crate::report::Report;
 use crate::wanted::Wanted;
+use babel_prefix::Addr;
 use std::alloc::Global;
 use std::marker::Model;
 
@@ -47,16 +49,17 @@ impl Gathered {
         self.wanted
     }
 
-    /// Takes what is made of the packet in the block at this offset.
-    pub fn take(&mut self, at: u64, finding: Finding<'_>) -> Result<(), Fault>
+    /// Takes the packet in the block at this offset.
+    fn take_packet(&mut self, at: u64, packet: &Packet<'_>) -> Result<(), Fault>
         requires { self.old.report.packets + 1 < 2 ^ 64 }
         ensures wanted { self.new.wanted ≡ self.old.wanted }
-        ensures report { OnOk result (self.new.report.packets ≡ self.old.report.packets + 1) }
-        ensures ok { OnOk result ((before : List Sighting) (next : Sighting) → IsGathered before self.old
-            → next.number ≡ self.old.report.packets + 1 → Finds self.old.wanted next.interface next.what (finding_of finding.entry) → IsGathered (before ++ next ∷ []) self.new) }
-        ensures err { IfErr result (λ fault. (fault ≡ Fault.Memory) ⊎ ((fault ≡ Fault.Snapped at) × (finding_of finding.entry ≡ snapped))) }
+        ensures report { self.new.report.packets ≤ self.old.report.packets + 1 }
+        ensures ok { OnOk result ((before : List Sighting) → IsGathered before self.old
+            → IsGathered (before ++ sighting_of (self.old.report.packets + 1) at (captured_of packet.now) ∷ []) self.new) }
+        ensures err { IfErr result (λ fault. (fault ≡ Fault.Memory) ⊎ IsRefused self.old.wanted at (holds (captured_of packet.now)) fault) }
     {
-        match finding {
+        let seen = look(packet.link, packet.frame, packet.whole_len);
+        match self.wanted.finding(packet.interface, seen) {
             Finding::Passed => {
                 self.report.count(None);
                 Ok(())
@@ -66,15 +69,34 @@ impl Gathered {
                 Ok(())
             }
             Finding::Snapped => Err(Fault::Snapped { at }),
-            Finding::Packet { packet, .. } => {
+            Finding::Packet {
+                interface,
+                sender,
+                packet,
+            } => {
                 self.report.count(None);
-                self.add(packet)
+                self.add(interface, sender, packet)
             }
         }
     }
 
+    /// Takes the packet that the block at this offset says, if it says one.
+    pub fn take_said(&mut self, at: u64, said: &Block<'_>) -> Result<(), Fault>
+        requires { self.old.report.packets + 1 < 2 ^ 64 }
+        ensures wanted { self.new.wanted ≡ self.old.wanted }
+        ensures report { self.new.report.packets ≤ self.old.report.packets + 1 }
+        ensures ok { OnOk result ((before : List Sighting) → IsGathered before self.old
+            → IsGathered (before ++ sightings_in (self.old.report.packets + 1) at (content_of said.now)) self.new) }
+        ensures err { IfErr result (λ fault. (fault ≡ Fault.Memory) ⊎ IsRefused self.old.wanted at (content_of said.now) fault) }
+    {
+        match said {
+            Block::Packet(packet) => self.take_packet(at, packet),
+            Block::File { .. } | Block::Section(_) | Block::Interface(_) | Block::Other => Ok(()),
+        }
+    }
+
     /// Adds a packet to the dump, if one is wanted.
-    fn add(&mut self, packet: &[u8]) -> Result<(), Fault>
+    fn add(&mut self, interface: u64, sender: Addr, packet: &[u8]) -> Result<(), Fault>
         ensures wanted { self.new.wanted ≡ self.old.wanted }
         ensures report { self.new.report ≡ self.old.report }
         ensures dump { OnOk result (self.new.dump ≡ dump_with self.old.wanted self.old.dump packet.now) }

@@ -14,9 +14,11 @@ mod layout;
 mod length;
 mod link;
 mod order;
+mod reader;
 mod reason;
 mod report;
 mod seen;
+mod stream;
 mod wanted;
 
 pub use fault::Fault;
