@@ -1,15 +1,15 @@
 -- What packets give, taken one by one.
-use Rattle.std.proofs.Common.{◌≡◌, ◌≢◌, ℕ, List, [], ◌∷◌, ◌++◌, ◌+◌, length, refl, sym, ap, subst, ◌∙◌, arith}
-use Rattle.std.specs.Prelude.{Option, Some, None, Result, Ok, Err, OnOk}
+use Rattle.std.proofs.Common.{◌≡◌, ◌≢◌, ℕ, List, [], ◌∷◌, ◌++◌, ◌+◌, length, refl, sym, ap, subst, ◌∙◌}
+use Rattle.std.specs.Prelude.{Some, None, Result, Ok, Err, OnOk}
 use Rattle.std.specs.List.{flat_map}
 use Rattle.babel_prefix.specs.Address.{Address}
 use Rattle.babel_capture.specs.declared.reason.Reason.{Reason}
-use Rattle.std.proofs.lemmas.List.{append-nil, length-append}
+use Rattle.std.proofs.lemmas.List.{append-nil}
 use Rattle.std.proofs.lemmas.List.Concat.{flat_map-append}
 use Rattle.babel_capture.specs.declared.wanted.Wanted.{Wanted}
 use Rattle.babel_capture.specs.declared.wanted.Wanted.TheVariants as wanteds
 use Rattle.babel_capture.specs.Blocks.{Sighting}
-use Rattle.babel_capture.specs.Counts.{Made, counts_of, counted_with, reason_of}
+use Rattle.babel_capture.specs.Counts.{Made, counted_with, reason_of}
 use Rattle.babel_capture.specs.Findings.{Found, passed, left, snapped, found, Finds}
 use Rattle.babel_capture.specs.Sight.{Sight}
 use Rattle.babel_capture.specs.Gathering.{AreMade, Gathering, IsGathered, octets_found, dump_of, dump_with}

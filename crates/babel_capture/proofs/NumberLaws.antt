@@ -1,5 +1,5 @@
 -- Numbers in octets.
-use Rattle.std.proofs.Common.{◌≡◌, ℕ, ◌-◌, List, length, take, drop, length-drop, arith, sym, ap, subst, ◌∙◌}
+use Rattle.std.proofs.Common.{◌≡◌, ℕ, ◌-◌, List, length, take, drop, length-drop, arith, sym, ap, ◌∙◌}
 use Rattle.std.proofs.lemmas.List.{take_all}
 use Rattle.byteorder.specs.Endian.{big_number, little_number}
 use Rattle.babel_capture.specs.declared.order.Order.{Order}

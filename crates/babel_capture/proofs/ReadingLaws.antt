@@ -1,7 +1,6 @@
 -- Blocks, taken one by one.
 use Rattle.std.proofs.Common.{◌≡◌, ℕ, ◌+◌, ◌-◌, ◌≤◌, List, [], ◌∷◌, ◌++◌, length, take, drop, refl, sym, ap, subst, ◌∙◌, append_assoc, inl, inr, length-drop, arith}
 use Rattle.std.specs.Prelude.{Ok, Err, Option, Some, IfSome, ◌⊎◌}
-use Rattle.std.specs.List.{flat_map}
 use Rattle.std.proofs.lemmas.List.{append-nil, length-append, take-append-drop}
 use Rattle.std.proofs.Math.Seq.{take-add}
 use Rattle.std.proofs.lemmas.List.Concat.{flat_map-append}
@@ -42,13 +41,12 @@ blocks-push : (before : Before) (at : ℕ) (blocks : List BlockAt) (b : BlockAt)
 blocks-push before at [] b are is block said =
     let here : b.at ≡ at = omega (arith, is) in
     (here, subst (λ (n : ℕ). IsBlock before n b.octets) here block, subst (λ (n : ℕ). block_said before n b.octets ≡ Ok b.content) here said, tt)
-blocks-push before at (first ∷ blocks) b (here, one, first_said, are) is block said =
-    (
-      here,
-      one,
-      first_said,
-      blocks-push (context_after before first.content) (at + length first.octets) blocks b are (omega (arith, is, length-append first.octets (octets_of blocks))) block said,
-    )
+blocks-push before at (first ∷ blocks) b (here, one, first_said, are) is block said = (
+  here,
+  one,
+  first_said,
+  blocks-push (context_after before first.content) (at + length first.octets) blocks b are (omega (arith, is, length-append first.octets (octets_of blocks))) block said,
+)
 
 length-made : (wanted : Wanted) (sightings : List Sighting) (made : List Made) → AreMade wanted sightings made → length made ≡ length sightings
 length-made wanted [] made are = ap length are

@@ -1,4 +1,5 @@
 pub mod Blocks
+pub mod Capture
 pub mod Contents
 pub mod Context
 pub mod Counts

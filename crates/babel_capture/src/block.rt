@@ -54,7 +54,13 @@ fn ends_well(order: Order, block: &[u8]) -> bool
 }
 
 /// A packet of the interface with this number.
-fn read_packet<'a>(before: &Context, at: u64, interface: usize, frame: &'a [u8], whole_len: u32) -> Result<Block<'a>, Fault>
+fn read_packet<'a>(
+    before: &Context,
+    at: u64,
+    interface: usize,
+    frame: &'a [u8],
+    whole_len: u32,
+) -> Result<Block<'a>, Fault>
     ensures ok { IfOk result (λ block. packet_said before.now at interface frame.now whole_len ≡ Ok (content_of block)) }
     ensures err { IfErr result (λ fault. packet_said before.now at interface frame.now whole_len ≡ Err fault) }
 {
@@ -76,7 +82,12 @@ fn read_packet<'a>(before: &Context, at: u64, interface: usize, frame: &'a [u8],
 }
 
 /// The header of a pcap file.
-fn read_file<'a>(before: &Context, at: u64, order: Order, block: &'a [u8]) -> Result<Block<'a>, Fault>
+fn read_file<'a>(
+    before: &Context,
+    at: u64,
+    order: Order,
+    block: &'a [u8],
+) -> Result<Block<'a>, Fault>
     requires { 24 ≤ length block.now }
     ensures ok { IfOk result (λ said. file_said before.now at order block.now ≡ Ok (content_of said)) }
     ensures err { IfErr result (λ fault. file_said before.now at order block.now ≡ Err fault) }
@@ -110,7 +121,12 @@ fn read_section<'a>(at: u64, block: &'a [u8]) -> Result<Block<'a>, Fault>
 }
 
 /// A description of an interface.
-fn read_interface<'a>(before: &Context, at: u64, order: Order, block: &'a [u8]) -> Result<Block<'a>, Fault>
+fn read_interface<'a>(
+    before: &Context,
+    at: u64,
+    order: Order,
+    block: &'a [u8],
+) -> Result<Block<'a>, Fault>
     ensures ok { IfOk result (λ said. interface_said before.now at order block.now ≡ Ok (content_of said)) }
     ensures err { IfErr result (λ fault. interface_said before.now at order block.now ≡ Err fault) }
 {
@@ -127,7 +143,12 @@ fn read_interface<'a>(before: &Context, at: u64, order: Order, block: &'a [u8]) 
 }
 
 /// An enhanced packet block.
-fn read_enhanced<'a>(before: &Context, at: u64, order: Order, block: &'a [u8]) -> Result<Block<'a>, Fault>
+fn read_enhanced<'a>(
+    before: &Context,
+    at: u64,
+    order: Order,
+    block: &'a [u8],
+) -> Result<Block<'a>, Fault>
     ensures ok { IfOk result (λ said. enhanced_said before.now at order block.now ≡ Ok (content_of said)) }
     ensures err { IfErr result (λ fault. enhanced_said before.now at order block.now ≡ Err fault) }
 {
@@ -139,7 +160,13 @@ fn read_enhanced<'a>(before: &Context, at: u64, order: Order, block: &'a [u8]) -
         return Err(Fault::BadLength { at });
     }
     let interface = before.first() + order.u32_at(block, 8) as usize;
-    read_packet(before, at, interface, &block[28..28 + captured], order.u32_at(block, 24))
+    read_packet(
+        before,
+        at,
+        interface,
+        &block[28..28 + captured],
+        order.u32_at(block, 24),
+    )
 }
 
 /// How many octets of a packet are kept.
@@ -154,7 +181,12 @@ fn kept_len(snap_len: u32, whole_len: u32) -> u32
 }
 
 /// A simple packet block.
-fn read_simple<'a>(before: &Context, at: u64, order: Order, block: &'a [u8]) -> Result<Block<'a>, Fault>
+fn read_simple<'a>(
+    before: &Context,
+    at: u64,
+    order: Order,
+    block: &'a [u8],
+) -> Result<Block<'a>, Fault>
     ensures ok { IfOk result (λ said. simple_said before.now at order block.now ≡ Ok (content_of said)) }
     ensures err { IfErr result (λ fault. simple_said before.now at order block.now ≡ Err fault) }
 {
@@ -173,7 +205,13 @@ fn read_simple<'a>(before: &Context, at: u64, order: Order, block: &'a [u8]) -> 
 }
 
 /// A block of this type.
-fn read_typed<'a>(before: &Context, at: u64, order: Order, block: &'a [u8], kind: u32) -> Result<Block<'a>, Fault>
+fn read_typed<'a>(
+    before: &Context,
+    at: u64,
+    order: Order,
+    block: &'a [u8],
+    kind: u32,
+) -> Result<Block<'a>, Fault>
     ensures ok { IfOk result (λ said. typed_said before.now at order block.now kind ≡ Ok (content_of said)) }
     ensures err { IfErr result (λ fault. typed_said before.now at order block.now kind ≡ Err fault) }
 {
@@ -186,7 +224,12 @@ fn read_typed<'a>(before: &Context, at: u64, order: Order, block: &'a [u8], kind
 }
 
 /// A block of a section.
-fn read_pcapng<'a>(before: &Context, at: u64, order: Order, block: &'a [u8]) -> Result<Block<'a>, Fault>
+fn read_pcapng<'a>(
+    before: &Context,
+    at: u64,
+    order: Order,
+    block: &'a [u8],
+) -> Result<Block<'a>, Fault>
     requires { 12 ≤ length block.now }
     ensures ok { IfOk result (λ said. pcapng_said before.now at order block.now ≡ Ok (content_of said)) }
     ensures err { IfErr result (λ fault. pcapng_said before.now at order block.now ≡ Err fault) }

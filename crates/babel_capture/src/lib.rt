@@ -5,6 +5,7 @@
 #![tactic(auto)]
 
 mod block;
+mod capture;
 mod context;
 mod fault;
 mod finding;
@@ -21,4 +22,9 @@ mod seen;
 mod stream;
 mod wanted;
 
+pub use capture::Capture;
 pub use fault::Fault;
+pub use gathered::Gathered;
+pub use reason::Reason;
+pub use report::Report;
+pub use wanted::Wanted;

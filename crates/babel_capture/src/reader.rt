@@ -23,7 +23,7 @@ pub struct Reader {
 impl Model for Reader {
     ghost use Rattle.std.specs.Prelude.{◌≤◌};
     ghost use Rattle.babel_capture.specs.Lengths.{block_len};
-ghost use Rattle.babel_capture.specs.Reading.{Progress};
+    ghost use Rattle.babel_capture.specs.Reading.{Progress};
 
     ghost Value = { Progress };
 

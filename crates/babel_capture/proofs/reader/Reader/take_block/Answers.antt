@@ -1,7 +1,6 @@
-use Rattle.std.proofs.Common.{ℕ, List, ◌≤◌, ◌+◌, ◌-◌, ◌++◌, length, arith, refl, ap, sym, subst, ◌∙◌}
-use Rattle.babel_capture.specs.Blocks.{Sighting, IsBlock, sightings_in}
-use Rattle.babel_capture.specs.Contents.{content_of, context_after, block_said}
-use Rattle.babel_capture.specs.Gathering.{IsGathered}
+use Rattle.std.proofs.Common.{ℕ, List, ◌+◌, ◌++◌, length, arith, refl, ap, sym, subst}
+use Rattle.babel_capture.specs.Blocks.{IsBlock}
+use Rattle.babel_capture.specs.Contents.{content_of}
 use Rattle.babel_capture.specs.Reading.{Progress, LeadTo}
 use Rattle.babel_capture.specs.contracts.reader.Reader.{the_view}
 use Rattle.babel_capture.proofs.ReadingLaws.{lead-push}

@@ -1,8 +1,6 @@
-use Rattle.std.proofs.Common.{ℕ, List, ◌++◌, inr, sym, ap, subst, ◌∙◌, take}
+use Rattle.std.proofs.Common.{◌++◌, inr, ◌∙◌, take}
 use Rattle.std.proofs.lemmas.Result.{err_from_is_err_and}
-use Rattle.babel_capture.specs.Blocks.{HasHeader, header_of, BeginsBlock}
-use Rattle.babel_capture.specs.Lengths.{block_len}
-use Rattle.babel_capture.specs.Reading.{Progress, BlockFails}
+use Rattle.babel_capture.specs.Blocks.{BeginsBlock}
 use Rattle.babel_capture.proofs.ReadingLaws.{rest_of, used-within, lead-more, some_of, header-stops, block-stops, else-by}
 use Rattle.babel_capture.proofs.reader.Reader.take_blocks.Goals as goal
 
