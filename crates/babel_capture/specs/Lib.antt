@@ -1,0 +1,9 @@
+pub mod Ethernet
+pub mod Frame
+pub mod Headers
+pub mod Ipv4
+pub mod Ipv6
+pub mod Link
+pub mod Octets
+pub mod Sight
+pub mod Udp
