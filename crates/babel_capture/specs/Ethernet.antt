@@ -1,6 +1,5 @@
 -- What comes after an EtherType: IEEE 802.3, 3.2; IEEE 802.1Q, 9.
 use Rattle.std.specs.Prelude.{ℕ, zero, suc, ◌-◌, Bool, ◌==◌, ◌&&◌, ◌||◌, nat_le, if◌then◌else◌, List, length, drop, Option}
-use Rattle.babel_capture.specs.declared.ethernet.Typed.{Typed}
 use Rattle.babel_capture.specs.Ipv4.{ipv4_sight}
 use Rattle.babel_capture.specs.Ipv6.{ipv6_sight}
 use Rattle.babel_capture.specs.Octets.{number_at}
@@ -11,9 +10,6 @@ pub record Payload : Type 0 where
   pub ether_type : ℕ
   pub octets : List ℕ
   pub whole : ℕ
-
-abbrev pub payload_of : Typed → Payload
-payload_of typed = record { ether_type = typed.ether_type; octets = typed.part.octets.now; whole = typed.part.whole }
 
 -- IEEE 802.1Q, 9: a customer's or a service provider's VLAN tag
 abbrev pub is_tag : ℕ → Bool

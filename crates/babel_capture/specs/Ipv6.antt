@@ -3,7 +3,7 @@ use Rattle.std.specs.Prelude.{ℕ, ◌+◌, false, not, ◌==◌, ◌||◌, nat_
 use Rattle.std.specs.Prelude.{length, drop, take, slice_index, Option}
 use Rattle.babel_prefix.specs.Address.{Address}
 use Rattle.babel_prefix.specs.declared.family.Family.TheVariants.{V6}
-use Rattle.babel_capture.specs.Headers.{Upper, past_headers}
+use Rattle.babel_capture.specs.Headers.{NextHeader, past_headers}
 use Rattle.babel_capture.specs.Octets.{number_at, ip_version}
 use Rattle.babel_capture.specs.Sight.{Sight, other}
 use Rattle.babel_capture.specs.Udp.{udp_sight}
@@ -15,19 +15,19 @@ payload_len octets = number_at 4 2 octets
 abbrev pub ipv6_sender : List ℕ → Address
 ipv6_sender octets = record { family = V6; bits = number_at 8 16 octets }
 
--- the first header after the fixed one, up to the payload's length
-abbrev pub first_header : List ℕ → Upper
+-- the first header after the fixed one, which says its number; the packet ends where its payload does
+abbrev pub first_header : List ℕ → NextHeader
 first_header octets = record {
-  next = slice_index octets 6;
+  number = slice_index octets 6;
   is_fragment = false;
   octets = take (payload_len octets) (drop 40 octets);
   whole = payload_len octets;
 }
 
 -- RFC 768: UDP has the number 17
-abbrev pub upper_sight : Address → Option ℕ → Upper → Sight
+abbrev pub upper_sight : Address → Option ℕ → NextHeader → Sight
 upper_sight sender interface upper =
-    if not (upper.next == 17) then other
+    if not (upper.number == 17) then other
     else udp_sight sender interface upper.is_fragment upper.octets upper.whole
 
 -- A packet of which there were `whole` octets and the recorder kept these: UDP after at most 8 extension headers, if

@@ -3,6 +3,7 @@ pub mod Frame
 pub mod Headers
 pub mod Ipv4
 pub mod Ipv6
+pub mod Layers
 pub mod Link
 pub mod Octets
 pub mod Sight

@@ -24,18 +24,19 @@ const TAG_LEN: usize = 4;
 
 /// An EtherType and what comes after it in a frame.
 #[derive(Clone, Copy)]
-pub(crate) struct Typed<'a> {
+pub(crate) struct Payload<'a> {
     pub ether_type: u16,
     pub part: Part<'a>,
 }
 
-impl<'a> Typed<'a> {
-    ghost use Rattle.babel_capture.specs.Ethernet.{past_tag, past_tags, payload_of, typed_sight};
+impl<'a> Payload<'a> {
+    ghost use Rattle.babel_capture.specs.Ethernet.{past_tag, past_tags, typed_sight};
+    ghost use Rattle.babel_capture.specs.Layers.{payload};
 
     /// What the IP packet is that comes after the VLAN tags.
     #[tactic(auto, unfolding(crate::specs::Ethernet::typed_sight))]
     pub fn look(self, interface: Option<u32>) -> Seen<'a>
-        ensures { sight_of result ≡ typed_sight interface (payload_of self.entry) }
+        ensures { sight_of result ≡ typed_sight interface (payload self.entry) }
     {
         let payload = self.past_tags();
         match payload.ether_type {
@@ -46,8 +47,8 @@ impl<'a> Typed<'a> {
     }
 
     /// After the VLAN tags, of which at most `MAX_TAGS` are passed over.
-    fn past_tags(self) -> Typed<'a>
-        ensures { payload_of result ≡ past_tags 4 (payload_of self.entry) }
+    fn past_tags(self) -> Payload<'a>
+        ensures { payload result ≡ past_tags 4 (payload self.entry) }
     {
         let mut payload = self;
         for _ in 0..MAX_TAGS {
@@ -58,11 +59,11 @@ impl<'a> Typed<'a> {
 
     /// After the next VLAN tag; the same where none comes next.
     #[tactic(auto, unfolding(crate::specs::Ethernet::past_tag))]
-    fn past_tag(self) -> Typed<'a>
-        ensures { payload_of result ≡ past_tag (payload_of self.entry) }
+    fn past_tag(self) -> Payload<'a>
+        ensures { payload result ≡ past_tag (payload self.entry) }
     {
         match self.ether_type {
-            CUSTOMER_TAG | SERVICE_TAG if self.part.octets.len() >= TAG_LEN => Typed {
+            CUSTOMER_TAG | SERVICE_TAG if self.part.octets.len() >= TAG_LEN => Payload {
                 ether_type: number16(self.part.octets, 2),
                 part: self.part.after(TAG_LEN),
             },

@@ -2,7 +2,7 @@ ghost use Rattle.std.specs.Prelude.{◌≡◌, ◌≤◌, ◌+◌, length, max};
 ghost use Rattle.babel_capture.specs.Frame.{family_sight, frame_sight, header_sight, raw_sight};
 ghost use Rattle.babel_capture.specs.Sight.{sight_of};
 
-use crate::ethernet::Typed;
+use crate::ethernet::Payload;
 use crate::field::{number16, number32};
 use crate::ipv4::look_into_ipv4;
 use crate::ipv6::look_into_ipv6;
@@ -66,7 +66,7 @@ fn look_after_header(header: Layout, interface: Option<u32>, frame: Part<'_>) ->
     if frame.octets.len() < header.len {
         return Seen::Other;
     }
-    let payload = Typed {
+    let payload = Payload {
         ether_type: number16(frame.octets, header.ether_type),
         part: frame.after(header.len),
     };

@@ -22,48 +22,49 @@ const FRAGMENT_OFFSET: u16 = 0xfff8;
 
 const MORE_FRAGMENTS: u16 = 0x0001;
 
-/// What comes after some headers of an IPv6 packet: RFC 8200, 4.
+/// A header of an IPv6 packet after the fixed one, and what comes after it: RFC 8200, 4.
 #[derive(Clone, Copy)]
-pub(crate) struct Headers<'a> {
-    /// The number of the header that comes next.
-    pub next: u8,
-    /// Whether the headers before say that this is the first fragment of more.
+pub(crate) struct NextHeader<'a> {
+    /// The number of the header.
+    pub number: u8,
+    /// Whether the headers before it say that the packet is the first of several fragments.
     pub is_fragment: bool,
-    /// The next header and what comes after it.
+    /// The octets from the header's first one on.
     pub part: Part<'a>,
 }
 
-impl<'a> Headers<'a> {
-    ghost use Rattle.babel_capture.specs.Headers.{upper_of, past_header, past_headers};
+impl<'a> NextHeader<'a> {
+    ghost use Rattle.babel_capture.specs.Headers.{past_header, past_headers};
+    ghost use Rattle.babel_capture.specs.Layers.{next_header};
 
-    /// After the extension headers, of which at most `MAX_EXTENSION_HEADERS` are passed over.
-    pub fn past_all(self) -> Headers<'a>
-        ensures { upper_of result ≡ past_headers 8 (upper_of self.entry) }
+    /// The header after the extension headers, of which at most `MAX_EXTENSION_HEADERS` are passed over.
+    pub fn past_all(self) -> NextHeader<'a>
+        ensures { next_header result ≡ past_headers 8 (next_header self.entry) }
     {
-        let mut headers = self;
+        let mut header = self;
         for _ in 0..MAX_EXTENSION_HEADERS {
-            headers = headers.past_one();
+            header = header.past_one();
         }
-        headers
+        header
     }
 
-    /// After the next extension header; the same where none comes next, or a later fragment.
+    /// The header after this extension header; the same header where it is another or stands in a later fragment.
     #[tactic(auto, unfolding(crate::specs::Headers::past_header))]
-    fn past_one(self) -> Headers<'a>
-        ensures { upper_of result ≡ past_header (upper_of self.entry) }
+    fn past_one(self) -> NextHeader<'a>
+        ensures { next_header result ≡ past_header (next_header self.entry) }
     {
         let octets = self.part.octets;
         if octets.len() < UNIT {
             return self;
         }
-        match self.next {
-            HOP_BY_HOP_OPTIONS | ROUTING | DESTINATION_OPTIONS => Headers {
-                next: octets[0],
+        match self.number {
+            HOP_BY_HOP_OPTIONS | ROUTING | DESTINATION_OPTIONS => NextHeader {
+                number: octets[0],
                 is_fragment: self.is_fragment,
                 part: self.part.after(UNIT * (octets[1] as usize + 1)),
             },
-            FRAGMENT if number16(octets, 2) & FRAGMENT_OFFSET == 0 => Headers {
-                next: octets[0],
+            FRAGMENT if number16(octets, 2) & FRAGMENT_OFFSET == 0 => NextHeader {
+                number: octets[0],
                 is_fragment: self.is_fragment || number16(octets, 2) & MORE_FRAGMENTS != 0,
                 part: self.part.after(UNIT),
             },

@@ -1,10 +1,9 @@
 ghost use Rattle.std.specs.Prelude.{◌≡◌};
-ghost use Rattle.babel_capture.specs.Headers.{past_headers};
 ghost use Rattle.babel_capture.specs.Ipv6.{ipv6_sight};
 ghost use Rattle.babel_capture.specs.Sight.{sight_of};
 
 use crate::field::{ipv6_address, number16};
-use crate::headers::Headers;
+use crate::headers::NextHeader;
 use crate::part::Part;
 use crate::seen::Seen;
 use crate::udp::{UDP, look_into_udp};
@@ -26,13 +25,13 @@ pub(crate) fn look_into_ipv6(interface: Option<u32>, packet: Part<'_>) -> Seen<'
     if packet.whole < HEADER_LEN + payload_len {
         return Seen::Other;
     }
-    let first = Headers {
-        next: octets[6],
+    let first = NextHeader {
+        number: octets[6],
         is_fragment: false,
         part: packet.after(HEADER_LEN).first(payload_len),
     };
     let upper = first.past_all();
-    if upper.next != UDP {
+    if upper.number != UDP {
         return Seen::Other;
     }
     let sender = ipv6_address(octets, 8);

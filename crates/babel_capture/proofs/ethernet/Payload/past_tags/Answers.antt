@@ -1,6 +1,6 @@
 use Rattle.std.proofs.Common.{◌∙◌, ap, refl, add-one}
 use Rattle.babel_capture.specs.Ethernet.{past_tag, past_tags}
-use Rattle.babel_capture.proofs.ethernet.Typed.past_tags.Goals as goal
+use Rattle.babel_capture.proofs.ethernet.Payload.past_tags.Goals as goal
 
 pub loop-init : goal.loop-init
 unfolding past_tags
