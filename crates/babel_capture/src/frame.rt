@@ -11,6 +11,9 @@ use crate::part::Part;
 use crate::seen::Seen;
 use byteorder::{ByteOrder, LittleEndian, NetworkEndian};
 
+#[cfg(test)]
+mod tests;
+
 /// Where a header has the EtherType of what comes after it, and the octets of the header.
 #[derive(Clone, Copy)]
 struct Layout {
