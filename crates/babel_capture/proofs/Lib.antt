@@ -2,5 +2,6 @@ pub mod CountLaws
 pub mod FindingLaws
 pub mod GatherLaws
 pub mod NumberLaws
+pub mod OctetLaws
 pub mod ReadingLaws
 pub mod StreamLaws
