@@ -49,6 +49,20 @@ impl Gathered {
         self.wanted
     }
 
+    /// The dump of the sender that is wanted: the packets of its datagrams, end to end.
+    pub fn dump(&self) -> &[u8]
+        ensures { result.now ≡ self.now.dump }
+    {
+        &self.dump
+    }
+
+    /// How many packets the capture has, and which wanted datagrams were left out.
+    pub fn report(&self) -> Report
+        ensures { result ≡ self.now.report }
+    {
+        self.report
+    }
+
     /// Takes the packet in the block at this offset.
     fn take_packet(&mut self, at: u64, packet: &Packet<'_>) -> Result<(), Fault>
         requires { self.old.report.packets + 1 < 2 ^ 64 }

@@ -28,6 +28,8 @@ mod reason;
 mod report;
 mod seen;
 mod stream;
+#[cfg(test)]
+mod tests;
 mod udp;
 mod wanted;
 
