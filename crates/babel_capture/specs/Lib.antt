@@ -15,6 +15,7 @@ pub mod Lengths
 pub mod Link
 pub mod Numbers
 pub mod Octets
+pub mod Packets
 pub mod Reading
 pub mod Sight
 pub mod Udp

@@ -18,6 +18,7 @@ mod gathered;
 mod headers;
 mod ipv4;
 mod ipv6;
+pub mod laws;
 mod layout;
 mod length;
 mod link;
