@@ -1,1 +1,2 @@
+pub mod BackingLaws
 pub mod OctetLaws

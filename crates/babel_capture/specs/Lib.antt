@@ -1,3 +1,4 @@
+pub mod Backing
 pub mod Ethernet
 pub mod Frame
 pub mod Headers

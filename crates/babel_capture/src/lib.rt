@@ -9,6 +9,7 @@ mod frame;
 mod headers;
 mod ipv4;
 mod ipv6;
+pub mod laws;
 mod link;
 mod part;
 mod seen;
