@@ -4,6 +4,7 @@ pub mod Frame
 pub mod Headers
 pub mod Ipv4
 pub mod Ipv6
+pub mod LaidOut
 pub mod Layers
 pub mod Link
 pub mod Octets
