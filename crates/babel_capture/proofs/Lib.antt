@@ -1,6 +1,8 @@
+pub mod BackingLaws
 pub mod CountLaws
 pub mod FindingLaws
 pub mod GatherLaws
+pub mod LaidOutLaws
 pub mod NumberLaws
 pub mod OctetLaws
 pub mod PacketLaws

@@ -4,7 +4,7 @@ use Rattle.std.proofs.lemmas.List.{get_or-drop, length-drop, take_all}
 use Rattle.byteorder.specs.Endian.{big_from, big_number}
 use Rattle.babel_capture.specs.Octets.{number_at}
 
-big_from-drop : (i n at : ℕ) (octets : List ℕ) → big_from i n (drop at octets) ≡ big_from (at + i) n octets
+pub big_from-drop : (i n at : ℕ) (octets : List ℕ) → big_from i n (drop at octets) ≡ big_from (at + i) n octets
 big_from-drop i zero at octets = refl
 big_from-drop i (suc n) at octets =
     let octet = get_or-drop at octets i 0 in

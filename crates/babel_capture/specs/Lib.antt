@@ -1,3 +1,4 @@
+pub mod Backing
 pub mod Blocks
 pub mod Capture
 pub mod Contents
@@ -10,6 +11,7 @@ pub mod Gathering
 pub mod Headers
 pub mod Ipv4
 pub mod Ipv6
+pub mod LaidOut
 pub mod Layers
 pub mod Lengths
 pub mod Link
