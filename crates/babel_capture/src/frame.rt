@@ -14,33 +14,47 @@ use byteorder::{ByteOrder, LittleEndian, NetworkEndian};
 #[cfg(test)]
 mod tests;
 
-/// Where a header has the EtherType of what comes after it, and the octets of the header.
+/// A header with an EtherType: where it has that of what comes after it, and how many octets it has.
 #[derive(Clone, Copy)]
-struct Layout {
+struct Header {
     ether_type: usize,
     len: usize,
 }
 
 /// IEEE 802.3, 3.2: two addresses and the EtherType.
-const ETHERNET: Layout = Layout {
+const ETHERNET: Header = Header {
     ether_type: 12,
     len: 14,
 };
 /// tcpdump.org/linktypes/LINKTYPE_LINUX_SLL.html
-const COOKED: Layout = Layout {
+const COOKED: Header = Header {
     ether_type: 14,
     len: 16,
 };
 /// tcpdump.org/linktypes/LINKTYPE_LINUX_SLL2.html
-const COOKED2: Layout = Layout {
+const COOKED2: Header = Header {
     ether_type: 0,
     len: 20,
 };
 
-#[tactic(auto, unfolding(crate::specs::Frame::frame_sight))]
+/// The protocol family of IPv4 everywhere, and those of IPv6 by system.
+const INET: u32 = 2;
+
+const LINUX_INET6: u32 = 10;
+
+const NETBSD_INET6: u32 = 24;
+
+const FREEBSD_INET6: u32 = 28;
+
+const MACOS_INET6: u32 = 30;
+
+/// The octets of a protocol family.
+const FAMILY_LEN: usize = 4;
+
 /// What a captured frame is: the octets that the recorder kept of one that had `whole_len` octets on the wire.
 ///
 /// Checksums are not looked at. A frame that has more octets than `whole_len` counts as a whole one.
+#[tactic(auto, unfolding(crate::specs::Frame::frame_sight))]
 pub fn look(link: Link, frame: &[u8], whole_len: u32) -> Seen<'_>
     ensures { sight_of result ≡ frame_sight link frame.now (max whole_len (length frame.now)) }
 {
@@ -61,7 +75,7 @@ pub fn look(link: Link, frame: &[u8], whole_len: u32) -> Seen<'_>
 }
 
 /// After a header with an EtherType.
-fn look_after_header(header: Layout, interface: Option<u32>, frame: Part<'_>) -> Seen<'_>
+fn look_after_header(header: Header, interface: Option<u32>, frame: Part<'_>) -> Seen<'_>
     requires { header.ether_type + 2 ≤ header.len }
     ensures { sight_of result ≡ header_sight header.ether_type header.len interface
         frame.entry.octets.now frame.entry.whole }
@@ -80,15 +94,15 @@ fn look_after_header(header: Layout, interface: Option<u32>, frame: Part<'_>) ->
 fn look_after_family(frame: Part<'_>) -> Seen<'_>
     ensures { sight_of result ≡ family_sight frame.entry.octets.now frame.entry.whole }
 {
-    if frame.octets.len() < 4 {
+    if frame.octets.len() < FAMILY_LEN {
         return Seen::Other;
     }
     let high_first = NetworkEndian::read_u32(frame.octets);
     let low_first = LittleEndian::read_u32(frame.octets);
-    let packet = frame.after(4);
+    let packet = frame.after(FAMILY_LEN);
     match high_first.min(low_first) {
-        2 => look_into_ipv4(None, packet),
-        10 | 24 | 28 | 30 => look_into_ipv6(None, packet),
+        INET => look_into_ipv4(None, packet),
+        LINUX_INET6 | NETBSD_INET6 | FREEBSD_INET6 | MACOS_INET6 => look_into_ipv6(None, packet),
         _ => Seen::Other,
     }
 }

@@ -14,8 +14,8 @@ const MORE_FRAGMENTS: u16 = 0x2000;
 
 const FRAGMENT_OFFSET: u16 = 0x1fff;
 
-#[tactic(auto, unfolding(crate::specs::Ipv4::ipv4_sight))]
 /// What an IPv4 packet is: RFC 791.
+#[tactic(auto, unfolding(crate::specs::Ipv4::ipv4_sight))]
 pub(crate) fn look_into_ipv4(interface: Option<u32>, packet: Part<'_>) -> Seen<'_>
     ensures { sight_of result
         ≡ ipv4_sight interface packet.entry.octets.now packet.entry.whole }

@@ -6,7 +6,7 @@ ghost use Rattle.babel_capture.specs.Link.{link_of};
 pub enum Link {
     /// Protocol family of BSD in four octets, in the byte order of the recording machine.
     Null,
-    /// Ethernet, with any number of VLAN tags up to four.
+    /// Ethernet, with up to four VLAN tags.
     Ethernet,
     /// An IPv4 or IPv6 packet with nothing before it.
     RawIp,

@@ -16,8 +16,8 @@ const HEADER_LEN: usize = 8;
 
 const PORTS_LEN: usize = 4;
 
-#[tactic(auto, unfolding(crate::specs::Udp::udp_sight))]
 /// What a UDP datagram, or the first fragment of one, is: RFC 768.
+#[tactic(auto, unfolding(crate::specs::Udp::udp_sight))]
 pub(crate) fn look_into_udp<'a>(
     sender: Addr,
     interface: Option<u32>,
