@@ -1,5 +1,6 @@
 pub mod CountLaws
 pub mod FindingLaws
+pub mod FramingLaws
 pub mod GatherLaws
 pub mod NumberLaws
 pub mod OctetLaws

@@ -1,6 +1,5 @@
 -- What is found in a capture is whole packets.
 use Rattle.std.proofs.Common.{◌≡◌, ℕ, List, [], ◌∷◌, ◌++◌, refl, sym, ap, subst, ◌∙◌, inl, inr}
-use Rattle.std.specs.Prelude.{◌⊎◌}
 use Rattle.std.specs.List.{flat_map}
 use Rattle.std.proofs.lemmas.List.{append-nil}
 use Rattle.std.proofs.lemmas.List.Concat.{flat_map-append}
@@ -12,7 +11,7 @@ use Rattle.babel_capture.specs.declared.wanted.Wanted.TheVariants as wanteds
 use Rattle.babel_capture.specs.Blocks.{Sighting, sightings_of}
 use Rattle.babel_capture.specs.Capture.{IsRead}
 use Rattle.babel_capture.specs.Counts.{Made}
-use Rattle.babel_capture.specs.Findings.{Found, passed, left, snapped, found, Finds, PayloadIs, CutIs, interface_in}
+use Rattle.babel_capture.specs.Findings.{Found, Finds, PayloadIs, CutIs, interface_in}
 use Rattle.babel_capture.specs.Gathering.{AreMade, Gathering, octets_found, dump_of}
 use Rattle.babel_capture.specs.Packets.{ArePackets}
 use Rattle.babel_capture.specs.Sight.{Sight, other, fragment, cut, datagram}
