@@ -11,11 +11,12 @@ ghost use Rattle.babel_capture.specs.declared.wanted.Wanted.{Wanted};
 
 /// The dump of a capture is whole Babel packets, end to end.
 pub fn dump_is_packets()
-    ensures { (limit : ℕ) (octets : List ℕ) (gathering : Gathering) → IsRead limit octets gathering → ArePackets gathering.dump }
+    ensures { (limit : ℕ) (octets : List ℕ) (gathering : Gathering)
+        → IsRead limit octets gathering → ArePackets gathering.dump }
 {}
 
-/// The dump of a capture has no fault of framing but a TLV past the end of its packet: no packet of it is truncated, or
-/// has a wrong magic or version.
+/// The dump of a capture has no fault of framing but a TLV past the end of its packet: no packet of
+/// it is truncated, or has a wrong magic or version.
 pub fn dump_is_framed()
     ensures { (limit : ℕ) (octets : List ℕ) (gathering : Gathering) → IsRead limit octets gathering
         → (fault : DumpFault) → FrameFault gathering.dump fault → IsPastEnd fault }
@@ -23,6 +24,7 @@ pub fn dump_is_framed()
 
 /// A fault of a capture that shows before its end stays its fault, however it goes on.
 pub fn fault_stays()
-    ensures { (limit : ℕ) (wanted : Wanted) (octets more : List ℕ) (fault : Fault) → Stops limit wanted octets fault
+    ensures { (limit : ℕ) (wanted : Wanted) (octets more : List ℕ) (fault : Fault)
+        → Stops limit wanted octets fault
         → Stops limit wanted (octets ++ more) fault }
 {}
