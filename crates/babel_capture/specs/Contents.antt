@@ -39,12 +39,10 @@ context_after before (file order interface) =
     record before { layout = layouts.Pcap order; interfaces = before.interfaces ++ interface ∷ [] }
 context_after before (section order) = record before {
   layout = layouts.Section order;
-  first =
-      length before.interfaces;
+  first = length before.interfaces;
 }
 context_after before (describes interface) = record before {
-  interfaces =
-      before.interfaces ++ interface ∷ [];
+  interfaces = before.interfaces ++ interface ∷ [];
 }
 context_after before (holds packet) = before
 context_after before nothing = before
@@ -70,8 +68,7 @@ file_said before at order block =
     if nat_le 65536 (length before.interfaces) then Err (faults.TooManyInterfaces at)
     else Ok (file order (record {
       link = number_at order 4 block 20 % 65536;
-      snap_len =
-          number_at order 4 block 16;
+      snap_len = number_at order 4 block 16;
     }))
 
 -- draft-ietf-opsawg-pcap, 5: the packet's length is at 12, and its octets begin at 16
@@ -97,8 +94,7 @@ interface_said before at order block =
     else if nat_le 65536 (length before.interfaces) then Err (faults.TooManyInterfaces at)
     else Ok (describes (record {
       link = number_at order 2 block 8;
-      snap_len =
-          number_at order 4 block 12;
+      snap_len = number_at order 4 block 12;
     }))
 
 -- draft-ietf-opsawg-pcapng, 4.3: at least 32 octets, the interface's number in the section at 8,
@@ -108,8 +104,8 @@ enhanced_said before at order block =
     let captured : ℕ = number_at order 4 block 20 in
     if nat_lt (length block) 32 then Err (faults.BadLength at)
     else if nat_lt (length block) (32 + captured) then Err (faults.BadLength at)
-    else packet_said before at (before.first + number_at order 4 block 8) (slice_range block 28
-    (28 + captured)) (number_at order 4 block 24)
+    else packet_said before at (before.first + number_at order 4 block 8)
+    (slice_range block 28 (28 + captured)) (number_at order 4 block 24)
 
 -- draft-ietf-opsawg-pcapng, 4.2, 4.4: so many octets of a packet are kept, where 0 sets no limit
 abbrev pub kept_len : ℕ → ℕ → ℕ

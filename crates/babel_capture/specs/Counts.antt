@@ -70,6 +70,5 @@ abbrev pub counted_with : Counts → Option Reason → Counts
 counted_with counts reason =
     record {
       packets = counts.packets + 1;
-      left_out =
-          left_with counts.left_out reason (counts.packets + 1);
+      left_out = left_with counts.left_out reason (counts.packets + 1);
     }

@@ -26,8 +26,7 @@ impl Model for Capture {
     ghost view = { λ c. record {
       limit = c.limit;
       progress = c.stream.reader;
-      pending =
-          c.stream.pending.items;
+      pending = c.stream.pending.items;
       fault = c.fault;
     } };
 }

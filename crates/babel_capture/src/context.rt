@@ -31,8 +31,7 @@ impl Model for Context {
     ghost view = { λ c. record {
       limit = c.limit;
       layout = c.layout;
-      first =
-          c.first;
+      first = c.first;
       interfaces = c.interfaces.items;
     } };
 
@@ -45,8 +44,7 @@ impl Context {
         ensures { result ≡ record {
           limit = limit;
           layout = layouts.Start;
-          first =
-              0;
+          first = 0;
           interfaces = [];
         } }
     {
