@@ -1,6 +1,7 @@
 pub mod BackingLaws
 pub mod CountLaws
 pub mod FindingLaws
+pub mod FramingLaws
 pub mod GatherLaws
 pub mod LaidOutLaws
 pub mod NumberLaws

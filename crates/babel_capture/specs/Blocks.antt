@@ -1,4 +1,5 @@
--- A capture as its blocks, one after another: draft-ietf-opsawg-pcap, 3; draft-ietf-opsawg-pcapng, 3.1, 3.2.
+-- A capture as its blocks, one after another: draft-ietf-opsawg-pcap, 3; draft-ietf-opsawg-pcapng,
+-- 3.1, 3.2.
 use Rattle.std.specs.Prelude.{◌≡◌, ℕ, ◌+◌, ◌<◌, ◌≤◌, max, List, [], ◌∷◌, ◌++◌, length, take, Ok, ◌⊎◌}
 use Rattle.std.specs.List.{flat_map}
 use Rattle.std.specs.Result.{IsOkAnd}
@@ -33,7 +34,8 @@ pub record BeginsBlock (before : Before) (at : ℕ) (octets block : List ℕ) : 
 abbrev pub IsPartial : Before → ℕ → List ℕ → Type 0
 IsPartial before at octets =
     (length octets < header_len before.layout)
-    ⊎ (HasHeader before octets × IsOkAnd (block_len before at (header_of before octets)) (λ len. length octets < len))
+    ⊎ (HasHeader before octets × IsOkAnd (block_len before at (header_of before octets))
+    (λ len. length octets < len))
 
 -- ---- blocks
 
@@ -51,7 +53,8 @@ start limit = record { limit = limit; layout = layouts.Start; first = 0; interfa
 abbrev pub AreBlocks : Before → ℕ → List BlockAt → Type 0
 AreBlocks before at [] = Unit {0}
 AreBlocks before at (block ∷ blocks) =
-    (block.at ≡ at) × IsBlock before at block.octets × (block_said before at block.octets ≡ Ok block.content)
+    (block.at ≡ at) × IsBlock before at block.octets
+    × (block_said before at block.octets ≡ Ok block.content)
     × AreBlocks (context_after before block.content) (at + length block.octets) blocks
 
 -- what blocks say about the capture
@@ -64,7 +67,8 @@ octets_of blocks = flat_map (λ block. block.octets) blocks
 
 -- ---- packets
 
--- a packet of a capture: its number among the packets, from 1, the offset of its block, its interface, and what its frame is
+-- a packet of a capture: its number among the packets, from 1, the offset of its block, its
+-- interface, and what its frame is
 pub record Sighting : Type 0 where
   pub number : ℕ
   pub at : ℕ

@@ -1,4 +1,5 @@
--- A capture, its faults, and what a reader has made of the octets that it was fed. Reading in pieces is this project's own.
+-- A capture, its faults, and what a reader has made of the octets that it was fed. Reading in
+-- pieces is this project's own.
 use Rattle.std.specs.Prelude.{◌≡◌, ◌≢◌, ℕ, List, [], ◌++◌, length, Option, Some, None, ◌⊎◌}
 use Rattle.babel_capture.specs.declared.fault.Fault.{Fault}
 use Rattle.babel_capture.specs.declared.fault.Fault.TheVariants as faults
@@ -9,7 +10,8 @@ use Rattle.babel_capture.specs.Counts.{Made}
 use Rattle.babel_capture.specs.Gathering.{Gathering, IsGathered, AreMade}
 use Rattle.babel_capture.specs.Reading.{Progress, HasStarted, HasTaken, Stops}
 
--- the octets are a capture, whole blocks from the first to the last, and this is what its packets give
+-- the octets are a capture, whole blocks from the first to the last, and this is what its packets
+-- give
 pub record IsRead (limit : ℕ) (octets : List ℕ) (gathering : Gathering) : Type 0 where
   pub blocks : List BlockAt
   pub whole : octets ≡ octets_of blocks
@@ -44,12 +46,13 @@ pub record EndsShort (limit : ℕ) (wanted : Wanted) (octets : List ℕ) (fault 
 
 -- the fault of octets that are no capture, or none that can be read
 abbrev pub CaptureFault : ℕ → Wanted → List ℕ → Fault → Type 0
-CaptureFault limit wanted octets fault = Stops limit wanted octets fault ⊎ EndsShort limit wanted octets fault
+CaptureFault limit wanted octets fault = Stops limit wanted octets fault
+    ⊎ EndsShort limit wanted octets fault
 
 -- ---- in pieces
 
--- what a reader holds: how many octets it reads at most, how far its blocks led, the octets so far of the next one, and the
--- fault if it has one
+-- what a reader holds: how many octets it reads at most, how far its blocks led, the octets so far
+-- of the next one, and the fault if it has one
 pub record State : Type 0 where
   pub limit : ℕ
   pub progress : Progress
@@ -58,7 +61,8 @@ pub record State : Type 0 where
 
 -- want of memory, or the fault of the octets
 abbrev pub HasFailed : State → Fault → List ℕ → Type 0
-HasFailed state fault fed = (fault ≡ faults.Memory) ⊎ Stops state.limit state.progress.gathering.wanted fed fault
+HasFailed state fault fed = (fault ≡ faults.Memory)
+    ⊎ Stops state.limit state.progress.gathering.wanted fed fault
 
 abbrev pub HasReadTo : State → Option Fault → List ℕ → Type 0
 HasReadTo state None fed = HasTaken state.limit state.progress state.pending fed

@@ -11,8 +11,8 @@ pub record Made : Type 0 where
   pub number : ℕ
   pub what : Found
 
--- how many packets there are, and for each reason, in the order of the reasons, how many datagrams were left out for it
--- and the number of the first
+-- how many packets there are, and for each reason, in the order of the reasons, how many datagrams
+-- were left out for it and the number of the first
 pub record Counts : Type 0 where
   pub packets : ℕ
   pub left_out : List (Option (ℕ × ℕ))
@@ -26,7 +26,8 @@ reason_place reasons.Fragment = 3
 reason_place reasons.Snapped = 4
 
 abbrev pub all_reasons : List Reason
-all_reasons = reasons.Truncated ∷ reasons.BadMagic ∷ reasons.BadVersion ∷ reasons.Fragment ∷ reasons.Snapped ∷ []
+all_reasons = reasons.Truncated ∷ reasons.BadMagic ∷ reasons.BadVersion ∷ reasons.Fragment
+    ∷ reasons.Snapped ∷ []
 
 abbrev pub count_at : List (Option (ℕ × ℕ)) → ℕ → Option (ℕ × ℕ)
 count_at counts place = option_flatten (slice_get counts place)
@@ -62,8 +63,12 @@ reason_of (found interface sender packet) = None
 -- the counts of packets, and of one more, which is left out for this reason, if for any
 abbrev pub left_with : List (Option (ℕ × ℕ)) → Option Reason → ℕ → List (Option (ℕ × ℕ))
 left_with counts None number = counts
-left_with counts (Some reason) number = slice_set counts (reason_place reason) (one_more number (count_at counts (reason_place reason)))
+left_with counts (Some reason) number =
+    slice_set counts (reason_place reason) (one_more number (count_at counts (reason_place reason)))
 
 abbrev pub counted_with : Counts → Option Reason → Counts
 counted_with counts reason =
-    record { packets = counts.packets + 1; left_out = left_with counts.left_out reason (counts.packets + 1) }
+    record {
+      packets = counts.packets + 1;
+      left_out = left_with counts.left_out reason (counts.packets + 1);
+    }

@@ -10,12 +10,14 @@ use Rattle.babel_capture.specs.Contents.{Content, file, section, describes, hold
 use Rattle.babel_capture.specs.Counts.{Counts, Made, counts_of}
 use Rattle.babel_capture.specs.Findings.{Found, passed, left, snapped, found, Finds}
 
--- What is made of each packet. No datagram of a sender whose dump is wanted was cut by the recorder.
+-- What is made of each packet. No datagram of a sender whose dump is wanted was cut by the
+-- recorder.
 abbrev pub AreMade : Wanted → List Sighting → List Made → Type 0
 AreMade wanted [] made = made ≡ []
 AreMade wanted (sighting ∷ later) made =
     (one : Made) × (others : List Made) × (made ≡ one ∷ others) × (one.number ≡ sighting.number)
-    × Finds wanted sighting.interface sighting.what one.what × (one.what ≢ snapped) × AreMade wanted later others
+    × Finds wanted sighting.interface sighting.what one.what × (one.what ≢ snapped)
+    × AreMade wanted later others
 
 -- the octets of the packet, if one was found
 abbrev pub octets_found : Found → List ℕ
@@ -47,10 +49,12 @@ pub record IsGathered (sightings : List Sighting) (gathering : Gathering) : Type
   pub dump : gathering.dump ≡ dump_of gathering.wanted made
   pub report : gathering.report ≡ counts_of made
 
--- the datagram of a sender whose dump is wanted, in the block at this offset, was cut by the recorder
+-- the datagram of a sender whose dump is wanted, in the block at this offset, was cut by the
+-- recorder
 abbrev pub IsRefused : Wanted → ℕ → Content → Fault → Type 0
 IsRefused wanted at (file order interface) fault = ⊥
 IsRefused wanted at (section order) fault = ⊥
 IsRefused wanted at (describes interface) fault = ⊥
-IsRefused wanted at (holds packet) fault = (fault ≡ faults.Snapped at) × Finds wanted packet.interface (sight_in packet) snapped
+IsRefused wanted at (holds packet) fault = (fault ≡ faults.Snapped at)
+    × Finds wanted packet.interface (sight_in packet) snapped
 IsRefused wanted at nothing fault = ⊥

@@ -1,4 +1,5 @@
--- Numbers in the octets of a capture, in either byte order: draft-ietf-opsawg-pcap, 4; draft-ietf-opsawg-pcapng, 4.1.
+-- Numbers in the octets of a capture, in either byte order: draft-ietf-opsawg-pcap, 4;
+-- draft-ietf-opsawg-pcapng, 4.1.
 use Rattle.std.specs.Prelude.{ℕ, List, drop}
 use Rattle.byteorder.specs.Endian.{big_number, little_number}
 use Rattle.babel_capture.specs.declared.order.Order.{Order}

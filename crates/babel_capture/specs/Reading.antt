@@ -11,7 +11,8 @@ use Rattle.babel_capture.specs.Counts.{Made}
 use Rattle.babel_capture.specs.Gathering.{Gathering, IsGathered, IsRefused, AreMade}
 use Rattle.babel_capture.specs.Lengths.{block_len}
 
--- what the blocks so far say of the capture, what was gathered of their packets, and where the next one begins
+-- what the blocks so far say of the capture, what was gathered of their packets, and where the next
+-- one begins
 pub record Progress : Type 0 where
   pub context : Before
   pub gathering : Gathering
@@ -30,13 +31,15 @@ pub record LeadTo (limit : ℕ) (octets : List ℕ) (progress : Progress) : Type
 abbrev pub BlockFails : Wanted → Before → ℕ → List ℕ → Fault → Type 0
 BlockFails wanted before at block fault =
     (block_said before at block ≡ Err fault)
-    ⊎ ((content : Content) × (block_said before at block ≡ Ok content) × IsRefused wanted at content fault)
+    ⊎ ((content : Content) × (block_said before at block ≡ Ok content)
+    × IsRefused wanted at content fault)
 
 -- octets that begin with no block that is taken: their header tells, or the whole block
 abbrev pub StopsAt : Wanted → Before → ℕ → List ℕ → Fault → Type 0
 StopsAt wanted before at octets fault =
     (HasHeader before octets × (block_len before at (header_of before octets) ≡ Err fault))
-    ⊎ ((block : List ℕ) × BeginsBlock before at octets block × BlockFails wanted before at block fault)
+    ⊎ ((block : List ℕ) × BeginsBlock before at octets block
+    × BlockFails wanted before at block fault)
 
 -- the octets are blocks that are taken, and then octets that are not: their fault
 pub record Stops (limit : ℕ) (wanted : Wanted) (octets : List ℕ) (fault : Fault) : Type 0 where
@@ -46,7 +49,8 @@ pub record Stops (limit : ℕ) (wanted : Wanted) (octets : List ℕ) (fault : Fa
   pub whole : octets ≡ octets_of blocks ++ rest
   pub are_blocks : AreBlocks (start limit) 0 blocks
   pub are_made : AreMade wanted (sightings_of blocks) made
-  pub stops : StopsAt wanted (context_behind (start limit) blocks) (length (octets_of blocks)) rest fault
+  pub stops : StopsAt wanted (context_behind (start limit) blocks) (length
+      (octets_of blocks)) rest fault
 
 -- the first block was read, so that the octets are a capture
 abbrev pub IsKnown : Layout → Type 0

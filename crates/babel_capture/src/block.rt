@@ -61,7 +61,8 @@ fn read_packet<'a>(
     frame: &'a [u8],
     whole_len: u32,
 ) -> Result<Block<'a>, Fault>
-    ensures ok { IfOk result (λ block. packet_said before.now at interface frame.now whole_len ≡ Ok (content_of block)) }
+    ensures ok { IfOk result (λ block. packet_said before.now at interface frame.now whole_len
+        ≡ Ok (content_of block)) }
     ensures err { IfErr result (λ fault. packet_said before.now at interface frame.now whole_len ≡ Err fault) }
 {
     let Some(described) = before.interface(interface) else {
@@ -89,7 +90,8 @@ fn read_file<'a>(
     block: &'a [u8],
 ) -> Result<Block<'a>, Fault>
     requires { 24 ≤ length block.now }
-    ensures ok { IfOk result (λ said. file_said before.now at order block.now ≡ Ok (content_of said)) }
+    ensures ok { IfOk result (λ said. file_said before.now at order block.now
+        ≡ Ok (content_of said)) }
     ensures err { IfErr result (λ fault. file_said before.now at order block.now ≡ Err fault) }
 {
     if before.is_full() {
@@ -127,7 +129,8 @@ fn read_interface<'a>(
     order: Order,
     block: &'a [u8],
 ) -> Result<Block<'a>, Fault>
-    ensures ok { IfOk result (λ said. interface_said before.now at order block.now ≡ Ok (content_of said)) }
+    ensures ok { IfOk result (λ said. interface_said before.now at order block.now
+        ≡ Ok (content_of said)) }
     ensures err { IfErr result (λ fault. interface_said before.now at order block.now ≡ Err fault) }
 {
     if block.len() < 20 {
@@ -149,7 +152,8 @@ fn read_enhanced<'a>(
     order: Order,
     block: &'a [u8],
 ) -> Result<Block<'a>, Fault>
-    ensures ok { IfOk result (λ said. enhanced_said before.now at order block.now ≡ Ok (content_of said)) }
+    ensures ok { IfOk result (λ said. enhanced_said before.now at order block.now
+        ≡ Ok (content_of said)) }
     ensures err { IfErr result (λ fault. enhanced_said before.now at order block.now ≡ Err fault) }
 {
     if block.len() < 32 {
@@ -187,7 +191,8 @@ fn read_simple<'a>(
     order: Order,
     block: &'a [u8],
 ) -> Result<Block<'a>, Fault>
-    ensures ok { IfOk result (λ said. simple_said before.now at order block.now ≡ Ok (content_of said)) }
+    ensures ok { IfOk result (λ said. simple_said before.now at order block.now
+        ≡ Ok (content_of said)) }
     ensures err { IfErr result (λ fault. simple_said before.now at order block.now ≡ Err fault) }
 {
     if block.len() < 16 {
@@ -212,8 +217,10 @@ fn read_typed<'a>(
     block: &'a [u8],
     kind: u32,
 ) -> Result<Block<'a>, Fault>
-    ensures ok { IfOk result (λ said. typed_said before.now at order block.now kind ≡ Ok (content_of said)) }
-    ensures err { IfErr result (λ fault. typed_said before.now at order block.now kind ≡ Err fault) }
+    ensures ok { IfOk result (λ said. typed_said before.now at order block.now kind
+        ≡ Ok (content_of said)) }
+    ensures err { IfErr result (λ fault. typed_said before.now at order block.now kind
+        ≡ Err fault) }
 {
     match kind {
         INTERFACE_DESCRIPTION => read_interface(before, at, order, block),
@@ -231,7 +238,8 @@ fn read_pcapng<'a>(
     block: &'a [u8],
 ) -> Result<Block<'a>, Fault>
     requires { 12 ≤ length block.now }
-    ensures ok { IfOk result (λ said. pcapng_said before.now at order block.now ≡ Ok (content_of said)) }
+    ensures ok { IfOk result (λ said. pcapng_said before.now at order block.now
+        ≡ Ok (content_of said)) }
     ensures err { IfErr result (λ fault. pcapng_said before.now at order block.now ≡ Err fault) }
 {
     let kind = order.u32_at(block, 0);

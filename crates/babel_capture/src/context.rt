@@ -28,7 +28,12 @@ impl Model for Context {
 
     ghost Value = { Before };
 
-    ghost view = { λ c. record { limit = c.limit; layout = c.layout; first = c.first; interfaces = c.interfaces.items } };
+    ghost view = { λ c. record {
+      limit = c.limit;
+      layout = c.layout;
+      first = c.first;
+      interfaces = c.interfaces.items;
+    } };
 
     ghost invariant = { λ c. c.first ≤ length c.interfaces.items };
 }
@@ -36,7 +41,12 @@ impl Model for Context {
 impl Context {
     /// The context of the first block, where so many octets are read at most.
     pub fn new(alloc: Global, limit: u64) -> Context
-        ensures { result ≡ record { limit = limit; layout = layouts.Start; first = 0; interfaces = [] } }
+        ensures { result ≡ record {
+          limit = limit;
+          layout = layouts.Start;
+          first = 0;
+          interfaces = [];
+        } }
     {
         Context {
             limit,
@@ -82,14 +92,19 @@ impl Context {
         self.interfaces.len() >= MOST_INTERFACES
     }
 
-    /// The octets of the whole block that these octets, at this offset, begin with; `None` if they are less than a block.
+    /// The octets of the whole block that these octets, at this offset, begin with; `None` if they
+    /// are less than a block.
     #[tactic(auto, unfolding(crate::specs::Lengths::block_len))]
     pub fn first_block<'a>(&self, at: u64, octets: &'a [u8]) -> Result<Option<&'a [u8]>, Fault>
-        ensures whole { IfOk result (λ found. IfSome found (λ block. BeginsBlock self.now at octets.now block.now)) }
-        ensures room { IfOk result (λ found. IfSome found (λ block. (12 ≤ length block.now) × (length block.now ≤ self.now.limit - at))) }
-        ensures fits { IfOk result (λ found. IfSome found (λ block. at + length block.now < 2 ^ 64)) }
+        ensures whole { IfOk result (λ found. IfSome found
+            (λ block. BeginsBlock self.now at octets.now block.now)) }
+        ensures room { IfOk result (λ found. IfSome found (λ block. (12 ≤ length block.now)
+            × (length block.now ≤ self.now.limit - at))) }
+        ensures fits { IfOk result (λ found. IfSome found
+            (λ block. at + length block.now < 2 ^ 64)) }
         ensures less { IfOk result (λ found. IfNone found (IsPartial self.now at octets.now)) }
-        ensures err { IfErr result (λ fault. HasHeader self.now octets.now × (block_len self.now at (header_of self.now octets.now) ≡ Err fault)) }
+        ensures err { IfErr result (λ fault. HasHeader self.now octets.now
+            × (block_len self.now at (header_of self.now octets.now) ≡ Err fault)) }
     {
         let header_len = self.layout.header_len();
         if octets.len() < header_len {

@@ -4,7 +4,8 @@ use thiserror::Error;
 /// Why a capture is refused. Offsets `at` count octets from the capture's first octet.
 #[derive(Clone, Copy, Debug, PartialEq, Eq, Error)]
 pub enum Fault {
-    /// The octets are no capture: their magic number is none of pcap or pcapng, or they end within their first block.
+    /// The octets are no capture: their magic number is none of pcap or pcapng, or they end within
+    /// their first block.
     #[error("not a capture")]
     NotCapture,
     /// The capture ends inside the block that begins here.

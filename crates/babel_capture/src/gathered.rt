@@ -69,8 +69,10 @@ impl Gathered {
         ensures wanted { self.new.wanted ≡ self.old.wanted }
         ensures report { self.new.report.packets ≤ self.old.report.packets + 1 }
         ensures ok { OnOk result ((before : List Sighting) → IsGathered before self.old
-            → IsGathered (before ++ sighting_of (self.old.report.packets + 1) at (captured_of packet.now) ∷ []) self.new) }
-        ensures err { IfErr result (λ fault. (fault ≡ Fault.Memory) ⊎ IsRefused self.old.wanted at (holds (captured_of packet.now)) fault) }
+            → IsGathered (before ++ sighting_of (self.old.report.packets + 1) at
+            (captured_of packet.now) ∷ []) self.new) }
+        ensures err { IfErr result (λ fault. (fault ≡ Fault.Memory)
+            ⊎ IsRefused self.old.wanted at (holds (captured_of packet.now)) fault) }
     {
         let seen = look(packet.link, packet.frame, packet.whole_len);
         match self.wanted.finding(packet.interface, seen) {
@@ -100,8 +102,10 @@ impl Gathered {
         ensures wanted { self.new.wanted ≡ self.old.wanted }
         ensures report { self.new.report.packets ≤ self.old.report.packets + 1 }
         ensures ok { OnOk result ((before : List Sighting) → IsGathered before self.old
-            → IsGathered (before ++ sightings_in (self.old.report.packets + 1) at (content_of said.now)) self.new) }
-        ensures err { IfErr result (λ fault. (fault ≡ Fault.Memory) ⊎ IsRefused self.old.wanted at (content_of said.now) fault) }
+            → IsGathered (before ++ sightings_in (self.old.report.packets + 1) at
+            (content_of said.now)) self.new) }
+        ensures err { IfErr result (λ fault. (fault ≡ Fault.Memory)
+            ⊎ IsRefused self.old.wanted at (content_of said.now) fault) }
     {
         match said {
             Block::Packet(packet) => self.take_packet(at, packet),
@@ -113,7 +117,8 @@ impl Gathered {
     fn add(&mut self, interface: u64, sender: Addr, packet: &[u8]) -> Result<(), Fault>
         ensures wanted { self.new.wanted ≡ self.old.wanted }
         ensures report { self.new.report ≡ self.old.report }
-        ensures dump { OnOk result (self.new.dump ≡ dump_with self.old.wanted self.old.dump packet.now) }
+        ensures dump { OnOk result (self.new.dump
+            ≡ dump_with self.old.wanted self.old.dump packet.now) }
         ensures err { IfErr result (λ fault. fault ≡ Fault.Memory) }
     {
         if let Wanted::Sender { .. } = self.wanted {

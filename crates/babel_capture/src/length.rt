@@ -5,7 +5,8 @@ use crate::fault::Fault;
 use crate::layout::Layout;
 use crate::order::Order;
 
-/// The magic numbers of a pcap file, whose times are in microseconds or in nanoseconds: draft-ietf-opsawg-pcap, 4.
+/// The magic numbers of a pcap file, whose times are in microseconds or in nanoseconds:
+/// draft-ietf-opsawg-pcap, 4.
 const PCAP_MICROSECONDS: u32 = 0xa1b2_c3d4;
 
 const PCAP_NANOSECONDS: u32 = 0xa1b2_3c4d;

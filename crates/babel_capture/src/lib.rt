@@ -1,9 +1,9 @@
-//! Captures of packets, as tcpdump and Wireshark write them (draft-ietf-opsawg-pcap, draft-ietf-opsawg-pcapng): who sent
-//! Babel datagrams, and the dump of one sender.
+//! Captures of packets, as tcpdump and Wireshark write them (draft-ietf-opsawg-pcap,
+//! draft-ietf-opsawg-pcapng): who sent Babel datagrams, and the dump of one sender.
 //!
-//! A `Capture` is read in pieces of any size. It tells its blocks, and each captured packet to the layer of frames, which
-//! looks into one frame and takes no memory. This crate knows nothing of files and streams, nor of what the TLVs of a
-//! packet say.
+//! A `Capture` is read in pieces of any size. It tells its blocks, and each captured packet to the
+//! layer of frames, which looks into one frame and takes no memory. This crate knows nothing of
+//! files and streams, nor of what the TLVs of a packet say.
 #![tactic(auto)]
 
 mod block;

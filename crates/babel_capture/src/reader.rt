@@ -60,8 +60,10 @@ impl Reader {
         requires room { length block.now ≤ self.old.context.limit - self.old.at }
         requires fits { self.old.at + length block.now < 2 ^ 64 }
         ensures wanted { self.new.gathering.wanted ≡ self.old.gathering.wanted }
-        ensures ok { OnOk result ((limit : ℕ) (read : List ℕ) → LeadTo limit read self.old → LeadTo limit (read ++ block.now) self.new) }
-        ensures err { IfErr result (λ fault. (fault ≡ Fault.Memory) ⊎ BlockFails self.old.gathering.wanted self.old.context self.old.at block.now fault) }
+        ensures ok { OnOk result ((limit : ℕ) (read : List ℕ) → LeadTo limit read self.old
+            → LeadTo limit (read ++ block.now) self.new) }
+        ensures err { IfErr result (λ fault. (fault ≡ Fault.Memory)
+            ⊎ BlockFails self.old.gathering.wanted self.old.context self.old.at block.now fault) }
     {
         let said = read_block(&self.context, self.at, block)?;
         let at = self.at;
@@ -73,12 +75,16 @@ impl Reader {
 
     /// The whole block that the octets begin with; `None` if they are less than a block.
     fn first_block<'a>(&self, octets: &'a [u8]) -> Result<Option<&'a [u8]>, Fault>
-        ensures whole { IfOk result (λ found. IfSome found (λ block. BeginsBlock self.now.context self.now.at octets.now block.now)) }
-        ensures room { IfOk result (λ found. IfSome found (λ block. (12 ≤ length block.now) × (length block.now ≤ self.now.context.limit - self.now.at)
+        ensures whole { IfOk result (λ found. IfSome found
+            (λ block. BeginsBlock self.now.context self.now.at octets.now block.now)) }
+        ensures room { IfOk result (λ found. IfSome found (λ block. (12 ≤ length block.now)
+            × (length block.now ≤ self.now.context.limit - self.now.at)
             × (self.now.at + length block.now < 2 ^ 64))) }
-        ensures less { IfOk result (λ found. IfNone found (IsPartial self.now.context self.now.at octets.now)) }
+        ensures less { IfOk result (λ found. IfNone found
+            (IsPartial self.now.context self.now.at octets.now)) }
         ensures err { IfErr result (λ fault. HasHeader self.now.context octets.now
-            × (block_len self.now.context self.now.at (header_of self.now.context octets.now) ≡ Err fault)) }
+            × (block_len self.now.context self.now.at (header_of self.now.context octets.now)
+            ≡ Err fault)) }
     {
         self.context.first_block(self.at, octets)
     }
@@ -87,9 +93,12 @@ impl Reader {
     pub fn take_blocks(&mut self, octets: &[u8]) -> Result<usize, Fault>
         ensures wanted { self.new.gathering.wanted ≡ self.old.gathering.wanted }
         ensures used { IfOk result (λ used. used ≤ length octets.now) }
-        ensures took { IfOk result (λ used. (limit : ℕ) (read : List ℕ) → LeadTo limit read self.old → LeadTo limit (read ++ take used octets.now) self.new) }
-        ensures partial { IfOk result (λ used. IsPartial self.new.context self.new.at (drop used octets.now)) }
-        ensures stops { IfErr result (λ fault. (fault ≡ Fault.Memory) ⊎ ((limit : ℕ) (read : List ℕ) → LeadTo limit read self.old
+        ensures took { IfOk result (λ used. (limit : ℕ) (read : List ℕ)
+            → LeadTo limit read self.old → LeadTo limit (read ++ take used octets.now) self.new) }
+        ensures partial { IfOk result (λ used. IsPartial self.new.context self.new.at
+            (drop used octets.now)) }
+        ensures stops { IfErr result (λ fault. (fault ≡ Fault.Memory)
+            ⊎ ((limit : ℕ) (read : List ℕ) → LeadTo limit read self.old
             → Stops limit self.old.gathering.wanted (read ++ octets.now) fault)) }
     {
         let mut used = 0;

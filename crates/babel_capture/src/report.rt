@@ -19,7 +19,8 @@ impl Model for Report {
 
     ghost view = { λ r. record { packets = r.packets; left_out = r.left_out } };
 
-    ghost invariant = { λ r. (length r.left_out ≡ 5) × ((i : ℕ) → IfSome (count_at r.left_out i) (λ counted. counted.0 ≤ r.packets)) };
+    ghost invariant = { λ r. (length r.left_out ≡ 5) × ((i : ℕ)
+        → IfSome (count_at r.left_out i) (λ counted. counted.0 ≤ r.packets)) };
 
     ghost inverse = { λ r. record { packets = r.packets; left_out = r.left_out } };
 }
@@ -32,8 +33,8 @@ impl Report {
         self.packets
     }
 
-    /// How many wanted datagrams were left out for the reason, and the number of the first one's packet, from 1; `None` if
-    /// none was.
+    /// How many wanted datagrams were left out for the reason, and the number of the first one's
+    /// packet, from 1; `None` if none was.
     pub fn left_out(&self, reason: Reason) -> Option<(u64, u64)>
         ensures { result ≡ count_at self.now.left_out (reason_place reason) }
     {

@@ -8,7 +8,8 @@ use crate::reader::Reader;
 use crate::wanted::Wanted;
 use std::alloc::Global;
 
-/// The octets of a capture in pieces: its blocks are read as soon as they are whole, and less than a block is kept.
+/// The octets of a capture in pieces: its blocks are read as soon as they are whole, and less than
+/// a block is kept.
 #[derive(Drop)]
 pub struct Stream {
     /// How far the blocks were read.
@@ -29,7 +30,8 @@ impl Stream {
     /// Takes the next octets.
     pub fn take(&mut self, piece: &[u8]) -> Result<(), Fault>
         ensures wanted { self.new.reader.gathering.wanted ≡ self.old.reader.gathering.wanted }
-        ensures ok { OnOk result ((limit : ℕ) (fed : List ℕ) → HasTaken limit self.old.reader self.old.pending.items fed
+        ensures ok { OnOk result ((limit : ℕ) (fed : List ℕ)
+            → HasTaken limit self.old.reader self.old.pending.items fed
             → HasTaken limit self.new.reader self.new.pending.items (fed ++ piece.now)) }
         ensures err { IfErr result (λ fault. (fault ≡ Fault.Memory) ⊎ ((limit : ℕ) (fed : List ℕ)
             → HasTaken limit self.old.reader self.old.pending.items fed
@@ -54,9 +56,11 @@ impl Stream {
 
     /// What the packets of a whole capture give.
     pub fn finish(self) -> Result<Gathered, Fault>
-        ensures ok { IfOk result (λ gathered. (limit : ℕ) (fed : List ℕ) → HasTaken limit self.reader self.pending.items fed
+        ensures ok { IfOk result (λ gathered. (limit : ℕ) (fed : List ℕ)
+            → HasTaken limit self.reader self.pending.items fed
             → IsRead limit fed gathered) }
-        ensures fault { IfErr result (λ fault. (limit : ℕ) (fed : List ℕ) → HasTaken limit self.reader self.pending.items fed
+        ensures fault { IfErr result (λ fault. (limit : ℕ) (fed : List ℕ)
+            → HasTaken limit self.reader self.pending.items fed
             → CaptureFault limit self.reader.gathering.wanted fed fault) }
     {
         if !self.reader.has_started() {
@@ -72,9 +76,11 @@ impl Stream {
 
     /// What the packets of the whole blocks give, and the offset of a block that is not whole.
     pub fn finish_at_cut(self) -> Result<(Gathered, Option<u64>), Fault>
-        ensures ok { IfOk result (λ given. (limit : ℕ) (fed : List ℕ) → HasTaken limit self.reader self.pending.items fed
+        ensures ok { IfOk result (λ given. (limit : ℕ) (fed : List ℕ)
+            → HasTaken limit self.reader self.pending.items fed
             → IsReadToCut limit fed given.0 given.1) }
-        ensures fault { IfErr result (λ fault. (limit : ℕ) (fed : List ℕ) → HasTaken limit self.reader self.pending.items fed
+        ensures fault { IfErr result (λ fault. (limit : ℕ) (fed : List ℕ)
+            → HasTaken limit self.reader self.pending.items fed
             → CaptureFault limit self.reader.gathering.wanted fed fault) }
     {
         if !self.reader.has_started() {

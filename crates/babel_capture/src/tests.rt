@@ -1,5 +1,6 @@
-//! Captures, by the public calls. The packets are of examples/captures/babeld-basic-a.pcap, and what they give is of the
-//! dump beside it; the blocks round them are worked by hand from draft-ietf-opsawg-pcap and draft-ietf-opsawg-pcapng.
+//! Captures, by the public calls. The packets are of examples/captures/babeld-basic-a.pcap, and
+//! what they give is of the dump beside it; the blocks round them are worked by hand from
+//! draft-ietf-opsawg-pcap and draft-ietf-opsawg-pcapng.
 ghost use Rattle.std.specs.Prelude.{◌≤◌};
 
 use crate::{Capture, Wanted};
@@ -22,7 +23,8 @@ const FIRST: &str =
 const SECOND: &str =
     "33330001000602005e00c60186dd6c04230000201101fe8000000000000000005efffe00c601ff0200000000000000000000000100061a281a28002020be2a0200140406000041000064080a00000000ffff269effff";
 
-/// What is read of a capture of so many octets at most: the dump of fe80::5eff:fe00:c601 in hexadecimal, or the fault.
+/// What is read of a capture of so many octets at most: the dump of fe80::5eff:fe00:c601 in
+/// hexadecimal, or the fault.
 static CAPTURES: [(&[&str], u64, &str); 14] = [
     (
         &[
