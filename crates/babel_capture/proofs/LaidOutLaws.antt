@@ -198,19 +198,19 @@ ethernet_laid_out addresses ether_type packet padding whole sized fits plain =
     let count = length-append addresses (big_bytes 2 ether_type ++ rest) in grind (arith, nat_tests) in
     rw (long, at_type, at_rest, past-no_tag 4 payload plain) refl
 
-pub ipv6_in_ethernet : (addresses : List ℕ) (ip : Ipv6Header) (udp : UdpDatagram) (padding : List ℕ) (whole : ℕ) → length addresses ≡ 12
+pub ipv6_in_ethernet : (addresses padding : List ℕ) (ip : Ipv6Header) (udp : UdpDatagram) (whole : ℕ) → length addresses ≡ 12
     → IsBabel udp → IsIpv6 ip (udp_octets udp) → 14 + length (ipv6_octets ip (udp_octets udp)) ≤ whole
     → frame_sight links.Ethernet (ipv6_frame addresses ip udp padding) whole
     ≡ datagram (record { family = V6; bits = ip.sender }) None udp.payload
-ipv6_in_ethernet addresses ip udp padding whole sized babel fits there =
+ipv6_in_ethernet addresses padding ip udp whole sized babel fits there =
     ethernet_laid_out addresses 0x86dd (ipv6_octets ip (udp_octets udp)) padding whole sized (omega arith) refl
     ∙ babel_over_ipv6 None ip udp padding (whole - 14) babel fits (omega arith)
 
-pub ipv4_in_ethernet : (addresses : List ℕ) (ip : Ipv4Header) (udp : UdpDatagram) (padding : List ℕ) (whole : ℕ) → length addresses ≡ 12
+pub ipv4_in_ethernet : (addresses padding : List ℕ) (ip : Ipv4Header) (udp : UdpDatagram) (whole : ℕ) → length addresses ≡ 12
     → IsBabel udp → IsIpv4 ip (udp_octets udp) → 14 + length (ipv4_octets ip (udp_octets udp)) ≤ whole
     → frame_sight links.Ethernet (ipv4_frame addresses ip udp padding) whole
     ≡ datagram (record { family = V4; bits = ip.sender }) None udp.payload
-ipv4_in_ethernet addresses ip udp padding whole sized babel fits there =
+ipv4_in_ethernet addresses padding ip udp whole sized babel fits there =
     let options = length-append ip.options (udp_octets udp) in
     ethernet_laid_out addresses 0x0800 (ipv4_octets ip (udp_octets udp)) padding whole sized (omega arith) refl
     ∙ babel_over_ipv4 None ip udp padding (whole - 14) babel fits (omega (arith, options, fits.options_len))

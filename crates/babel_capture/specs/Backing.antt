@@ -8,8 +8,8 @@ pub record StandIn (part octets : List ℕ) : Type 0 where
   pub after : List ℕ
   pub joined : octets ≡ before ++ part ++ after
 
--- A frame that had `whole` octets, of which the recorder kept these: it was cut only if there were more, and a payload
--- stands in it.
+-- A frame that had `whole` octets, of which the recorder kept these: it was cut only if there were
+-- more, and a payload stands in it.
 abbrev pub Backs : List ℕ → ℕ → Sight → Type 0
 Backs octets whole other = Unit {0}
 Backs octets whole (fragment sender interface) = Unit {0}

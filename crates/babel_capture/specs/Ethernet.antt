@@ -1,5 +1,6 @@
 -- What comes after an EtherType: IEEE 802.3, 3.2; IEEE 802.1Q, 9.
-use Rattle.std.specs.Prelude.{ℕ, zero, suc, ◌-◌, Bool, ◌==◌, ◌&&◌, ◌||◌, nat_le, if◌then◌else◌, List, length, drop, Option}
+use Rattle.std.specs.Prelude.{ℕ, zero, suc, ◌-◌, Bool, ◌==◌, ◌&&◌, ◌||◌, nat_le, if◌then◌else◌}
+use Rattle.std.specs.Prelude.{List, length, drop, Option}
 use Rattle.babel_capture.specs.Ipv4.{ipv4_sight}
 use Rattle.babel_capture.specs.Ipv6.{ipv6_sight}
 use Rattle.babel_capture.specs.Octets.{number_at}

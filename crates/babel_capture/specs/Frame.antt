@@ -1,5 +1,6 @@
 -- What a captured frame is to us, by its link type: the registry at tcpdump.org/linktypes.html.
-use Rattle.std.specs.Prelude.{ℕ, ◌-◌, Bool, ◌==◌, ◌||◌, nat_lt, min, if◌then◌else◌, List, length, drop, Option, Some, None}
+use Rattle.std.specs.Prelude.{ℕ, ◌-◌, Bool, ◌==◌, ◌||◌, nat_lt, min, if◌then◌else◌, List, length}
+use Rattle.std.specs.Prelude.{drop, Option, Some, None}
 use Rattle.byteorder.specs.Endian.{big_number, little_number}
 use Rattle.babel_capture.specs.declared.link.Link.{Link}
 use Rattle.babel_capture.specs.declared.link.Link.TheVariants as links
@@ -39,11 +40,12 @@ abbrev pub family_sight : List ℕ → ℕ → Sight
 family_sight octets whole =
     if nat_lt (length octets) 4 then other
     else (if protocol_family octets == 2 then ipv4_sight None (drop 4 octets) (whole - 4)
-    else (if is_ipv6_family (protocol_family octets) then ipv6_sight None (drop 4 octets) (whole - 4)
+    else (if is_ipv6_family (protocol_family octets)
+    then ipv6_sight None (drop 4 octets) (whole - 4)
     else other))
 
--- A frame that had `whole` octets, of which the recorder kept these first ones. Cooked frames of version 2 have the
--- number of their interface at 4.
+-- A frame that had `whole` octets, of which the recorder kept these first ones. Cooked frames of
+-- version 2 have the number of their interface at 4.
 unfoldable pub frame_sight : Link → List ℕ → ℕ → Sight
 frame_sight links.Null octets whole = family_sight octets whole
 frame_sight links.Ethernet octets whole = header_sight 12 14 None octets whole
@@ -52,4 +54,5 @@ frame_sight links.Loop octets whole = family_sight octets whole
 frame_sight links.Cooked octets whole = header_sight 14 16 None octets whole
 frame_sight links.RawIpv4 octets whole = ipv4_sight None octets whole
 frame_sight links.RawIpv6 octets whole = ipv6_sight None octets whole
-frame_sight links.Cooked2 octets whole = header_sight 0 20 (Some (number_at 4 4 octets)) octets whole
+frame_sight links.Cooked2 octets whole =
+    header_sight 0 20 (Some (number_at 4 4 octets)) octets whole

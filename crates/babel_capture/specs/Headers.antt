@@ -1,10 +1,12 @@
 -- The extension headers of IPv6 packets: RFC 8200, 4.
-use Rattle.std.specs.Prelude.{ℕ, zero, suc, ◌+◌, ◌-◌, ◌*◌, Bool, not, ◌==◌, ◌&&◌, ◌||◌, nat_lt, bit_and}
+use Rattle.std.specs.Prelude.{ℕ, zero, suc, ◌+◌, ◌-◌, ◌*◌, Bool, not, ◌==◌, ◌&&◌, ◌||◌, nat_lt}
+use Rattle.std.specs.Prelude.{bit_and}
 use Rattle.std.specs.Prelude.{if◌then◌else◌, List, length, drop, slice_index}
 use Rattle.babel_capture.specs.Octets.{number_at}
 
--- a header after the fixed one: its number; whether the headers before it say that the packet is the first of several
--- fragments; the octets from its first one on that the recorder kept, and how many there were
+-- a header after the fixed one: its number; whether the headers before it say that the packet is
+-- the first of several fragments; the octets from its first one on that the recorder kept, and how
+-- many there were
 pub record NextHeader : Type 0 where
   pub number : ℕ
   pub is_fragment : Bool
@@ -19,8 +21,8 @@ has_len number = number == 0 || number == 43 || number == 60
 abbrev pub header_len : List ℕ → ℕ
 header_len octets = 8 * (slice_index octets 1 + 1)
 
--- RFC 8200, 4.5: the fragment header, of 8 octets, in the first fragment; whether there are more fragments. An atomic
--- fragment (RFC 6946) is the first one and has no more.
+-- RFC 8200, 4.5: the fragment header, of 8 octets, in the first fragment; whether there are more
+-- fragments. An atomic fragment (RFC 6946) is the first one and has no more.
 abbrev pub is_first_fragment : ℕ → List ℕ → Bool
 is_first_fragment number octets = number == 44 && bit_and (number_at 2 2 octets) 0xfff8 == 0
 

@@ -1,5 +1,6 @@
 -- IPv4 packets: RFC 791.
-use Rattle.std.specs.Prelude.{ℕ, ◌-◌, ◌*◌, Bool, not, ◌==◌, ◌||◌, nat_lt, bit_and, if◌then◌else◌, List}
+use Rattle.std.specs.Prelude.{ℕ, ◌-◌, ◌*◌, Bool, not, ◌==◌, ◌||◌, nat_lt, bit_and, if◌then◌else◌}
+use Rattle.std.specs.Prelude.{List}
 use Rattle.std.specs.Prelude.{length, drop, take, slice_index, Option}
 use Rattle.babel_prefix.specs.Address.{Address}
 use Rattle.babel_prefix.specs.declared.family.Family.TheVariants.{V4}
@@ -29,12 +30,13 @@ carries_udp octets = slice_index octets 9 == 17
 abbrev pub ipv4_sender : List ℕ → Address
 ipv4_sender octets = record { family = V4; bits = number_at 12 4 octets }
 
--- A packet of which there were `whole` octets and the recorder kept these: UDP from the end of the header to the
--- total length, if the packet had so many octets.
+-- A packet of which there were `whole` octets and the recorder kept these: UDP from the end of the
+-- header to the total length, if the packet had so many octets.
 unfoldable pub ipv4_sight : Option ℕ → List ℕ → ℕ → Sight
 ipv4_sight interface octets whole =
     if nat_lt (length octets) 20 || not (ip_version octets == 4) then other
     else (if nat_lt (ipv4_header_len octets) 20 || nat_lt whole (total_len octets) then other
     else (if not (carries_udp octets) || is_later_fragment octets then other
     else udp_sight (ipv4_sender octets) interface (has_more_fragments octets)
-    (drop (ipv4_header_len octets) (take (total_len octets) octets)) (total_len octets - ipv4_header_len octets)))
+    (drop (ipv4_header_len octets) (take (total_len octets) octets))
+    (total_len octets - ipv4_header_len octets)))

@@ -15,7 +15,8 @@ payload_len octets = number_at 4 2 octets
 abbrev pub ipv6_sender : List ℕ → Address
 ipv6_sender octets = record { family = V6; bits = number_at 8 16 octets }
 
--- the first header after the fixed one, which says its number; the packet ends where its payload does
+-- the first header after the fixed one, which says its number; the packet ends where its payload
+-- does
 abbrev pub first_header : List ℕ → NextHeader
 first_header octets = record {
   number = slice_index octets 6;
@@ -30,8 +31,8 @@ upper_sight sender interface upper =
     if not (upper.number == 17) then other
     else udp_sight sender interface upper.is_fragment upper.octets upper.whole
 
--- A packet of which there were `whole` octets and the recorder kept these: UDP after at most 8 extension headers, if
--- the packet had as many octets as its header says.
+-- A packet of which there were `whole` octets and the recorder kept these: UDP after at most 8
+-- extension headers, if the packet had as many octets as its header says.
 unfoldable pub ipv6_sight : Option ℕ → List ℕ → ℕ → Sight
 ipv6_sight interface octets whole =
     if nat_lt (length octets) 40 || not (ip_version octets == 6) then other

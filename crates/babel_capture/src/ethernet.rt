@@ -19,7 +19,8 @@ const CUSTOMER_TAG: u16 = 0x8100;
 
 const SERVICE_TAG: u16 = 0x88a8;
 
-/// The octets of a tag after its EtherType: two of control information, and the EtherType of what comes next.
+/// The octets of a tag after its EtherType: two of control information, and the EtherType of what
+/// comes next.
 const TAG_LEN: usize = 4;
 
 /// An EtherType and what comes after it in a frame.

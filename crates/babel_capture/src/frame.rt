@@ -14,7 +14,8 @@ use byteorder::{ByteOrder, LittleEndian, NetworkEndian};
 #[cfg(test)]
 mod tests;
 
-/// A header with an EtherType: where it has that of what comes after it, and how many octets it has.
+/// A header with an EtherType: where it has that of what comes after it, and how many octets it
+/// has.
 #[derive(Clone, Copy)]
 struct Header {
     ether_type: usize,
@@ -51,9 +52,11 @@ const MACOS_INET6: u32 = 30;
 /// The octets of a protocol family.
 const FAMILY_LEN: usize = 4;
 
-/// What a captured frame is: the octets that the recorder kept of one that had `whole_len` octets on the wire.
+/// What a captured frame is: the octets that the recorder kept of one that had `whole_len` octets
+/// on the wire.
 ///
-/// Checksums are not looked at. A frame that has more octets than `whole_len` counts as a whole one.
+/// Checksums are not looked at. A frame that has more octets than `whole_len` counts as a whole
+/// one.
 #[tactic(auto, unfolding(crate::specs::Frame::frame_sight))]
 pub fn look(link: Link, frame: &[u8], whole_len: u32) -> Seen<'_>
     ensures { sight_of result ≡ frame_sight link frame.now (max whole_len (length frame.now)) }

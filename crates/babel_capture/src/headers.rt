@@ -37,7 +37,8 @@ impl<'a> NextHeader<'a> {
     ghost use Rattle.babel_capture.specs.Headers.{past_header, past_headers};
     ghost use Rattle.babel_capture.specs.Layers.{next_header};
 
-    /// The header after the extension headers, of which at most `MAX_EXTENSION_HEADERS` are passed over.
+    /// The header after the extension headers, of which at most `MAX_EXTENSION_HEADERS` are passed
+    /// over.
     pub fn past_all(self) -> NextHeader<'a>
         ensures { next_header result ≡ past_headers 8 (next_header self.entry) }
     {
@@ -48,7 +49,8 @@ impl<'a> NextHeader<'a> {
         header
     }
 
-    /// The header after this extension header; the same header where it is another or stands in a later fragment.
+    /// The header after this extension header; the same header where it is another or stands in a
+    /// later fragment.
     #[tactic(auto, unfolding(crate::specs::Headers::past_header))]
     fn past_one(self) -> NextHeader<'a>
         ensures { next_header result ≡ past_header (next_header self.entry) }

@@ -18,23 +18,23 @@ ghost use Rattle.babel_capture.specs.declared.link.Link.{Link as LinkType};
 ghost use Rattle.babel_capture.specs.declared.link.Link.TheVariants.{Ethernet};
 ghost use Rattle.babel_prefix.specs.declared.family.Family.TheVariants.{V4, V6};
 
-/// What is seen of a frame is in the frame: a datagram was cut only if the recorder left octets out, and a payload is
-/// some of the octets that it kept, one after the other.
+/// What is seen of a frame is in the frame: a datagram was cut only if the recorder left octets
+/// out, and a payload is some of the octets that it kept, one after the other.
 #[tactic(auto, using(crate::proofs::BackingLaws::frame_backed))]
 pub fn sight_is_backed()
     ensures { (link : LinkType) (octets : List ℕ) (whole : ℕ)
         → Backs octets whole (frame_sight link octets whole) }
 {}
 
-/// A Babel datagram in an Ethernet frame that is laid out as the RFCs say, with any options of IPv4 and any padding, is
-/// seen as what it carries.
+/// A Babel datagram in an Ethernet frame that is laid out as the RFCs say, with any options of IPv4
+/// and any padding, is seen as what it carries.
 pub fn laid_out_is_seen()
-    ensures ipv4 { (addresses : List ℕ) (ip : Ipv4Header) (udp : UdpDatagram) (padding : List ℕ) (whole : ℕ)
+    ensures ipv4 { (addresses padding : List ℕ) (ip : Ipv4Header) (udp : UdpDatagram) (whole : ℕ)
         → length addresses ≡ 12 → IsBabel udp → IsIpv4 ip (udp_octets udp)
         → 14 + length (ipv4_octets ip (udp_octets udp)) ≤ whole
         → frame_sight Ethernet (ipv4_frame addresses ip udp padding) whole
         ≡ datagram (record { family = V4; bits = ip.sender }) None udp.payload }
-    ensures ipv6 { (addresses : List ℕ) (ip : Ipv6Header) (udp : UdpDatagram) (padding : List ℕ) (whole : ℕ)
+    ensures ipv6 { (addresses padding : List ℕ) (ip : Ipv6Header) (udp : UdpDatagram) (whole : ℕ)
         → length addresses ≡ 12 → IsBabel udp → IsIpv6 ip (udp_octets udp)
         → 14 + length (ipv6_octets ip (udp_octets udp)) ≤ whole
         → frame_sight Ethernet (ipv6_frame addresses ip udp padding) whole

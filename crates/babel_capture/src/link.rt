@@ -23,8 +23,8 @@ pub enum Link {
 }
 
 impl Link {
-    /// The link type of this number in a capture's header, of the list at tcpdump.org/linktypes.html; `None` if its
-    /// frames are not read.
+    /// The link type of this number in a capture's header, of the list at
+    /// tcpdump.org/linktypes.html; `None` if its frames are not read.
     pub fn of(number: u32) -> Option<Link>
         ensures { result ≡ link_of number }
     {

@@ -1,7 +1,7 @@
 ghost use Rattle.std.specs.Prelude.{◌≡◌, ◌-◌, drop, take};
 
-/// A part of a frame: the octets of it that the recorder kept, which are its first, and how many octets it had on
-/// the wire.
+/// A part of a frame: the octets of it that the recorder kept, which are its first, and how many
+/// octets it had on the wire.
 #[derive(Clone, Copy)]
 pub(crate) struct Part<'a> {
     pub octets: &'a [u8],

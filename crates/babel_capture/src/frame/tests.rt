@@ -7,7 +7,8 @@ use std::test::Fail;
 
 /// The header of Ethernet, but for the EtherType.
 const MACS: &str = "33330001000602005e00c602";
-/// The header of IPv6 of a datagram of babeld, and its parts before the payload's length and after the hop limit.
+/// The header of IPv6 of a datagram of babeld, and its parts before the payload's length and after
+/// the hop limit.
 const IPV6: &str =
     "6c03079800181101fe8000000000000000005efffe00c602ff020000000000000000000000010006";
 
@@ -40,7 +41,8 @@ const WHOLE4: &str = "datagram of 192.0.2.1";
 
 const FRAGMENT4: &str = "fragment of 192.0.2.1";
 
-/// A link type, the octets of a frame that were kept, how many were not, what is seen, and the payload.
+/// A link type, the octets of a frame that were kept, how many were not, what is seen, and the
+/// payload.
 type Row = (
     Link,
     &'static [&'static str],
