@@ -1,0 +1,11 @@
+-- What is made of a packet.
+use Rattle.std.proofs.Common.{◌≡◌, ℕ, ◌+◌, List, length, take, ap, ◌∙◌, inl, arith}
+use Rattle.std.proofs.lemmas.List.{take_at}
+use Rattle.babel_prefix.specs.Address.{Address}
+use Rattle.babel_tlv.specs.Framing.{BeginsPacket, framed}
+use Rattle.babel_capture.specs.Findings.{found, PayloadIs}
+
+pub packet_found : (interface : ℕ) (sender : Address) (payload body : List ℕ) (used : ℕ) → BeginsPacket payload body → used ≡ 4 + length body
+    → PayloadIs interface sender payload (found interface sender (take used payload))
+packet_found interface sender payload body used (fits, rest, is) is_used =
+    inl (body, (fits, rest, is), ap (found interface sender) (ap (take used) is ∙ take_at (framed body) rest used (omega (arith, is_used))))

@@ -1,0 +1,82 @@
+-- What packets give, taken one by one.
+use Rattle.std.proofs.Common.{◌≡◌, ◌≢◌, ℕ, List, [], ◌∷◌, ◌++◌, ◌+◌, length, refl, sym, ap, subst, ◌∙◌}
+use Rattle.std.specs.Prelude.{Some, None, Result, Ok, Err, OnOk}
+use Rattle.std.specs.List.{flat_map}
+use Rattle.babel_prefix.specs.Address.{Address}
+use Rattle.babel_capture.specs.declared.reason.Reason.{Reason}
+use Rattle.std.proofs.lemmas.List.{append-nil}
+use Rattle.std.proofs.lemmas.List.Concat.{flat_map-append}
+use Rattle.babel_capture.specs.declared.wanted.Wanted.{Wanted}
+use Rattle.babel_capture.specs.declared.wanted.Wanted.TheVariants as wanteds
+use Rattle.babel_capture.specs.Blocks.{Sighting}
+use Rattle.babel_capture.specs.Counts.{Made, counted_with, reason_of}
+use Rattle.babel_capture.specs.Findings.{Found, passed, left, snapped, found, Finds}
+use Rattle.babel_capture.specs.Sight.{Sight}
+use Rattle.babel_capture.specs.Gathering.{AreMade, Gathering, IsGathered, octets_found, dump_of, dump_with}
+use Rattle.babel_capture.proofs.CountLaws.{counts-push}
+
+abbrev pub made_of : Sighting → Found → Made
+made_of sighting what = record { number = sighting.number; what = what }
+
+made-push : (wanted : Wanted) (before : List Sighting) (next : Sighting) (made : List Made) (what : Found) → AreMade wanted before made
+    → Finds wanted next.interface next.what what → what ≢ snapped → AreMade wanted (before ++ next ∷ []) (made ++ made_of next what ∷ [])
+made-push wanted [] next made what are finds whole =
+    (made_of next what, [], ap (λ (m : List Made). m ++ made_of next what ∷ []) are, refl, finds, whole, refl)
+made-push wanted (first ∷ before) next made what (one, others, is, number, made_so, kept, are) finds whole =
+    (one, others ++ made_of next what ∷ [], ap (λ (m : List Made). m ++ made_of next what ∷ []) is, number, made_so, kept, made-push wanted before next others what are finds whole)
+
+dump-push : (wanted : Wanted) (made : List Made) (dump : List ℕ) (one : Made) → dump ≡ dump_of wanted made → dump_with wanted dump (octets_found one.what) ≡ dump_of wanted (made ++ one ∷ [])
+dump-push wanteds.Everyone made dump one is = is
+dump-push (wanteds.Sender sender interface) made dump one is =
+    ap (λ (d : List ℕ). d ++ octets_found one.what) is
+    ∙ ap (λ (d : List ℕ). flat_map (λ (m : Made). octets_found m.what) made ++ d) (sym (append-nil (octets_found one.what)))
+    ∙ sym (flat_map-append (λ (m : Made). octets_found m.what) made (one ∷ []))
+
+pub gathered-push : (before : List Sighting) (next : Sighting) (old new : Gathering) (what : Found) → new.wanted ≡ old.wanted
+    → new.dump ≡ dump_with old.wanted old.dump (octets_found what) → new.report ≡ counted_with old.report (reason_of what) → what ≢ snapped
+    → IsGathered before old → next.number ≡ old.report.packets + 1 → Finds old.wanted next.interface next.what what → IsGathered (before ++ next ∷ []) new
+gathered-push before next old new what same dump report whole gathered number finds =
+    let one : Made = made_of next what in
+    let is_number : one.number ≡ length gathered.made + 1 = number ∙ ap (λ c. c.packets + 1) gathered.report in
+    record {
+      made = gathered.made ++ one ∷ [];
+      are_made = subst (λ (w : Wanted). AreMade w (before ++ next ∷ []) (gathered.made ++ one ∷ [])) (sym same)
+          (made-push old.wanted before next gathered.made what gathered.are_made finds whole);
+      dump = subst (λ (w : Wanted). new.dump ≡ dump_of w (gathered.made ++ one ∷ [])) (sym same)
+          (dump ∙ dump-push old.wanted gathered.made old.dump one gathered.dump);
+      report = report ∙ ap (λ c. counted_with c (reason_of what)) gathered.report ∙ sym (counts-push gathered.made one is_number);
+    }
+
+-- what is no packet leaves the dump
+pub dump-stays : (wanted : Wanted) (dump : List ℕ) → dump ≡ dump_with wanted dump []
+dump-stays wanteds.Everyone dump = refl
+dump-stays (wanteds.Sender sender interface) dump = sym (append-nil dump)
+
+pub on-ok : {T E : Type 0} {P Q : Type 0} (r : Result T E) → (P → Q) → OnOk r P → OnOk r Q
+on-ok (Ok x) goes holds = goes holds
+on-ok (Err e) goes holds = tt
+
+-- the same as the code meets them
+module _ (before : List Sighting) (next : Sighting) (old new : Gathering) (finding : Found) where
+  abbrev Goes : Type 0
+  Goes = IsGathered before old → next.number ≡ old.report.packets + 1 → Finds old.wanted next.interface next.what finding → IsGathered (before ++ next ∷ []) new
+
+  pub passed-push : finding ≡ passed → new.wanted ≡ old.wanted → new.dump ≡ old.dump → new.report ≡ counted_with old.report None → Goes
+  passed-push is same dump report gathered number finds =
+      gathered-push before next old new passed same (dump ∙ dump-stays old.wanted old.dump) report (λ e. cc) gathered number
+      (subst (Finds old.wanted next.interface next.what) is finds)
+
+  pub left-push : (reason : Reason) → finding ≡ left reason → new.wanted ≡ old.wanted → new.dump ≡ old.dump → new.report ≡ counted_with old.report (Some reason) → Goes
+  left-push reason is same dump report gathered number finds =
+      gathered-push before next old new (left reason) same (dump ∙ dump-stays old.wanted old.dump) report (λ e. cc) gathered number
+      (subst (Finds old.wanted next.interface next.what) is finds)
+
+  pub found-push : (interface : ℕ) (sender : Address) (packet : List ℕ) → finding ≡ found interface sender packet → new.wanted ≡ old.wanted → new.dump ≡ dump_with old.wanted old.dump packet
+      → new.report ≡ counted_with old.report None → Goes
+  found-push interface sender packet is same dump report gathered number finds =
+      gathered-push before next old new (found interface sender packet) same dump report (λ e. cc) gathered number
+      (subst (Finds old.wanted next.interface next.what) is finds)
+
+pub finds-at : (wanted here : Wanted) (interface : ℕ) (sight seen : Sight) (finding : Found) → wanted ≡ here → sight ≡ seen → Finds wanted interface sight finding → Finds here interface seen finding
+finds-at wanted here interface sight seen finding is_wanted is_seen finds =
+    subst (λ (w : Wanted). Finds w interface seen finding) is_wanted (subst (λ (s : Sight). Finds wanted interface s finding) is_seen finds)

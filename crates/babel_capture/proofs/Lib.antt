@@ -1,0 +1,11 @@
+pub mod BackingLaws
+pub mod CountLaws
+pub mod FindingLaws
+pub mod FramingLaws
+pub mod GatherLaws
+pub mod LaidOutLaws
+pub mod NumberLaws
+pub mod OctetLaws
+pub mod PacketLaws
+pub mod ReadingLaws
+pub mod StreamLaws

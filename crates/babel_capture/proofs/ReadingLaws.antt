@@ -1,0 +1,139 @@
+-- Blocks, taken one by one.
+use Rattle.std.proofs.Common.{◌≡◌, ℕ, ◌+◌, ◌-◌, ◌≤◌, List, [], ◌∷◌, ◌++◌, length, take, drop, refl, sym, ap, subst, ◌∙◌, append_assoc, inl, inr, length-drop, arith}
+use Rattle.std.specs.Prelude.{Ok, Err, Option, Some, IfSome, ◌⊎◌}
+use Rattle.std.proofs.lemmas.List.{append-nil, length-append, take-append-drop}
+use Rattle.std.proofs.Math.Seq.{take-add}
+use Rattle.std.proofs.lemmas.List.Concat.{flat_map-append}
+use Rattle.babel_capture.specs.declared.fault.Fault.{Fault}
+use Rattle.babel_capture.specs.declared.wanted.Wanted.{Wanted}
+use Rattle.babel_capture.specs.Blocks.{BlockAt, BeginsBlock, HasHeader, header_of, IsBlock, AreBlocks, Sighting, start, context_behind, octets_of, sightings_in, sightings_behind, sightings_of}
+use Rattle.babel_capture.specs.Contents.{Content, block_said, context_after}
+use Rattle.babel_capture.specs.Context.{Before}
+use Rattle.babel_capture.specs.Counts.{Made, Counts}
+use Rattle.babel_capture.specs.Gathering.{AreMade, Gathering, IsGathered}
+use Rattle.babel_capture.specs.Lengths.{block_len}
+use Rattle.babel_capture.specs.Reading.{Progress, LeadTo, BlockFails, StopsAt, Stops}
+use Rattle.babel_capture.proofs.NumberLaws.{rest_is}
+
+-- ---- one block more
+
+sightings-push : (count : ℕ) (blocks : List BlockAt) (b : BlockAt) → sightings_behind count (blocks ++ b ∷ []) ≡ sightings_behind count blocks ++ sightings_in (count + length (sightings_behind count blocks) + 1) b.at b.content
+sightings-push count [] b =
+    append-nil (sightings_in (count + 1) b.at b.content) ∙ ap (λ (n : ℕ). sightings_in n b.at b.content) (omega arith)
+sightings-push count (first ∷ blocks) b =
+    let here : List Sighting = sightings_in (count + 1) first.at first.content in
+    let later : List Sighting = sightings_behind (count + length here) blocks in
+    let number : count + length here + length later + 1 ≡ count + length (here ++ later) + 1 = omega (arith, length-append here later) in
+    ap (λ (t : List Sighting). here ++ t) (sightings-push (count + length here) blocks b)
+    ∙ sym (append_assoc here later (sightings_in (count + length here + length later + 1) b.at b.content))
+    ∙ ap (λ (n : ℕ). (here ++ later) ++ sightings_in n b.at b.content) number
+
+context-push : (before : Before) (blocks : List BlockAt) (b : BlockAt) → context_behind before (blocks ++ b ∷ []) ≡ context_after (context_behind before blocks) b.content
+context-push before [] b = refl
+context-push before (first ∷ blocks) b = context-push (context_after before first.content) blocks b
+
+octets-push : (blocks : List BlockAt) (b : BlockAt) → octets_of (blocks ++ b ∷ []) ≡ octets_of blocks ++ b.octets
+octets-push blocks b =
+    flat_map-append (λ (x : BlockAt). x.octets) blocks (b ∷ []) ∙ ap (λ (t : List ℕ). octets_of blocks ++ t) (append-nil b.octets)
+
+blocks-push : (before : Before) (at : ℕ) (blocks : List BlockAt) (b : BlockAt) → AreBlocks before at blocks → b.at ≡ at + length (octets_of blocks)
+    → IsBlock (context_behind before blocks) b.at b.octets → block_said (context_behind before blocks) b.at b.octets ≡ Ok b.content → AreBlocks before at (blocks ++ b ∷ [])
+blocks-push before at [] b are is block said =
+    let here : b.at ≡ at = omega (arith, is) in
+    (here, subst (λ (n : ℕ). IsBlock before n b.octets) here block, subst (λ (n : ℕ). block_said before n b.octets ≡ Ok b.content) here said, tt)
+blocks-push before at (first ∷ blocks) b (here, one, first_said, are) is block said = (
+  here,
+  one,
+  first_said,
+  blocks-push (context_after before first.content) (at + length first.octets) blocks b are (omega (arith, is, length-append first.octets (octets_of blocks))) block said,
+)
+
+length-made : (wanted : Wanted) (sightings : List Sighting) (made : List Made) → AreMade wanted sightings made → length made ≡ length sightings
+length-made wanted [] made are = ap length are
+length-made wanted (first ∷ sightings) made (one, others, is, number, finds, whole, are) =
+    (let rest : length others ≡ length sightings = length-made wanted sightings others are in omega (arith, ap length is, rest))
+
+packets-are : (sightings : List Sighting) (gathering : Gathering) → IsGathered sightings gathering → gathering.report.packets ≡ length sightings
+packets-are sightings gathering gathered =
+    ap (λ (c : Counts). c.packets) gathered.report ∙ length-made gathering.wanted sightings gathered.made gathered.are_made
+
+pub lead-push : (limit : ℕ) (read block : List ℕ) (old new : Progress) (content : Content) → IsBlock old.context old.at block → block_said old.context old.at block ≡ Ok content
+    → new.context ≡ context_after old.context content → new.at ≡ old.at + length block
+    → ((before : List Sighting) → IsGathered before old.gathering → IsGathered (before ++ sightings_in (old.gathering.report.packets + 1) old.at content) new.gathering)
+    → LeadTo limit read old → LeadTo limit (read ++ block) new
+lead-push limit read block old new content is_block said context place gathers lead =
+    let b : BlockAt = record { at = old.at; octets = block; content = content } in
+    let count : old.gathering.report.packets ≡ length (sightings_of lead.blocks) = packets-are (sightings_of lead.blocks) old.gathering lead.gathered in
+    let number : old.gathering.report.packets + 1 ≡ 0 + length (sightings_of lead.blocks) + 1 = omega (arith, count) in
+    record {
+      blocks = lead.blocks ++ b ∷ [];
+      whole = ap (λ (t : List ℕ). t ++ block) lead.whole ∙ sym (octets-push lead.blocks b);
+      are_blocks = blocks-push (start limit) 0 lead.blocks b lead.are_blocks (omega (arith, lead.place, ap length lead.whole))
+          (subst (λ (c : Before). IsBlock c old.at block) lead.context is_block)
+          (subst (λ (c : Before). block_said c old.at block ≡ Ok content) lead.context said);
+      place = omega (arith, place, lead.place, length-append read block);
+      context = context ∙ ap (λ (c : Before). context_after c content) lead.context ∙ sym (context-push (start limit) lead.blocks b);
+      gathered = subst (λ (s : List Sighting). IsGathered s new.gathering)
+          (ap (λ (n : ℕ). sightings_of lead.blocks ++ sightings_in n old.at content) number ∙ sym (sightings-push 0 lead.blocks b))
+          (gathers (sightings_of lead.blocks) lead.gathered);
+    }
+
+-- ---- what stops
+
+pub stops-behind : (limit : ℕ) (wanted : Wanted) (read octets : List ℕ) (used : ℕ) (now : Progress) (fault : Fault) → now.gathering.wanted ≡ wanted
+    → LeadTo limit (read ++ take used octets) now → StopsAt now.gathering.wanted now.context now.at (drop used octets) fault → Stops limit wanted (read ++ octets) fault
+stops-behind limit wanted read octets used now fault same lead stops =
+    let place : now.at ≡ length (octets_of lead.blocks) = lead.place ∙ ap length lead.whole in
+    record {
+      blocks = lead.blocks;
+      rest = drop used octets;
+      made = lead.gathered.made;
+      whole = ap (λ (t : List ℕ). read ++ t) (sym (take-append-drop used octets)) ∙ sym (append_assoc read (take used octets) (drop used octets))
+          ∙ ap (λ (t : List ℕ). t ++ drop used octets) lead.whole;
+      are_blocks = lead.are_blocks;
+      are_made = subst (λ (w : Wanted). AreMade w (sightings_of lead.blocks) lead.gathered.made) same lead.gathered.are_made;
+      stops = subst (λ (w : Wanted). StopsAt w (context_behind (start limit) lead.blocks) (length (octets_of lead.blocks)) (drop used octets) fault) same
+          (subst (λ (n : ℕ). StopsAt now.gathering.wanted (context_behind (start limit) lead.blocks) n (drop used octets) fault) place
+          (subst (λ (c : Before). StopsAt now.gathering.wanted c now.at (drop used octets) fault) lead.context stops));
+    }
+
+-- ---- as the loop meets them
+
+-- the rest as a slice
+abbrev pub rest_of : ℕ → List ℕ → List ℕ
+rest_of used octets = take (length octets - used) (drop used octets)
+
+pub used-within : (before : Before) (at used : ℕ) (octets block : List ℕ) → used ≤ length octets → BeginsBlock before at (rest_of used octets) block → used + length block ≤ length octets
+used-within before at used octets block within begins =
+    omega (arith, begins.fits, ap length (rest_is used octets), length-drop used octets)
+
+pub taken-more : (before : Before) (at used : ℕ) (octets block : List ℕ) → BeginsBlock before at (rest_of used octets) block → take used octets ++ block ≡ take (used + length block) octets
+taken-more before at used octets block begins =
+    ap (λ (t : List ℕ). take used octets ++ t) (begins.front ∙ ap (take (length block)) (rest_is used octets)) ∙ sym (take-add used (length block) octets)
+
+pub lead-more : (limit : ℕ) (read : List ℕ) (before : Before) (at used : ℕ) (octets block : List ℕ) (new : Progress) → BeginsBlock before at (rest_of used octets) block
+    → LeadTo limit ((read ++ take used octets) ++ block) new → LeadTo limit (read ++ take (used + length block) octets) new
+lead-more limit read before at used octets block new begins lead =
+    subst (λ (t : List ℕ). LeadTo limit t new) (append_assoc read (take used octets) block ∙ ap (λ (t : List ℕ). read ++ t) (taken-more before at used octets block begins)) lead
+
+pub header-stops : (limit : ℕ) (wanted : Wanted) (read octets : List ℕ) (used : ℕ) (now : Progress) (fault : Fault) → now.gathering.wanted ≡ wanted
+    → HasHeader now.context (rest_of used octets) × (block_len now.context now.at (header_of now.context (rest_of used octets)) ≡ Err fault)
+    → LeadTo limit (read ++ take used octets) now → Stops limit wanted (read ++ octets) fault
+header-stops limit wanted read octets used now fault same header lead =
+    stops-behind limit wanted read octets used now fault same lead
+    (subst (λ (t : List ℕ). StopsAt now.gathering.wanted now.context now.at t fault) (rest_is used octets) (inl header))
+
+pub block-stops : (limit : ℕ) (wanted : Wanted) (read octets block : List ℕ) (used : ℕ) (now : Progress) (fault : Fault) → now.gathering.wanted ≡ wanted
+    → BeginsBlock now.context now.at (rest_of used octets) block → BlockFails now.gathering.wanted now.context now.at block fault
+    → LeadTo limit (read ++ take used octets) now → Stops limit wanted (read ++ octets) fault
+block-stops limit wanted read octets block used now fault same begins fails lead =
+    stops-behind limit wanted read octets used now fault same lead
+    (subst (λ (t : List ℕ). StopsAt now.gathering.wanted now.context now.at t fault) (rest_is used octets) (inr (block, begins, fails)))
+
+-- want of memory, or what is said of the fault else
+pub else-by : {M P Q : Type 0} → (P → Q) → M ⊎ P → M ⊎ Q
+else-by goes (inl memory) = inl memory
+else-by goes (inr holds) = inr (goes holds)
+
+pub some_of : {X : Type 0} (found : Option X) (x : X) (P : X → Type 0) → found ≡ Some x → IfSome found P → P x
+some_of found x P is holds = subst (λ o. IfSome o P) is holds

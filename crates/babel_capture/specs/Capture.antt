@@ -1,0 +1,73 @@
+-- A capture, its faults, and what a reader has made of the octets that it was fed. Reading in
+-- pieces is this project's own.
+use Rattle.std.specs.Prelude.{◌≡◌, ◌≢◌, ℕ, List, [], ◌++◌, length, Option, Some, None, ◌⊎◌}
+use Rattle.babel_capture.specs.declared.fault.Fault.{Fault}
+use Rattle.babel_capture.specs.declared.fault.Fault.TheVariants as faults
+use Rattle.babel_capture.specs.declared.wanted.Wanted.{Wanted}
+use Rattle.babel_capture.specs.Blocks.{BlockAt, IsPartial, AreBlocks, start, context_behind, octets_of, sightings_of}
+use Rattle.babel_capture.specs.Context.{Before}
+use Rattle.babel_capture.specs.Counts.{Made}
+use Rattle.babel_capture.specs.Gathering.{Gathering, IsGathered, AreMade}
+use Rattle.babel_capture.specs.Reading.{Progress, HasStarted, HasTaken, Stops}
+
+-- the octets are a capture, whole blocks from the first to the last, and this is what its packets
+-- give
+pub record IsRead (limit : ℕ) (octets : List ℕ) (gathering : Gathering) : Type 0 where
+  pub blocks : List BlockAt
+  pub whole : octets ≡ octets_of blocks
+  pub are_blocks : AreBlocks (start limit) 0 blocks
+  pub started : HasStarted (context_behind (start limit) blocks)
+  pub gathered : IsGathered (sightings_of blocks) gathering
+
+-- the octets are a capture whose last block is cut short, at this offset if it is
+pub record IsReadToCut (limit : ℕ) (octets : List ℕ) (gathering : Gathering) (cut : Option ℕ) : Type 0 where
+  pub read : List ℕ
+  pub rest : List ℕ
+  pub whole : octets ≡ read ++ rest
+  pub is_read : IsRead limit read gathering
+  pub where_cut : ((rest ≡ []) × (cut ≡ None)) ⊎ ((rest ≢ []) × (cut ≡ Some (length read)))
+
+-- the octets end before the first block is whole, or within a later one
+abbrev pub IsShortBy : Before → ℕ → List ℕ → Fault → Type 0
+IsShortBy before at rest fault =
+    ((¬ HasStarted before) × (fault ≡ faults.NotCapture))
+    ⊎ (HasStarted before × (rest ≢ []) × (fault ≡ faults.CutShort at))
+
+-- whole blocks that are taken, and then less than a block: the fault
+pub record EndsShort (limit : ℕ) (wanted : Wanted) (octets : List ℕ) (fault : Fault) : Type 0 where
+  pub blocks : List BlockAt
+  pub rest : List ℕ
+  pub made : List Made
+  pub whole : octets ≡ octets_of blocks ++ rest
+  pub are_blocks : AreBlocks (start limit) 0 blocks
+  pub are_made : AreMade wanted (sightings_of blocks) made
+  pub partial : IsPartial (context_behind (start limit) blocks) (length (octets_of blocks)) rest
+  pub short : IsShortBy (context_behind (start limit) blocks) (length (octets_of blocks)) rest fault
+
+-- the fault of octets that are no capture, or none that can be read
+abbrev pub CaptureFault : ℕ → Wanted → List ℕ → Fault → Type 0
+CaptureFault limit wanted octets fault = Stops limit wanted octets fault
+    ⊎ EndsShort limit wanted octets fault
+
+-- ---- in pieces
+
+-- what a reader holds: how many octets it reads at most, how far its blocks led, the octets so far
+-- of the next one, and the fault if it has one
+pub record State : Type 0 where
+  pub limit : ℕ
+  pub progress : Progress
+  pub pending : List ℕ
+  pub fault : Option Fault
+
+-- want of memory, or the fault of the octets
+abbrev pub HasFailed : State → Fault → List ℕ → Type 0
+HasFailed state fault fed = (fault ≡ faults.Memory)
+    ⊎ Stops state.limit state.progress.gathering.wanted fed fault
+
+abbrev pub HasReadTo : State → Option Fault → List ℕ → Type 0
+HasReadTo state None fed = HasTaken state.limit state.progress state.pending fed
+HasReadTo state (Some fault) fed = HasFailed state fault fed
+
+-- the reader stands where these octets, fed since it was made, have led it
+abbrev pub HasRead : State → List ℕ → Type 0
+HasRead state fed = HasReadTo state state.fault fed

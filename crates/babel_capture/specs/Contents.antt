@@ -1,0 +1,172 @@
+-- What the blocks of a capture say: draft-ietf-opsawg-pcap, 4 and 5; draft-ietf-opsawg-pcapng, 4.1
+-- to 4.4.
+use Rattle.std.specs.Prelude.{ℕ, ◌+◌, ◌-◌, ◌%◌, min, ◌==◌, nat_lt, nat_le, if◌then◌else◌, List, [], ◌∷◌, ◌++◌, length, slice_get, slice_range, Option, Some, None, Result, Ok, Err}
+use Rattle.babel_capture.specs.declared.block.Block.{Block}
+use Rattle.babel_capture.specs.declared.block.Block.TheVariants as blocks
+use Rattle.babel_capture.specs.declared.block.Packet.{Packet}
+use Rattle.babel_capture.specs.declared.fault.Fault.{Fault}
+use Rattle.babel_capture.specs.declared.fault.Fault.TheVariants as faults
+use Rattle.babel_capture.specs.declared.layout.Interface.{Interface}
+use Rattle.babel_capture.specs.declared.layout.Layout.{Layout}
+use Rattle.babel_capture.specs.declared.layout.Layout.TheVariants as layouts
+use Rattle.babel_capture.specs.declared.link.Link.{Link}
+use Rattle.babel_capture.specs.declared.order.Order.{Order}
+use Rattle.babel_capture.specs.Context.{Before}
+use Rattle.babel_capture.specs.Lengths.{pcap_order, section_order}
+use Rattle.babel_capture.specs.Link.{link_of}
+use Rattle.babel_capture.specs.Numbers.{number_at}
+
+-- a captured packet: the number of its interface, the interface's link type, the octets kept, and
+-- how many it had
+pub record Captured : Type 0 where
+  pub interface : ℕ
+  pub link : Link
+  pub frame : List ℕ
+  pub whole_len : ℕ
+
+-- the header of a pcap file, the header of a section, an interface, a packet, or what is passed
+-- over
+pub data Content : Type 0 where
+  file : (order : Order) (interface : Interface) → Content
+  section : (order : Order) → Content
+  describes : (interface : Interface) → Content
+  holds : (packet : Captured) → Content
+  nothing : Content
+
+-- what the blocks so far say, this one too
+abbrev pub context_after : Before → Content → Before
+context_after before (file order interface) =
+    record before { layout = layouts.Pcap order; interfaces = before.interfaces ++ interface ∷ [] }
+context_after before (section order) = record before {
+  layout = layouts.Section order;
+  first = length before.interfaces;
+}
+context_after before (describes interface) = record before {
+  interfaces = before.interfaces ++ interface ∷ [];
+}
+context_after before (holds packet) = before
+context_after before nothing = before
+
+-- a packet of an interface that was described, with a link type that is read
+abbrev pub holds_by : ℕ → ℕ → ℕ → List ℕ → ℕ → Option Link → Result Content Fault
+holds_by at interface number frame whole None = Err (faults.UnreadLink at number)
+holds_by at interface number frame whole (Some link) =
+    Ok (holds (record { interface = interface; link = link; frame = frame; whole_len = whole }))
+
+abbrev pub packet_of : ℕ → ℕ → List ℕ → ℕ → Option Interface → Result Content Fault
+packet_of at interface frame whole None = Err (faults.NoInterface at)
+packet_of at interface frame whole (Some described) =
+    holds_by at interface described.link frame whole (link_of described.link)
+
+abbrev pub packet_said : Before → ℕ → ℕ → List ℕ → ℕ → Result Content Fault
+packet_said before at interface frame whole =
+    packet_of at interface frame whole (slice_get before.interfaces interface)
+
+-- draft-ietf-opsawg-pcap, 4: the link type is the lower half of the number at 20
+abbrev pub file_said : Before → ℕ → Order → List ℕ → Result Content Fault
+file_said before at order block =
+    if nat_le 65536 (length before.interfaces) then Err (faults.TooManyInterfaces at)
+    else Ok (file order (record {
+      link = number_at order 4 block 20 % 65536;
+      snap_len = number_at order 4 block 16;
+    }))
+
+-- draft-ietf-opsawg-pcap, 5: the packet's length is at 12, and its octets begin at 16
+abbrev pub record_said : Before → ℕ → Order → List ℕ → Result Content Fault
+record_said before at order block =
+    packet_said before at 0 (slice_range block 16 (length block)) (number_at order 4 block 12)
+
+-- draft-ietf-opsawg-pcapng, 3.1, 4.1: the total length stands at the end of the block again
+abbrev pub section_of : ℕ → List ℕ → Result Order Fault → Result Content Fault
+section_of at block (Err fault) = Err fault
+section_of at block (Ok order) =
+    if number_at order 4 block (length block - 4) == length block then Ok (section order)
+    else Err (faults.BadLength at)
+
+abbrev pub section_said : ℕ → List ℕ → Result Content Fault
+section_said at block = section_of at block (section_order at block)
+
+-- draft-ietf-opsawg-pcapng, 4.2: at least 20 octets, the link type at 8, the most that is kept of a
+-- packet at 12
+abbrev pub interface_said : Before → ℕ → Order → List ℕ → Result Content Fault
+interface_said before at order block =
+    if nat_lt (length block) 20 then Err (faults.BadLength at)
+    else if nat_le 65536 (length before.interfaces) then Err (faults.TooManyInterfaces at)
+    else Ok (describes (record {
+      link = number_at order 2 block 8;
+      snap_len = number_at order 4 block 12;
+    }))
+
+-- draft-ietf-opsawg-pcapng, 4.3: at least 32 octets, the interface's number in the section at 8,
+-- the captured length at 20, the packet's at 24, and its octets from 28 on
+abbrev pub enhanced_said : Before → ℕ → Order → List ℕ → Result Content Fault
+enhanced_said before at order block =
+    let captured : ℕ = number_at order 4 block 20 in
+    if nat_lt (length block) 32 then Err (faults.BadLength at)
+    else if nat_lt (length block) (32 + captured) then Err (faults.BadLength at)
+    else packet_said before at (before.first + number_at order 4 block 8)
+    (slice_range block 28 (28 + captured)) (number_at order 4 block 24)
+
+-- draft-ietf-opsawg-pcapng, 4.2, 4.4: so many octets of a packet are kept, where 0 sets no limit
+abbrev pub kept_len : ℕ → ℕ → ℕ
+kept_len snap whole = if snap == 0 then whole else min snap whole
+
+-- draft-ietf-opsawg-pcapng, 4.4: at least 16 octets, the packet's length at 8, its octets from 12
+-- on; it is of the section's first interface
+abbrev pub simple_of : Before → ℕ → Order → List ℕ → Option Interface → Result Content Fault
+simple_of before at order block None = Err (faults.NoInterface at)
+simple_of before at order block (Some described) =
+    let whole : ℕ = number_at order 4 block 8 in
+    let kept : ℕ = kept_len described.snap_len whole in
+    if nat_lt (length block) (16 + kept) then Err (faults.BadLength at)
+    else packet_said before at before.first (slice_range block 12 (12 + kept)) whole
+
+abbrev pub simple_said : Before → ℕ → Order → List ℕ → Result Content Fault
+simple_said before at order block =
+    if nat_lt (length block) 16 then Err (faults.BadLength at)
+    else simple_of before at order block (slice_get before.interfaces before.first)
+
+-- draft-ietf-opsawg-pcapng, 4: a block by its type, with its total length at its end again; others
+-- are passed over
+abbrev pub typed_said : Before → ℕ → Order → List ℕ → ℕ → Result Content Fault
+typed_said before at order block kind =
+    if kind == 1 then interface_said before at order block
+    else if kind == 3 then simple_said before at order block
+    else if kind == 6 then enhanced_said before at order block
+    else Ok nothing
+
+abbrev pub pcapng_said : Before → ℕ → Order → List ℕ → Result Content Fault
+pcapng_said before at order block =
+    if number_at order 4 block 0 == 168627466 then section_said at block
+    else if number_at order 4 block (length block - 4) == length block
+    then typed_said before at order block (number_at order 4 block 0)
+    else Err (faults.BadLength at)
+
+abbrev pub first_said : Before → ℕ → List ℕ → Option Order → Result Content Fault
+first_said before at block (Some order) = file_said before at order block
+first_said before at block None = section_said at block
+
+abbrev pub layout_said : Layout → Before → ℕ → List ℕ → Result Content Fault
+layout_said layouts.Start before at block = first_said before at block (pcap_order block)
+layout_said (layouts.Pcap order) before at block = record_said before at order block
+layout_said (layouts.Section order) before at block = pcapng_said before at order block
+
+-- what a whole block says, which begins at this offset
+unfoldable pub block_said : Before → ℕ → List ℕ → Result Content Fault
+block_said before at block = layout_said before.layout before at block
+
+-- what the code makes of a packet, and of a block
+abbrev pub captured_of : Packet → Captured
+captured_of packet = record {
+  interface = packet.interface;
+  link = packet.link;
+  frame = packet.frame.now;
+  whole_len = packet.whole_len;
+}
+
+abbrev pub content_of : Block → Content
+content_of (blocks.File order interface) = file order interface
+content_of (blocks.Section order) = section order
+content_of (blocks.Interface interface) = describes interface
+content_of (blocks.Packet packet) = holds (captured_of packet)
+content_of blocks.Other = nothing

@@ -1,0 +1,60 @@
+-- What is gathered of the packets of a capture.
+use Rattle.std.specs.Prelude.{◌≡◌, ◌≢◌, ℕ, List, [], ◌∷◌, ◌++◌}
+use Rattle.std.specs.List.{flat_map}
+use Rattle.babel_capture.specs.declared.fault.Fault.{Fault}
+use Rattle.babel_capture.specs.declared.fault.Fault.TheVariants as faults
+use Rattle.babel_capture.specs.declared.wanted.Wanted.{Wanted}
+use Rattle.babel_capture.specs.declared.wanted.Wanted.TheVariants as wanteds
+use Rattle.babel_capture.specs.Blocks.{Sighting, sight_in}
+use Rattle.babel_capture.specs.Contents.{Content, file, section, describes, holds, nothing}
+use Rattle.babel_capture.specs.Counts.{Counts, Made, counts_of}
+use Rattle.babel_capture.specs.Findings.{Found, passed, left, snapped, found, Finds}
+
+-- What is made of each packet. No datagram of a sender whose dump is wanted was cut by the
+-- recorder.
+abbrev pub AreMade : Wanted → List Sighting → List Made → Type 0
+AreMade wanted [] made = made ≡ []
+AreMade wanted (sighting ∷ later) made =
+    (one : Made) × (others : List Made) × (made ≡ one ∷ others) × (one.number ≡ sighting.number)
+    × Finds wanted sighting.interface sighting.what one.what × (one.what ≢ snapped)
+    × AreMade wanted later others
+
+-- the octets of the packet, if one was found
+abbrev pub octets_found : Found → List ℕ
+octets_found passed = []
+octets_found (left reason) = []
+octets_found snapped = []
+octets_found (found interface sender packet) = packet
+
+-- the dump of the wanted sender: its packets, end to end
+abbrev pub dump_of : Wanted → List Made → List ℕ
+dump_of wanteds.Everyone made = []
+dump_of (wanteds.Sender sender interface) made = flat_map (λ one. octets_found one.what) made
+
+-- the dump with these octets, if one is wanted
+abbrev pub dump_with : Wanted → List ℕ → List ℕ → List ℕ
+dump_with wanteds.Everyone dump octets = dump
+dump_with (wanteds.Sender sender interface) dump octets = dump ++ octets
+
+-- what was gathered so far
+pub record Gathering : Type 0 where
+  pub wanted : Wanted
+  pub dump : List ℕ
+  pub report : Counts
+
+-- what these packets give
+pub record IsGathered (sightings : List Sighting) (gathering : Gathering) : Type 0 where
+  pub made : List Made
+  pub are_made : AreMade gathering.wanted sightings made
+  pub dump : gathering.dump ≡ dump_of gathering.wanted made
+  pub report : gathering.report ≡ counts_of made
+
+-- the datagram of a sender whose dump is wanted, in the block at this offset, was cut by the
+-- recorder
+abbrev pub IsRefused : Wanted → ℕ → Content → Fault → Type 0
+IsRefused wanted at (file order interface) fault = ⊥
+IsRefused wanted at (section order) fault = ⊥
+IsRefused wanted at (describes interface) fault = ⊥
+IsRefused wanted at (holds packet) fault = (fault ≡ faults.Snapped at)
+    × Finds wanted packet.interface (sight_in packet) snapped
+IsRefused wanted at nothing fault = ⊥

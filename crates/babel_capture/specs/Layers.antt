@@ -1,0 +1,20 @@
+-- Headers and payloads as the code holds them, without where their octets lie in memory.
+use Rattle.babel_capture.specs.declared.ethernet.Payload.{Payload as HeldPayload}
+use Rattle.babel_capture.specs.declared.headers.NextHeader.{NextHeader as HeldHeader}
+use Rattle.babel_capture.specs.Ethernet.{Payload}
+use Rattle.babel_capture.specs.Headers.{NextHeader}
+
+abbrev pub payload : HeldPayload → Payload
+payload held = record {
+  ether_type = held.ether_type;
+  octets = held.part.octets.now;
+  whole = held.part.whole;
+}
+
+abbrev pub next_header : HeldHeader → NextHeader
+next_header held = record {
+  number = held.number;
+  is_fragment = held.is_fragment;
+  octets = held.part.octets.now;
+  whole = held.part.whole;
+}

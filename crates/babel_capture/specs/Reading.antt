@@ -1,0 +1,71 @@
+-- How far a capture was read, block by block.
+use Rattle.std.specs.Prelude.{◌≡◌, ℕ, List, ◌++◌, length, Ok, Err, ◌⊎◌}
+use Rattle.babel_capture.specs.declared.fault.Fault.{Fault}
+use Rattle.babel_capture.specs.declared.layout.Layout.{Layout}
+use Rattle.babel_capture.specs.declared.layout.Layout.TheVariants as layouts
+use Rattle.babel_capture.specs.declared.wanted.Wanted.{Wanted}
+use Rattle.babel_capture.specs.Blocks.{BlockAt, HasHeader, IsPartial, header_of, BeginsBlock, AreBlocks, start, context_behind, octets_of, sightings_of}
+use Rattle.babel_capture.specs.Contents.{Content, block_said}
+use Rattle.babel_capture.specs.Context.{Before}
+use Rattle.babel_capture.specs.Counts.{Made}
+use Rattle.babel_capture.specs.Gathering.{Gathering, IsGathered, IsRefused, AreMade}
+use Rattle.babel_capture.specs.Lengths.{block_len}
+
+-- what the blocks so far say of the capture, what was gathered of their packets, and where the next
+-- one begins
+pub record Progress : Type 0 where
+  pub context : Before
+  pub gathering : Gathering
+  pub at : ℕ
+
+-- the octets are blocks, and this is how far they lead
+pub record LeadTo (limit : ℕ) (octets : List ℕ) (progress : Progress) : Type 0 where
+  pub blocks : List BlockAt
+  pub whole : octets ≡ octets_of blocks
+  pub are_blocks : AreBlocks (start limit) 0 blocks
+  pub place : progress.at ≡ length octets
+  pub context : progress.context ≡ context_behind (start limit) blocks
+  pub gathered : IsGathered (sightings_of blocks) progress.gathering
+
+-- a whole block that can't be read, or whose packet is refused
+abbrev pub BlockFails : Wanted → Before → ℕ → List ℕ → Fault → Type 0
+BlockFails wanted before at block fault =
+    (block_said before at block ≡ Err fault)
+    ⊎ ((content : Content) × (block_said before at block ≡ Ok content)
+    × IsRefused wanted at content fault)
+
+-- octets that begin with no block that is taken: their header tells, or the whole block
+abbrev pub StopsAt : Wanted → Before → ℕ → List ℕ → Fault → Type 0
+StopsAt wanted before at octets fault =
+    (HasHeader before octets × (block_len before at (header_of before octets) ≡ Err fault))
+    ⊎ ((block : List ℕ) × BeginsBlock before at octets block
+    × BlockFails wanted before at block fault)
+
+-- the octets are blocks that are taken, and then octets that are not: their fault
+pub record Stops (limit : ℕ) (wanted : Wanted) (octets : List ℕ) (fault : Fault) : Type 0 where
+  pub blocks : List BlockAt
+  pub rest : List ℕ
+  pub made : List Made
+  pub whole : octets ≡ octets_of blocks ++ rest
+  pub are_blocks : AreBlocks (start limit) 0 blocks
+  pub are_made : AreMade wanted (sightings_of blocks) made
+  pub stops : StopsAt wanted (context_behind (start limit) blocks) (length
+      (octets_of blocks)) rest fault
+
+-- the first block was read, so that the octets are a capture
+abbrev pub IsKnown : Layout → Type 0
+IsKnown layouts.Start = ⊥
+IsKnown (layouts.Pcap order) = Unit {0}
+IsKnown (layouts.Section order) = Unit {0}
+
+abbrev pub HasStarted : Before → Type 0
+HasStarted before = IsKnown before.layout
+
+-- ---- in pieces
+
+-- the octets are blocks that lead so far, and less than another, which are pending
+pub record HasTaken (limit : ℕ) (progress : Progress) (pending fed : List ℕ) : Type 0 where
+  pub read : List ℕ
+  pub whole : fed ≡ read ++ pending
+  pub leads : LeadTo limit read progress
+  pub partial : IsPartial progress.context progress.at pending

@@ -1,0 +1,270 @@
+ghost use Rattle.std.specs.Prelude.{◌≡◌, ◌≤◌, ◌<◌, ◌+◌, ◌^◌, length, ◌-◌, ◌==◌, IfOk, IfErr, Ok, Err};
+ghost use Rattle.babel_capture.specs.Numbers.{number_at};
+ghost use Rattle.babel_capture.specs.Lengths.{header_len};
+ghost use Rattle.babel_capture.specs.Contents.{block_said, content_of, enhanced_said, file_said, interface_said, kept_len, packet_said, pcapng_said, section_said, simple_said, typed_said};
+
+use crate::context::Context;
+use crate::fault::Fault;
+use crate::layout::{Interface, Layout};
+use crate::length::{SECTION, pcap_order, section_order};
+use crate::link::Link;
+use crate::order::Order;
+
+/// Types of blocks: draft-ietf-opsawg-pcapng, 4.2, 4.3, 4.4.
+const INTERFACE_DESCRIPTION: u32 = 1;
+
+const SIMPLE_PACKET: u32 = 3;
+
+const ENHANCED_PACKET: u32 = 6;
+
+/// A captured packet.
+#[derive(Clone, Copy)]
+pub struct Packet<'a> {
+    /// The number of its interface in the capture.
+    pub interface: u64,
+    /// The interface's link type.
+    pub link: Link,
+    /// The octets that were kept.
+    pub frame: &'a [u8],
+    /// How many octets the packet had.
+    pub whole_len: u32,
+}
+
+/// What a block of a capture says.
+#[derive(Clone, Copy)]
+pub enum Block<'a> {
+    /// The header of a pcap file, which describes its one interface.
+    File { order: Order, interface: Interface },
+    /// The header of a section of a pcapng file.
+    Section(Order),
+    /// A description of an interface.
+    Interface(Interface),
+    /// A captured packet.
+    Packet(Packet<'a>),
+    /// What is passed over.
+    Other,
+}
+
+/// A block of the pcapng file that says its length again at its end.
+fn ends_well(order: Order, block: &[u8]) -> bool
+    requires { 4 ≤ length block.now }
+    ensures { result ≡ number_at order 4 block.now (length block.now - 4) == length block.now }
+{
+    order.u32_at(block, block.len() - 4) as usize == block.len()
+}
+
+/// A packet of the interface with this number.
+fn read_packet<'a>(
+    before: &Context,
+    at: u64,
+    interface: usize,
+    frame: &'a [u8],
+    whole_len: u32,
+) -> Result<Block<'a>, Fault>
+    ensures ok { IfOk result (λ block. packet_said before.now at interface frame.now whole_len
+        ≡ Ok (content_of block)) }
+    ensures err { IfErr result (λ fault. packet_said before.now at interface frame.now whole_len ≡ Err fault) }
+{
+    let Some(described) = before.interface(interface) else {
+        return Err(Fault::NoInterface { at });
+    };
+    match Link::of(described.link) {
+        Some(link) => Ok(Block::Packet(Packet {
+            interface: interface as u64,
+            link,
+            frame,
+            whole_len,
+        })),
+        None => Err(Fault::UnreadLink {
+            at,
+            number: described.link,
+        }),
+    }
+}
+
+/// The header of a pcap file.
+fn read_file<'a>(
+    before: &Context,
+    at: u64,
+    order: Order,
+    block: &'a [u8],
+) -> Result<Block<'a>, Fault>
+    requires { 24 ≤ length block.now }
+    ensures ok { IfOk result (λ said. file_said before.now at order block.now
+        ≡ Ok (content_of said)) }
+    ensures err { IfErr result (λ fault. file_said before.now at order block.now ≡ Err fault) }
+{
+    if before.is_full() {
+        return Err(Fault::TooManyInterfaces { at });
+    }
+    let interface = Interface {
+        link: order.u32_at(block, 20) % 65_536,
+        snap_len: order.u32_at(block, 16),
+    };
+    Ok(Block::File { order, interface })
+}
+
+/// The header of a section.
+fn read_section<'a>(at: u64, block: &'a [u8]) -> Result<Block<'a>, Fault>
+    requires { 12 ≤ length block.now }
+    ensures ok { IfOk result (λ said. section_said at block.now ≡ Ok (content_of said)) }
+    ensures err { IfErr result (λ fault. section_said at block.now ≡ Err fault) }
+{
+    match section_order(block, at) {
+        Ok(order) => {
+            if ends_well(order, block) {
+                Ok(Block::Section(order))
+            } else {
+                Err(Fault::BadLength { at })
+            }
+        }
+        Err(fault) => Err(fault),
+    }
+}
+
+/// A description of an interface.
+fn read_interface<'a>(
+    before: &Context,
+    at: u64,
+    order: Order,
+    block: &'a [u8],
+) -> Result<Block<'a>, Fault>
+    ensures ok { IfOk result (λ said. interface_said before.now at order block.now
+        ≡ Ok (content_of said)) }
+    ensures err { IfErr result (λ fault. interface_said before.now at order block.now ≡ Err fault) }
+{
+    if block.len() < 20 {
+        return Err(Fault::BadLength { at });
+    }
+    if before.is_full() {
+        return Err(Fault::TooManyInterfaces { at });
+    }
+    Ok(Block::Interface(Interface {
+        link: order.u16_at(block, 8) as u32,
+        snap_len: order.u32_at(block, 12),
+    }))
+}
+
+/// An enhanced packet block.
+fn read_enhanced<'a>(
+    before: &Context,
+    at: u64,
+    order: Order,
+    block: &'a [u8],
+) -> Result<Block<'a>, Fault>
+    ensures ok { IfOk result (λ said. enhanced_said before.now at order block.now
+        ≡ Ok (content_of said)) }
+    ensures err { IfErr result (λ fault. enhanced_said before.now at order block.now ≡ Err fault) }
+{
+    if block.len() < 32 {
+        return Err(Fault::BadLength { at });
+    }
+    let captured = order.u32_at(block, 20) as usize;
+    if block.len() < 32 + captured {
+        return Err(Fault::BadLength { at });
+    }
+    let interface = before.first() + order.u32_at(block, 8) as usize;
+    read_packet(
+        before,
+        at,
+        interface,
+        &block[28..28 + captured],
+        order.u32_at(block, 24),
+    )
+}
+
+/// How many octets of a packet are kept.
+fn kept_len(snap_len: u32, whole_len: u32) -> u32
+    ensures { result ≡ kept_len snap_len whole_len }
+{
+    if snap_len == 0 {
+        whole_len
+    } else {
+        snap_len.min(whole_len)
+    }
+}
+
+/// A simple packet block.
+fn read_simple<'a>(
+    before: &Context,
+    at: u64,
+    order: Order,
+    block: &'a [u8],
+) -> Result<Block<'a>, Fault>
+    ensures ok { IfOk result (λ said. simple_said before.now at order block.now
+        ≡ Ok (content_of said)) }
+    ensures err { IfErr result (λ fault. simple_said before.now at order block.now ≡ Err fault) }
+{
+    if block.len() < 16 {
+        return Err(Fault::BadLength { at });
+    }
+    let Some(described) = before.interface(before.first()) else {
+        return Err(Fault::NoInterface { at });
+    };
+    let whole_len = order.u32_at(block, 8);
+    let kept = kept_len(described.snap_len, whole_len) as usize;
+    if block.len() < 16 + kept {
+        return Err(Fault::BadLength { at });
+    }
+    read_packet(before, at, before.first(), &block[12..12 + kept], whole_len)
+}
+
+/// A block of this type.
+fn read_typed<'a>(
+    before: &Context,
+    at: u64,
+    order: Order,
+    block: &'a [u8],
+    kind: u32,
+) -> Result<Block<'a>, Fault>
+    ensures ok { IfOk result (λ said. typed_said before.now at order block.now kind
+        ≡ Ok (content_of said)) }
+    ensures err { IfErr result (λ fault. typed_said before.now at order block.now kind
+        ≡ Err fault) }
+{
+    match kind {
+        INTERFACE_DESCRIPTION => read_interface(before, at, order, block),
+        SIMPLE_PACKET => read_simple(before, at, order, block),
+        ENHANCED_PACKET => read_enhanced(before, at, order, block),
+        _ => Ok(Block::Other),
+    }
+}
+
+/// A block of a section.
+fn read_pcapng<'a>(
+    before: &Context,
+    at: u64,
+    order: Order,
+    block: &'a [u8],
+) -> Result<Block<'a>, Fault>
+    requires { 12 ≤ length block.now }
+    ensures ok { IfOk result (λ said. pcapng_said before.now at order block.now
+        ≡ Ok (content_of said)) }
+    ensures err { IfErr result (λ fault. pcapng_said before.now at order block.now ≡ Err fault) }
+{
+    let kind = order.u32_at(block, 0);
+    if kind == SECTION {
+        return read_section(at, block);
+    }
+    if !ends_well(order, block) {
+        return Err(Fault::BadLength { at });
+    }
+    read_typed(before, at, order, block, kind)
+}
+
+/// What a whole block says, which begins at this offset.
+#[tactic(auto, unfolding(crate::specs::Contents::block_said))]
+pub fn read_block<'a>(before: &Context, at: u64, block: &'a [u8]) -> Result<Block<'a>, Fault>
+    requires { header_len before.now.layout ≤ length block.now }
+    ensures ok { IfOk result (λ said. block_said before.now at block.now ≡ Ok (content_of said)) }
+    ensures err { IfErr result (λ fault. block_said before.now at block.now ≡ Err fault) }
+{
+    match before.layout() {
+        Layout::Start => match pcap_order(block) {
+            Some(order) => read_file(before, at, order, block),
+            None => read_section(at, block),
+        },
+        Layout::Pcap(order) => read_packet(before, at, 0, &block[16..], order.u32_at(block, 12)),
+        Layout::Section(order) => read_pcapng(before, at, order, block),
+    }
+}

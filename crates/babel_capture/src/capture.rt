@@ -1,0 +1,111 @@
+ghost use Rattle.std.specs.Prelude.{◌≡◌, ◌≢◌, ◌++◌, ℕ, List, [], Some, None, Err, IfOk, IfErr, IfSome, OnOk};
+ghost use Rattle.babel_capture.specs.Capture.{CaptureFault, HasRead, IsRead, IsReadToCut};
+
+use crate::fault::Fault;
+use crate::gathered::Gathered;
+use crate::reader::Reader;
+use crate::stream::Stream;
+use crate::wanted::Wanted;
+use std::alloc::Global;
+use std::marker::Model;
+
+/// A capture being read, in pieces. It keeps what was gathered so far, and at most one block that
+/// is not whole.
+#[derive(Drop)]
+pub struct Capture {
+    limit: u64,
+    stream: Stream,
+    fault: Option<Fault>,
+}
+
+impl Model for Capture {
+    ghost use Rattle.babel_capture.specs.Capture.{State};
+
+    ghost Value = { State };
+
+    ghost view = { λ c. record {
+      limit = c.limit;
+      progress = c.stream.reader;
+      pending = c.stream.pending.items;
+      fault = c.fault;
+    } };
+}
+
+impl Capture {
+    /// A reader that was fed nothing, of so many octets at most.
+    pub fn new(alloc: Global, limit: u64, wanted: Wanted) -> Capture
+        ensures read { HasRead result [] }
+        ensures made { (result.limit ≡ limit) × (result.progress.gathering.wanted ≡ wanted)
+            × (result.fault ≡ None) }
+    {
+        Capture {
+            limit,
+            stream: Stream::new(alloc, limit, wanted),
+            fault: None,
+        }
+    }
+
+    /// Takes the next octets of the capture. A fault is answered as soon as the octets so far have
+    /// it, whatever comes after them; after any fault every later call answers that fault.
+    pub fn feed(&mut self, piece: &[u8]) -> Result<(), Fault>
+        // The reader stands where the octets that it was fed before, and these, lead it.
+        ensures fed { (fed : List ℕ) → HasRead self.old fed → HasRead self.new (fed ++ piece.now) }
+        ensures same { (self.new.limit ≡ self.old.limit)
+            × (self.new.progress.gathering.wanted ≡ self.old.progress.gathering.wanted) }
+
+        // A fault is kept, and stays.
+        ensures ok { OnOk result ((self.old.fault ≡ None) × (self.new.fault ≡ None)) }
+        ensures err { IfErr result (λ fault. self.new.fault ≡ Some fault) }
+
+        // A fault other than want of memory is that of the octets so far, however they go on.
+        ensures fault { IfErr result (λ fault. fault ≢ Fault.Memory → (fed more : List ℕ)
+            → HasRead self.old fed
+            → CaptureFault self.old.limit self.old.progress.gathering.wanted
+            ((fed ++ piece.now) ++ more) fault) }
+        ensures stays { IfSome self.old.fault (λ fault. result ≡ Err fault) }
+    {
+        if let Some(fault) = self.fault {
+            return Err(fault);
+        }
+        match self.stream.take(piece) {
+            Ok(()) => Ok(()),
+            Err(fault) => {
+                self.fault = Some(fault);
+                Err(fault)
+            }
+        }
+    }
+
+    /// What the packets of all octets that were fed give; the fault that was answered before if
+    /// there was one, `NotCapture` if the octets end before their first block is whole, `CutShort`
+    /// if they end within a later one.
+    pub fn finish(self) -> Result<Gathered, Fault>
+        ensures ok { IfOk result (λ gathered. (fed : List ℕ) → HasRead self fed
+            → IsRead self.limit fed gathered) }
+        ensures fault { IfErr result (λ fault. fault ≢ Fault.Memory → (fed : List ℕ)
+            → HasRead self fed
+            → CaptureFault self.limit self.progress.gathering.wanted fed fault) }
+        ensures stays { IfSome self.fault (λ fault. result ≡ Err fault) }
+    {
+        if let Some(fault) = self.fault {
+            return Err(fault);
+        }
+        self.stream.finish()
+    }
+
+    /// The same of a capture whose last block may be cut short: what its whole blocks give, and the
+    /// offset of the block that is not whole, if there is one.
+    pub fn finish_at_cut(self) -> Result<(Gathered, Option<u64>), Fault>
+        ensures ok { IfOk result (λ given. (fed : List ℕ) → HasRead self fed
+            → IsReadToCut self.limit fed given.0 given.1) }
+        ensures fault { IfErr result (λ fault. fault ≢ Fault.Memory → (fed : List ℕ)
+            → HasRead self fed
+            → CaptureFault self.limit self.progress.gathering.wanted fed fault) }
+        ensures stays { IfSome self.fault (λ fault. result ≡ Err fault) }
+    {
+        if let Some(fault) = self.fault {
+            return Err(fault);
+        }
+        self.stream.finish_at_cut()
+    }
+}

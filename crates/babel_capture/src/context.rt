@@ -1,0 +1,142 @@
+ghost use Rattle.std.specs.Prelude.{◌≡◌, ◌≤◌, ◌+◌, ◌-◌, ◌^◌, ◌<◌, [], length, slice_get, nat_le, OnOk, IfOk, IfErr, IfSome, IfNone, Err};
+ghost use Rattle.babel_capture.specs.Blocks.{BeginsBlock, HasHeader, IsPartial, header_of};
+ghost use Rattle.babel_capture.specs.Lengths.{block_len};
+ghost use Rattle.babel_capture.specs.Contents.{content_of, context_after};
+ghost use Rattle.babel_capture.specs.declared.layout.Layout.TheVariants as layouts;
+
+use crate::block::Block;
+use crate::fault::Fault;
+use crate::layout::{Interface, Layout};
+use std::alloc::{AllocError, Global};
+use std::marker::Model;
+
+/// How many interfaces of a capture are kept at most.
+const MOST_INTERFACES: usize = 65_536;
+
+/// What the blocks before a block of a capture say about it.
+#[derive(Drop)]
+pub struct Context {
+    limit: u64,
+    layout: Layout,
+    first: usize,
+    interfaces: Vec<Interface>,
+}
+
+impl Model for Context {
+    ghost use Rattle.std.specs.Prelude.{◌≤◌, length};
+    ghost use Rattle.babel_capture.specs.Context.{Before};
+
+    ghost Value = { Before };
+
+    ghost view = { λ c. record {
+      limit = c.limit;
+      layout = c.layout;
+      first = c.first;
+      interfaces = c.interfaces.items;
+    } };
+
+    ghost invariant = { λ c. c.first ≤ length c.interfaces.items };
+}
+
+impl Context {
+    /// The context of the first block, where so many octets are read at most.
+    pub fn new(alloc: Global, limit: u64) -> Context
+        ensures { result ≡ record {
+          limit = limit;
+          layout = layouts.Start;
+          first = 0;
+          interfaces = [];
+        } }
+    {
+        Context {
+            limit,
+            layout: Layout::Start,
+            first: 0,
+            interfaces: Vec::new(alloc),
+        }
+    }
+
+    /// How many octets of the capture are read at most.
+    pub fn limit(&self) -> u64
+        ensures { result ≡ self.now.limit }
+    {
+        self.limit
+    }
+
+    /// What the blocks are.
+    pub fn layout(&self) -> Layout
+        ensures { result ≡ self.now.layout }
+    {
+        self.layout
+    }
+
+    /// The number of the section's first interface.
+    pub fn first(&self) -> usize
+        ensures value { result ≡ self.now.first }
+        ensures small { result < 2 ^ 63 }
+    {
+        self.first
+    }
+
+    /// The interface with this number in the capture.
+    pub fn interface(&self, number: usize) -> Option<Interface>
+        ensures { result ≡ slice_get self.now.interfaces number }
+    {
+        self.interfaces.get(number).copied()
+    }
+
+    /// Whether there is room for no interface more.
+    pub fn is_full(&self) -> bool
+        ensures { result ≡ nat_le 65536 (length self.now.interfaces) }
+    {
+        self.interfaces.len() >= MOST_INTERFACES
+    }
+
+    /// The octets of the whole block that these octets, at this offset, begin with; `None` if they
+    /// are less than a block.
+    #[tactic(auto, unfolding(crate::specs::Lengths::block_len))]
+    pub fn first_block<'a>(&self, at: u64, octets: &'a [u8]) -> Result<Option<&'a [u8]>, Fault>
+        ensures whole { IfOk result (λ found. IfSome found
+            (λ block. BeginsBlock self.now at octets.now block.now)) }
+        ensures room { IfOk result (λ found. IfSome found (λ block. (12 ≤ length block.now)
+            × (length block.now ≤ self.now.limit - at))) }
+        ensures fits { IfOk result (λ found. IfSome found
+            (λ block. at + length block.now < 2 ^ 64)) }
+        ensures less { IfOk result (λ found. IfNone found (IsPartial self.now at octets.now)) }
+        ensures err { IfErr result (λ fault. HasHeader self.now octets.now
+            × (block_len self.now at (header_of self.now octets.now) ≡ Err fault)) }
+    {
+        let header_len = self.layout.header_len();
+        if octets.len() < header_len {
+            return Ok(None);
+        }
+        let len = self.layout.block_len(&octets[..header_len], at)?;
+        if self.limit.saturating_sub(at) < len as u64 {
+            return Err(Fault::TooLong { at });
+        }
+        if octets.len() < len as usize {
+            return Ok(None);
+        }
+        Ok(Some(&octets[..len as usize]))
+    }
+
+    /// Takes what a block says.
+    pub fn take(&mut self, said: &Block<'_>) -> Result<(), AllocError>
+        ensures limit { self.new.limit ≡ self.old.limit }
+        ensures ok { OnOk result (self.new ≡ context_after self.old (content_of said.now)) }
+    {
+        match said {
+            Block::File { order, interface } => {
+                self.layout = Layout::Pcap(*order);
+                self.interfaces.push(*interface)?;
+            }
+            Block::Section(order) => {
+                self.layout = Layout::Section(*order);
+                self.first = self.interfaces.len();
+            }
+            Block::Interface(interface) => self.interfaces.push(*interface)?,
+            Block::Packet(_) | Block::Other => (),
+        }
+        Ok(())
+    }
+}

@@ -1,0 +1,122 @@
+ghost use Rattle.std.specs.Prelude.{◌≡◌, ◌≤◌, ◌+◌, length, max};
+ghost use Rattle.babel_capture.specs.Frame.{family_sight, frame_sight, header_sight, raw_sight};
+ghost use Rattle.babel_capture.specs.Sight.{sight_of};
+
+use crate::ethernet::Payload;
+use crate::field::{number16, number32};
+use crate::ipv4::look_into_ipv4;
+use crate::ipv6::look_into_ipv6;
+use crate::link::Link;
+use crate::part::Part;
+use crate::seen::Seen;
+use byteorder::{ByteOrder, LittleEndian, NetworkEndian};
+
+#[cfg(test)]
+mod tests;
+
+/// A header with an EtherType: where it has that of what comes after it, and how many octets it
+/// has.
+#[derive(Clone, Copy)]
+struct Header {
+    ether_type: usize,
+    len: usize,
+}
+
+/// IEEE 802.3, 3.2: two addresses and the EtherType.
+const ETHERNET: Header = Header {
+    ether_type: 12,
+    len: 14,
+};
+/// tcpdump.org/linktypes/LINKTYPE_LINUX_SLL.html
+const COOKED: Header = Header {
+    ether_type: 14,
+    len: 16,
+};
+/// tcpdump.org/linktypes/LINKTYPE_LINUX_SLL2.html
+const COOKED2: Header = Header {
+    ether_type: 0,
+    len: 20,
+};
+
+/// The protocol family of IPv4 everywhere, and those of IPv6 by system.
+const INET: u32 = 2;
+
+const LINUX_INET6: u32 = 10;
+
+const NETBSD_INET6: u32 = 24;
+
+const FREEBSD_INET6: u32 = 28;
+
+const MACOS_INET6: u32 = 30;
+
+/// The octets of a protocol family.
+const FAMILY_LEN: usize = 4;
+
+/// What a captured frame is: the octets that the recorder kept of one that had `whole_len` octets
+/// on the wire.
+///
+/// Checksums are not looked at. A frame that has more octets than `whole_len` counts as a whole
+/// one.
+#[tactic(auto, unfolding(crate::specs::Frame::frame_sight))]
+pub fn look(link: Link, frame: &[u8], whole_len: u32) -> Seen<'_>
+    ensures { sight_of result ≡ frame_sight link frame.now (max whole_len (length frame.now)) }
+{
+    let part = Part {
+        octets: frame,
+        whole: frame.len().max(whole_len as usize),
+    };
+    match link {
+        Link::Null | Link::Loop => look_after_family(part),
+        Link::Ethernet => look_after_header(ETHERNET, None, part),
+        Link::Cooked => look_after_header(COOKED, None, part),
+        Link::Cooked2 if frame.len() < COOKED2.len => Seen::Other,
+        Link::Cooked2 => look_after_header(COOKED2, Some(number32(frame, 4)), part),
+        Link::RawIp => look_by_version(part),
+        Link::RawIpv4 => look_into_ipv4(None, part),
+        Link::RawIpv6 => look_into_ipv6(None, part),
+    }
+}
+
+/// After a header with an EtherType.
+fn look_after_header(header: Header, interface: Option<u32>, frame: Part<'_>) -> Seen<'_>
+    requires { header.ether_type + 2 ≤ header.len }
+    ensures { sight_of result ≡ header_sight header.ether_type header.len interface
+        frame.entry.octets.now frame.entry.whole }
+{
+    if frame.octets.len() < header.len {
+        return Seen::Other;
+    }
+    let payload = Payload {
+        ether_type: number16(frame.octets, header.ether_type),
+        part: frame.after(header.len),
+    };
+    payload.look(interface)
+}
+
+/// After the number of a protocol family.
+fn look_after_family(frame: Part<'_>) -> Seen<'_>
+    ensures { sight_of result ≡ family_sight frame.entry.octets.now frame.entry.whole }
+{
+    if frame.octets.len() < FAMILY_LEN {
+        return Seen::Other;
+    }
+    let high_first = NetworkEndian::read_u32(frame.octets);
+    let low_first = LittleEndian::read_u32(frame.octets);
+    let packet = frame.after(FAMILY_LEN);
+    match high_first.min(low_first) {
+        INET => look_into_ipv4(None, packet),
+        LINUX_INET6 | NETBSD_INET6 | FREEBSD_INET6 | MACOS_INET6 => look_into_ipv6(None, packet),
+        _ => Seen::Other,
+    }
+}
+
+/// An IP packet, of the version that it says.
+fn look_by_version(packet: Part<'_>) -> Seen<'_>
+    ensures { sight_of result ≡ raw_sight packet.entry.octets.now packet.entry.whole }
+{
+    match packet.octets {
+        [first, ..] if *first >> 4 == 4 => look_into_ipv4(None, packet),
+        [first, ..] if *first >> 4 == 6 => look_into_ipv6(None, packet),
+        _ => Seen::Other,
+    }
+}

@@ -1,0 +1,129 @@
+ghost use Rattle.std.specs.Prelude.{◌≡◌, ◌+◌, ◌^◌, ◌<◌, ◌≤◌, ◌++◌, ◌∷◌, [], ◌⊎◌, List, OnOk, IfErr};
+ghost use Rattle.babel_capture.specs.Blocks.{Sighting, sighting_of, sightings_in};
+ghost use Rattle.babel_capture.specs.Contents.{captured_of, content_of, holds};
+ghost use Rattle.babel_capture.specs.Gathering.{IsGathered, IsRefused, dump_with};
+
+use crate::block::{Block, Packet};
+use crate::fault::Fault;
+use crate::finding::Finding;
+use crate::frame::look;
+use crate::report::Report;
+use crate::wanted::Wanted;
+use babel_prefix::Addr;
+use std::alloc::Global;
+use std::marker::Model;
+
+/// What is gathered of the packets of a capture.
+#[derive(Drop)]
+pub struct Gathered {
+    wanted: Wanted,
+    dump: Vec<u8>,
+    report: Report,
+}
+
+impl Model for Gathered {
+    ghost use Rattle.babel_capture.specs.Gathering.{Gathering};
+
+    ghost Value = { Gathering };
+
+    ghost view = { λ g. record { wanted = g.wanted; dump = g.dump.items; report = g.report } };
+}
+
+impl Gathered {
+    /// What no packets give.
+    pub fn new(alloc: Global, wanted: Wanted) -> Gathered
+        ensures none { IsGathered [] result }
+        ensures wanted { result.wanted ≡ wanted }
+    {
+        Gathered {
+            wanted,
+            dump: Vec::new(alloc),
+            report: Report::new(),
+        }
+    }
+
+    /// Whose datagrams are wanted.
+    pub fn wanted(&self) -> Wanted
+        ensures { result ≡ self.now.wanted }
+    {
+        self.wanted
+    }
+
+    /// The dump of the sender that is wanted: the packets of its datagrams, end to end.
+    pub fn dump(&self) -> &[u8]
+        ensures { result.now ≡ self.now.dump }
+    {
+        &self.dump
+    }
+
+    /// How many packets the capture has, and which wanted datagrams were left out.
+    pub fn report(&self) -> Report
+        ensures { result ≡ self.now.report }
+    {
+        self.report
+    }
+
+    /// Takes the packet in the block at this offset.
+    fn take_packet(&mut self, at: u64, packet: &Packet<'_>) -> Result<(), Fault>
+        requires { self.old.report.packets + 1 < 2 ^ 64 }
+        ensures wanted { self.new.wanted ≡ self.old.wanted }
+        ensures report { self.new.report.packets ≤ self.old.report.packets + 1 }
+        ensures ok { OnOk result ((before : List Sighting) → IsGathered before self.old
+            → IsGathered (before ++ sighting_of (self.old.report.packets + 1) at
+            (captured_of packet.now) ∷ []) self.new) }
+        ensures err { IfErr result (λ fault. (fault ≡ Fault.Memory)
+            ⊎ IsRefused self.old.wanted at (holds (captured_of packet.now)) fault) }
+    {
+        let seen = look(packet.link, packet.frame, packet.whole_len);
+        match self.wanted.finding(packet.interface, seen) {
+            Finding::Passed => {
+                self.report.count(None);
+                Ok(())
+            }
+            Finding::Left(reason) => {
+                self.report.count(Some(reason));
+                Ok(())
+            }
+            Finding::Snapped => Err(Fault::Snapped { at }),
+            Finding::Packet {
+                interface,
+                sender,
+                packet,
+            } => {
+                self.report.count(None);
+                self.add(interface, sender, packet)
+            }
+        }
+    }
+
+    /// Takes the packet that the block at this offset says, if it says one.
+    pub fn take_said(&mut self, at: u64, said: &Block<'_>) -> Result<(), Fault>
+        requires { self.old.report.packets + 1 < 2 ^ 64 }
+        ensures wanted { self.new.wanted ≡ self.old.wanted }
+        ensures report { self.new.report.packets ≤ self.old.report.packets + 1 }
+        ensures ok { OnOk result ((before : List Sighting) → IsGathered before self.old
+            → IsGathered (before ++ sightings_in (self.old.report.packets + 1) at
+            (content_of said.now)) self.new) }
+        ensures err { IfErr result (λ fault. (fault ≡ Fault.Memory)
+            ⊎ IsRefused self.old.wanted at (content_of said.now) fault) }
+    {
+        match said {
+            Block::Packet(packet) => self.take_packet(at, packet),
+            Block::File { .. } | Block::Section(_) | Block::Interface(_) | Block::Other => Ok(()),
+        }
+    }
+
+    /// Adds a packet to the dump, if one is wanted.
+    fn add(&mut self, interface: u64, sender: Addr, packet: &[u8]) -> Result<(), Fault>
+        ensures wanted { self.new.wanted ≡ self.old.wanted }
+        ensures report { self.new.report ≡ self.old.report }
+        ensures dump { OnOk result (self.new.dump
+            ≡ dump_with self.old.wanted self.old.dump packet.now) }
+        ensures err { IfErr result (λ fault. fault ≡ Fault.Memory) }
+    {
+        if let Wanted::Sender { .. } = self.wanted {
+            self.dump.extend_from_slice(packet)?;
+        }
+        Ok(())
+    }
+}

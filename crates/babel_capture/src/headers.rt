@@ -1,0 +1,76 @@
+ghost use Rattle.std.specs.Prelude.{◌≡◌};
+
+use crate::field::number16;
+use crate::part::Part;
+
+/// How many extension headers of a packet are passed over.
+pub const MAX_EXTENSION_HEADERS: usize = 8;
+
+/// Extension headers: RFC 8200, 4.3 to 4.6.
+const HOP_BY_HOP_OPTIONS: u8 = 0;
+
+const ROUTING: u8 = 43;
+
+const FRAGMENT: u8 = 44;
+
+const DESTINATION_OPTIONS: u8 = 60;
+
+/// The octets of the shortest extension header; each other one has a multiple of them.
+const UNIT: usize = 8;
+/// The bits of the fragment header's field of offset and flags: RFC 8200, 4.5.
+const FRAGMENT_OFFSET: u16 = 0xfff8;
+
+const MORE_FRAGMENTS: u16 = 0x0001;
+
+/// A header of an IPv6 packet after the fixed one, and what comes after it: RFC 8200, 4.
+#[derive(Clone, Copy)]
+pub(crate) struct NextHeader<'a> {
+    /// The number of the header.
+    pub number: u8,
+    /// Whether the headers before it say that the packet is the first of several fragments.
+    pub is_fragment: bool,
+    /// The octets from the header's first one on.
+    pub part: Part<'a>,
+}
+
+impl<'a> NextHeader<'a> {
+    ghost use Rattle.babel_capture.specs.Headers.{past_header, past_headers};
+    ghost use Rattle.babel_capture.specs.Layers.{next_header};
+
+    /// The header after the extension headers, of which at most `MAX_EXTENSION_HEADERS` are passed
+    /// over.
+    pub fn past_all(self) -> NextHeader<'a>
+        ensures { next_header result ≡ past_headers 8 (next_header self.entry) }
+    {
+        let mut header = self;
+        for _ in 0..MAX_EXTENSION_HEADERS {
+            header = header.past_one();
+        }
+        header
+    }
+
+    /// The header after this extension header; the same header where it is another or stands in a
+    /// later fragment.
+    #[tactic(auto, unfolding(crate::specs::Headers::past_header))]
+    fn past_one(self) -> NextHeader<'a>
+        ensures { next_header result ≡ past_header (next_header self.entry) }
+    {
+        let octets = self.part.octets;
+        if octets.len() < UNIT {
+            return self;
+        }
+        match self.number {
+            HOP_BY_HOP_OPTIONS | ROUTING | DESTINATION_OPTIONS => NextHeader {
+                number: octets[0],
+                is_fragment: self.is_fragment,
+                part: self.part.after(UNIT * (octets[1] as usize + 1)),
+            },
+            FRAGMENT if number16(octets, 2) & FRAGMENT_OFFSET == 0 => NextHeader {
+                number: octets[0],
+                is_fragment: self.is_fragment || number16(octets, 2) & MORE_FRAGMENTS != 0,
+                part: self.part.after(UNIT),
+            },
+            _ => self,
+        }
+    }
+}

@@ -1,0 +1,62 @@
+//! What follows from the definitions alone.
+ghost use Rattle.std.specs.Prelude.{◌≡◌, ℕ, ◌+◌, ◌≤◌, ◌++◌, List, length, None};
+ghost use Rattle.babel_capture.specs.Capture.{IsRead};
+ghost use Rattle.babel_capture.specs.Gathering.{Gathering};
+ghost use Rattle.babel_capture.specs.Packets.{ArePackets, IsPastEnd};
+ghost use Rattle.babel_capture.specs.Reading.{Stops};
+ghost use Rattle.babel_tlv.specs.Framing.{FrameFault};
+ghost use Rattle.babel_tlv.specs.declared.fault.Fault.{Fault as DumpFault};
+ghost use Rattle.babel_capture.specs.declared.fault.Fault.{Fault};
+ghost use Rattle.babel_capture.specs.declared.wanted.Wanted.{Wanted};
+ghost use Rattle.babel_capture.specs.Backing.{Backs};
+ghost use Rattle.babel_capture.specs.Frame.{frame_sight};
+ghost use Rattle.babel_capture.specs.LaidOut.{UdpDatagram, udp_octets, IsBabel};
+ghost use Rattle.babel_capture.specs.LaidOut.{Ipv4Header, ipv4_octets, IsIpv4, ipv4_frame};
+ghost use Rattle.babel_capture.specs.LaidOut.{Ipv6Header, ipv6_octets, IsIpv6, ipv6_frame};
+ghost use Rattle.babel_capture.specs.Sight.{datagram};
+ghost use Rattle.babel_capture.specs.declared.link.Link.{Link as LinkType};
+ghost use Rattle.babel_capture.specs.declared.link.Link.TheVariants.{Ethernet};
+ghost use Rattle.babel_prefix.specs.declared.family.Family.TheVariants.{V4, V6};
+
+/// What is seen of a frame is in the frame: a datagram was cut only if the recorder left octets
+/// out, and a payload is some of the octets that it kept, one after the other.
+#[tactic(auto, using(crate::proofs::BackingLaws::frame_backed))]
+pub fn sight_is_backed()
+    ensures { (link : LinkType) (octets : List ℕ) (whole : ℕ)
+        → Backs octets whole (frame_sight link octets whole) }
+{}
+
+/// A Babel datagram in an Ethernet frame that is laid out as the RFCs say, with any options of IPv4
+/// and any padding, is seen as what it carries.
+pub fn laid_out_is_seen()
+    ensures ipv4 { (addresses padding : List ℕ) (ip : Ipv4Header) (udp : UdpDatagram) (whole : ℕ)
+        → length addresses ≡ 12 → IsBabel udp → IsIpv4 ip (udp_octets udp)
+        → 14 + length (ipv4_octets ip (udp_octets udp)) ≤ whole
+        → frame_sight Ethernet (ipv4_frame addresses ip udp padding) whole
+        ≡ datagram (record { family = V4; bits = ip.sender }) None udp.payload }
+    ensures ipv6 { (addresses padding : List ℕ) (ip : Ipv6Header) (udp : UdpDatagram) (whole : ℕ)
+        → length addresses ≡ 12 → IsBabel udp → IsIpv6 ip (udp_octets udp)
+        → 14 + length (ipv6_octets ip (udp_octets udp)) ≤ whole
+        → frame_sight Ethernet (ipv6_frame addresses ip udp padding) whole
+        ≡ datagram (record { family = V6; bits = ip.sender }) None udp.payload }
+{}
+
+/// The dump of a capture is whole Babel packets, end to end.
+pub fn dump_is_packets()
+    ensures { (limit : ℕ) (octets : List ℕ) (gathering : Gathering)
+        → IsRead limit octets gathering → ArePackets gathering.dump }
+{}
+
+/// The dump of a capture has no fault of framing but a TLV past the end of its packet: no packet of
+/// it is truncated, or has a wrong magic or version.
+pub fn dump_is_framed()
+    ensures { (limit : ℕ) (octets : List ℕ) (gathering : Gathering) → IsRead limit octets gathering
+        → (fault : DumpFault) → FrameFault gathering.dump fault → IsPastEnd fault }
+{}
+
+/// A fault of a capture that shows before its end stays its fault, however it goes on.
+pub fn fault_stays()
+    ensures { (limit : ℕ) (wanted : Wanted) (octets more : List ℕ) (fault : Fault)
+        → Stops limit wanted octets fault
+        → Stops limit wanted (octets ++ more) fault }
+{}

@@ -1,0 +1,47 @@
+//! Captures of packets, as tcpdump and Wireshark write them (draft-ietf-opsawg-pcap,
+//! draft-ietf-opsawg-pcapng): who sent Babel datagrams, and the dump of one sender.
+//!
+//! A `Capture` is read in pieces of any size. It tells its blocks, and each captured packet to the
+//! layer of frames, which looks into one frame and takes no memory. This crate knows nothing of
+//! files and streams, nor of what the TLVs of a packet say.
+#![tactic(auto)]
+
+mod block;
+mod capture;
+mod context;
+mod ethernet;
+mod fault;
+mod field;
+mod finding;
+mod frame;
+mod gathered;
+mod headers;
+mod ipv4;
+mod ipv6;
+pub mod laws;
+mod layout;
+mod length;
+mod link;
+mod order;
+mod part;
+mod reader;
+mod reason;
+mod report;
+mod seen;
+mod stream;
+#[cfg(test)]
+mod tests;
+mod udp;
+mod wanted;
+
+pub use capture::Capture;
+pub use ethernet::MAX_TAGS;
+pub use fault::Fault;
+pub use frame::look;
+pub use gathered::Gathered;
+pub use headers::MAX_EXTENSION_HEADERS;
+pub use link::Link;
+pub use reason::Reason;
+pub use report::Report;
+pub use seen::Seen;
+pub use wanted::Wanted;

@@ -1,0 +1,125 @@
+ghost use Rattle.std.specs.Prelude.{◌≡◌, ◌↔◌, IsTrue, ◌≤◌, ◌<◌, ◌+◌, ◌-◌, ◌^◌, ◌++◌, ◌⊎◌, ℕ, List, [], length, take, drop, OnOk, IfOk, IfErr, IfSome, IfNone, Err};
+ghost use Rattle.babel_capture.specs.Blocks.{BeginsBlock, HasHeader, IsBlock, IsPartial, header_of, start};
+ghost use Rattle.babel_capture.specs.Lengths.{block_len};
+ghost use Rattle.babel_capture.specs.Reading.{BlockFails, HasStarted, LeadTo, Stops};
+
+use crate::block::read_block;
+use crate::context::Context;
+use crate::fault::Fault;
+use crate::gathered::Gathered;
+use crate::layout::Layout;
+use crate::wanted::Wanted;
+use std::alloc::Global;
+use std::marker::Model;
+
+/// A capture, as far as its blocks were read.
+#[derive(Drop)]
+pub struct Reader {
+    context: Context,
+    gathered: Gathered,
+    at: u64,
+}
+
+impl Model for Reader {
+    ghost use Rattle.std.specs.Prelude.{◌≤◌};
+    ghost use Rattle.babel_capture.specs.Lengths.{block_len};
+    ghost use Rattle.babel_capture.specs.Reading.{Progress};
+
+    ghost Value = { Progress };
+
+    ghost view = { λ r. record { context = r.context; gathering = r.gathered; at = r.at } };
+
+    ghost invariant = { λ r. (r.gathered.report.packets ≤ r.at) × (r.at ≤ r.context.limit) };
+}
+
+impl Reader {
+    /// Nothing was read yet, of so many octets at most.
+    pub fn new(alloc: Global, limit: u64, wanted: Wanted) -> Reader
+        ensures none { LeadTo limit [] result }
+        ensures context { result.context ≡ start limit }
+        ensures wanted { result.gathering.wanted ≡ wanted }
+    {
+        Reader {
+            context: Context::new(alloc, limit),
+            gathered: Gathered::new(alloc, wanted),
+            at: 0,
+        }
+    }
+
+    /// The offset of the block that was not read yet.
+    pub fn at(&self) -> u64
+        ensures { result ≡ self.now.at }
+    {
+        self.at
+    }
+
+    /// Takes a whole block.
+    fn take_block(&mut self, block: &[u8]) -> Result<(), Fault>
+        requires is_block { IsBlock self.old.context self.old.at block.now }
+        requires some { 12 ≤ length block.now }
+        requires room { length block.now ≤ self.old.context.limit - self.old.at }
+        requires fits { self.old.at + length block.now < 2 ^ 64 }
+        ensures wanted { self.new.gathering.wanted ≡ self.old.gathering.wanted }
+        ensures ok { OnOk result ((limit : ℕ) (read : List ℕ) → LeadTo limit read self.old
+            → LeadTo limit (read ++ block.now) self.new) }
+        ensures err { IfErr result (λ fault. (fault ≡ Fault.Memory)
+            ⊎ BlockFails self.old.gathering.wanted self.old.context self.old.at block.now fault) }
+    {
+        let said = read_block(&self.context, self.at, block)?;
+        let at = self.at;
+        self.at += block.len() as u64;
+        self.gathered.take_said(at, &said)?;
+        self.context.take(&said)?;
+        Ok(())
+    }
+
+    /// The whole block that the octets begin with; `None` if they are less than a block.
+    fn first_block<'a>(&self, octets: &'a [u8]) -> Result<Option<&'a [u8]>, Fault>
+        ensures whole { IfOk result (λ found. IfSome found
+            (λ block. BeginsBlock self.now.context self.now.at octets.now block.now)) }
+        ensures room { IfOk result (λ found. IfSome found (λ block. (12 ≤ length block.now)
+            × (length block.now ≤ self.now.context.limit - self.now.at)
+            × (self.now.at + length block.now < 2 ^ 64))) }
+        ensures less { IfOk result (λ found. IfNone found
+            (IsPartial self.now.context self.now.at octets.now)) }
+        ensures err { IfErr result (λ fault. HasHeader self.now.context octets.now
+            × (block_len self.now.context self.now.at (header_of self.now.context octets.now)
+            ≡ Err fault)) }
+    {
+        self.context.first_block(self.at, octets)
+    }
+
+    /// Takes the whole blocks that the octets begin with: how many octets they are.
+    pub fn take_blocks(&mut self, octets: &[u8]) -> Result<usize, Fault>
+        ensures wanted { self.new.gathering.wanted ≡ self.old.gathering.wanted }
+        ensures used { IfOk result (λ used. used ≤ length octets.now) }
+        ensures took { IfOk result (λ used. (limit : ℕ) (read : List ℕ)
+            → LeadTo limit read self.old → LeadTo limit (read ++ take used octets.now) self.new) }
+        ensures partial { IfOk result (λ used. IsPartial self.new.context self.new.at
+            (drop used octets.now)) }
+        ensures stops { IfErr result (λ fault. (fault ≡ Fault.Memory)
+            ⊎ ((limit : ℕ) (read : List ℕ) → LeadTo limit read self.old
+            → Stops limit self.old.gathering.wanted (read ++ octets.now) fault)) }
+    {
+        let mut used = 0;
+        while let Some(block) = self.first_block(&octets[used..])? {
+            self.take_block(block)?;
+            used += block.len();
+        }
+        Ok(used)
+    }
+
+    /// Whether the first block was read, so that the octets are a capture.
+    pub fn has_started(&self) -> bool
+        ensures { IsTrue result ↔ HasStarted self.now.context }
+    {
+        !matches!(self.context.layout(), Layout::Start)
+    }
+
+    /// What was gathered.
+    pub fn into_gathered(self) -> Gathered
+        ensures { result ≡ self.gathering }
+    {
+        self.gathered
+    }
+}

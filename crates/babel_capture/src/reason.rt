@@ -1,0 +1,14 @@
+/// Why a Babel datagram is left out.
+#[derive(Clone, Copy, Debug, PartialEq, Eq)]
+pub enum Reason {
+    /// It is shorter than a packet's header, or than the body that the header says: RFC 8966, 4.2.
+    Truncated,
+    /// Its first octet is not 42: RFC 8966, 4.2.
+    BadMagic,
+    /// Its second octet is not 2: RFC 8966, 4.2.
+    BadVersion,
+    /// It was sent in fragments, which are not put together: RFC 791, 3.2; RFC 8200, 4.5.
+    Fragment,
+    /// The recorder kept only a part of it.
+    Snapped,
+}

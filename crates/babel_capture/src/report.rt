@@ -1,0 +1,84 @@
+ghost use Rattle.std.specs.Prelude.{◌≡◌, ◌+◌, ◌^◌, ◌<◌, [], IfSome};
+ghost use Rattle.babel_capture.specs.Counts.{Counts, count_at, counted_with, counts_of, one_more, reason_place};
+
+use crate::reason::Reason;
+use std::marker::Model;
+
+/// How many packets a capture has, and which wanted datagrams were left out.
+#[derive(Clone, Copy, Debug, PartialEq, Eq)]
+pub struct Report {
+    packets: u64,
+    left_out: [Option<(u64, u64)>; 5],
+}
+
+impl Model for Report {
+    ghost use Rattle.babel_capture.specs.Counts.{Counts, count_at};
+    ghost use Rattle.std.specs.Prelude.{◌≡◌, ◌≤◌, ℕ, length, IfSome};
+
+    ghost Value = { Counts };
+
+    ghost view = { λ r. record { packets = r.packets; left_out = r.left_out } };
+
+    ghost invariant = { λ r. (length r.left_out ≡ 5) × ((i : ℕ)
+        → IfSome (count_at r.left_out i) (λ counted. counted.0 ≤ r.packets)) };
+
+    ghost inverse = { λ r. record { packets = r.packets; left_out = r.left_out } };
+}
+
+impl Report {
+    /// How many packets the capture has.
+    pub fn packets(&self) -> u64
+        ensures { result ≡ self.now.packets }
+    {
+        self.packets
+    }
+
+    /// How many wanted datagrams were left out for the reason, and the number of the first one's
+    /// packet, from 1; `None` if none was.
+    pub fn left_out(&self, reason: Reason) -> Option<(u64, u64)>
+        ensures { result ≡ count_at self.now.left_out (reason_place reason) }
+    {
+        self.left_out[reason as usize]
+    }
+
+    /// The report of no packet.
+    pub(crate) fn new() -> Report
+        ensures { result ≡ counts_of [] }
+    {
+        Report {
+            packets: 0,
+            left_out: [None; 5],
+        }
+    }
+
+    /// Counts a packet, and the datagram that is left out for this reason, if for any.
+    pub(crate) fn count(&mut self, left_out: Option<Reason>)
+        requires { self.old.packets + 1 < 2 ^ 64 }
+        ensures { self.new ≡ counted_with self.old left_out }
+    {
+        self.packets += 1;
+        if let Some(reason) = left_out {
+            let place = place_of(reason);
+            self.left_out[place] = one_more_of(self.left_out[place], self.packets);
+        }
+    }
+}
+
+/// The count of datagrams left out, with one more of this number.
+fn one_more_of(counted: Option<(u64, u64)>, number: u64) -> Option<(u64, u64)>
+    requires { IfSome counted (λ c. c.0 + 1 < 2 ^ 64) }
+    ensures { result ≡ one_more number counted }
+{
+    match counted {
+        None => Some((1, number)),
+        Some((count, first)) => Some((count + 1, first)),
+    }
+}
+
+/// The place of a reason in their order.
+fn place_of(reason: Reason) -> usize
+    ensures value { result ≡ reason_place reason }
+    ensures in_order { result < 5 }
+{
+    reason as usize
+}

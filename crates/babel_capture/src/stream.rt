@@ -1,0 +1,96 @@
+ghost use Rattle.std.specs.Prelude.{◌≡◌, ◌≤◌, ◌++◌, ◌⊎◌, ℕ, List, [], drop, vec_len, OnOk, IfOk, IfErr};
+ghost use Rattle.babel_capture.specs.Capture.{CaptureFault, IsRead, IsReadToCut};
+ghost use Rattle.babel_capture.specs.Reading.{HasTaken, Stops};
+
+use crate::fault::Fault;
+use crate::gathered::Gathered;
+use crate::reader::Reader;
+use crate::wanted::Wanted;
+use std::alloc::Global;
+
+/// The octets of a capture in pieces: its blocks are read as soon as they are whole, and less than
+/// a block is kept.
+#[derive(Drop)]
+pub struct Stream {
+    /// How far the blocks were read.
+    pub reader: Reader,
+    /// The octets so far of the block that is not whole.
+    pub pending: Vec<u8>,
+}
+
+/// Removes so many octets from the front.
+fn remove_front(octets: &mut Vec<u8>, used: usize)
+    requires { used ≤ vec_len octets.old }
+    ensures { octets.new.items ≡ drop used octets.old.items }
+{
+    octets.drain(..used);
+}
+
+impl Stream {
+    /// Takes the next octets.
+    pub fn take(&mut self, piece: &[u8]) -> Result<(), Fault>
+        ensures wanted { self.new.reader.gathering.wanted ≡ self.old.reader.gathering.wanted }
+        ensures ok { OnOk result ((limit : ℕ) (fed : List ℕ)
+            → HasTaken limit self.old.reader self.old.pending.items fed
+            → HasTaken limit self.new.reader self.new.pending.items (fed ++ piece.now)) }
+        ensures err { IfErr result (λ fault. (fault ≡ Fault.Memory) ⊎ ((limit : ℕ) (fed : List ℕ)
+            → HasTaken limit self.old.reader self.old.pending.items fed
+            → Stops limit self.old.reader.gathering.wanted (fed ++ piece.now) fault)) }
+    {
+        self.pending.extend_from_slice(piece)?;
+        let used = self.reader.take_blocks(&self.pending)?;
+        remove_front(&mut self.pending, used);
+        Ok(())
+    }
+
+    /// No octets yet, of so many at most.
+    pub fn new(alloc: Global, limit: u64, wanted: Wanted) -> Stream
+        ensures none { HasTaken limit result.reader result.pending.items [] }
+        ensures wanted { result.reader.gathering.wanted ≡ wanted }
+    {
+        Stream {
+            reader: Reader::new(alloc, limit, wanted),
+            pending: Vec::new(alloc),
+        }
+    }
+
+    /// What the packets of a whole capture give.
+    pub fn finish(self) -> Result<Gathered, Fault>
+        ensures ok { IfOk result (λ gathered. (limit : ℕ) (fed : List ℕ)
+            → HasTaken limit self.reader self.pending.items fed
+            → IsRead limit fed gathered) }
+        ensures fault { IfErr result (λ fault. (limit : ℕ) (fed : List ℕ)
+            → HasTaken limit self.reader self.pending.items fed
+            → CaptureFault limit self.reader.gathering.wanted fed fault) }
+    {
+        if !self.reader.has_started() {
+            return Err(Fault::NotCapture);
+        }
+        if !self.pending.is_empty() {
+            return Err(Fault::CutShort {
+                at: self.reader.at(),
+            });
+        }
+        Ok(self.reader.into_gathered())
+    }
+
+    /// What the packets of the whole blocks give, and the offset of a block that is not whole.
+    pub fn finish_at_cut(self) -> Result<(Gathered, Option<u64>), Fault>
+        ensures ok { IfOk result (λ given. (limit : ℕ) (fed : List ℕ)
+            → HasTaken limit self.reader self.pending.items fed
+            → IsReadToCut limit fed given.0 given.1) }
+        ensures fault { IfErr result (λ fault. (limit : ℕ) (fed : List ℕ)
+            → HasTaken limit self.reader self.pending.items fed
+            → CaptureFault limit self.reader.gathering.wanted fed fault) }
+    {
+        if !self.reader.has_started() {
+            return Err(Fault::NotCapture);
+        }
+        let cut = if self.pending.is_empty() {
+            None
+        } else {
+            Some(self.reader.at())
+        };
+        Ok((self.reader.into_gathered(), cut))
+    }
+}

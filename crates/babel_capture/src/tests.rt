@@ -1,0 +1,208 @@
+//! Captures, by the public calls. The packets are of examples/captures/babeld-basic-a.pcap, and
+//! what they give is of the dump beside it; the blocks round them are worked by hand from
+//! draft-ietf-opsawg-pcap and draft-ietf-opsawg-pcapng.
+ghost use Rattle.std.specs.Prelude.{◌≤◌};
+
+use crate::{Capture, Wanted};
+use babel_prefix::{Addr, Family};
+use std::alloc::Global;
+use std::test::Fail;
+
+/// The headers of pcap files of Ethernet, the first with microseconds, the other with nanoseconds.
+const LITTLE: &str = "d4c3b2a10200040000000000000000000000040001000000";
+
+const BIG: &str = "a1b23c4d0002000400000000000000000004000000000001";
+
+/// A packet of fe80::5eff:fe00:c602, and two of fe80::5eff:fe00:c601.
+const OTHER: &str =
+    "33330001000602005e00c60286dd6c03079800181101fe8000000000000000005efffe00c602ff0200000000000000000000000100061a281a28001820b72a02000c04060000c980006409020000";
+
+const FIRST: &str =
+    "33330001000602005e00c60186dd6c04230000181101fe8000000000000000005efffe00c601ff0200000000000000000000000100061a281a28001820b62a02000c0406000040ff006409020000";
+
+const SECOND: &str =
+    "33330001000602005e00c60186dd6c04230000201101fe8000000000000000005efffe00c601ff0200000000000000000000000100061a281a28002020be2a0200140406000041000064080a00000000ffff269effff";
+
+/// What is read of a capture of so many octets at most: the dump of fe80::5eff:fe00:c601 in
+/// hexadecimal, or the fault.
+static CAPTURES: [(&[&str], u64, &str); 14] = [
+    (
+        &[
+            LITTLE,
+            "00000000000000004e0000004e000000",
+            OTHER,
+            "00000000000000004e0000004e000000",
+            FIRST,
+            "00000000000000005600000056000000",
+            SECOND,
+        ],
+        4096,
+        "2a02000c0406000040ff0064090200002a0200140406000041000064080a00000000ffff269effff",
+    ),
+    (
+        &[
+            BIG,
+            "00000000000000000000004e0000004e",
+            FIRST,
+            "00000000000000000000004e0000004e",
+            OTHER,
+            "00000000000000000000005600000056",
+            SECOND,
+        ],
+        4096,
+        "2a02000c0406000040ff0064090200002a0200140406000041000064080a00000000ffff269effff",
+    ),
+    (
+        &[
+            "0a0d0d0a0000001c1a2b3c4d00010000ffffffffffffffff0000001c",
+            "00000001000000200001000000000000000100046e6f74650000000000000020",
+            "0000000100000014000100000000000000000014",
+            "00000bad00000014616263646500000000000014",
+            "000000060000007c0000000000000000000000000000004e0000004e",
+            FIRST,
+            "0000000100046e6f7465000000000000007c",
+            "00000006000000780000000100000000000000000000005600000056",
+            SECOND,
+            "000000000078",
+        ],
+        4096,
+        "2a02000c0406000040ff0064090200002a0200140406000041000064080a00000000ffff269effff",
+    ),
+    (
+        &[
+            "0a0d0d0a0000001c1a2b3c4d00010000ffffffffffffffff0000001c",
+            "0a0d0d0a1c0000004d3c2b1a01000000ffffffffffffffff1c000000",
+            "0100000014000000010000000000000014000000",
+            "03000000600000004e000000",
+            FIRST,
+            "ffff60000000",
+            "06000000780000000000000000000000000000005600000056000000",
+            SECOND,
+            "000078000000",
+        ],
+        4096,
+        "2a02000c0406000040ff0064090200002a0200140406000041000064080a00000000ffff269effff",
+    ),
+    (
+        &[
+            LITTLE,
+            "00000000000000004e0000004e000000",
+            FIRST,
+            "00000000000000005600000056000000",
+            "3333",
+        ],
+        4096,
+        "capture cut short at 118",
+    ),
+    (
+        &[
+            LITTLE,
+            "00000000000000004e0000004e000000",
+            FIRST,
+            "00000000000000005600000056000000",
+            SECOND,
+        ],
+        200,
+        "capture too long at 118",
+    ),
+    (
+        &[LITTLE, "00000000000000004e000000a0860100", FIRST],
+        4096,
+        "2a02000c0406000040ff006409020000",
+    ),
+    (
+        &[
+            LITTLE,
+            "0000000000000000460000004e000000",
+            "33330001000602005e00c60186dd6c04230000181101fe8000000000000000005efffe00c601ff0200000000000000000000000100061a281a28001820b62a02000c04060000",
+        ],
+        4096,
+        "datagram cut by the recorder at 24",
+    ),
+    (
+        &[LITTLE, "00000000000000000100040001000400"],
+        4096,
+        "bad length at 24",
+    ),
+    (
+        &[
+            "d4c3b2a10200040000000000000000000000040093000000",
+            "00000000000000004e0000004e000000",
+            FIRST,
+        ],
+        4096,
+        "link type 147 not read at 24",
+    ),
+    (
+        &["2a02000c0406000040ff0064090200002a020014"],
+        4096,
+        "not a capture",
+    ),
+    (&[], 4096, "not a capture"),
+    (
+        &[
+            "0a0d0d0a0000001c1a2b3c4d00010000ffffffffffffffff0000001c",
+            "0000000100000014000100000000000000000014",
+            "00000006000000700000000100000000000000000000004e0000004e",
+            FIRST,
+            "000000000070",
+        ],
+        4096,
+        "no such interface at 48",
+    ),
+    (
+        &[
+            "0a0d0d0a0000001c1a2b3c4d00010000ffffffffffffffff0000001c",
+            "000000010000001400010000000000000000000c",
+        ],
+        4096,
+        "bad length at 28",
+    ),
+];
+
+#[test]
+fn reads_captures(rt: HostRuntime) -> Result<(), Fail> {
+    for (parts, limit, told) in &CAPTURES {
+        let octets = joined(rt.alloc(), parts)?;
+        for step in [1, 5, 4096] {
+            let read = read(rt.alloc(), *limit, octets.as_slice(), step)?;
+            assert_eq!(rt; read.as_str(), *told);
+        }
+    }
+    Ok(())
+}
+
+/// The octets that hexadecimal texts spell, one after the other.
+fn joined(alloc: Global, parts: &[&str]) -> Result<Vec<u8>, Fail> {
+    let mut octets = Vec::new(alloc);
+    for part in parts {
+        let Ok(more) = hex::decode(alloc, *part) else {
+            return Err(Fail::from("no hexadecimal text"));
+        };
+        octets.extend_from_slice(more.as_slice())?;
+    }
+    Ok(octets)
+}
+
+/// What a capture gives that is read in pieces of so many octets.
+fn read(alloc: Global, limit: u64, octets: &[u8], step: usize) -> Result<String, Fail>
+    requires { 1 ≤ step }
+{
+    let Some(sender) = Addr::new(Family::V6, 0xfe80_0000_0000_0000_0000_5eff_fe00_c601) else {
+        return Err(Fail::from("no address"));
+    };
+    let wanted = Wanted::Sender {
+        sender,
+        interface: None,
+    };
+    let mut capture = Capture::new(alloc, limit, wanted);
+    for piece in octets.chunks(step) {
+        if let Err(fault) = capture.feed(piece) {
+            return Ok(fault.to_string(alloc)?);
+        }
+    }
+    match capture.finish() {
+        Ok(gathered) => Ok(hex::encode(alloc, gathered.dump())?),
+        Err(fault) => Ok(fault.to_string(alloc)?),
+    }
+}
