@@ -46,7 +46,8 @@ impl Capture {
     }
 
     /// Takes the next octets of the capture. A fault is answered as soon as the octets so far have
-    /// it, whatever comes after them; after any fault every later call answers that fault.
+    /// it, whatever comes after them; after any fault every later call answers that fault. The piece
+    /// is copied, so that the memory taken goes with the longest block and the longest piece.
     pub fn feed(&mut self, piece: &[u8]) -> Result<(), Fault>
         // The reader stands where the octets that it was fed before, and these, lead it.
         ensures fed { (fed : List ℕ) → HasRead self.old fed → HasRead self.new (fed ++ piece.now) }

@@ -29,9 +29,6 @@ pub enum Fault {
     /// The recorder kept only a part of the sender's datagram in the block that begins here.
     #[error("datagram cut by the recorder at {at}")]
     Snapped { at: u64 },
-    /// The block that begins here has a datagram of one sender more than 65,536.
-    #[error("too many senders at {at}")]
-    TooManySenders { at: u64 },
     /// The block that begins here ends past the limit on octets.
     #[error("capture too long at {at}")]
     TooLong { at: u64 },

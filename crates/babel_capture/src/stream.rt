@@ -23,7 +23,10 @@ fn remove_front(octets: &mut Vec<u8>, used: usize)
     requires { used ≤ vec_len octets.old }
     ensures { octets.new.items ≡ drop used octets.old.items }
 {
-    octets.drain(..used);
+    // A long block takes many pieces, which are not to be moved each time.
+    if used > 0 {
+        octets.drain(..used);
+    }
 }
 
 impl Stream {

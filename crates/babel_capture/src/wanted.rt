@@ -8,7 +8,7 @@ use babel_prefix::Addr;
 pub enum Wanted {
     /// Those of each sender.
     Everyone,
-    /// Those of one sender, of one interface where it is named.
+    /// Those of one sender: of one interface where it is named, and else of all.
     Sender {
         sender: Addr,
         interface: Option<u64>,
