@@ -11,9 +11,6 @@ use crate::part::Part;
 use crate::seen::Seen;
 use byteorder::{ByteOrder, LittleEndian, NetworkEndian};
 
-#[cfg(test)]
-mod tests;
-
 /// A header with an EtherType: where it has that of what comes after it, and how many octets it
 /// has.
 #[derive(Clone, Copy)]

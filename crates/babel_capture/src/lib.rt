@@ -29,8 +29,6 @@ mod reason;
 mod report;
 mod seen;
 mod stream;
-#[cfg(test)]
-mod tests;
 mod udp;
 mod wanted;
 

@@ -4,6 +4,8 @@
 
 #[cfg(test)]
 mod canon;
+#[cfg(test)]
+mod capture;
 pub mod dumps;
 #[cfg(test)]
 mod prefix;

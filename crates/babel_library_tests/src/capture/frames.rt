@@ -1,6 +1,5 @@
 //! Frames of each link type, header by header, and what is seen in them.
-use super::look;
-use crate::{Link, Seen};
+use babel_capture::{Link, Seen, look};
 use babel_prefix::Addr;
 use std::alloc::{AllocError, Global};
 use std::test::Fail;

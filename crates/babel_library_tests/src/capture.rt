@@ -1,9 +1,11 @@
 //! Captures, by the public calls. The packets are of examples/captures/babeld-basic-a.pcap, and
 //! what they give is of the dump beside it; the blocks round them are worked by hand from
 //! draft-ietf-opsawg-pcap and draft-ietf-opsawg-pcapng.
+mod frames;
+
 ghost use Rattle.std.specs.Prelude.{◌≤◌};
 
-use crate::{Capture, Wanted};
+use babel_capture::{Capture, Wanted};
 use babel_prefix::{Addr, Family};
 use std::alloc::Global;
 use std::test::Fail;
