@@ -8,7 +8,7 @@ use babel_canon::Body;
 use babel_dump::{AddrPair, ByteOut, DumpFile, Format, Job, OneDump, RunFault, TwoDumps, run_job};
 use babel_library_tests::dumps::{NESTED_SOURCES, ONE_FAMILY, TWO_FAMILIES, V4, V6};
 use babel_table::Limits;
-use babel_tlv::{Fault, Mode};
+use babel_tlv::{Fault, Mode, View};
 use std::alloc::Global;
 use std::io;
 use std::io::ErrorKind;
