@@ -91,6 +91,10 @@ SeenAnswersTell =
     (view : View) (rows others : List Pair) → AreRows rows → AreRows others
     → AnswerTheSameUnder view rows others ↔ AnswerTheSame (seen_rows view rows) (seen_rows view others)
 
+-- the view that keeps all sees rows as they are
+abbrev pub AllRowsAreSeen : Type 0
+AllRowsAreSeen = (rows : List Pair) → seen_rows keeps_all rows ≡ rows
+
 -- under the view that keeps all the canonical form is that without a view
 abbrev pub AllNormalises : Type 0
 AllNormalises =

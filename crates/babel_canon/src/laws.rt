@@ -5,7 +5,7 @@ ghost use Rattle.babel_canon.specs.Differences.{DifferencesAreFewest, FirstHasLe
 ghost use Rattle.babel_canon.specs.Fewest.{BoxesAreFewest};
 ghost use Rattle.babel_canon.specs.Packing.{TextIsOne};
 ghost use Rattle.babel_canon.specs.Headline.{Headline};
-ghost use Rattle.babel_canon.specs.Views.{AllNormalises, HeadlineUnder, SeenAnswersTell};
+ghost use Rattle.babel_canon.specs.Views.{AllNormalises, AllRowsAreSeen, HeadlineUnder, SeenAnswersTell};
 ghost use Rattle.babel_canon.specs.OneOutcome.{NormalFormIsOne, NormaliseFaultIsOne, NormalFormHasNoFault, VerdictIsOne};
 
 /// Pairs have exactly one canonical text for each size of a body.
@@ -37,11 +37,12 @@ pub fn canonical_octets_tell_answers()
     ensures { Headline }
 {}
 
-/// The same for every view; tables answer the same under a view exactly where what the view sees of them answers the same;
-/// and under the view that keeps every field the canonical octets are those without a view.
+/// The same for every view; tables answer the same under a view exactly where what the view sees of them answers the same.
+/// The view that keeps every field sees rows as they are, and the canonical octets under it are those without a view.
 pub fn canonical_octets_tell_answers_under()
     ensures headline { HeadlineUnder }
     ensures seen { SeenAnswersTell }
+    ensures rows { AllRowsAreSeen }
     ensures all { AllNormalises }
 {}
 
