@@ -21,7 +21,7 @@ use std::marker::{Brand, PhantomData};
 
 /// A destination prefix and a source prefix for whose addresses two tables answer these two, which differ. `None` where a
 /// table has no route for them.
-#[derive(Clone, Copy)]
+#[derive(Clone, Copy, PartialEq, Eq)]
 pub struct Difference {
     pub key: Key,
     pub left: Option<Held>,
