@@ -54,9 +54,17 @@ impl<T: LawfulOrd, R: Copy> Known<T, R> {
     }
 }
 
+/// Whether no bits lead to the block of a trie: it is one value, or has its halves at once.
+fn is_at_block<V: Copy>(trie: Loose<V>) -> bool {
+    match trie {
+        Loose::Same(_) => true,
+        Loose::Split(node) => node.skip == 0,
+    }
+}
+
 /// Whether no bits lead to the blocks of two tries.
 fn are_at_blocks<V: Copy>(both: Both<Loose<V>>) -> bool {
-    both.left.is_at_block() && both.right.is_at_block()
+    is_at_block(both.left) && is_at_block(both.right)
 }
 
 impl<V: LawfulOrd, R: Copy> Known<Loose<V>, R> {
