@@ -36,8 +36,8 @@ abbrev pub family_event : Family → Context → List ℕ → Event
 family_event family context body = prefix_event family context body (formed family (default_in family context) body)
 
 -- a route by the fields of its announcement
-abbrev pub announced : List ℕ → ℕ → ℕ → Address → Announcement
-announced router_id seqno metric next_hop =
+abbrev pub announcement_of : List ℕ → ℕ → ℕ → Address → Announcement
+announcement_of router_id seqno metric next_hop =
     record { router_id = router_id; seqno = seqno; metric = metric; next_hop = next_hop }
 
 -- a reading has no fault, or this one
