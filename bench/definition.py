@@ -1,12 +1,13 @@
 #!/usr/bin/env python3
 """Runs a program over small random tables, and compares what it writes with what a slow program has from the definitions.
 
-    definition.py PROGRAM [--tables N] [--seed N]
+    definition.py PROGRAM [--plain] [--tables N] [--seed N]
 
 Each table has a few routes of both families, with and without source prefixes, some retracted, in any order; half of them
 have prefixes within the first four bits alone, the others prefixes of any length that share long beginnings. `pairs`, with
 and without `--count` and `--hold`, `lookup`, and `compare` with a table that differs in a few Updates must write what the
-definitions say. Exits 1 where they do not. The same seed makes the same tables.
+definitions say; and, unless it is the plain program, `pairs` and `compare` with `--ignore metric`. Exits 1 where they do not.
+The same seed makes the same tables.
 """
 
 import argparse
@@ -165,6 +166,10 @@ def canonical_pairs(table):
                     yield family, dst, src, value
 
 
+def without_metrics(table):
+    return {key: value if value == "unreachable" else "-" for key, value in table.items()}
+
+
 def difference(left, right):
     for family, width in WIDTH.items():
         rows = [key for key in [*left, *right] if key[0] == family]
@@ -207,7 +212,7 @@ def text_of_difference(found):
     return ["differ " + " from ".join(addresses), f"left {text_of(family, left)}", f"right {text_of(family, right)}"]
 
 
-def expected_runs(rng, updates, others, dump, other):
+def expected_runs(rng, updates, others, dump, other, plain):
     """Words, and the lines that they must give."""
     for hold in ([], ["--hold"]):
         sent = [*hold, *FROM]
@@ -219,13 +224,21 @@ def expected_runs(rng, updates, others, dump, other):
         dst, src = (rng.choice([key[part][0] for key in table if key[0] == family] or [0]) for part in (1, 2))
         asked = ["--to", text_of_address(family, dst), "--src", text_of_address(family, src)]
         yield ["lookup", *sent, *asked, dump], [text_of(family, answer(table, family, dst, src))]
-        found = difference(table, table_of(others, bool(hold)))
-        yield ["compare", *sent, "--other-from", "192.0.2.1", dump, other], text_of_difference(found)
+        other_table = table_of(others, bool(hold))
+        both = ["--other-from", "192.0.2.1", dump, other]
+        yield ["compare", *sent, *both], text_of_difference(difference(table, other_table))
+        if plain:
+            continue
+        table, other_table = without_metrics(table), without_metrics(other_table)
+        ignored = ["--ignore", "metric", *sent]
+        yield ["pairs", *ignored, dump], text_of_pairs(table)
+        yield ["compare", *ignored, *both], text_of_difference(difference(table, other_table))
 
 
 def main():
     parser = argparse.ArgumentParser(description=__doc__, formatter_class=argparse.RawDescriptionHelpFormatter)
     parser.add_argument("program", type=pathlib.Path)
+    parser.add_argument("--plain", action="store_true", help="the program is the plain one, which lacks some options")
     parser.add_argument("--tables", type=int, default=1_000)
     parser.add_argument("--seed", type=int, default=1)
     options = parser.parse_args()
@@ -238,7 +251,7 @@ def main():
             others = changed(rng, updates)
             dump.write_bytes(dump_of(updates))
             other.write_bytes(dump_of(others))
-            for words, lines in expected_runs(rng, updates, others, dump, other):
+            for words, lines in expected_runs(rng, updates, others, dump, other, options.plain):
                 run = subprocess.run([program, *words], capture_output=True, text=True)
                 runs += 1
                 most = max(most, len(lines))
