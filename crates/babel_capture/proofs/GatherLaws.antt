@@ -1,6 +1,6 @@
 -- What packets give, taken one by one.
-use Rattle.std.proofs.Common.{◌≡◌, ◌≢◌, ℕ, List, [], ◌∷◌, ◌++◌, ◌+◌, length, refl, sym, ap, subst, ◌∙◌}
-use Rattle.std.specs.Prelude.{Some, None, Result, Ok, Err, OnOk}
+use Rattle.std.proofs.Common.{◌≡◌, ◌≢◌, ℕ, List, [], ◌∷◌, ◌++◌, ◌+◌, length, refl, sym, ap, subst, ◌∙◌, inl, inr}
+use Rattle.std.specs.Prelude.{Some, None, Result, Ok, Err, OnOk, IfErr, fold, ◌⊎◌}
 use Rattle.std.specs.List.{flat_map}
 use Rattle.babel_prefix.specs.Address.{Address}
 use Rattle.babel_capture.specs.declared.reason.Reason.{Reason}
@@ -8,11 +8,16 @@ use Rattle.std.proofs.lemmas.List.{append-nil}
 use Rattle.std.proofs.lemmas.List.Concat.{flat_map-append}
 use Rattle.babel_capture.specs.declared.wanted.Wanted.{Wanted}
 use Rattle.babel_capture.specs.declared.wanted.Wanted.TheVariants as wanteds
-use Rattle.babel_capture.specs.Blocks.{Sighting}
+use Rattle.babel_capture.specs.declared.fault.Fault.{Fault}
+use Rattle.babel_capture.specs.declared.fault.Fault.TheVariants as faults
+use Rattle.babel_capture.specs.declared.tallies.Origin.{Origin}
+use Rattle.babel_capture.specs.Blocks.{Sighting, sight_in}
+use Rattle.babel_capture.specs.Contents.{Captured}
 use Rattle.babel_capture.specs.Counts.{Made, counted_with, reason_of}
 use Rattle.babel_capture.specs.Findings.{Found, passed, left, snapped, found, Finds}
 use Rattle.babel_capture.specs.Sight.{Sight}
-use Rattle.babel_capture.specs.Gathering.{AreMade, Gathering, IsGathered, octets_found, dump_of, dump_with}
+use Rattle.babel_capture.specs.Gathering.{AreMade, Gathering, IsGathered, IsRefusedPacket, octets_found, dump_of, dump_with}
+use Rattle.babel_capture.specs.Tallies.{Senders, IsOneTooMany, senders_with, senders_of, tallied}
 use Rattle.babel_capture.proofs.CountLaws.{counts-push}
 
 abbrev pub made_of : Sighting → Found → Made
@@ -32,10 +37,18 @@ dump-push (wanteds.Sender sender interface) made dump one is =
     ∙ ap (λ (d : List ℕ). flat_map (λ (m : Made). octets_found m.what) made ++ d) (sym (append-nil (octets_found one.what)))
     ∙ sym (flat_map-append (λ (m : Made). octets_found m.what) made (one ∷ []))
 
+senders-push : (made : List Made) (one : Made) → senders_of (made ++ one ∷ []) ≡ senders_with (senders_of made) one.what
+senders-push made one = from [] made
+  where
+    from : (senders : Senders) (made : List Made) → fold (λ (s : Senders) (m : Made). senders_with s m.what) senders (made ++ one ∷ []) ≡ senders_with (fold (λ (s : Senders) (m : Made). senders_with s m.what) senders made) one.what
+    from senders [] = refl
+    from senders (first ∷ made) = from (senders_with senders first.what) made
+
 pub gathered-push : (before : List Sighting) (next : Sighting) (old new : Gathering) (what : Found) → new.wanted ≡ old.wanted
-    → new.dump ≡ dump_with old.wanted old.dump (octets_found what) → new.report ≡ counted_with old.report (reason_of what) → what ≢ snapped
+    → new.dump ≡ dump_with old.wanted old.dump (octets_found what) → new.report ≡ counted_with old.report (reason_of what)
+    → new.senders ≡ senders_with old.senders what → what ≢ snapped
     → IsGathered before old → next.number ≡ old.report.packets + 1 → Finds old.wanted next.interface next.what what → IsGathered (before ++ next ∷ []) new
-gathered-push before next old new what same dump report whole gathered number finds =
+gathered-push before next old new what same dump report senders whole gathered number finds =
     let one : Made = made_of next what in
     let is_number : one.number ≡ length gathered.made + 1 = number ∙ ap (λ c. c.packets + 1) gathered.report in
     record {
@@ -45,6 +58,7 @@ gathered-push before next old new what same dump report whole gathered number fi
       dump = subst (λ (w : Wanted). new.dump ≡ dump_of w (gathered.made ++ one ∷ [])) (sym same)
           (dump ∙ dump-push old.wanted gathered.made old.dump one gathered.dump);
       report = report ∙ ap (λ c. counted_with c (reason_of what)) gathered.report ∙ sym (counts-push gathered.made one is_number);
+      senders = senders ∙ ap (λ (t : Senders). senders_with t what) gathered.senders ∙ sym (senders-push gathered.made one);
     }
 
 -- what is no packet leaves the dump
@@ -52,31 +66,41 @@ pub dump-stays : (wanted : Wanted) (dump : List ℕ) → dump ≡ dump_with want
 dump-stays wanteds.Everyone dump = refl
 dump-stays (wanteds.Sender sender interface) dump = sym (append-nil dump)
 
-pub on-ok : {T E : Type 0} {P Q : Type 0} (r : Result T E) → (P → Q) → OnOk r P → OnOk r Q
-on-ok (Ok x) goes holds = goes holds
-on-ok (Err e) goes holds = tt
+pub on-ok2 : {T E : Type 0} {P Q R : Type 0} (r : Result T E) → (P → Q → R) → OnOk r P → OnOk r Q → OnOk r R
+on-ok2 (Ok x) goes one two = goes one two
+on-ok2 (Err e) goes one two = tt
 
 -- the same as the code meets them
 module _ (before : List Sighting) (next : Sighting) (old new : Gathering) (finding : Found) where
   abbrev Goes : Type 0
   Goes = IsGathered before old → next.number ≡ old.report.packets + 1 → Finds old.wanted next.interface next.what finding → IsGathered (before ++ next ∷ []) new
 
-  pub passed-push : finding ≡ passed → new.wanted ≡ old.wanted → new.dump ≡ old.dump → new.report ≡ counted_with old.report None → Goes
-  passed-push is same dump report gathered number finds =
-      gathered-push before next old new passed same (dump ∙ dump-stays old.wanted old.dump) report (λ e. cc) gathered number
+  pub passed-push : finding ≡ passed → new.wanted ≡ old.wanted → new.dump ≡ old.dump → new.report ≡ counted_with old.report None → new.senders ≡ old.senders → Goes
+  passed-push is same dump report senders gathered number finds =
+      gathered-push before next old new passed same (dump ∙ dump-stays old.wanted old.dump) report senders (λ e. cc) gathered number
       (subst (Finds old.wanted next.interface next.what) is finds)
 
-  pub left-push : (reason : Reason) → finding ≡ left reason → new.wanted ≡ old.wanted → new.dump ≡ old.dump → new.report ≡ counted_with old.report (Some reason) → Goes
-  left-push reason is same dump report gathered number finds =
-      gathered-push before next old new (left reason) same (dump ∙ dump-stays old.wanted old.dump) report (λ e. cc) gathered number
+  pub left-push : (reason : Reason) → finding ≡ left reason → new.wanted ≡ old.wanted → new.dump ≡ old.dump → new.report ≡ counted_with old.report (Some reason) → new.senders ≡ old.senders → Goes
+  left-push reason is same dump report senders gathered number finds =
+      gathered-push before next old new (left reason) same (dump ∙ dump-stays old.wanted old.dump) report senders (λ e. cc) gathered number
       (subst (Finds old.wanted next.interface next.what) is finds)
 
   pub found-push : (interface : ℕ) (sender : Address) (packet : List ℕ) → finding ≡ found interface sender packet → new.wanted ≡ old.wanted → new.dump ≡ dump_with old.wanted old.dump packet
-      → new.report ≡ counted_with old.report None → Goes
-  found-push interface sender packet is same dump report gathered number finds =
-      gathered-push before next old new (found interface sender packet) same dump report (λ e. cc) gathered number
+      → new.report ≡ counted_with old.report None → new.senders ≡ tallied old.senders (record { interface = interface; sender = sender }) packet → Goes
+  found-push interface sender packet is same dump report senders gathered number finds =
+      gathered-push before next old new (found interface sender packet) same dump report senders (λ e. cc) gathered number
       (subst (Finds old.wanted next.interface next.what) is finds)
 
 pub finds-at : (wanted here : Wanted) (interface : ℕ) (sight seen : Sight) (finding : Found) → wanted ≡ here → sight ≡ seen → Finds wanted interface sight finding → Finds here interface seen finding
 finds-at wanted here interface sight seen finding is_wanted is_seen finds =
     subst (λ (w : Wanted). Finds w interface seen finding) is_wanted (subst (λ (s : Sight). Finds wanted interface s finding) is_seen finds)
+
+-- the sender of a packet that was found is one too many
+pub too-many-refused : {T : Type 0} (r : Result T Fault) (wanted : Wanted) (here senders : Senders) (at : ℕ) (packet : Captured) (origin : Origin) (octets : List ℕ) (finding : Found)
+    → here ≡ senders → finding ≡ found origin.interface origin.sender octets → Finds wanted packet.interface (sight_in packet) finding
+    → IfErr r (λ fault. (fault ≡ faults.Memory) ⊎ ((fault ≡ faults.TooManySenders at) × IsOneTooMany here origin))
+    → IfErr r (λ fault. (fault ≡ faults.Memory) ⊎ IsRefusedPacket wanted senders at packet fault)
+too-many-refused (Ok x) wanted here senders at packet origin octets finding same is finds err = tt
+too-many-refused (Err fault) wanted here senders at packet origin octets finding same is finds (inl memory) = inl memory
+too-many-refused (Err fault) wanted here senders at packet origin octets finding same is finds (inr (told, many)) =
+    inr (inr (told, (origin, octets, subst (Finds wanted packet.interface (sight_in packet)) is finds, subst (λ (s : Senders). IsOneTooMany s origin) same many)))

@@ -9,3 +9,4 @@ pub mod OctetLaws
 pub mod PacketLaws
 pub mod ReadingLaws
 pub mod StreamLaws
+pub mod TallyLaws

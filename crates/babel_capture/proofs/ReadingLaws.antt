@@ -13,6 +13,7 @@ use Rattle.babel_capture.specs.Counts.{Made, Counts}
 use Rattle.babel_capture.specs.Gathering.{AreMade, Gathering, IsGathered}
 use Rattle.babel_capture.specs.Lengths.{block_len}
 use Rattle.babel_capture.specs.Reading.{Progress, LeadTo, BlockFails, StopsAt, Stops}
+use Rattle.babel_capture.specs.Tallies.{Senders, senders_of}
 use Rattle.babel_capture.proofs.NumberLaws.{rest_is}
 
 -- ---- one block more
@@ -81,7 +82,7 @@ lead-push limit read block old new content is_block said context place gathers l
 -- ---- what stops
 
 pub stops-behind : (limit : ℕ) (wanted : Wanted) (read octets : List ℕ) (used : ℕ) (now : Progress) (fault : Fault) → now.gathering.wanted ≡ wanted
-    → LeadTo limit (read ++ take used octets) now → StopsAt now.gathering.wanted now.context now.at (drop used octets) fault → Stops limit wanted (read ++ octets) fault
+    → LeadTo limit (read ++ take used octets) now → StopsAt now.gathering.wanted now.gathering.senders now.context now.at (drop used octets) fault → Stops limit wanted (read ++ octets) fault
 stops-behind limit wanted read octets used now fault same lead stops =
     let place : now.at ≡ length (octets_of lead.blocks) = lead.place ∙ ap length lead.whole in
     record {
@@ -92,9 +93,10 @@ stops-behind limit wanted read octets used now fault same lead stops =
           ∙ ap (λ (t : List ℕ). t ++ drop used octets) lead.whole;
       are_blocks = lead.are_blocks;
       are_made = subst (λ (w : Wanted). AreMade w (sightings_of lead.blocks) lead.gathered.made) same lead.gathered.are_made;
-      stops = subst (λ (w : Wanted). StopsAt w (context_behind (start limit) lead.blocks) (length (octets_of lead.blocks)) (drop used octets) fault) same
-          (subst (λ (n : ℕ). StopsAt now.gathering.wanted (context_behind (start limit) lead.blocks) n (drop used octets) fault) place
-          (subst (λ (c : Before). StopsAt now.gathering.wanted c now.at (drop used octets) fault) lead.context stops));
+      stops = subst (λ (w : Wanted). StopsAt w (senders_of lead.gathered.made) (context_behind (start limit) lead.blocks) (length (octets_of lead.blocks)) (drop used octets) fault) same
+          (subst (λ (s : Senders). StopsAt now.gathering.wanted s (context_behind (start limit) lead.blocks) (length (octets_of lead.blocks)) (drop used octets) fault) lead.gathered.senders
+          (subst (λ (n : ℕ). StopsAt now.gathering.wanted now.gathering.senders (context_behind (start limit) lead.blocks) n (drop used octets) fault) place
+          (subst (λ (c : Before). StopsAt now.gathering.wanted now.gathering.senders c now.at (drop used octets) fault) lead.context stops)));
     }
 
 -- ---- as the loop meets them
@@ -121,14 +123,14 @@ pub header-stops : (limit : ℕ) (wanted : Wanted) (read octets : List ℕ) (use
     → LeadTo limit (read ++ take used octets) now → Stops limit wanted (read ++ octets) fault
 header-stops limit wanted read octets used now fault same header lead =
     stops-behind limit wanted read octets used now fault same lead
-    (subst (λ (t : List ℕ). StopsAt now.gathering.wanted now.context now.at t fault) (rest_is used octets) (inl header))
+    (subst (λ (t : List ℕ). StopsAt now.gathering.wanted now.gathering.senders now.context now.at t fault) (rest_is used octets) (inl header))
 
 pub block-stops : (limit : ℕ) (wanted : Wanted) (read octets block : List ℕ) (used : ℕ) (now : Progress) (fault : Fault) → now.gathering.wanted ≡ wanted
-    → BeginsBlock now.context now.at (rest_of used octets) block → BlockFails now.gathering.wanted now.context now.at block fault
+    → BeginsBlock now.context now.at (rest_of used octets) block → BlockFails now.gathering.wanted now.gathering.senders now.context now.at block fault
     → LeadTo limit (read ++ take used octets) now → Stops limit wanted (read ++ octets) fault
 block-stops limit wanted read octets block used now fault same begins fails lead =
     stops-behind limit wanted read octets used now fault same lead
-    (subst (λ (t : List ℕ). StopsAt now.gathering.wanted now.context now.at t fault) (rest_is used octets) (inr (block, begins, fails)))
+    (subst (λ (t : List ℕ). StopsAt now.gathering.wanted now.gathering.senders now.context now.at t fault) (rest_is used octets) (inr (block, begins, fails)))
 
 -- want of memory, or what is said of the fault else
 pub else-by : {M P Q : Type 0} → (P → Q) → M ⊎ P → M ⊎ Q

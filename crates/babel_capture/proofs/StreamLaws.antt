@@ -10,6 +10,7 @@ use Rattle.babel_capture.specs.Capture.{CaptureFault, HasFailed, HasRead, HasRea
 use Rattle.babel_capture.specs.Context.{Before}
 use Rattle.babel_capture.specs.Lengths.{header_len, block_len}
 use Rattle.babel_capture.specs.Reading.{Progress, LeadTo, HasStarted, HasTaken, Stops, StopsAt}
+use Rattle.babel_capture.specs.Tallies.{Senders, senders_of}
 
 pub taken-next : (limit : ℕ) (fed piece pending all left : List ℕ) (used : ℕ) (old new : Progress) → all ≡ pending ++ piece → left ≡ drop used all
     → ((limit : ℕ) (read : List ℕ) → LeadTo limit read old → LeadTo limit (read ++ take used all) new) → IsPartial new.context new.at (drop used all)
@@ -24,8 +25,8 @@ taken-next limit fed piece pending all left used old new is_all is_left took par
 
 -- ---- a fault stays, however the octets go on
 
-module _ (wanted : Wanted) (before : Before) (at : ℕ) (rest more : List ℕ) (fault : Fault) where
-  stops-more-at : StopsAt wanted before at rest fault → StopsAt wanted before at (rest ++ more) fault
+module _ (wanted : Wanted) (senders : Senders) (before : Before) (at : ℕ) (rest more : List ℕ) (fault : Fault) where
+  stops-more-at : StopsAt wanted senders before at rest fault → StopsAt wanted senders before at (rest ++ more) fault
   stops-more-at (inl (header, refused)) =
       let same : header_of before (rest ++ more) ≡ header_of before rest = take-append-le (header_len before.layout) rest more header in
       inl (
@@ -51,7 +52,7 @@ stops-more limit wanted octets more fault stops = record {
   whole = ap (λ (t : List ℕ). t ++ more) stops.whole ∙ append_assoc (octets_of stops.blocks) stops.rest more;
   are_blocks = stops.are_blocks;
   are_made = stops.are_made;
-  stops = stops-more-at wanted (context_behind (start limit) stops.blocks) (length (octets_of stops.blocks)) stops.rest more fault stops.stops;
+  stops = stops-more-at wanted (senders_of stops.made) (context_behind (start limit) stops.blocks) (length (octets_of stops.blocks)) stops.rest more fault stops.stops;
 }
 
 -- ---- the end

@@ -1,14 +1,16 @@
 -- What is gathered of the packets of a capture.
-use Rattle.std.specs.Prelude.{◌≡◌, ◌≢◌, ℕ, List, [], ◌∷◌, ◌++◌}
+use Rattle.std.specs.Prelude.{◌≡◌, ◌≢◌, ℕ, List, [], ◌∷◌, ◌++◌, ◌⊎◌}
 use Rattle.std.specs.List.{flat_map}
 use Rattle.babel_capture.specs.declared.fault.Fault.{Fault}
 use Rattle.babel_capture.specs.declared.fault.Fault.TheVariants as faults
+use Rattle.babel_capture.specs.declared.tallies.Origin.{Origin}
 use Rattle.babel_capture.specs.declared.wanted.Wanted.{Wanted}
 use Rattle.babel_capture.specs.declared.wanted.Wanted.TheVariants as wanteds
 use Rattle.babel_capture.specs.Blocks.{Sighting, sight_in}
-use Rattle.babel_capture.specs.Contents.{Content, file, section, describes, holds, nothing}
+use Rattle.babel_capture.specs.Contents.{Captured, Content, file, section, describes, holds, nothing}
 use Rattle.babel_capture.specs.Counts.{Counts, Made, counts_of}
 use Rattle.babel_capture.specs.Findings.{Found, passed, left, snapped, found, Finds}
+use Rattle.babel_capture.specs.Tallies.{Senders, IsOneTooMany, senders_of}
 
 -- What is made of each packet. No datagram of a sender whose dump is wanted was cut by the
 -- recorder.
@@ -41,6 +43,7 @@ pub record Gathering : Type 0 where
   pub wanted : Wanted
   pub dump : List ℕ
   pub report : Counts
+  pub senders : Senders
 
 -- what these packets give
 pub record IsGathered (sightings : List Sighting) (gathering : Gathering) : Type 0 where
@@ -48,13 +51,21 @@ pub record IsGathered (sightings : List Sighting) (gathering : Gathering) : Type
   pub are_made : AreMade gathering.wanted sightings made
   pub dump : gathering.dump ≡ dump_of gathering.wanted made
   pub report : gathering.report ≡ counts_of made
+  pub senders : gathering.senders ≡ senders_of made
 
--- the datagram of a sender whose dump is wanted, in the block at this offset, was cut by the
--- recorder
-abbrev pub IsRefused : Wanted → ℕ → Content → Fault → Type 0
-IsRefused wanted at (file order interface) fault = ⊥
-IsRefused wanted at (section order) fault = ⊥
-IsRefused wanted at (describes interface) fault = ⊥
-IsRefused wanted at (holds packet) fault = (fault ≡ faults.Snapped at)
-    × Finds wanted packet.interface (sight_in packet) snapped
-IsRefused wanted at nothing fault = ⊥
+-- The packet in the block at this offset is refused: the datagram of a sender whose dump is wanted
+-- was cut by the recorder, or its sender is one more than are kept.
+abbrev pub IsRefusedPacket : Wanted → Senders → ℕ → Captured → Fault → Type 0
+IsRefusedPacket wanted senders at packet fault =
+    ((fault ≡ faults.Snapped at) × Finds wanted packet.interface (sight_in packet) snapped)
+    ⊎ ((fault ≡ faults.TooManySenders at) × ((origin : Origin) × (octets : List ℕ)
+    × Finds wanted packet.interface (sight_in packet) (found origin.interface origin.sender octets)
+    × IsOneTooMany senders origin))
+
+-- the block at this offset holds a packet that is refused
+abbrev pub IsRefused : Wanted → Senders → ℕ → Content → Fault → Type 0
+IsRefused wanted senders at (file order interface) fault = ⊥
+IsRefused wanted senders at (section order) fault = ⊥
+IsRefused wanted senders at (describes interface) fault = ⊥
+IsRefused wanted senders at (holds packet) fault = IsRefusedPacket wanted senders at packet fault
+IsRefused wanted senders at nothing fault = ⊥

@@ -20,4 +20,5 @@ pub mod Octets
 pub mod Packets
 pub mod Reading
 pub mod Sight
+pub mod Tallies
 pub mod Udp

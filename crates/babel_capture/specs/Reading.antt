@@ -10,6 +10,7 @@ use Rattle.babel_capture.specs.Context.{Before}
 use Rattle.babel_capture.specs.Counts.{Made}
 use Rattle.babel_capture.specs.Gathering.{Gathering, IsGathered, IsRefused, AreMade}
 use Rattle.babel_capture.specs.Lengths.{block_len}
+use Rattle.babel_capture.specs.Tallies.{Senders, senders_of}
 
 -- what the blocks so far say of the capture, what was gathered of their packets, and where the next
 -- one begins
@@ -28,18 +29,18 @@ pub record LeadTo (limit : ℕ) (octets : List ℕ) (progress : Progress) : Type
   pub gathered : IsGathered (sightings_of blocks) progress.gathering
 
 -- a whole block that can't be read, or whose packet is refused
-abbrev pub BlockFails : Wanted → Before → ℕ → List ℕ → Fault → Type 0
-BlockFails wanted before at block fault =
+abbrev pub BlockFails : Wanted → Senders → Before → ℕ → List ℕ → Fault → Type 0
+BlockFails wanted senders before at block fault =
     (block_said before at block ≡ Err fault)
     ⊎ ((content : Content) × (block_said before at block ≡ Ok content)
-    × IsRefused wanted at content fault)
+    × IsRefused wanted senders at content fault)
 
 -- octets that begin with no block that is taken: their header tells, or the whole block
-abbrev pub StopsAt : Wanted → Before → ℕ → List ℕ → Fault → Type 0
-StopsAt wanted before at octets fault =
+abbrev pub StopsAt : Wanted → Senders → Before → ℕ → List ℕ → Fault → Type 0
+StopsAt wanted senders before at octets fault =
     (HasHeader before octets × (block_len before at (header_of before octets) ≡ Err fault))
     ⊎ ((block : List ℕ) × BeginsBlock before at octets block
-    × BlockFails wanted before at block fault)
+    × BlockFails wanted senders before at block fault)
 
 -- the octets are blocks that are taken, and then octets that are not: their fault
 pub record Stops (limit : ℕ) (wanted : Wanted) (octets : List ℕ) (fault : Fault) : Type 0 where
@@ -49,7 +50,7 @@ pub record Stops (limit : ℕ) (wanted : Wanted) (octets : List ℕ) (fault : Fa
   pub whole : octets ≡ octets_of blocks ++ rest
   pub are_blocks : AreBlocks (start limit) 0 blocks
   pub are_made : AreMade wanted (sightings_of blocks) made
-  pub stops : StopsAt wanted (context_behind (start limit) blocks) (length
+  pub stops : StopsAt wanted (senders_of made) (context_behind (start limit) blocks) (length
       (octets_of blocks)) rest fault
 
 -- the first block was read, so that the octets are a capture

@@ -29,6 +29,10 @@ pub enum Fault {
     /// The recorder kept only a part of the sender's datagram in the block that begins here.
     #[error("datagram cut by the recorder at {at}")]
     Snapped { at: u64 },
+    /// The packet in the block that begins here is of one sender more than 65,536, each counted on
+    /// each interface where it occurs.
+    #[error("too many senders at {at}")]
+    TooManySenders { at: u64 },
     /// The block that begins here ends past the limit on octets.
     #[error("capture too long at {at}")]
     TooLong { at: u64 },

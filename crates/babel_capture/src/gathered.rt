@@ -2,15 +2,17 @@ ghost use Rattle.std.specs.Prelude.{◌≡◌, ◌+◌, ◌^◌, ◌<◌, ◌≤
 ghost use Rattle.babel_capture.specs.Blocks.{Sighting, sighting_of, sightings_in};
 ghost use Rattle.babel_capture.specs.Contents.{captured_of, content_of, holds};
 ghost use Rattle.babel_capture.specs.Gathering.{IsGathered, IsRefused, dump_with};
+ghost use Rattle.babel_capture.specs.Tallies.{IsOneTooMany, tallied};
 
 use crate::block::{Block, Packet};
 use crate::fault::Fault;
 use crate::finding::Finding;
 use crate::frame::look;
 use crate::report::Report;
+use crate::tallies::{Origin, Tallies, Tally};
 use crate::wanted::Wanted;
-use babel_prefix::Addr;
 use std::alloc::Global;
+use std::collections::BTreeMap;
 use std::marker::Model;
 
 /// What is gathered of the packets of a capture.
@@ -19,6 +21,7 @@ pub struct Gathered {
     wanted: Wanted,
     dump: Vec<u8>,
     report: Report,
+    senders: Tallies,
 }
 
 impl Model for Gathered {
@@ -26,7 +29,12 @@ impl Model for Gathered {
 
     ghost Value = { Gathering };
 
-    ghost view = { λ g. record { wanted = g.wanted; dump = g.dump.items; report = g.report } };
+    ghost view = { λ g. record {
+      wanted = g.wanted;
+      dump = g.dump.items;
+      report = g.report;
+      senders = g.senders;
+    } };
 }
 
 impl Gathered {
@@ -39,6 +47,7 @@ impl Gathered {
             wanted,
             dump: Vec::new(alloc),
             report: Report::new(),
+            senders: Tallies::new(alloc),
         }
     }
 
@@ -63,6 +72,14 @@ impl Gathered {
         self.report
     }
 
+    /// How many packets each wanted sender sent on each interface, and of how many octets, by
+    /// interface, then by address. Datagrams that were left out are not counted.
+    pub fn senders(&self) -> &BTreeMap<Origin, Tally>
+        ensures { result.now.entries ≡ self.now.senders }
+    {
+        self.senders.as_map()
+    }
+
     /// Takes the packet in the block at this offset.
     fn take_packet(&mut self, at: u64, packet: &Packet<'_>) -> Result<(), Fault>
         requires { self.old.report.packets + 1 < 2 ^ 64 }
@@ -72,7 +89,7 @@ impl Gathered {
             → IsGathered (before ++ sighting_of (self.old.report.packets + 1) at
             (captured_of packet.now) ∷ []) self.new) }
         ensures err { IfErr result (λ fault. (fault ≡ Fault.Memory)
-            ⊎ IsRefused self.old.wanted at (holds (captured_of packet.now)) fault) }
+            ⊎ IsRefused self.old.wanted self.old.senders at (holds (captured_of packet.now)) fault) }
     {
         let seen = look(packet.link, packet.frame, packet.whole_len);
         match self.wanted.finding(packet.interface, seen) {
@@ -91,7 +108,7 @@ impl Gathered {
                 packet,
             } => {
                 self.report.count(None);
-                self.add(interface, sender, packet)
+                self.add(at, Origin { interface, sender }, packet)
             }
         }
     }
@@ -105,7 +122,7 @@ impl Gathered {
             → IsGathered (before ++ sightings_in (self.old.report.packets + 1) at
             (content_of said.now)) self.new) }
         ensures err { IfErr result (λ fault. (fault ≡ Fault.Memory)
-            ⊎ IsRefused self.old.wanted at (content_of said.now) fault) }
+            ⊎ IsRefused self.old.wanted self.old.senders at (content_of said.now) fault) }
     {
         match said {
             Block::Packet(packet) => self.take_packet(at, packet),
@@ -113,14 +130,18 @@ impl Gathered {
         }
     }
 
-    /// Adds a packet to the dump, if one is wanted.
-    fn add(&mut self, interface: u64, sender: Addr, packet: &[u8]) -> Result<(), Fault>
+    /// Counts a packet for its sender, and adds it to the dump, if one is wanted.
+    fn add(&mut self, at: u64, origin: Origin, packet: &[u8]) -> Result<(), Fault>
         ensures wanted { self.new.wanted ≡ self.old.wanted }
         ensures report { self.new.report ≡ self.old.report }
         ensures dump { OnOk result (self.new.dump
             ≡ dump_with self.old.wanted self.old.dump packet.now) }
-        ensures err { IfErr result (λ fault. fault ≡ Fault.Memory) }
+        ensures senders { OnOk result (self.new.senders
+            ≡ tallied self.old.senders origin packet.now) }
+        ensures err { IfErr result (λ fault. (fault ≡ Fault.Memory)
+            ⊎ ((fault ≡ Fault.TooManySenders at) × IsOneTooMany self.old.senders origin)) }
     {
+        self.senders.add(at, origin, packet)?;
         if let Wanted::Sender { .. } = self.wanted {
             self.dump.extend_from_slice(packet)?;
         }

@@ -29,6 +29,7 @@ mod reason;
 mod report;
 mod seen;
 mod stream;
+mod tallies;
 mod udp;
 mod wanted;
 
@@ -42,4 +43,5 @@ pub use link::Link;
 pub use reason::Reason;
 pub use report::Report;
 pub use seen::Seen;
+pub use tallies::{MAX_SENDERS, Origin, Tally};
 pub use wanted::Wanted;

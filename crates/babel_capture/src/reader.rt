@@ -63,7 +63,8 @@ impl Reader {
         ensures ok { OnOk result ((limit : ℕ) (read : List ℕ) → LeadTo limit read self.old
             → LeadTo limit (read ++ block.now) self.new) }
         ensures err { IfErr result (λ fault. (fault ≡ Fault.Memory)
-            ⊎ BlockFails self.old.gathering.wanted self.old.context self.old.at block.now fault) }
+            ⊎ BlockFails self.old.gathering.wanted self.old.gathering.senders self.old.context
+            self.old.at block.now fault) }
     {
         let said = read_block(&self.context, self.at, block)?;
         let at = self.at;

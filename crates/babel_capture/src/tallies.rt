@@ -1,0 +1,101 @@
+ghost use Rattle.std.specs.Prelude.{◌≡◌, ◌⊎◌, ◌↔◌, [], IsTrue, IfErr, IfSome, OnOk};
+ghost use Rattle.babel_capture.specs.Tallies.{IsOneTooMany, one_more, tallied};
+
+use crate::fault::Fault;
+use babel_prefix::Addr;
+use std::alloc::Global;
+use std::collections::BTreeMap;
+use std::marker::Model;
+
+/// How many senders are kept: each is counted on each interface where it occurs.
+pub const MAX_SENDERS: usize = 65_536;
+
+/// A sender of Babel packets, on the interface where they were captured. These are ordered by
+/// interface, then by address.
+#[derive(Clone, Copy, Debug, PartialEq, Eq, PartialOrd, Ord)]
+pub struct Origin {
+    pub interface: u64,
+    pub sender: Addr,
+}
+
+/// How many packets a sender sent, and how many octets these are: header and body, without what
+/// comes after them.
+#[derive(Clone, Copy, Debug, PartialEq, Eq)]
+pub struct Tally {
+    pub packets: u64,
+    pub octets: u64,
+}
+
+impl Tally {
+    /// With one packet more; `None` if its octets are more than 2^64 - 1.
+    fn with(self, packet: &[u8]) -> Option<Tally>
+        ensures { IfSome result (λ tally. tally ≡ one_more self packet.now) }
+    {
+        Some(Tally {
+            packets: self.packets.checked_add(1)?,
+            octets: self.octets.checked_add(packet.len() as u64)?,
+        })
+    }
+}
+
+/// The tally of each sender on each interface.
+#[derive(Drop)]
+pub struct Tallies {
+    tallies: BTreeMap<Origin, Tally>,
+}
+
+impl Model for Tallies {
+    ghost use Rattle.babel_capture.specs.Tallies.{Senders};
+
+    ghost Value = { Senders };
+
+    ghost view = { λ t. t.tallies.entries };
+}
+
+impl Tallies {
+    /// No senders.
+    pub fn new(alloc: Global) -> Tallies
+        ensures { result ≡ [] }
+    {
+        Tallies {
+            tallies: BTreeMap::new(alloc),
+        }
+    }
+
+    /// The tallies, by interface, then by address.
+    pub fn as_map(&self) -> &BTreeMap<Origin, Tally>
+        ensures { result.now.entries ≡ self.now }
+    {
+        &self.tallies
+    }
+
+    /// Whether the sender is one more than are kept.
+    fn is_one_too_many(&self, origin: &Origin) -> bool
+        ensures { IsTrue result ↔ IsOneTooMany self.now origin.now }
+    {
+        self.tallies.len() >= MAX_SENDERS && !self.tallies.contains_key(origin)
+    }
+
+    /// Counts a packet, which is in the block at this offset.
+    pub fn add(&mut self, at: u64, origin: Origin, packet: &[u8]) -> Result<(), Fault>
+        ensures ok { OnOk result (self.new ≡ tallied self.old origin packet.now) }
+        ensures err { IfErr result (λ fault. (fault ≡ Fault.Memory)
+            ⊎ ((fault ≡ Fault.TooManySenders at) × IsOneTooMany self.old origin)) }
+    {
+        if self.is_one_too_many(&origin) {
+            return Err(Fault::TooManySenders { at });
+        }
+        let none = Tally {
+            packets: 0,
+            octets: 0,
+        };
+        let before = self.tallies.get(&origin).copied().unwrap_or(none);
+        let Some(tally) = before.with(packet) else {
+            return Err(Fault::Memory);
+        };
+        match self.tallies.insert(origin, tally) {
+            Ok(_) => Ok(()),
+            Err(_) => Err(Fault::Memory),
+        }
+    }
+}
