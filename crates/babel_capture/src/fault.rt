@@ -36,7 +36,7 @@ pub enum Fault {
     /// The block that begins here ends past the limit on octets.
     #[error("capture too long at {at}")]
     TooLong { at: u64 },
-    /// An allocation was refused.
+    /// An allocation was refused, or the octets of one sender are 2^64 or more.
     #[error("out of memory")]
     Memory,
 }
