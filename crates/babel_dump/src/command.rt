@@ -5,21 +5,21 @@ use std::alloc::{AllocError, Global};
 /// The most routes for which the least limit on octets, 83 for each, is a number of 32 bits.
 const MOST_ROUTES: i64 = 51_746_593;
 
-/// The end of a help text: what has to be known, if anything, then examples and the exit statuses, of which only 0 and 1
-/// differ from command to command.
+/// The end of a help text: what has to be known, if anything, then the exit statuses, of which only 0 and 1 differ from
+/// command to command, and examples.
 macro_rules! after_help {
     ($($known:literal,)* examples: $($example:literal),+; $($status:literal),+) => {
         concat!(
             $($known, "\n",)*
-            "Examples:",
-            $("\n  babel-dump ", $example,)+
-            "\n\nExit statuses:",
+            "Exit statuses:",
             $("\n  ", $status,)+
             "\n  2  the command line is wrong",
             "\n  3  a dump is refused",
             "\n  4  a file can't be opened, or a read or a write failed",
             "\n  5  out of memory",
-            "\n  141  nobody reads the output any more"
+            "\n  141  nobody reads the output any more",
+            "\n\nExamples:"
+            $(, "\n  babel-dump ", $example)+
         )
     };
 }

@@ -409,7 +409,7 @@ const ENDS: [&str; 3] = [
 ];
 
 /// The words that ask for a help text, and its parts beside `ENDS`. Each names its options, each with a sentence, and
-/// has examples and the exit statuses.
+/// has the exit statuses and examples.
 static HELPS: [(&str, &[&str], &[&str]); 7] = [
     ("--help", &COMMANDS, &["babel-dump lookup --from"]),
     ("help", &COMMANDS, &["babel-dump lookup --from"]),
