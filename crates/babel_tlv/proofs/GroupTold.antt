@@ -15,7 +15,8 @@ use Rattle.babel_tlv.specs.declared.held.Held.TheVariants as helds
 use Rattle.babel_tlv.specs.Route.{RouteKey}
 use Rattle.babel_tlv.specs.Pair.{Pair, FitsKey, IsPair}
 use Rattle.babel_tlv.specs.Forming.{encoding}
-use Rattle.babel_tlv.specs.Context.{Context, default_in, next_hop_in_context}
+use Rattle.babel_tlv.specs.Context.{Context, next_hop_in_context}
+use Rattle.babel_tlv.specs.Updating.{default_in}
 use Rattle.babel_tlv.specs.Says.{key_event}
 use Rattle.babel_tlv.specs.Group.{pair_family, Written, written_after, hop_in, dst_in, is_id, is_hop, router_id_tlv, next_hop_tlv, route_tlvs, held_seqno, held_metric, update_tlv, shared_octets, prefix_octets, source_sub, group_in, groups_behind}
 use Rattle.babel_tlv.specs.Writing.{with_held, with_dst}

@@ -6,9 +6,10 @@ use Rattle.std.proofs.lemmas.List.{length-append}
 use Rattle.std.proofs.lemmas.List.Concat.{flat_map-append}
 use Rattle.babel_tlv.specs.declared.fault.Fault.{Fault}
 use Rattle.babel_tlv.specs.declared.tlvs.Tlvs.{Tlvs}
-use Rattle.babel_tlv.specs.Framing.{TlvAt, ArePlaced, BeginsTlv, Parts, TlvPastEndAt, tlv_octets, tlvs_of}
+use Rattle.babel_tlv.specs.Framing.{TlvAt, ArePlaced, AreTlvs, TlvPastEndAt, tlv_octets, tlvs_of}
+use Rattle.babel_tlv.specs.Left.{BeginsTlv}
 use Rattle.babel_tlv.specs.Left.{HasRead}
-use Rattle.babel_tlv.proofs.Reading.{ReadSoFar, ReadSoFar-step, tlvs_of-Parts}
+use Rattle.babel_tlv.proofs.Reading.{ReadSoFar, ReadSoFar-step, tlvs_of-AreTlvs}
 use Rattle.babel_tlv.proofs.Telling.{ArePlaced-append}
 
 so_far : (at : ℕ) (body : List ℕ) (tlvs : Tlvs) → HasRead at body tlvs → ReadSoFar at body tlvs.octets.now tlvs.at
@@ -26,14 +27,14 @@ joined : (front tlvs : List TlvAt) → flat_map tlv_octets (front ++ tlvs) ≡ f
 joined front tlvs = flat_map-append tlv_octets front tlvs
 
 -- the rest is TLVs, and so is the body
-whole-behind : (left : Tlvs) → Parts left.at left.octets.now (tlvs_of left.at left.octets.now) → (at : ℕ) (body : List ℕ) → HasRead at body left → Parts at body (tlvs_of at body)
+whole-behind : (left : Tlvs) → AreTlvs left.at left.octets.now (tlvs_of left.at left.octets.now) → (at : ℕ) (body : List ℕ) → HasRead at body left → AreTlvs at body (tlvs_of at body)
 whole-behind left rest at body has =
     let tlvs : List TlvAt = tlvs_of left.at left.octets.now in
-    let parts : Parts at body (has.front ++ tlvs) = record {
+    let parts : AreTlvs at body (has.front ++ tlvs) = record {
       whole = has.whole ∙ ap (λ (o : List ℕ). flat_map tlv_octets has.front ++ o) rest.whole ∙ sym (joined has.front tlvs);
       placed = ArePlaced-append at has.front tlvs has.placed (subst (λ (a : ℕ). ArePlaced a tlvs) has.here rest.placed);
     } in
-    subst (λ (t : List TlvAt). Parts at body t) (sym (tlvs_of-Parts at body (has.front ++ tlvs) parts)) parts
+    subst (λ (t : List TlvAt). AreTlvs at body t) (sym (tlvs_of-AreTlvs at body (has.front ++ tlvs) parts)) parts
 
 -- no TLV begins at a place of the rest, which is a place of the body
 past_end-behind : (left : Tlvs) (fault : Fault) → TlvPastEndAt left.at left.octets.now fault → (at : ℕ) (body : List ℕ) → HasRead at body left → TlvPastEndAt at body fault
@@ -54,10 +55,10 @@ past_end-behind left fault (place, (tlvs, rest, whole, placed, begins, here), is
 -- ---- what `check_body` answers of the rest
 
 abbrev CheckedRest : {T : Type 0} → Tlvs → Result T Fault → Type 0
-CheckedRest left answer = MatchResult answer (λ _. Parts left.at left.octets.now (tlvs_of left.at left.octets.now)) (λ fault. TlvPastEndAt left.at left.octets.now fault)
+CheckedRest left answer = MatchResult answer (λ _. AreTlvs left.at left.octets.now (tlvs_of left.at left.octets.now)) (λ fault. TlvPastEndAt left.at left.octets.now fault)
 
 pub checked-whole : {T : Type 0} (left : Tlvs) (answer : Result T Fault) → CheckedRest left answer
-    → OnOk answer ((at : ℕ) (body : List ℕ) → HasRead at body left → Parts at body (tlvs_of at body))
+    → OnOk answer ((at : ℕ) (body : List ℕ) → HasRead at body left → AreTlvs at body (tlvs_of at body))
 checked-whole left (Ok x) checked = whole-behind left checked
 checked-whole left (Err fault) checked = tt
 

@@ -14,9 +14,10 @@ use Rattle.babel_prefix.specs.Address.{AddressPrefix, IsAddressPrefix, whole_fam
 use Rattle.babel_tlv.specs.declared.place.Place.TheVariants as places
 use Rattle.babel_tlv.specs.declared.reason.Reason.{Reason}
 use Rattle.babel_tlv.specs.declared.reason.Reason.TheVariants as reasons
-use Rattle.babel_tlv.specs.Framing.{BeginsTlv, tlvs_of}
+use Rattle.babel_tlv.specs.Framing.{tlvs_of}
+use Rattle.babel_tlv.specs.Left.{BeginsTlv}
 use Rattle.babel_tlv.specs.Forming.{octets_for, prefix_from}
-use Rattle.babel_tlv.specs.SubTlv.{sub_fault, source_of, is_bad_source}
+use Rattle.babel_tlv.specs.SubTlv.{sub_reason, source_of, is_bad_source}
 use Rattle.babel_tlv.specs.Group.{prefix_octets, source_sub}
 use Rattle.babel_tlv.proofs.Reading.{tlvs_of-begins}
 use Rattle.babel_tlv.proofs.SubReading.{fault_from-begins}
@@ -90,7 +91,7 @@ fault_if b = option_or (cond b (Some reasons.BadSource) no_reason) None
 
 -- what is written of a source prefix has no fault, and gives it back
 pub record ReadsSource (src : AddressPrefix) (octets : List ℕ) : Type 0 where
-  pub fine : sub_fault (places.InUpdate src.address.family) octets ≡ None
+  pub fine : sub_reason (places.InUpdate src.address.family) octets ≡ None
   pub given : source_of src.address.family (tlvs_of 0 octets) ≡ src
 
 item_read : (src : AddressPrefix) → IsAddressPrefix src → (src.len == 0) ≡ false → ReadsSource src (item_octets src)

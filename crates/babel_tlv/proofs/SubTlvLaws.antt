@@ -9,16 +9,17 @@ use Rattle.babel_prefix.specs.Address.{AddressPrefix}
 use Rattle.babel_tlv.specs.declared.place.Place.{Place}
 use Rattle.babel_tlv.specs.declared.place.Place.TheVariants as places
 use Rattle.babel_tlv.specs.declared.reason.Reason.{Reason}
-use Rattle.babel_tlv.specs.Framing.{TlvAt, BeginsTlv, tlvs_of}
-use Rattle.babel_tlv.specs.SubTlv.{sub_fault, item_fault, is_source, source_in, source_prefix}
+use Rattle.babel_tlv.specs.Framing.{TlvAt, tlvs_of}
+use Rattle.babel_tlv.specs.Left.{BeginsTlv}
+use Rattle.babel_tlv.specs.SubTlv.{sub_reason, item_reason, is_source, source_in, source_prefix}
 use Rattle.babel_tlv.proofs.Reading.{one, tlvs_of-begins}
-use Rattle.babel_tlv.proofs.SubReading.{FaultSoFar, fault_from, fault_from-begins, item_fault-at, list_any-push, reason_or}
+use Rattle.babel_tlv.proofs.SubReading.{FaultSoFar, fault_from, fault_from-begins, item_reason-at, list_any-push, reason_or}
 
 -- some items were read, none of them at fault; what they and the rest say is what all say
 pub record SubTlvsSoFar (place : Place) (octets rest : List ℕ) (source : Option AddressPrefix) : Type 0 where
   pub before : List TlvAt
   pub at : ℕ
-  pub same : sub_fault place octets ≡ fault_from place before at rest
+  pub same : sub_reason place octets ≡ fault_from place before at rest
   pub sources : is_some source ≡ list_any is_source before
   pub found : (family : Family) → place ≡ places.InUpdate family → source_in family (tlvs_of 0 octets) ≡ option_or source (source_in family (tlvs_of at rest))
   pub of_family : (family : Family) → place ≡ places.InUpdate family → IfSome source (λ p. p.address.family ≡ family)
@@ -32,7 +33,7 @@ SubTlvsSoFar-fault place octets rest source so_far = record { before = so_far.be
 
 -- an item that isn't at fault, and what is known behind it
 step : (place : Place) (octets rest behind : List ℕ) (source new : Option AddressPrefix) (kind : ℕ) (body : List ℕ) (so_far : SubTlvsSoFar place octets rest source) → BeginsTlv rest kind body behind
-    → item_fault place (is_some source) (one 0 kind body) ≡ None
+    → item_reason place (is_some source) (one 0 kind body) ≡ None
     → is_some new ≡ (is_some source || kind == 128)
     → ((family : Family) → place ≡ places.InUpdate family → source_in family (tlvs_of 0 octets) ≡ option_or new (source_in family (tlvs_of (so_far.at + (length rest - length behind)) behind)))
     → ((family : Family) → place ≡ places.InUpdate family → IfSome new (λ p. p.address.family ≡ family))
@@ -40,8 +41,8 @@ step : (place : Place) (octets rest behind : List ℕ) (source new : Option Addr
 step place octets rest behind source new kind body so_far begins fine marked found of_family =
     let item = one so_far.at kind body in
     let later = so_far.at + (length rest - length behind) in
-    let here : item_fault place (list_any is_source so_far.before) item ≡ None =
-    subst (λ (b : Bool). item_fault place b item ≡ None) so_far.sources (item_fault-at place (is_some source) so_far.at kind body ∙ fine) in
+    let here : item_reason place (list_any is_source so_far.before) item ≡ None =
+    subst (λ (b : Bool). item_reason place b item ≡ None) so_far.sources (item_reason-at place (is_some source) so_far.at kind body ∙ fine) in
     record {
       before = so_far.before ++ item ∷ [];
       at = later;
@@ -62,7 +63,7 @@ or_false false = refl
 abbrev either_source : Option AddressPrefix → Option AddressPrefix → Option AddressPrefix
 either_source a b = option_or a b
 
-mandatory_none : (place : Place) (again : Bool) (kind : ℕ) (body : List ℕ) → kind < 128 → item_fault place again (one 0 kind body) ≡ None
+mandatory_none : (place : Place) (again : Bool) (kind : ℕ) (body : List ℕ) → kind < 128 → item_reason place again (one 0 kind body) ≡ None
 mandatory_none (places.InUpdate family) again kind body optional =
     let other : (kind == 128) ≡ false = grind (arith, nat_tests) in
     let low : nat_le 128 kind ≡ false = grind (arith, nat_tests) in
@@ -91,7 +92,7 @@ SubTlvsSoFar-pass place octets rest behind source kind body so_far begins option
 
 -- a Source Prefix that isn't at fault is the one
 pub SubTlvsSoFar-source : (place : Place) (octets rest behind : List ℕ) (source : Option AddressPrefix) (body : List ℕ) (prefix : AddressPrefix) → SubTlvsSoFar place octets rest source → BeginsTlv rest 128 body behind
-    → item_fault place (is_some source) (one 0 128 body) ≡ None → is_some source ≡ false
+    → item_reason place (is_some source) (one 0 128 body) ≡ None → is_some source ≡ false
     → ((family : Family) → place ≡ places.InUpdate family → prefix ≡ source_prefix family body)
     → SubTlvsSoFar place octets behind (Some prefix)
 SubTlvsSoFar-source place octets rest behind (Some earlier) body prefix so_far begins fine first is = absurd (true≢false first)

@@ -5,7 +5,7 @@ use Rattle.std.specs.List.{AllByRecursion}
 use Rattle.std.proofs.lemmas.Bool.{cases_lt}
 use Rattle.std.proofs.lemmas.List.{length-append, drop_at}
 use Rattle.babel_tlv.specs.Pair.{Pair, IsPair}
-use Rattle.babel_tlv.specs.Group.{written_after, group_in, groups_behind, body_of, IsFull, ArePacked, IsText}
+use Rattle.babel_tlv.specs.Group.{written_after, group_in, groups_behind, body_of, IsFull, ArePacked, IsCanonicalText}
 use Rattle.babel_tlv.proofs.TextTold.{packed, length-group}
 
 -- ---- one text
@@ -71,7 +71,7 @@ packed_one body pairs (packet ∷ packets) (first ∷ others) one other =
     ap (λ (p : List Pair). p ∷ packets) heads
     ∙ ap (λ (ps : List (List Pair)). first ∷ ps) (packed_one body one.0 packets others one.5 (subst (λ (r : List Pair). ArePacked body r others) rests other.5))
 
-pub text_one : (body : ℕ) (pairs : List Pair) (octets others : List ℕ) → IsText body pairs octets → IsText body pairs others → octets ≡ others
+pub text_one : (body : ℕ) (pairs : List Pair) (octets others : List ℕ) → IsCanonicalText body pairs octets → IsCanonicalText body pairs others → octets ≡ others
 text_one body pairs octets others one other =
     one.2 ∙ ap packed (packed_one body pairs one.0 other.0 one.1 other.1) ∙ sym other.2
 
@@ -97,7 +97,7 @@ fill body room packet (pair ∷ pairs) some fits all =
           (on.0, subst (λ (ps : List Pair). ArePacked body ps on.0) (append_assoc packet (pair ∷ []) pairs) on.1)
     ]
 
-pub text_exists : (body : ℕ) → 79 ≤ body → (pairs : List Pair) → AllByRecursion IsPair pairs → (octets : List ℕ) × IsText body pairs octets
+pub text_exists : (body : ℕ) → 79 ≤ body → (pairs : List Pair) → AllByRecursion IsPair pairs → (octets : List ℕ) × IsCanonicalText body pairs octets
 text_exists body room [] all = ([], ([], refl, refl))
 text_exists body room (pair ∷ pairs) all =
     let filled = fill body room (pair ∷ []) pairs (λ e. absurd cc) (omega (arith, room, length-alone pair all.0)) all.1 in

@@ -14,9 +14,10 @@ use Rattle.babel_tlv.specs.declared.place.Place.TheVariants as places
 use Rattle.babel_tlv.specs.Route.{RouteKey, Announcement, is_reserved}
 use Rattle.babel_tlv.specs.Framing.{laid_out, tlvs_of}
 use Rattle.babel_tlv.specs.Forming.{encoding, formed, update_seqno, update_metric}
-use Rattle.babel_tlv.specs.SubTlv.{sub_fault, source_of}
-use Rattle.babel_tlv.specs.Context.{Context, updated, default_in, next_hop_in_context}
-use Rattle.babel_tlv.specs.Says.{said, prefix_event, key_event, unless_fault}
+use Rattle.babel_tlv.specs.SubTlv.{sub_reason, source_of}
+use Rattle.babel_tlv.specs.Context.{Context, next_hop_in_context}
+use Rattle.babel_tlv.specs.Updating.{updated, default_in}
+use Rattle.babel_tlv.specs.Says.{said, prefix_event, key_event, unless_ignored}
 use Rattle.babel_tlv.specs.Group.{prefix_octets, source_sub}
 use Rattle.babel_tlv.specs.News.{spoken}
 use Rattle.babel_tlv.proofs.Reading.{one}
@@ -67,10 +68,10 @@ prefix_told : (family : Family) (context : Context) (dst src : AddressPrefix) (a
 prefix_told family context dst src ae omit seqno metric event dst_fits src_fits one_family says =
     let body = update_octets ae dst.len omit seqno metric (drop omit (prefix_octets dst)) (source_sub src) in
     let read = source_told src src_fits in
-    let fine : sub_fault (places.InUpdate family) (source_sub src) ≡ None = subst (λ (f : Family). sub_fault (places.InUpdate f) (source_sub src) ≡ None) one_family read.fine in
+    let fine : sub_reason (places.InUpdate family) (source_sub src) ≡ None = subst (λ (f : Family). sub_reason (places.InUpdate f) (source_sub src) ≡ None) one_family read.fine in
     let given : source_of family (tlvs_of 0 (source_sub src)) ≡ src = subst (λ (f : Family). source_of f (tlvs_of 0 (source_sub src)) ≡ src) one_family read.given in
-    ap (λ (octets : List ℕ). unless_fault (sub_fault (places.InUpdate family) octets) (key_event family context body dst (key_of dst (source_of family (tlvs_of 0 octets))))) (behind_field dst ae omit seqno metric (source_sub src) dst_fits)
-    ∙ ap (λ (fault : Option Reason). unless_fault fault (key_event family context body dst (key_of dst (source_of family (tlvs_of 0 (source_sub src)))))) fine
+    ap (λ (octets : List ℕ). unless_ignored (sub_reason (places.InUpdate family) octets) (key_event family context body dst (key_of dst (source_of family (tlvs_of 0 octets))))) (behind_field dst ae omit seqno metric (source_sub src) dst_fits)
+    ∙ ap (λ (fault : Option Reason). unless_ignored fault (key_event family context body dst (key_of dst (source_of family (tlvs_of 0 (source_sub src)))))) fine
     ∙ ap (λ (p : AddressPrefix). key_event family context body dst (key_of dst p)) given
     ∙ says
 

@@ -6,7 +6,8 @@ use Rattle.babel_tlv.specs.declared.held.Held.{Held}
 use Rattle.babel_tlv.specs.declared.held.Held.TheVariants as helds
 use Rattle.babel_tlv.specs.declared.view.View.{View}
 use Rattle.babel_tlv.specs.Route.{Announcement, IsAnnouncement, is_reserved}
-use Rattle.babel_tlv.specs.Views.{AgreeUnder, seen, seen_announcement, SeenTellsApart, AllIsSeen, SeenTwiceIsSeen, SeenFits, stated_id, no_address}
+use Rattle.babel_tlv.specs.Views.{AgreeUnder, seen, seen_announcement, stated_id, no_address}
+use Rattle.babel_tlv.specs.ViewsTell.{SeenTellsApart, AllIsSeen, SeenTwiceIsSeen, SeenFits}
 
 abbrev held_of : List ℕ → ℕ → ℕ → Address → Held
 held_of router_id seqno metric next_hop =

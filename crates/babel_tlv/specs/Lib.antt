@@ -8,6 +8,7 @@ pub mod Encodings
 pub mod Fields
 pub mod SubTlv
 pub mod Context
+pub mod Updating
 pub mod Kept
 pub mod Says
 pub mod Group
@@ -15,4 +16,5 @@ pub mod Writing
 pub mod News
 pub mod Verdicts
 pub mod Views
+pub mod ViewsTell
 pub mod Reading

@@ -7,7 +7,7 @@ use Rattle.babel_tlv.specs.declared.held.Held.{Held}
 use Rattle.babel_tlv.specs.declared.held.Held.TheVariants as helds
 use Rattle.babel_tlv.specs.declared.event.Event.{Event}
 use Rattle.babel_tlv.specs.declared.event.Event.TheVariants as events
-use Rattle.babel_tlv.specs.Route.{RouteKey, IsRouteKey, IsAnnouncement, announcement_cmp}
+use Rattle.babel_tlv.specs.Route.{RouteKey, AreOfOneFamily, IsAnnouncement, announcement_cmp}
 
 -- a key and what is held for it
 abbrev pub Pair : Type 0
@@ -29,7 +29,7 @@ FitsKey key helds.Unreachable = Unit {0}
 pub record IsPair (pair : Pair) : Type 0 where
   pub dst : IsAddressPrefix pair.0.dst
   pub src : IsAddressPrefix pair.0.src
-  pub one_family : IsRouteKey pair.0
+  pub one_family : AreOfOneFamily pair.0
   pub fits : FitsKey pair.0 pair.1
 
 -- what a TLV announces or retracts is a pair: a key, and a next hop of its family or none

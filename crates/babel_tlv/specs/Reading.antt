@@ -9,7 +9,8 @@ use Rattle.babel_tlv.specs.declared.reason.Reason.{Reason}
 use Rattle.babel_tlv.specs.declared.route.Route.{Route}
 use Rattle.babel_tlv.specs.declared.router_id.RouterId.{RouterId}
 use Rattle.babel_tlv.specs.declared.verdict.Verdict.{Verdict}
-use Rattle.babel_tlv.specs.Context.{Context, default_in}
+use Rattle.babel_tlv.specs.Context.{Context}
+use Rattle.babel_tlv.specs.Updating.{default_in}
 use Rattle.babel_tlv.specs.Forming.{default_octets, field_len, formed, hop_len, next_hop_in, omitted, router_id_in}
 use Rattle.babel_tlv.specs.Framing.{TlvAt}
 use Rattle.babel_tlv.specs.Route.{Announcement}

@@ -1,12 +1,11 @@
 -- What of an announcement (RFC 8966, 4.6.9) counts: views, which are this project's own.
-use Rattle.std.specs.Prelude.{◌≡◌, ◌↔◌, ℕ, true, if◌then◌else◌, List, [], ◌∷◌, Option, Some, None}
+use Rattle.std.specs.Prelude.{◌≡◌, ℕ, true, if◌then◌else◌, List, [], ◌∷◌, Option, Some, None}
 use Rattle.babel_prefix.specs.declared.family.Family.{Family}
 use Rattle.babel_prefix.specs.Address.{Address}
 use Rattle.babel_tlv.specs.declared.held.Held.{Held}
 use Rattle.babel_tlv.specs.declared.held.Held.TheVariants as helds
 use Rattle.babel_tlv.specs.declared.view.View.{View}
-use Rattle.babel_tlv.specs.Route.{RouteKey, Announcement}
-use Rattle.babel_tlv.specs.Pair.{FitsKey}
+use Rattle.babel_tlv.specs.Route.{Announcement}
 
 -- the view that keeps all four fields
 abbrev pub keeps_all : View
@@ -20,18 +19,18 @@ pub record AgreeUnder (view : View) (ann other : Announcement) : Type 0 where
   pub metric : view.metric ≡ true → ann.metric ≡ other.metric
 
 -- two routes whose kept fields are equal, or both unreachable
-abbrev pub HeldTheSame : View → Held → Held → Type 0
-HeldTheSame view (helds.Route ann) (helds.Route other) = AgreeUnder view ann other
-HeldTheSame view (helds.Route ann) helds.Unreachable = ⊥
-HeldTheSame view helds.Unreachable (helds.Route other) = ⊥
-HeldTheSame view helds.Unreachable helds.Unreachable = Unit {0}
+abbrev pub HeldSameUnder : View → Held → Held → Type 0
+HeldSameUnder view (helds.Route ann) (helds.Route other) = AgreeUnder view ann other
+HeldSameUnder view (helds.Route ann) helds.Unreachable = ⊥
+HeldSameUnder view helds.Unreachable (helds.Route other) = ⊥
+HeldSameUnder view helds.Unreachable helds.Unreachable = Unit {0}
 
 -- two answers are the same under a view: both none, both unreachable, or both routes whose kept fields are equal
 abbrev pub SameUnder : View → Option Held → Option Held → Type 0
 SameUnder view None None = Unit {0}
 SameUnder view None (Some other) = ⊥
 SameUnder view (Some held) None = ⊥
-SameUnder view (Some held) (Some other) = HeldTheSame view held other
+SameUnder view (Some held) (Some other) = HeldSameUnder view held other
 
 -- what stands for a next hop that is ignored: 0.0.0.0 or ::
 abbrev pub no_address : Family → Address
@@ -54,26 +53,3 @@ seen_announcement view ann = record {
 abbrev pub seen : View → Held → Held
 seen view (helds.Route ann) = helds.Route (seen_announcement view ann)
 seen view helds.Unreachable = helds.Unreachable
-
--- a route's next hop is of the family
-abbrev pub HopIsOf : Family → Held → Type 0
-HopIsOf family (helds.Route ann) = ann.next_hop.family ≡ family
-HopIsOf family helds.Unreachable = Unit {0}
-
--- with next hops of one family two values are the same under a view exactly where what is seen of them is equal
-abbrev pub SeenTellsApart : Type 0
-SeenTellsApart =
-    (view : View) (family : Family) (held other : Held) → HopIsOf family held → HopIsOf family other
-    → HeldTheSame view held other ↔ (seen view held ≡ seen view other)
-
--- the view that keeps all changes nothing
-abbrev pub AllIsSeen : Type 0
-AllIsSeen = (held : Held) → seen keeps_all held ≡ held
-
--- what is seen is seen so again
-abbrev pub SeenTwiceIsSeen : Type 0
-SeenTwiceIsSeen = (view : View) (held : Held) → seen view (seen view held) ≡ seen view held
-
--- what is seen of what fits a key fits it too
-abbrev pub SeenFits : Type 0
-SeenFits = (view : View) (key : RouteKey) (held : Held) → FitsKey key held → FitsKey key (seen view held)

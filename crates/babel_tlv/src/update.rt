@@ -8,7 +8,7 @@ ghost use Rattle.babel_tlv.specs.Encodings.{IsNamedBy};
 ghost use Rattle.babel_tlv.specs.Fields.{AreUpdateFields};
 ghost use Rattle.babel_tlv.specs.Framing.{tlvs_of};
 ghost use Rattle.babel_tlv.specs.Reading.{HasFault, joined_octets, update_sub_tlvs};
-ghost use Rattle.babel_tlv.specs.SubTlv.{sub_fault, source_of};
+ghost use Rattle.babel_tlv.specs.SubTlv.{sub_reason, source_of};
 ghost use Rattle.babel_tlv.specs.Verdicts.{event_of};
 ghost use Rattle.babel_tlv.specs.declared.place.Place.TheVariants as places;
 ghost use Rattle.babel_tlv.specs.declared.route.Route.{Route};
@@ -111,7 +111,7 @@ impl<'a> Update<'a> {
     pub fn source(&self, family: Family) -> Result<Prefix, Reason>
         requires { 10 + field_len self.now.body.now ≤ length self.now.body.now }
         ensures fault { HasFault
-            (sub_fault (places.InUpdate family) (update_sub_tlvs self.now.body.now)) result }
+            (sub_reason (places.InUpdate family) (update_sub_tlvs self.now.body.now)) result }
         ensures value { IfOk result (λ source. source
             ≡ source_of family (tlvs_of 0 (update_sub_tlvs self.now.body.now))) }
         ensures family { IfOk result (λ source. source.address.family ≡ family) }

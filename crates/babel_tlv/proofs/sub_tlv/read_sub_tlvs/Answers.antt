@@ -1,8 +1,8 @@
 -- Each sub-TLV without a fault goes on what was read; the first with one gives the reason.
 use Rattle.std.proofs.Common.{Some, rules, ◌≡◌, ℕ, subst, arith}
 use Rattle.std.specs.Prelude.{is_some}
-use Rattle.babel_tlv.specs.SubTlv.{sub_fault}
-use Rattle.babel_tlv.specs.Framing.{BeginsTlv}
+use Rattle.babel_tlv.specs.SubTlv.{sub_reason}
+use Rattle.babel_tlv.specs.Left.{BeginsTlv}
 use Rattle.babel_tlv.proofs.SubReading.{FaultSoFar-fault}
 use Rattle.babel_tlv.proofs.SubTlvLaws.{SubTlvsSoFar-start, SubTlvsSoFar-fault, SubTlvsSoFar-pass, SubTlvsSoFar-source}
 use Rattle.babel_tlv.proofs.sub_tlv.read_sub_tlvs.Goals as goal
@@ -13,7 +13,7 @@ loop-rest-init c = SubTlvsSoFar-start c.args.place c.args.octets.now
 pub returns-in_err-source-clause-fault : goal.returns-in_err-source-clause-fault
 returns-in_err-source-clause-fault c =
     let is : BeginsTlv c.loop-rest.rest.now 128 c.in-Some.body.now c.in-Some.behind.now = subst (λ (k : ℕ). BeginsTlv c.loop-rest.rest.now k c.in-Some.body.now c.in-Some.behind.now) c.if-kind.true c.in-Some.ensures in
-    let fault : sub_fault c.args.place c.args.octets.now ≡ Some c.in_err-source.field-0.0 = FaultSoFar-fault c.args.place c.args.octets.now c.loop-rest.rest.now c.in-Some.behind.now (is_some c.loop-rest.source) 128 c.in-Some.body.now _
+    let fault : sub_reason c.args.place c.args.octets.now ≡ Some c.in_err-source.field-0.0 = FaultSoFar-fault c.args.place c.args.octets.now c.loop-rest.rest.now c.in-Some.behind.now (is_some c.loop-rest.source) 128 c.in-Some.body.now _
     (SubTlvsSoFar-fault c.args.place c.args.octets.now c.loop-rest.rest.now c.loop-rest.source c.loop-rest.invariant) is c.in_err-source.ensures.fault in
     search (rules, fault)
 
