@@ -11,7 +11,8 @@ use Rattle.babel_tlv.specs.declared.event.Event.TheVariants as events
 use Rattle.babel_tlv.specs.declared.reason.Reason.{Reason}
 use Rattle.babel_tlv.specs.declared.reason.Reason.TheVariants as reasons
 use Rattle.babel_tlv.specs.Says.{Saying}
-use Rattle.babel_table.specs.Counts.{Counts, all_reasons, is_ignored_for, ignored_in, counts_of, one_more, ignored_with, counted_with}
+use Rattle.babel_table.specs.Counts.{Counts, all_reasons, is_ignored_for, ignored_in, counts_of}
+use Rattle.babel_table.specs.Counting.{one_more, ignored_with, counted_with}
 
 abbrev Count : Type 0
 Count = Option (ℕ × ℕ)

@@ -7,7 +7,8 @@ use Rattle.babel_tlv.specs.declared.held.Held.{Held}
 use Rattle.babel_tlv.specs.declared.mode.Mode.{Mode}
 use Rattle.babel_tlv.specs.Route.{RouteKey}
 use Rattle.babel_tlv.specs.Says.{Saying}
-use Rattle.babel_table.specs.Counts.{Counts, counts_of, counted_with}
+use Rattle.babel_table.specs.Counts.{Counts, counts_of}
+use Rattle.babel_table.specs.Counting.{counted_with}
 use Rattle.babel_table.specs.DumpFault.{AreFine, Refuses, RefusedBy}
 use Rattle.babel_table.specs.Feeding.{StandsBehind, Follows}
 use Rattle.babel_table.specs.Holds.{AreRowsOf, HoldsAtMost, HoldsMoreThan}

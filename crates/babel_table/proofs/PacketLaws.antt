@@ -7,7 +7,7 @@ use Rattle.std.proofs.lemmas.List.Concat.{flat_map-append}
 use Rattle.babel_prefix.specs.Address.{Address}
 use Rattle.babel_tlv.specs.declared.fault.Fault.{Fault}
 use Rattle.babel_tlv.specs.declared.mode.Mode.{Mode}
-use Rattle.babel_tlv.specs.Framing.{TlvAt, ArePlaced, ArePackets, IsBody, BeginsPacket, Parts, framed, body_octets, packet_octets, tlvs_of}
+use Rattle.babel_tlv.specs.Framing.{TlvAt, ArePlaced, ArePackets, IsBody, BeginsPacket, AreTlvs, framed, body_octets, packet_octets, tlvs_of}
 use Rattle.babel_tlv.specs.Says.{Saying, sayings, sayings_behind}
 use Rattle.babel_table.specs.Feeding.{StandsBehind, Takes, Fails, TookPackets}
 use Rattle.babel_table.specs.Rows.{Routes}
@@ -31,7 +31,7 @@ placed-push at (first ∷ packets) tlvs place placed here fits parts =
     (placed.0, placed.1, placed-push (at + length (packet_octets first)) packets tlvs place placed.2 (omega (arith, here, length-append (packet_octets first) (flat_map packet_octets packets))) fits parts)
 
 pub packets-next : (mode : Mode) (entries : ℕ) (sender : Address) (at : ℕ) (octets : List ℕ) (old now next : Routes) (rest body : List ℕ) (place : ℕ) → TookPackets mode entries sender at octets old now rest place
-    → BeginsPacket rest body → Parts (place + 4) body (tlvs_of (place + 4) body) → Takes mode entries (sayings_behind sender [] (tlvs_of (place + 4) body)) now next
+    → BeginsPacket rest body → AreTlvs (place + 4) body (tlvs_of (place + 4) body) → Takes mode entries (sayings_behind sender [] (tlvs_of (place + 4) body)) now next
     → TookPackets mode entries sender at octets old next (drop (4 + length body) rest) (place + (4 + length body))
 packets-next mode entries sender at octets old now next rest body place took (fits, behind, is_rest) parts takes =
     let tlvs : List TlvAt = tlvs_of (place + 4) body in
@@ -69,7 +69,7 @@ body-stops m mode e entries is_m is_e said now fault (inl past) = inl past
 body-stops m mode e entries is_m is_e said now fault (inr (whole, fails)) = inr (whole, fails-at m mode e entries is_m is_e said now fault fails)
 
 pub packets-next_used : (mode : Mode) (entries : ℕ) (sender : Address) (at : ℕ) (octets : List ℕ) (old now next : Routes) (rest body : List ℕ) (place used : ℕ) → used ≡ 4 + length body → TookPackets mode entries sender at octets old now rest place
-    → BeginsPacket rest body → Parts (place + 4) body (tlvs_of (place + 4) body) → Takes mode entries (sayings_behind sender [] (tlvs_of (place + 4) body)) now next
+    → BeginsPacket rest body → AreTlvs (place + 4) body (tlvs_of (place + 4) body) → Takes mode entries (sayings_behind sender [] (tlvs_of (place + 4) body)) now next
     → TookPackets mode entries sender at octets old next (drop used rest) (place + used)
 packets-next_used mode entries sender at octets old now next rest body place used is took begins parts takes =
     subst (λ (n : ℕ). TookPackets mode entries sender at octets old next (drop n rest) (place + n)) (sym is) (packets-next mode entries sender at octets old now next rest body place took begins parts takes)

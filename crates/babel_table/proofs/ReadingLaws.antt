@@ -4,8 +4,8 @@ use Rattle.std.specs.Prelude.{◌⊎◌}
 use Rattle.std.specs.List.{flat_map}
 use Rattle.std.proofs.lemmas.Bool.{lt-ltb}
 use Rattle.std.proofs.lemmas.List.{append-nil, append_cancel_left, length-append, take_at, drop_at}
-use Rattle.babel_tlv.specs.Framing.{TlvAt, ArePlaced, ArePackets, Parts, ReadsAs, Framed, BeginsNoTlv, HasNoTlvAt, BeginsPacket, IsBody, body_len, body_octets, framed, packet_octets, tlv_octets, tlvs_of}
-use Rattle.babel_tlv.proofs.Reading.{tlvs_of-append, tlvs_of-Parts}
+use Rattle.babel_tlv.specs.Framing.{TlvAt, ArePlaced, ArePackets, AreTlvs, ReadsAs, Framed, BeginsNoTlv, HasNoTlvAt, BeginsPacket, IsBody, body_len, body_octets, framed, packet_octets, tlv_octets, tlvs_of}
+use Rattle.babel_tlv.proofs.Reading.{tlvs_of-append, tlvs_of-AreTlvs}
 use Rattle.babel_table.specs.Feeding.{IsPartial}
 
 -- ---- one packet
@@ -65,16 +65,16 @@ stop_one at place other body stops other_stops =
 -- in octets that are TLVs there is no place where none begins
 pub placed-no_stop : (at place : ℕ) (tlvs : List TlvAt) → ArePlaced at tlvs → HasNoTlvAt at (body_octets tlvs) place → ⊥
 placed-no_stop at place tlvs placed stops =
-    let parts : Parts at (body_octets tlvs) tlvs = record { whole = refl; placed = placed } in
-    let read : tlvs ≡ stops.0 = sym (tlvs_of-Parts at (body_octets tlvs) tlvs parts) ∙ stopped-read at place (body_octets tlvs) stops in
+    let parts : AreTlvs at (body_octets tlvs) tlvs = record { whole = refl; placed = placed } in
+    let read : tlvs ≡ stops.0 = sym (tlvs_of-AreTlvs at (body_octets tlvs) tlvs parts) ∙ stopped-read at place (body_octets tlvs) stops in
     let none : stops.1 ≡ [] = sym (append_cancel_left (body_octets tlvs) [] stops.1 (append-nil (body_octets tlvs) ∙ stops.2 ∙ ap (λ (t : List TlvAt). flat_map tlv_octets t ++ stops.1) (sym read))) in
     subst BeginsNoTlv none stops.4
 
 -- TLVs in one place that have the same octets are the same
 pub one_list : (at : ℕ) (tlvs others : List TlvAt) → ArePlaced at tlvs → ArePlaced at others → body_octets tlvs ≡ body_octets others → tlvs ≡ others
 one_list at tlvs others placed others_placed same =
-    sym (tlvs_of-Parts at (body_octets tlvs) tlvs (record { whole = refl; placed = placed }))
-    ∙ tlvs_of-Parts at (body_octets tlvs) others (record { whole = same; placed = others_placed })
+    sym (tlvs_of-AreTlvs at (body_octets tlvs) tlvs (record { whole = refl; placed = placed }))
+    ∙ tlvs_of-AreTlvs at (body_octets tlvs) others (record { whole = same; placed = others_placed })
 
 -- ---- packets
 

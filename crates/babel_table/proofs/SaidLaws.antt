@@ -1,7 +1,7 @@
 -- What was said of each key, whatever the order in which the keys came.
-use Rattle.std.proofs.Common.{◌≡◌, ℕ, zero, suc, ◌+◌, ◌-◌, ◌^◌, ◌<◌, ◌≤◌, Bool, true, false, cond, T, List, [], ◌∷◌, ◌++◌, length, set, get_or, take, Option, Some, None, Ok, Err, MatchOption, refl, sym, ap, subst, ◌∙◌, append_assoc, length-append, arith}
+use Rattle.std.proofs.Common.{◌≡◌, ℕ, zero, suc, ◌+◌, ◌-◌, ◌^◌, ◌<◌, ◌≤◌, Bool, true, false, cond, T, List, [], ◌∷◌, ◌++◌, length, set, get_or, take, Option, Some, None, Ok, Err, MatchOption, inl, inr, refl, sym, ap, subst, ◌∙◌, length-append, arith}
 use mir.Val.{bool_byte}
-use Rattle.std.specs.Prelude.{◌&&◌, ◌||◌, not}
+use Rattle.std.specs.Prelude.{◌&&◌, ◌||◌, not, OnErr, Result}
 use Rattle.std.specs.Cmp.{IsStrictWeakOrder}
 use Rattle.std.specs.declared.cmp.Ordering.{Ordering}
 use Rattle.std.specs.declared.cmp.Ordering.TheVariants.{Less, Equal, Greater}
@@ -14,6 +14,7 @@ use Rattle.std.specs.BTreeMap.{insert_entry, is_at}
 use Rattle.std.specs.FinMap.Entries as finite
 use Rattle.std.proofs.Math.ListN.{get_or-map, get_or-append}
 use Rattle.std.proofs.Math.Seq.{map-set_same, get_or-append_seam}
+use Rattle.std.proofs.lemmas.Bool.{cases_lt}
 use Rattle.std.proofs.lemmas.Cmp.{tied_itself, eq_by_cmp_equiv}
 use Rattle.std.proofs.lemmas.List.{get_or_default, take_all, take-append-le, take-map, length-take-le}
 use Rattle.std.proofs.lemmas.List.Sorted.{IsPermutation-map, IsPermutation-sym, Contains-permutation}
@@ -24,12 +25,11 @@ use Rattle.std.proofs.lemmas.Map.Made.{is_some-lookup}
 use Rattle.std.proofs.lemmas.Map.Views.{Contains-from_lookup, lookup-from_Contains}
 use Rattle.babel_tlv.specs.Route.{RouteKey, key_cmp}
 use Rattle.babel_tlv.proofs.OrderLaws.{key_total, key_exact}
-use Rattle.babel_tlv.specs.declared.held.Held.{Held}
-use Rattle.babel_table.specs.Live.{Kept, current, live_rows}
+use Rattle.babel_table.specs.Live.{Kept}
 use Rattle.babel_table.specs.Rows.{IsRising}
-use Rattle.babel_table.specs.Said.{Words, say, standing, AreDistinct, IsAbsent, IsPlace, AreIndexed, AreCounted, AreAbove}
+use Rattle.babel_table.specs.Said.{Words, say, standing, AreDistinct, IsAbsent, IsPlace, Places, IsListed, IsUnlisted, AreListed, AreIndexed, AreCounted, AreAbove}
 use Rattle.babel_table.proofs.SearchLaws.{searchable, missed, less_not_greater}
-use Rattle.babel_table.proofs.Entries.{is_at-sym, equal_of, lookup-insert, lookup-remove, sorted-insert, sorted-remove, miss_below, below_all, below_insert, below_remove}
+use Rattle.babel_table.proofs.Entries.{is_at-sym, equal_of, lookup-insert, lookup-remove, sorted-insert, sorted-remove, miss_below, below_all}
 
 both : (a b : Bool) → T a → T b → T (a && b)
 both true b x y = y
@@ -42,10 +42,10 @@ abbrev pub AreBelow : {X : Type 0} → RouteKey → List (RouteKey × X) → Typ
 AreBelow k es = AllByRecursion (λ y. key_cmp k y ≡ Less) (keys_of es)
 
 -- the key, as it is found among others
-same_key : (k q : RouteKey) → is_at (key_cmp k) q ≡ true → q ≡ k
+pub same_key : (k q : RouteKey) → is_at (key_cmp k) q ≡ true → q ≡ k
 same_key k q e = key_exact q k (equal_of (key_cmp q k) (is_at-sym key_total q k ∙ e))
 
-at_itself : (k : RouteKey) → is_at (key_cmp k) k ≡ true
+pub at_itself : (k : RouteKey) → is_at (key_cmp k) k ≡ true
 at_itself k = ap is_eq (tied_itself key_total k)
 
 less_of : (r : Ordering) → is_lt r ≡ true → r ≡ Less
@@ -111,7 +111,7 @@ absent_take k zero ks absent = refl
 absent_take k (suc n) [] absent = refl
 absent_take k (suc n) (x ∷ ks) absent = either_false _ _ (absent_head k x ks absent) (absent_take k n ks (absent_tail k x ks absent))
 
-distinct_push : (x : RouteKey) (ks : List RouteKey) → AreDistinct ks → IsAbsent x ks → AreDistinct (ks ++ x ∷ [])
+pub distinct_push : (x : RouteKey) (ks : List RouteKey) → AreDistinct ks → IsAbsent x ks → AreDistinct (ks ++ x ∷ [])
 unfolding IsDistinct
 distinct_push x [] distinct absent = (tt, tt)
 distinct_push x (y ∷ ks) distinct absent = (apart ks distinct.0, distinct_push x ks distinct.1 (absent_tail x y ks absent))
@@ -136,6 +136,9 @@ place-read ws k i x inside same =
       inside = long;
       at_key = λ d. get_or_default (keys_of ws) i d x.0 long ∙ get_or-map key ws i x ∙ key_exact (get_or ws i x).0 k (equal_of (key_cmp (get_or ws i x).0 k) same);
     }
+
+pub place-same : (ws : Words) (k : RouteKey) (i : ℕ) (x : RouteKey × Option Kept) → IsPlace (keys_of ws) k i → is_eq (key_cmp (get_or ws i x).0 k) ≡ true
+place-same ws k i x place = ap is_eq (ap (λ y. key_cmp y k) (key_at k ws i x place) ∙ tied_itself key_total k)
 
 place_push : (k x : RouteKey) (ks : List RouteKey) (i : ℕ) → IsPlace ks k i → IsPlace (ks ++ x ∷ []) k i
 place_push k x ks i place = record {
@@ -190,16 +193,45 @@ absent-searched ws k i rising point = absent_of k ws (none (found k ws) refl)
         let there : Contains ws (k, o) = Contains-from_lookup (λ x y e. key_exact x y (equal_of (key_cmp x y) e)) k o ws is in
         absurd (missed (λ (word : RouteKey × Option Kept). key_cmp word.0 k) ws i (point order) (k, o) there (tied_itself key_total k))
 
-match_found : (k : RouteKey) (ws : Words) (o : Option ℕ) → MatchOption o (IsAbsent k (keys_of ws)) (IsPlace (keys_of ws) k) → MatchOption o (found k ws ≡ None) (IsPlace (keys_of ws) k)
-match_found k ws None absent = none_from_absent k ws absent
-match_found k ws (Some i) place = place
+-- a key that is found has a place
+place_of : (k : RouteKey) (ws : Words) (v : Option Kept) → found k ws ≡ Some v → (i : ℕ) × IsPlace (keys_of ws) k i
+place_of k [] v is = absurd cc
+place_of k (w ∷ ws) v is = by (place_of k ws v) (is_at (key_cmp k) w.0) refl is
+  where
+    by : (found k ws ≡ Some v → (i : ℕ) × IsPlace (keys_of ws) k i) → (b : Bool) → is_at (key_cmp k) w.0 ≡ b → cond b (Some w.1) (found k ws) ≡ Some v → (i : ℕ) × IsPlace (keys_of (w ∷ ws)) k i
+    by again true at is = (0, record { inside = omega arith; at_key = λ d. same_key k w.0 at })
+    by again false at is = let rest = again is in (suc rest.0, record { inside = omega (arith, rest.1.inside); at_key = λ d. rest.1.at_key d })
 
-pub searched-behind : (ws : Words) (k : RouteKey) (rising : ℕ) (places : List (RouteKey × ℕ)) (i : ℕ) → AreIndexed (keys_of ws) rising places → IsBinarySearchResult (λ word. key_cmp word.0 k) (take rising ws) (Err i)
-    → MatchOption (found k places) (found k ws ≡ None) (IsPlace (keys_of ws) k)
-searched-behind ws k rising places i indexed point =
-    let order : IsRising (take rising ws) = subst (λ t. IsStrictlySortedBy key_cmp t) (sym (keys_take rising ws)) indexed.front in
-    let absent : IsAbsent k (take rising (keys_of ws)) = subst (λ t. IsAbsent k t) (keys_take rising ws) (absent-searched (take rising ws) k i order point) in
-    match_found k ws (found k places) (indexed.behind k absent)
+-- a key that is not in front has no place there
+not_in_front : (k : RouteKey) (ks : List RouteKey) (n i : ℕ) → IsAbsent k (take n ks) → IsPlace ks k i → i < n → ⊥
+not_in_front k [] n i absent place lt = omega (arith, place.inside)
+not_in_front k (x ∷ ks) zero i absent place lt = omega (arith, lt)
+not_in_front k (x ∷ ks) (suc n) zero absent place lt =
+    let no : is_at (key_cmp k) k ≡ false = ap (is_at (key_cmp k)) (sym (place.at_key x)) ∙ absent_head k x (take n ks) absent in
+    let yes : is_at (key_cmp k) k ≡ true = at_itself k in
+    absurd cc
+not_in_front k (x ∷ ks) (suc n) (suc i) absent place lt =
+    not_in_front k ks n i (absent_tail k x (take n ks) absent) (record { inside = omega (arith, place.inside); at_key = λ d. place.at_key d }) (omega (arith, lt))
+
+pub searched-behind : (ws : Words) (k : RouteKey) (rising : ℕ) (places : Places) (i : ℕ) (o : Option ℕ) → AreIndexed (keys_of ws) rising places → IsBinarySearchResult (λ word. key_cmp word.0 k) (take rising ws) (Err i)
+    → MatchOption o (IsUnlisted (keys_of ws) places k) (IsPlace (keys_of ws) k) → MatchOption o (found k ws ≡ None) (IsPlace (keys_of ws) k)
+searched-behind ws k rising places i (Some j) indexed point place = place
+searched-behind ws k rising places i None indexed point unlisted = none (found k ws) refl
+  where
+    order : IsRising (take rising ws)
+    order = subst (λ t. IsStrictlySortedBy key_cmp t) (sym (keys_take rising ws)) indexed.front
+
+    absent : IsAbsent k (take rising (keys_of ws))
+    absent = subst (λ t. IsAbsent k t) (keys_take rising ws) (absent-searched (take rising ws) k i order point)
+
+    none : (o : Option (Option Kept)) → found k ws ≡ o → found k ws ≡ None
+    none None is = is
+    none (Some v) is =
+        let at = place_of k ws v is in
+        absurd (elim (cases_lt at.0 rising) [
+          | inl lt ↦ not_in_front k (keys_of ws) rising at.0 absent at.1 lt
+          | inr le ↦ unlisted at.0 at.1 (indexed.behind k at.0 le at.1)
+        ])
 
 -- ---- what is said
 
@@ -217,7 +249,7 @@ found-say q k (Some v) es rising = lookup-insert key_total q k v es
 found-say q k None es rising = lookup-remove key_total q k es rising
 
 -- the word of a key, if it has one
-abbrev word_of : Option (Option Kept) → Option Kept
+abbrev pub word_of : Option (Option Kept) → Option Kept
 word_of (Some o) = o
 word_of None = None
 
@@ -373,7 +405,7 @@ rising-push : (k : RouteKey) (o : Option Kept) (ws : Words) → AreAbove k ws �
 rising-push k o ws above rising = subst (λ t. IsRising t) (sym (pushed k o ws above)) (sorted-insert key_total k o ws rising)
 
 -- numbers of rows that rise: no row is less than the one before, and none is its equal
-rising-sorted : (ws : Words) → IsSortedBy (λ x y. is_lt (key_cmp x.0 y.0)) ws → AreDistinct (keys_of ws) → IsRising ws
+rising-sorted : {X : Type 0} (ws : List (RouteKey × X)) → IsSortedBy (λ x y. is_lt (key_cmp x.0 y.0)) ws → AreDistinct (keys_of ws) → IsRising ws
 unfolding IsStrictlySortedBy IsDistinct
 rising-sorted [] sorted distinct = tt
 rising-sorted (w ∷ []) sorted distinct = (tt, tt)
@@ -411,30 +443,33 @@ one_way Less less = refl
 one_way Equal less = absurd cc
 one_way Greater less = absurd cc
 
-pub words_weak : IsStrictWeakOrder (λ (x y : RouteKey × Option Kept). is_lt (key_cmp x.0 y.0))
+pub words_weak : {X : Type 0} → IsStrictWeakOrder (λ (x y : RouteKey × X). is_lt (key_cmp x.0 y.0))
 words_weak = record {
   one_way = λ x y less. ap is_lt (key_total.antisymm y.0 x.0) ∙ one_way (key_cmp x.0 y.0) less;
   chain = λ x y z a b. chained x.0 y.0 z.0 (key_cmp x.0 y.0) (key_cmp y.0 z.0) refl refl a b;
 }
 
-found-permuted : (vs ws : Words) (q : RouteKey) (o : Option Kept) → IsPermutation ws vs → AreDistinct (keys_of vs) → found q ws ≡ Some o → found q vs ≡ Some o
+found-permuted : {X : Type 0} (vs ws : List (RouteKey × X)) (q : RouteKey) (o : X) → IsPermutation ws vs → AreDistinct (keys_of vs) → found q ws ≡ Some o → found q vs ≡ Some o
 found-permuted vs ws q o permuted distinct is =
     let there : Contains ws (q, o) = Contains-from_lookup (λ x y e. key_exact x y (equal_of (key_cmp x y) e)) q o ws is in
     lookup-from_Contains (eq_by_cmp_equiv key_total) q o vs distinct (Contains-permutation ws vs (q, o) permuted there)
 
-distinct-permuted : (vs ws : Words) → IsPermutation ws vs → AreDistinct (keys_of ws) → AreDistinct (keys_of vs)
-distinct-permuted vs ws permuted distinct =
-    IsDistinct-IsPermutation (eq_by_cmp key_cmp) (λ x y. is_at-sym key_total x y) (keys_of ws) (keys_of vs) (IsPermutation-map (λ (w : RouteKey × Option Kept). w.0) ws vs permuted) distinct
+distinct-permuted : {X : Type 0} (vs ws : List (RouteKey × X)) → IsPermutation ws vs → AreDistinct (keys_of ws) → AreDistinct (keys_of vs)
+distinct-permuted {X} vs ws permuted distinct =
+    IsDistinct-IsPermutation (eq_by_cmp key_cmp) (λ x y. is_at-sym key_total x y) (keys_of ws) (keys_of vs) (IsPermutation-map (λ (w : RouteKey × X). w.0) ws vs permuted) distinct
+
+pub found-same : {X : Type 0} (vs ws : List (RouteKey × X)) (q : RouteKey) → IsPermutation ws vs → AreDistinct (keys_of ws) → found q vs ≡ found q ws
+found-same {X} vs ws q permuted distinct = by (found q ws) refl (found q vs) refl
+  where
+    by : (x : Option X) → found q ws ≡ x → (y : Option X) → found q vs ≡ y → found q vs ≡ found q ws
+    by (Some o) is y same = found-permuted vs ws q o permuted (distinct-permuted vs ws permuted distinct) is ∙ sym is
+    by None is None same = same ∙ sym is
+    by None is (Some o) same = let no = found-permuted ws vs q o (IsPermutation-sym ws vs permuted) distinct same in absurd cc
 
 pub standing-permuted : (vs ws : Words) → IsPermutation ws vs → AreDistinct (keys_of ws) → standing vs ≡ standing ws
-standing-permuted vs ws permuted distinct = same_standing vs ws (λ q. ap word_of (by q (found q ws) refl (found q vs) refl))
-  where
-    by : (q : RouteKey) (x : Option (Option Kept)) → found q ws ≡ x → (y : Option (Option Kept)) → found q vs ≡ y → found q vs ≡ found q ws
-    by q (Some o) is y same = found-permuted vs ws q o permuted (distinct-permuted vs ws permuted distinct) is ∙ sym is
-    by q None is None same = same ∙ sym is
-    by q None is (Some o) same = let no = found-permuted ws vs q o (IsPermutation-sym ws vs permuted) distinct same in absurd cc
+standing-permuted vs ws permuted distinct = same_standing vs ws (λ q. ap word_of (found-same vs ws q permuted distinct))
 
-pub rising-permuted : (vs ws : Words) → IsPermutation ws vs → AreDistinct (keys_of ws) → IsSortedBy (λ x y. is_lt (key_cmp x.0 y.0)) vs → IsRising vs
+pub rising-permuted : {X : Type 0} (vs ws : List (RouteKey × X)) → IsPermutation ws vs → AreDistinct (keys_of ws) → IsSortedBy (λ x y. is_lt (key_cmp x.0 y.0)) vs → IsRising vs
 rising-permuted vs ws permuted distinct sorted = rising-sorted vs sorted (distinct-permuted vs ws permuted distinct)
 
 -- ---- the words of what is not retracted
@@ -469,21 +504,21 @@ standing-filter ws distinct = same_standing (filter is_said ws) ws (λ q. ap wor
 
 -- ---- the index
 
-indexed-nothing : AreIndexed [] 0 []
+indexed-nothing : (places : Places) → AreIndexed [] 0 places
 unfolding IsStrictlySortedBy IsDistinct
-indexed-nothing = record { distinct = tt; inside = omega arith; front = tt; behind = λ key absent. refl }
+indexed-nothing places = record { distinct = tt; inside = omega arith; front = tt; behind = λ key place first at. absurd (omega (arith, at.inside)) }
 
 -- all keys in front
-indexed-rising : (ks : List RouteKey) → AreDistinct ks → IsStrictlySortedBy key_cmp ks → AreIndexed ks (length ks) []
-indexed-rising ks distinct rising = record {
+indexed-rising : (ks : List RouteKey) (places : Places) → AreDistinct ks → IsStrictlySortedBy key_cmp ks → AreIndexed ks (length ks) places
+indexed-rising ks places distinct rising = record {
   distinct = distinct;
   inside = omega arith;
   front = subst (λ t. IsStrictlySortedBy key_cmp t) (sym (take_all (length ks) ks (omega arith))) rising;
-  behind = λ key absent. subst (λ t. IsAbsent key t) (take_all (length ks) ks (omega arith)) absent;
+  behind = λ key place first at. absurd (omega (arith, first, at.inside));
 }
 
 -- one more in front
-indexed-front : (ks : List RouteKey) (places : List (RouteKey × ℕ)) (k : RouteKey) → AreIndexed ks (length ks) places → IsAbsent k ks → IsStrictlySortedBy key_cmp (ks ++ k ∷ []) → AreIndexed (ks ++ k ∷ []) (length ks + 1) places
+indexed-front : (ks : List RouteKey) (places : Places) (k : RouteKey) → AreIndexed ks (length ks) places → IsAbsent k ks → IsStrictlySortedBy key_cmp (ks ++ k ∷ []) → AreIndexed (ks ++ k ∷ []) (length ks + 1) places
 indexed-front ks places k indexed absent rising =
     let more : length (ks ++ k ∷ []) ≡ length ks + 1 = length-append ks (k ∷ []) in
     let all : take (length ks + 1) (ks ++ k ∷ []) ≡ ks ++ k ∷ [] = take_all (length ks + 1) (ks ++ k ∷ []) (omega (arith, more)) in
@@ -491,36 +526,58 @@ indexed-front ks places k indexed absent rising =
       distinct = distinct_push k ks indexed.distinct absent;
       inside = omega (arith, more);
       front = subst (λ t. IsStrictlySortedBy key_cmp t) (sym all) rising;
-      behind = λ key none.
-          let nowhere : IsAbsent key (ks ++ k ∷ []) = subst (λ t. IsAbsent key t) all none in
-          by key nowhere (lookup (is_at (key_cmp key)) places) (indexed.behind key (absent_take key (length ks) ks (absent_before key ks nowhere)));
+      behind = λ key place first at. absurd (omega (arith, first, at.inside, more));
     }
-  where
-    absent_before : (key : RouteKey) (xs : List RouteKey) → IsAbsent key (xs ++ k ∷ []) → IsAbsent key xs
-    absent_before key [] none = refl
-    absent_before key (x ∷ xs) none = either_false _ _ (absent_head key x (xs ++ k ∷ []) none) (absent_before key xs (absent_tail key x (xs ++ k ∷ []) none))
 
-    by : (key : RouteKey) → IsAbsent key (ks ++ k ∷ []) → (o : Option ℕ) → MatchOption o (IsAbsent key ks) (IsPlace ks key) → MatchOption o (IsAbsent key (ks ++ k ∷ [])) (IsPlace (ks ++ k ∷ []) key)
-    by key nowhere None none = nowhere
-    by key nowhere (Some i) place = place_push key k ks i place
+-- a key that has a place is not one that is absent
+pub apart_from_absent : (k q : RouteKey) (ks : List RouteKey) (i : ℕ) → IsAbsent k ks → IsPlace ks q i → is_at (key_cmp k) q ≡ false
+apart_from_absent k q ks i absent place = by (is_at (key_cmp k) q) refl
+  where
+    by : (b : Bool) → is_at (key_cmp k) q ≡ b → is_at (key_cmp k) q ≡ false
+    by false at = at
+    by true at =
+        let same : q ≡ k = same_key k q at in
+        absurd (not_in_front k ks (length ks) i (subst (λ t. IsAbsent k t) (sym (take_all (length ks) ks (omega arith))) absent) (subst (λ y. IsPlace ks y i) same place) place.inside)
+
+-- a place among one key more
+place_before : (k x : RouteKey) (ks : List RouteKey) (i : ℕ) → i < length ks → IsPlace (ks ++ x ∷ []) k i → IsPlace ks k i
+place_before k x ks i lt place = record { inside = lt; at_key = λ d. sym (get_or-append ks (x ∷ []) d i lt) ∙ place.at_key d }
 
 -- one more behind
-indexed-behind : (ks : List RouteKey) (rising : ℕ) (places : List (RouteKey × ℕ)) (k : RouteKey) → AreIndexed ks rising places → IsAbsent k ks → AreIndexed (ks ++ k ∷ []) rising (insert_entry key_cmp places k (length ks))
-indexed-behind ks rising places k indexed absent =
+pub indexed-behind : (ws : Words) (rising : ℕ) (old new : Places) (k : RouteKey) (v : Kept) → AreIndexed (keys_of ws) rising old → found k ws ≡ None → IsListed new k (length ws)
+    → ((other : RouteKey) (at : ℕ) → is_at (key_cmp k) other ≡ false → IsListed old other at → IsListed new other at)
+    → AreIndexed (keys_of (ws ++ (k, Some v) ∷ [])) rising new
+indexed-behind ws rising old new k v indexed none one others =
+    let ks : List RouteKey = keys_of ws in
+    let absent : IsAbsent k ks = absent_of k ws none in
+    let len : length ks ≡ length ws = length-keys_of ws in
+    let more : length (ks ++ k ∷ []) ≡ length ks + 1 = length-append ks (k ∷ []) in
     let same : take rising (ks ++ k ∷ []) ≡ take rising ks = take-append-le rising ks (k ∷ []) indexed.inside in
-    record {
+    subst (λ t. AreIndexed t rising new) (sym (keys-push k (Some v) ws)) (record {
       distinct = distinct_push k ks indexed.distinct absent;
-      inside = omega (arith, indexed.inside, length-append ks (k ∷ []));
+      inside = omega (arith, indexed.inside, more);
       front = subst (λ t. IsStrictlySortedBy key_cmp t) (sym same) indexed.front;
-      behind = λ key none. rw (lookup-insert key_total key k (length ks) places)
-          (by key (is_at (key_cmp k) key) refl (lookup (is_at (key_cmp key)) places) (indexed.behind key (subst (λ t. IsAbsent key t) same none)));
-    }
-  where
-    by : (key : RouteKey) (b : Bool) → is_at (key_cmp k) key ≡ b → (o : Option ℕ) → MatchOption o (IsAbsent key ks) (IsPlace ks key)
-        → MatchOption (cond b (Some (length ks)) o) (IsAbsent key (ks ++ k ∷ [])) (IsPlace (ks ++ k ∷ []) key)
-    by key true at o found = rw (same_key k key at) (place_last k ks)
-    by key false at None none = absent_push key k ks none (is_at-sym key_total key k ∙ at)
-    by key false at (Some i) place = place_push key k ks i place
+      behind = λ key place first at. elim (cases_lt place (length ks)) [
+        | inl lt ↦
+            let here : IsPlace ks key place = place_before key k ks place lt at in
+            others key place (apart_from_absent k key ks place absent here) (indexed.behind key place first here)
+        | inr le ↦
+            let is : place ≡ length ws = omega (arith, le, at.inside, more, len) in
+            let key_is : key ≡ k = sym (at.at_key k) ∙ ap (λ n. get_or (ks ++ k ∷ []) n k) (is ∙ sym len) ∙ get_or-append_seam ks k [] k in
+            subst (λ q. IsListed new q place) (sym key_is) (subst (λ n. IsListed new k n) (sym is) one)
+      ];
+    })
+
+pub listed_besides : (ws : Words) (rising : ℕ) (old new : Places) (k : RouteKey) → found k ws ≡ None → AreListed (keys_of ws) rising old
+    → ((other : RouteKey) (at : ℕ) → is_at (key_cmp k) other ≡ false → IsListed old other at → IsListed new other at) → AreListed (keys_of ws) rising new
+listed_besides ws rising old new k none all others key place first at = others key place (apart_from_absent k key (keys_of ws) place (absent_of k ws none) at) (all key place first at)
+
+pub on_err : {T E : Type 0} (r : Result T E) (P : Type 0) → P → OnErr r P
+on_err (Ok x) P p = tt
+on_err (Err e) P p = p
+
+pub still_indexed : (ks : List RouteKey) (rising : ℕ) (old new : Places) → AreIndexed ks rising old → AreListed ks rising new → AreIndexed ks rising new
+still_indexed ks rising old new indexed all = record { distinct = indexed.distinct; inside = indexed.inside; front = indexed.front; behind = all }
 
 -- ---- the count
 
@@ -540,7 +597,7 @@ at_most_one : (b : Bool) → cond b 0 1 < 2
 at_most_one true = omega arith
 at_most_one false = omega arith
 
-module _ (n : ℕ) (ws : Words) (rising : ℕ) (places : List (RouteKey × ℕ)) (all : AreCounted n ws rising places) (k : RouteKey) where
+module _ (n : ℕ) (ws : Words) (rising : ℕ) (places : Places) (all : AreCounted n ws rising places) (k : RouteKey) where
   said-count : (v : Kept) (m : ℕ) → m ≡ cond (is_some (found k (standing ws))) 0 1 → n + m ≡ length (say k (Some v) (standing ws))
   said-count v m one = let len = length-said k v (standing ws) (sorted-standing ws) in omega (arith, len, one, all.count)
 
@@ -599,16 +656,15 @@ module _ (n : ℕ) (ws : Words) (rising : ℕ) (places : List (RouteKey × ℕ))
     pub standing-pushed : (v : Kept) → standing (ws ++ (k, Some v) ∷ []) ≡ insert_entry key_cmp (standing ws) k v
     standing-pushed v = standing-one (ws ++ (k, Some v) ∷ []) ws k (Some v) (λ q. found-push k q (Some v) ws none)
 
-    counted-more : (v : Kept) (front : ℕ) (index : List (RouteKey × ℕ)) → n + 1 < 2 ^ 63 → AreIndexed (keys_of ws ++ k ∷ []) front index → AreCounted (n + 1) (ws ++ (k, Some v) ∷ []) front index
+    counted-more : (v : Kept) (front : ℕ) (index : Places) → n + 1 < 2 ^ 63 → AreIndexed (keys_of (ws ++ (k, Some v) ∷ [])) front index → AreCounted (n + 1) (ws ++ (k, Some v) ∷ []) front index
     counted-more v front index few indexed = record {
-      indexed = subst (λ ks. AreIndexed ks front index) (sym (keys-push k (Some v) ws)) indexed;
+      indexed = indexed;
       count = said-count v 1 (sym (ap (λ (t : Option Kept). cond (is_some t) 0 1) stands-nowhere)) ∙ sym (ap (λ (t : List (RouteKey × Kept)). length t) (standing-pushed v));
       small = few;
     }
 
-    pub counted-behind : (v : Kept) → n + 1 < 2 ^ 63 → AreCounted (n + 1) (ws ++ (k, Some v) ∷ []) rising (insert_entry key_cmp places k (length ws))
-    counted-behind v few = counted-more v rising _ few
-        (subst (λ m. AreIndexed (keys_of ws ++ k ∷ []) rising (insert_entry key_cmp places k m)) (length-keys_of ws) (indexed-behind (keys_of ws) rising places k all.indexed (absent_of k ws none)))
+    pub counted-behind : (v : Kept) (index : Places) → n + 1 < 2 ^ 63 → AreIndexed (keys_of (ws ++ (k, Some v) ∷ [])) rising index → AreCounted (n + 1) (ws ++ (k, Some v) ∷ []) rising index
+    counted-behind v index few indexed = counted-more v rising index few indexed
 
     pub counted-front : (v : Kept) (m : ℕ) → m ≡ length (ws ++ (k, Some v) ∷ []) → n + 1 < 2 ^ 63 → rising ≡ length ws → AreAbove k ws → AreCounted (n + 1) (ws ++ (k, Some v) ∷ []) m places
     counted-front v m long few full above =
@@ -616,15 +672,19 @@ module _ (n : ℕ) (ws : Words) (rising : ℕ) (places : List (RouteKey × ℕ))
         let order : IsRising ws = subst (λ t. IsStrictlySortedBy key_cmp t) (take_all (length (keys_of ws)) (keys_of ws) (omega arith)) whole.front in
         let longer : IsStrictlySortedBy key_cmp (keys_of ws ++ k ∷ []) = subst (λ t. IsStrictlySortedBy key_cmp t) (keys-push k (Some v) ws) (rising-push k (Some v) ws above order) in
         let more : length (keys_of ws) + 1 ≡ m = omega (arith, long, length-keys_of ws, length-append ws ((k, Some v) ∷ [])) in
-        counted-more v m places few (subst (λ t. AreIndexed (keys_of ws ++ k ∷ []) t places) more (indexed-front (keys_of ws) places k whole (absent_of k ws none) longer))
+        counted-more v m places few (subst (λ t. AreIndexed t m places) (sym (keys-push k (Some v) ws)) (subst (λ t. AreIndexed (keys_of ws ++ k ∷ []) t places) more (indexed-front (keys_of ws) places k whole (absent_of k ws none) longer)))
 
-pub counted-nothing : AreCounted 0 [] 0 []
-counted-nothing = record { indexed = indexed-nothing; count = refl; small = omega arith }
+pub counted-nothing : (places : Places) → AreCounted 0 [] 0 places
+counted-nothing places = record { indexed = indexed-nothing places; count = refl; small = omega arith }
+
+-- the same rows with other places
+pub counted_again : (n : ℕ) (ws : Words) (rising : ℕ) (old new : Places) → AreCounted n ws rising old → AreIndexed (keys_of ws) rising new → AreCounted n ws rising new
+counted_again n ws rising old new all indexed = record { indexed = indexed; count = all.count; small = all.small }
 
 -- the rows that are not retracted, in order
-pub counted-sorted : (n : ℕ) (ws vs : Words) (rising : ℕ) (places : List (RouteKey × ℕ)) → AreCounted n ws rising places → IsRising vs → standing vs ≡ standing (filter is_said ws) → AreCounted n vs (length vs) []
-counted-sorted n ws vs rising places all order same = record {
-  indexed = subst (λ m. AreIndexed (keys_of vs) m []) (length-keys_of vs) (indexed-rising (keys_of vs) (IsDistinct-from_sorted key_cmp (keys_of vs) order) order);
+pub counted-sorted : (n : ℕ) (ws vs : Words) (rising : ℕ) (places after : Places) → AreCounted n ws rising places → IsRising vs → standing vs ≡ standing (filter is_said ws) → AreCounted n vs (length vs) after
+counted-sorted n ws vs rising places after all order same = record {
+  indexed = subst (λ m. AreIndexed (keys_of vs) m after) (length-keys_of vs) (indexed-rising (keys_of vs) after (IsDistinct-from_sorted key_cmp (keys_of vs) order) order);
   count = all.count ∙ ap (λ (t : List (RouteKey × Kept)). length t) (sym (same ∙ standing-filter ws all.indexed.distinct));
   small = all.small;
 }
@@ -642,7 +702,7 @@ pub byte_small : (b : Bool) (m : ℕ) → m ≡ bool_byte b → m < 2
 byte_small true m is = omega (arith, is)
 byte_small false m is = omega (arith, is)
 
-pub one_more : (n : ℕ) (ws : Words) (rising : ℕ) (places : List (RouteKey × ℕ)) (old : List (RouteKey × Kept)) → AreCounted n ws rising places → standing ws ≡ old → length old < 2 ^ 62 → n + 1 < 2 ^ 63
+pub one_more : (n : ℕ) (ws : Words) (rising : ℕ) (places : Places) (old : List (RouteKey × Kept)) → AreCounted n ws rising places → standing ws ≡ old → length old < 2 ^ 62 → n + 1 < 2 ^ 63
 one_more n ws rising places old all is few =
     let len : n ≡ length old = all.count ∙ ap (λ (t : List (RouteKey × Kept)). length t) is in
     omega (arith, len, few)
@@ -650,48 +710,7 @@ one_more n ws rising places old all is few =
 pub said-length : (k : RouteKey) (v : Kept) (ws : Words) (old new : List (RouteKey × Kept)) → standing ws ≡ old → new ≡ insert_entry key_cmp old k v → length new ≡ length old + cond (is_some (found k old)) 0 1
 said-length k v ws old new view is = ap (λ (t : List (RouteKey × Kept)). length t) is ∙ length-said k v old (subst (λ t. IsRising t) view (sorted-standing ws))
 
--- ---- in order
-
-below-standing : (k : RouteKey) (ws : Words) → AreBelow k ws → AreBelow k (standing ws)
-below-standing k [] below = tt
-below-standing k (w ∷ ws) below = by w.1 (below-standing k ws below.1)
-  where
-    by : (o : Option Kept) → AreBelow k (standing ws) → AreBelow k (say w.0 o (standing ws))
-    by (Some v) again = below_insert key_total k w.0 v (standing ws) below.0 again
-    by None again = below_remove key_total k (is_at (key_cmp w.0)) (standing ws) again
-
-first-word : (k : RouteKey) (v : Kept) (es : List (RouteKey × Kept)) → AreBelow k es → insert_entry key_cmp es k v ≡ (k, v) ∷ es
-first-word k v [] below = refl
-first-word k v (e ∷ es) below = rw below.0 refl
-
-first-retracted : (k : RouteKey) (es : List (RouteKey × Kept)) → AreBelow k es → remove_entry (is_at (key_cmp k)) es ≡ es
-first-retracted k [] below = refl
-first-retracted k (e ∷ es) below = rw below.0 (ap (λ (t : List (RouteKey × Kept)). e ∷ t) (first-retracted k es below.1))
-
--- the rows that are listed so far, and those to come
-pub record IsListing (wipes : ℕ) (rows : List (RouteKey × Held)) (ws : Words) (whole : List (RouteKey × Kept)) : Type 0 where
-  pub rising : IsRising ws
-  pub listed : rows ++ live_rows wipes (standing ws) ≡ live_rows wipes whole
-
-pub lists-said : (wipes : ℕ) (rows : List (RouteKey × Held)) (w : RouteKey × Option Kept) (ws : Words) (whole : List (RouteKey × Kept)) (v : Kept) → IsListing wipes rows (w ∷ ws) whole
-    → w.1 ≡ Some v → IsListing wipes (rows ++ (w.0, current wipes v) ∷ []) ws whole
-unfolding IsStrictlySortedBy
-lists-said wipes rows w ws whole v listing is =
-    let first : standing (w ∷ ws) ≡ (w.0, v) ∷ standing ws = ap (λ o. say w.0 o (standing ws)) is ∙ first-word w.0 v (standing ws) (below-standing w.0 ws listing.rising.0) in
-    record {
-      rising = listing.rising.1;
-      listed = append_assoc rows ((w.0, current wipes v) ∷ []) (live_rows wipes (standing ws)) ∙ sym (ap (λ t. rows ++ live_rows wipes t) first) ∙ listing.listed;
-    }
-
-pub lists-retracted : (wipes : ℕ) (rows : List (RouteKey × Held)) (w : RouteKey × Option Kept) (ws : Words) (whole : List (RouteKey × Kept)) → IsListing wipes rows (w ∷ ws) whole
-    → w.1 ≡ None → IsListing wipes rows ws whole
-unfolding IsStrictlySortedBy
-lists-retracted wipes rows w ws whole listing is =
-    let first : standing (w ∷ ws) ≡ standing ws = ap (λ o. say w.0 o (standing ws)) is ∙ first-retracted w.0 (standing ws) (below-standing w.0 ws listing.rising.0) in
-    record {
-      rising = listing.rising.1;
-      listed = sym (ap (λ t. rows ++ live_rows wipes t) first) ∙ listing.listed;
-    }
+-- ---- the end of a list
 
 pub no_more : {X : Type 0} (xs : List X) → length xs ≡ 0 → xs ≡ []
 no_more [] none = refl

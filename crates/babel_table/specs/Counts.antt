@@ -1,6 +1,6 @@
 -- What a report says of the TLVs of a dump (RFC 8966, 4.3). It is this project's own: it counts what RFC 8966, 4.4 to 4.6, and
 -- RFC 9079, 5 have a reader ignore.
-use Rattle.std.specs.Prelude.{ℕ, ◌+◌, Bool, false, ◌==◌, List, [], ◌∷◌, length, map, slice_set, Option, None, Some, Result, Ok, Err, slice_get, count_by}
+use Rattle.std.specs.Prelude.{ℕ, Bool, false, ◌==◌, List, [], ◌∷◌, length, map, Option, Result, Ok, slice_get, count_by}
 use Rattle.std.specs.List.{find}
 use Rattle.std.specs.Option.{option_map, option_flatten}
 use Rattle.babel_tlv.specs.declared.reason.Reason.{Reason}
@@ -47,12 +47,8 @@ count_at counts place = option_flatten (slice_get counts place)
 
 -- the TLV was ignored for this reason
 abbrev pub is_ignored_for : Reason → Result Event Fault → Bool
-is_ignored_for reason (Ok (events.Announce key ann)) = false
-is_ignored_for reason (Ok (events.Retract key)) = false
-is_ignored_for reason (Ok events.RetractAll) = false
-is_ignored_for reason (Ok events.Nothing) = false
 is_ignored_for reason (Ok (events.Ignored other)) = reason_place other == reason_place reason
-is_ignored_for reason (Err fault) = false
+is_ignored_for reason what = false
 
 -- how many TLVs were ignored for the reason, and where the first lies
 abbrev pub ignored_in : List Saying → Reason → Option (ℕ × ℕ)
@@ -62,19 +58,3 @@ ignored_in sayings reason =
 
 abbrev pub counts_of : List Saying → Counts
 counts_of sayings = record { tlvs = length sayings; ignored = map (ignored_in sayings) all_reasons }
-
--- one more ignored TLV at this offset
-abbrev pub one_more : ℕ → Option (ℕ × ℕ) → Option (ℕ × ℕ)
-one_more at None = Some (1, at)
-one_more at (Some counted) = Some (counted.0 + 1, counted.1)
-
--- the counts of TLVs, and of one more that says this at this offset
-abbrev pub ignored_with : List (Option (ℕ × ℕ)) → Event → ℕ → List (Option (ℕ × ℕ))
-ignored_with ignored (events.Announce key ann) at = ignored
-ignored_with ignored (events.Retract key) at = ignored
-ignored_with ignored events.RetractAll at = ignored
-ignored_with ignored events.Nothing at = ignored
-ignored_with ignored (events.Ignored reason) at = slice_set ignored (reason_place reason) (one_more at (count_at ignored (reason_place reason)))
-
-abbrev pub counted_with : Counts → Event → ℕ → Counts
-counted_with counts event at = record { tlvs = counts.tlvs + 1; ignored = ignored_with counts.ignored event at }

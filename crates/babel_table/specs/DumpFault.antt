@@ -42,14 +42,7 @@ StreamFault mode entries sender octets fault =
 
 abbrev pub IsTruncated : Fault → Type 0
 IsTruncated (faults.Truncated at) = Unit {0}
-IsTruncated (faults.BadMagic at) = ⊥
-IsTruncated (faults.BadVersion at) = ⊥
-IsTruncated (faults.TlvPastEnd at) = ⊥
-IsTruncated (faults.EncodingSetsRouterId at) = ⊥
-IsTruncated (faults.TooManyRoutes at) = ⊥
-IsTruncated faults.TooLong = ⊥
-IsTruncated faults.TooManyPairs = ⊥
-IsTruncated faults.Memory = ⊥
+IsTruncated fault = ⊥
 
 -- The fault of a dump. Octets past the limit are never looked at: if there are any, it is that of the octets up to the
 -- limit unless these have none or are only truncated, and then TooLong.

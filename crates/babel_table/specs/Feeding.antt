@@ -10,7 +10,7 @@ use Rattle.babel_tlv.specs.declared.fault.Fault.TheVariants as faults
 use Rattle.babel_tlv.specs.declared.held.Held.{Held}
 use Rattle.babel_tlv.specs.declared.mode.Mode.{Mode}
 use Rattle.babel_tlv.specs.declared.mode.Mode.TheVariants as modes
-use Rattle.babel_tlv.specs.Framing.{TlvAt, ReadsAs, LacksBody, packet_octets, ArePackets, HeaderFault, BeginsPacket, TlvPastEndAt, Parts, tlvs_of}
+use Rattle.babel_tlv.specs.Framing.{TlvAt, ReadsAs, LacksBody, packet_octets, ArePackets, HeaderFault, BeginsPacket, TlvPastEndAt, AreTlvs, tlvs_of}
 use Rattle.babel_tlv.specs.Route.{RouteKey}
 use Rattle.babel_tlv.specs.Says.{Saying, sayings, sayings_behind}
 use Rattle.babel_tlv.specs.Context.{Context, context_after}
@@ -112,7 +112,7 @@ abbrev pub StopsAt : Mode → ℕ → Address → Routes → List ℕ → ℕ �
 StopsAt mode entries sender now rest place fault =
     HeaderFault place rest fault
     ⊎ ((body : List ℕ) × BeginsPacket rest body × (TlvPastEndAt (place + 4) body fault
-    ⊎ (Parts (place + 4) body (tlvs_of (place + 4) body) × Fails mode entries (sayings_behind sender [] (tlvs_of (place + 4) body)) now fault)))
+    ⊎ (AreTlvs (place + 4) body (tlvs_of (place + 4) body) × Fails mode entries (sayings_behind sender [] (tlvs_of (place + 4) body)) now fault)))
 
 -- some packets are taken, and then comes the fault
 pub record StopsBehind (mode : Mode) (entries : ℕ) (sender : Address) (at : ℕ) (octets : List ℕ) (old : Routes) (fault : Fault) : Type 0 where

@@ -1,5 +1,6 @@
 pub mod Bounds
 pub mod Counts
+pub mod Counting
 pub mod Holds
 pub mod Rows
 pub mod Live

@@ -1,6 +1,6 @@
 -- How rows of a family are kept: what was last said of each key, in the order in which the keys came, and where each is found. This
 -- project's own.
-use Rattle.std.specs.Prelude.{◌≡◌, ℕ, ◌<◌, ◌≤◌, ◌^◌, false, Option, Some, None, MatchOption, List, [], ◌∷◌, length, take}
+use Rattle.std.specs.Prelude.{◌≡◌, ℕ, ◌<◌, ◌≤◌, ◌+◌, ◌-◌, ◌*◌, ◌/◌, ◌%◌, ◌^◌, ◌⊎◌, false, Option, Some, None, List, [], ◌∷◌, length, take}
 use Rattle.std.specs.List.{AllByRecursion, HoldsAt, IsDistinct, list_any}
 use Rattle.std.specs.List.Sorted.{IsStrictlySortedBy}
 use Rattle.std.specs.Ordering.{eq_by_cmp}
@@ -35,15 +35,69 @@ pub record IsPlace (keys : List RouteKey) (key : RouteKey) (place : ℕ) : Type 
   pub inside : place < length keys
   pub at_key : HoldsAt (λ other. other ≡ key) keys place
 
--- each key has one place: among those in front, which rise, or else as it is written down
-pub record AreIndexed (keys : List RouteKey) (rising : ℕ) (places : List (RouteKey × ℕ)) : Type 0 where
+-- ---- where keys are found that do not rise
+
+-- slots, each with a tag and a place, and the places of keys that found no slot
+pub record Places : Type 0 where
+  pub slots : List (ℕ × ℕ)
+  pub overflow : List (RouteKey × ℕ)
+
+-- 64 bits, with more mixed in
+unfoldable pub mixed : ℕ → ℕ → ℕ
+mixed bits more = ((bits * 11400714819323198485) % 2 ^ 64 + more) % 2 ^ 64
+
+-- the bits of an address, in 64 of them
+unfoldable pub folded : ℕ → ℕ
+folded bits = mixed (bits / 2 ^ 64) (bits % 2 ^ 64)
+
+-- 32 bits that each bit of a key may change
+unfoldable pub tag_of : RouteKey → ℕ
+tag_of key =
+    mixed (mixed (mixed (folded key.dst.address.bits) (folded key.src.address.bits)) (key.dst.len * 256 + key.src.len)) 0 / 2 ^ 32
+
+-- the slot at which a search for the key begins
+abbrev pub start_of : Places → RouteKey → ℕ
+start_of places key = tag_of key % (length places.slots - 8)
+
+-- the slot has a place
+abbrev pub IsTaken : List (ℕ × ℕ) → ℕ → Type 0
+IsTaken slots at = HoldsAt (λ slot. slot.1 < 4294967295) slots at
+
+-- so many slots from there on have places
+abbrev pub AreTaken : List (ℕ × ℕ) → ℕ → ℕ → Type 0
+AreTaken slots start count = (before : ℕ) → before < count → IsTaken slots (start + before)
+
+-- the first slot from there on that has no place
+abbrev pub IsFree : List (ℕ × ℕ) → ℕ → ℕ → Type 0
+IsFree slots start step = (step < 8) × AreTaken slots start step × HoldsAt (λ slot. slot.1 ≡ 4294967295) slots (start + step)
+
+-- a search for the key comes to the place: so far behind the start, or where all slots in reach are taken
+pub record IsListed (places : Places) (key : RouteKey) (place : ℕ) : Type 0 where
+  pub room : 8 < length places.slots
+  pub small : place < 4294967295
+  pub far : ℕ
+  pub near : far ≤ 8
+  pub passed : AreTaken places.slots (start_of places key) far
+  pub here : ((far < 8) × HoldsAt (λ slot. slot ≡ (tag_of key, place)) places.slots (start_of places key + far))
+      ⊎ ((far ≡ 8) × (lookup (is_at (key_cmp key)) places.overflow ≡ Some place))
+
+-- no place of the key is listed
+abbrev pub IsUnlisted : List RouteKey → Places → RouteKey → Type 0
+IsUnlisted keys places key = (place : ℕ) → IsPlace keys key place → IsListed places key place → ⊥
+
+-- the places of the keys are listed, from the first on
+abbrev pub AreListed : List RouteKey → ℕ → Places → Type 0
+AreListed keys first places = (key : RouteKey) (place : ℕ) → first ≤ place → IsPlace keys key place → IsListed places key place
+
+-- each key has one place: among those in front, which rise, or else as it is listed
+pub record AreIndexed (keys : List RouteKey) (rising : ℕ) (places : Places) : Type 0 where
   pub distinct : AreDistinct keys
   pub inside : rising ≤ length keys
   pub front : IsStrictlySortedBy key_cmp (take rising keys)
-  pub behind : (key : RouteKey) → IsAbsent key (take rising keys) → MatchOption (lookup (is_at (key_cmp key)) places) (IsAbsent key keys) (IsPlace keys key)
+  pub behind : AreListed keys rising places
 
 -- how many keys have something, and few enough to count
-pub record AreCounted (n : ℕ) (words : Words) (rising : ℕ) (places : List (RouteKey × ℕ)) : Type 0 where
+pub record AreCounted (n : ℕ) (words : Words) (rising : ℕ) (places : Places) : Type 0 where
   pub indexed : AreIndexed (keys_of words) rising places
   pub count : n ≡ length (standing words)
   pub small : n < 2 ^ 63

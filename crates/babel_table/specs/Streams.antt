@@ -3,7 +3,7 @@ use Rattle.std.specs.Prelude.{◌≡◌, ℕ, List, [], ◌∷◌, ◌⊎◌}
 use Rattle.babel_prefix.specs.Address.{Address}
 use Rattle.babel_tlv.specs.declared.fault.Fault.{Fault}
 use Rattle.babel_tlv.specs.Context.{Context}
-use Rattle.babel_tlv.specs.Framing.{TlvAt, Parts, TlvPastEndAt, tlvs_of}
+use Rattle.babel_tlv.specs.Framing.{TlvAt, AreTlvs, TlvPastEndAt, tlvs_of}
 use Rattle.babel_tlv.specs.Says.{Saying, sayings_behind}
 use Rattle.babel_table.specs.declared.so_far.SoFar.{SoFar}
 use Rattle.babel_table.specs.declared.stream.Stream.{Stream}
@@ -38,7 +38,7 @@ FailsAtTlv old before tlv fault =
 abbrev pub FailsInBody : SoFar → Address → ℕ → List ℕ → Fault → Type 0
 FailsInBody old sender at body fault =
     TlvPastEndAt at body fault
-    ⊎ (Parts at body (tlvs_of at body)
+    ⊎ (AreTlvs at body (tlvs_of at body)
     × Fails old.rows.mode old.rows.entries (sayings_behind sender [] (tlvs_of at body)) (table_of old) fault)
 
 -- it takes the packets that the octets at this offset begin with, and the rest begins at this place

@@ -2,6 +2,7 @@ ghost use Rattle.std.specs.Prelude.{◌≡◌};
 ghost use Rattle.std.specs.Cmp.Rules.{comparing};
 ghost use Rattle.std.proofs.Common.{rules};
 ghost use Rattle.babel_tlv.specs.Route.{IsKey};
+ghost use Rattle.babel_table.specs.Said as said;
 
 use crate::compact_prefix::CompactPrefix;
 use crate::word::Word;
@@ -146,4 +147,19 @@ impl<W: Word> CompactKey<W> {
         let src = self.src().prefix();
         Key::new(dst, src).unwrap()
     }
+    /// 32 bits, each of which any bit of the key may change.
+    pub fn tag(&self) -> u32
+        ensures { result ≡ said.tag_of self.now }
+    {
+        let lens = u64::from(self.dst_len) * 256 + u64::from(self.src_len);
+        let bits = mixed(mixed(self.dst.fold(), self.src.fold()), lens);
+        (mixed(bits, 0) >> 32) as u32
+    }
+}
+
+/// 64 bits, with more mixed in.
+pub(crate) fn mixed(bits: u64, more: u64) -> u64
+    ensures { result ≡ said.mixed bits more }
+{
+    bits.wrapping_mul(0x9e37_79b9_7f4a_7c15).wrapping_add(more)
 }

@@ -1,34 +1,38 @@
-ghost use Rattle.std.specs.Prelude.{◌≡◌, ◌<◌, ◌+◌, ◌^◌, ◌∷◌, ◌++◌, if◌then◌else◌, [], IfOk, OnOk, OnErr, MatchOption, length, is_some, IsTrue, None};
-ghost use Rattle.std.specs.List.Sorted.{IsStrictlySortedBy};
+ghost use Rattle.std.specs.Prelude.{◌≡◌, ◌<◌, ◌+◌, ◌^◌, ◌∷◌, ◌++◌, ◌↔◌, if◌then◌else◌, [], IfOk, OnOk, OnErr, MatchOption, length, is_some, IsTrue, None};
+ghost use Rattle.std.specs.List.Sorted.{IsPermutation, IsStrictlySortedBy};
 ghost use Rattle.std.specs.BTreeMap.{insert_entry, is_at};
 ghost use Rattle.std.specs.Map.{keys_of, lookup, remove_entry};
 ghost use Rattle.babel_tlv.specs.Route.{key_cmp};
 ghost use Rattle.babel_table.specs.Compact.{FitsFamily};
 ghost use Rattle.babel_table.specs.Live.{kept, live_rows};
 ghost use Rattle.babel_table.specs.Rows.{IsRising};
-ghost use Rattle.babel_table.specs.Said.{standing, AreDistinct, AreIndexed, IsPlace, AreAbove};
+ghost use Rattle.babel_table.specs.Said.{AreDistinct, AreIndexed, IsPlace, AreAbove};
 
 use crate::compact_held::CompactHeld;
 use crate::compact_key::CompactKey;
 use crate::compact_row::CompactRow;
+use crate::places::Places;
 use crate::stored::Stored;
 use crate::word::Word;
 use babel_tlv::{Held, Key};
 use std::alloc::{AllocError, Global};
-use std::collections::BTreeMap;
 use std::marker::Model;
 
 /// So many rows may be retracted beside as many as are not, before they are taken out.
 const SPARE: usize = 16;
 
+/// So many rows are kept at most, whose places have 32 bits.
+const MOST_ROWS: usize = u32::MAX as usize;
+
 /// A key and what was last said of it: nothing where it was retracted.
-type WordRow<W> = (CompactKey<W>, Option<Stored<W>>);
+pub(crate) type WordRow<W> = (CompactKey<W>, Option<Stored<W>>);
 
 /// What is kept for the keys of the family whose addresses are kept in these words. A router repeats its routes in one
 /// order, whichever it is, so the row behind the one found last is tried before any search; and what came last may be
 /// retracted at once.
 #[derive(Drop)]
 pub struct FamilyRows<W: Word> {
+    alloc: Global,
     /// A row for each key, in the order in which the keys came.
     rows: Vec<WordRow<W>>,
     /// The place that is tried first: behind the row that was found last, or of the row that came last.
@@ -36,7 +40,7 @@ pub struct FamilyRows<W: Word> {
     /// So many rows at the front are in the order of their keys.
     rising: usize,
     /// The places of the keys behind those.
-    places: BTreeMap<CompactKey<W>, usize>,
+    places: Places<W>,
     /// For how many keys there is something.
     count: usize,
 }
@@ -51,7 +55,7 @@ impl<W: Word> Model for FamilyRows<W> {
 
     ghost view = { λ r. standing r.rows.items };
 
-    ghost invariant = { λ r. AreCounted r.count r.rows.items r.rising r.places.entries };
+    ghost invariant = { λ r. AreCounted r.count r.rows.items r.rising r.places };
 }
 
 impl<W: Word> FamilyRows<W> {
@@ -60,10 +64,11 @@ impl<W: Word> FamilyRows<W> {
         ensures { result ≡ [] }
     {
         FamilyRows {
+            alloc,
             rows: Vec::new(alloc),
             next: 0,
             rising: 0,
-            places: BTreeMap::new(alloc),
+            places: Places::new(alloc),
             count: 0,
         }
     }
@@ -115,7 +120,14 @@ impl<W: Word> FamilyRows<W> {
             self.rows.push((key, Some(stored)))?;
             self.rising = self.rows.len();
         } else {
-            push_placed(&mut self.rows, &mut self.places, key, stored)?;
+            push_placed(
+                self.alloc,
+                &mut self.rows,
+                self.rising,
+                &mut self.places,
+                key,
+                stored,
+            )?;
         }
         self.next = place;
         self.count += 1;
@@ -165,16 +177,14 @@ impl<W: Word> FamilyRows<W> {
     pub fn listed(self, alloc: Global, wipes: u64) -> Result<Vec<CompactRow<W>>, AllocError>
         ensures { IfOk result (λ rows. rows.items ≡ live_rows wipes self) }
     {
-        let mut places = self.places;
-        places.clear();
-        let mut rows = self.rows;
-        sort(&mut rows);
+        drop(self.places);
         let mut listed = Vec::with_capacity(alloc, self.count)?;
-        for (key, said) in rows {
+        for (key, said) in self.rows {
             if let Some(stored) = said {
                 listed.push((key, stored.current(wipes)))?;
             }
         }
+        sort(&mut listed);
         Ok(listed)
     }
 }
@@ -184,20 +194,27 @@ fn find<W: Word>(
     rows: &[WordRow<W>],
     next: usize,
     rising: usize,
-    places: &BTreeMap<CompactKey<W>, usize>,
+    places: &Places<W>,
     key: &CompactKey<W>,
 ) -> Option<usize>
-    requires { AreIndexed (keys_of rows.now) rising places.now.entries }
+    requires { AreIndexed (keys_of rows.now) rising places.now }
     ensures { MatchOption result (lookup (is_at (key_cmp key.now)) rows.now ≡ None)
         (IsPlace (keys_of rows.now) key.now) }
 {
-    if next < rows.len() && rows[next].0 == *key {
+    if has_key(rows, next, key) {
         return Some(next);
     }
     match rows[..rising].binary_search_by(|row| row.0.cmp(key)) {
         Ok(place) => Some(place),
-        Err(_) => places.get(key).copied(),
+        Err(_) => places.find(rows, key),
     }
+}
+
+/// Whether this is the key's place among the rows.
+pub(crate) fn has_key<W: Word>(rows: &[WordRow<W>], place: usize, key: &CompactKey<W>) -> bool
+    ensures { IsTrue result ↔ IsPlace (keys_of rows.now) key.now place }
+{
+    place < rows.len() && rows[place].0 == *key
 }
 
 /// Whether the key is greater than all of the rows.
@@ -211,35 +228,37 @@ fn is_past<W: Word>(rows: &[WordRow<W>], key: &CompactKey<W>) -> bool
     }
 }
 
-/// Adds a row, and its place.
+/// Adds a row, and lists its place.
 fn push_placed<W: Word>(
+    alloc: Global,
     rows: &mut Vec<WordRow<W>>,
-    places: &mut BTreeMap<CompactKey<W>, usize>,
+    rising: usize,
+    places: &mut Places<W>,
     key: CompactKey<W>,
     stored: Stored<W>,
 ) -> Result<(), AllocError>
+    requires indexed { AreIndexed (keys_of rows.old.items) rising places.old }
+    requires new { lookup (is_at (key_cmp key)) rows.old.items ≡ None }
     ensures ok { OnOk result ((rows.new.items ≡ rows.old.items ++ (key, Some stored) ∷ [])
-        × (places.new.entries
-        ≡ insert_entry key_cmp places.old.entries key (length rows.old.items))) }
+        × AreIndexed (keys_of rows.new.items) rising places.new) }
     ensures err { OnErr result ((rows.new.items ≡ rows.old.items)
-        × (places.new.entries ≡ places.old.entries)) }
+        × AreIndexed (keys_of rows.new.items) rising places.new) }
 {
     let place = rows.len();
-    rows.push((key.copied(), Some(stored)))?;
-    match places.insert(key, place) {
-        Ok(_) => Ok(()),
-        Err(_) => {
-            rows.pop();
-            Err(AllocError)
-        }
+    if place >= MOST_ROWS {
+        return Err(AllocError);
     }
+    places.make_room(alloc, rows, rising)?;
+    places.add(&key, place as u32)?;
+    rows.push((key, Some(stored)))?;
+    Ok(())
 }
 
 /// Puts the rows in the order of their keys.
-fn sort<W: Word>(rows: &mut Vec<WordRow<W>>)
+fn sort<W: Word, T>(rows: &mut Vec<(CompactKey<W>, T)>)
     requires { AreDistinct (keys_of rows.old.items) }
     ensures rising { IsRising rows.new.items }
-    ensures same { standing rows.new.items ≡ standing rows.old.items }
+    ensures same { IsPermutation rows.old.items rows.new.items }
 {
     rows.sort_unstable_by(|row, other| row.0.cmp(&other.0));
 }

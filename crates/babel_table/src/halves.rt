@@ -4,6 +4,7 @@ ghost use Rattle.std.specs.Cmp.Rules.{comparing};
 ghost use Rattle.std.proofs.Common.{rules};
 ghost use Rattle.babel_prefix.specs.declared.family.Family.TheVariants.{V6};
 
+use crate::compact_key::mixed;
 use crate::word::Word;
 use babel_prefix::{Addr, Family};
 use std::cmp::Ordering;
@@ -103,6 +104,10 @@ impl Word for Halves {
     fn addr(self) -> Addr {
         let bits = u128::from(self.high) * (1 << 64) + u128::from(self.low);
         Addr::new(Family::V6, bits).unwrap()
+    }
+
+    fn fold(self) -> u64 {
+        mixed(self.high, self.low)
     }
 
     ghost ordered = { λ a b. refl };

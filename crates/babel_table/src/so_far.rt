@@ -3,7 +3,7 @@ ghost use Rattle.babel_table.specs.Feeding.{IsRefused, IsPartial, event_at};
 ghost use Rattle.babel_tlv.specs.Pair.{EventFits};
 ghost use Rattle.babel_tlv.specs.Verdicts.{event_of};
 ghost use Rattle.babel_tlv.specs.Says.{sayings_behind};
-ghost use Rattle.babel_tlv.specs.Framing.{Parts, tlvs_of};
+ghost use Rattle.babel_tlv.specs.Framing.{AreTlvs, tlvs_of};
 ghost use Rattle.babel_tlv.specs.Frames.{tlv_value};
 
 use crate::live::LiveRows;
@@ -71,7 +71,7 @@ impl SoFar {
         ensures tlvs { self.new.report.tlvs ≤ self.old.report.tlvs + length body.now }
 
         // The table behind some TLVs is then that behind these and those of the body.
-        ensures whole { OnOk result (Parts at body.now (tlvs_of at body.now)) }
+        ensures whole { OnOk result (AreTlvs at body.now (tlvs_of at body.now)) }
         ensures ok { OnOk result
             (TakesSayings self.old (sayings_behind sender [] (tlvs_of at body.now)) self.new) }
         ensures fails { IfErr result (FailsInBody self.old sender at body.now) }

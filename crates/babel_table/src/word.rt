@@ -3,6 +3,7 @@ ghost use Rattle.std.specs.Prelude.{◌≡◌, ℕ};
 ghost use Rattle.std.specs.Ordering.{nat_cmp};
 ghost use Rattle.babel_prefix.specs.declared.family.Family.{Family as AddressFamily};
 ghost use Rattle.babel_prefix.specs.declared.family.Family.TheVariants.{V4};
+ghost use Rattle.babel_table.specs.Said.{folded};
 
 use babel_prefix::{Addr, Family};
 
@@ -23,6 +24,10 @@ pub trait Word: Ord + Copy {
     /// The address with these bits.
     fn addr(self) -> Addr
         ensures { result ≡ record { family = family; bits = number self } };
+
+    /// The bits, in 64 of them.
+    fn fold(self) -> u64
+        ensures { result ≡ folded (number self) };
 
     // Words are ordered as the bits are.
     ghost ordered: { (a b : Self) → Self.cmp a b ≡ nat_cmp (number a) (number b) };
@@ -45,6 +50,10 @@ impl Word for u32 {
 
     fn addr(self) -> Addr {
         Addr::new(Family::V4, u128::from(self)).unwrap()
+    }
+
+    fn fold(self) -> u64 {
+        u64::from(self)
     }
 
     ghost ordered = { λ a b. refl };

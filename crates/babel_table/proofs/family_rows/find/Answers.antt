@@ -1,12 +1,12 @@
 -- The next row is taken where its whole key is the one looked for.
-use Rattle.std.proofs.Common.{◌∙◌, sym, rules}
+use Rattle.std.proofs.Common.{rules}
 use Rattle.std.proofs.lemmas.Fn.{always_returns_same}
 use Rattle.babel_tlv.specs.Route.{key_cmp}
-use Rattle.babel_table.proofs.SaidLaws.{place-read, place-searched, searched-behind}
+use Rattle.babel_table.proofs.SaidLaws.{place-searched, searched-behind}
 use Rattle.babel_table.proofs.family_rows.find.Goals as goal
 
-pub returns-then-eq : goal.returns-then-eq
-returns-then-eq g c = place-read c.args.rows.now c.args.key.now c.args.next c.index-rows-next.result c.if-next-rows.true (sym c.if-eq.ensures)
+pub returns-then-has_key : goal.returns-then-has_key
+returns-then-has_key g c = c.has_key.ensures.0 c.if-has_key.true
 
 pub returns-in-Ok : goal.returns-in-Ok
 returns-in-Ok g c =
@@ -16,4 +16,4 @@ returns-in-Ok g c =
 pub returns-in-Err : goal.returns-in-Err
 returns-in-Err g c =
     let position = c.in-Err.ensures.position (λ row. key_cmp row.0 c.args.key.now) (always_returns_same _ _ _ (λ a r f q. search rules)) in
-    rw (c.copied.ensures ∙ c.get.ensures.value) (searched-behind c.args.rows.now c.args.key.now c.args.rising c.args.places.now.entries c.in-Err.field-0 c.requires position)
+    searched-behind c.args.rows.now c.args.key.now c.args.rising c.args.places.now c.in-Err.field-0 _ c.requires position c.find.ensures

@@ -9,14 +9,14 @@ pub overflow_sub-self : goal.overflow_sub-self
 overflow_sub-self g c =
     let k = c.of-key.result in
     let place : IsPlace (keys_of c.self.inside.rows.items) k c.in-Some.place = subst (λ ws. IsPlace (keys_of ws) k c.in-Some.place) c.deref.ensures.value c.in-Some.ensures in
-    fewer-set c.self.inside.count c.self.inside.rows.items c.self.inside.rising c.self.inside.places.entries c.self.invariant k c.in-Some.place place c.index.result.now c.is_some-was.result c.from.result
+    fewer-set c.self.inside.count c.self.inside.rows.items c.self.inside.rising c.self.inside.places c.self.invariant k c.in-Some.place place c.index.result.now c.is_some-was.result c.from.result
     c.index.ensures c.is_some-was.ensures c.from.ensures
 
 pub invariant_of-self : goal.invariant_of-self
 invariant_of-self g c =
     let k = c.of-key.result in
     let place : IsPlace (keys_of c.self.inside.rows.items) k c.in-Some.place = subst (λ ws. IsPlace (keys_of ws) k c.in-Some.place) c.deref.ensures.value c.in-Some.ensures in
-    counted-unset c.self.inside.count c.self.inside.rows.items c.self.inside.rising c.self.inside.places.entries c.self.invariant k c.in-Some.place place c.index.result.now c.is_some-was.result c.from.result
+    counted-unset c.self.inside.count c.self.inside.rows.items c.self.inside.rising c.self.inside.places c.self.invariant k c.in-Some.place place c.index.result.now c.is_some-was.result c.from.result
     c.index.ensures c.is_some-was.ensures c.from.ensures
 
 pub returns-in-Some : goal.returns-in-Some
@@ -24,11 +24,11 @@ returns-in-Some g c =
     let k = c.of-key.result in
     let place : IsPlace (keys_of c.self.inside.rows.items) k c.in-Some.place = subst (λ ws. IsPlace (keys_of ws) k c.in-Some.place) c.deref.ensures.value c.in-Some.ensures in
     rw (← c.self.view_is, ← c.of-key.ensures)
-    (standing-set c.self.inside.count c.self.inside.rows.items c.self.inside.rising c.self.inside.places.entries c.self.invariant k c.in-Some.place place c.index.result.now None)
+    (standing-set c.self.inside.count c.self.inside.rows.items c.self.inside.rising c.self.inside.places c.self.invariant k c.in-Some.place place c.index.result.now None)
 
 pub returns-in_default : goal.returns-in_default
 returns-in_default g c =
     let k = c.of-key.result in
     let none : found k c.self.inside.rows.items ≡ None = subst (λ ws. found k ws ≡ None) c.deref.ensures.value c.in_default.ensures in
     rw (← c.self.view_is, ← c.of-key.ensures)
-    (sym (unsaid-nothing k _ (stands-nowhere c.self.inside.count c.self.inside.rows.items c.self.inside.rising c.self.inside.places.entries c.self.invariant k none)))
+    (sym (unsaid-nothing k _ (stands-nowhere c.self.inside.count c.self.inside.rows.items c.self.inside.rising c.self.inside.places c.self.invariant k none)))

@@ -10,12 +10,12 @@ pub returns-in-Some : goal.returns-in-Some
 returns-in-Some g c =
     let k = c.of-key.result in
     let place : IsPlace (keys_of c.self.inside.rows.items) k c.in-Some.place = subst (λ ws. IsPlace (keys_of ws) k c.in-Some.place) c.deref.ensures.value c.in-Some.ensures in
-    let here = stands-here c.self.inside.count c.self.inside.rows.items c.self.inside.rising c.self.inside.places.entries c.self.invariant k c.in-Some.place place c.index.result.now in
+    let here = stands-here c.self.inside.count c.self.inside.rows.items c.self.inside.rising c.self.inside.places c.self.invariant k c.in-Some.place place c.index.result.now in
     rw (← c.self.view_is, ← c.of-key.ensures) (c.is_some.ensures ∙ ap (λ row. is_some row.1) c.index.ensures ∙ sym (ap is_some here))
 
 pub returns-in-None : goal.returns-in-None
 returns-in-None g c =
     let k = c.of-key.result in
     let none : found k c.self.inside.rows.items ≡ None = subst (λ ws. found k ws ≡ None) c.deref.ensures.value c.in-None.ensures in
-    let nowhere = stands-nowhere c.self.inside.count c.self.inside.rows.items c.self.inside.rising c.self.inside.places.entries c.self.invariant k none in
+    let nowhere = stands-nowhere c.self.inside.count c.self.inside.rows.items c.self.inside.rising c.self.inside.places c.self.invariant k none in
     rw (← c.self.view_is, ← c.of-key.ensures) (sym (ap is_some nowhere))

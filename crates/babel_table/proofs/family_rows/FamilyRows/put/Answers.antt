@@ -1,10 +1,9 @@
 -- What is kept of the key stands in its row, or in a new one behind the others.
-use Rattle.std.proofs.Common.{◌≡◌, ◌∙◌, None, Result, Ok, Err, length, ap, subst, arith}
-use Rattle.std.specs.Prelude.{OnErr}
+use Rattle.std.proofs.Common.{◌≡◌, ◌∙◌, None, length, ap, subst, arith}
 use Rattle.std.specs.Map.{keys_of}
 use Rattle.babel_table.specs.Live.{kept}
-use Rattle.babel_table.specs.Said.{IsPlace, AreAbove}
-use Rattle.babel_table.proofs.SaidLaws.{found, said-length, one_more, byte_small, counted-set, standing-set, counted-front, counted-behind, standing-pushed}
+use Rattle.babel_table.specs.Said.{IsPlace, AreAbove, AreIndexed}
+use Rattle.babel_table.proofs.SaidLaws.{found, on_err, said-length, one_more, byte_small, counted-set, standing-set, counted-front, counted-behind, standing-pushed}
 use Rattle.babel_table.proofs.family_rows.FamilyRows.put.Goals as goal
 use Rattle.babel_table.proofs.family_rows.FamilyRows.put.Goals.{then-self-place+then-is_past+in_ok-push, else-self-place+in_ok-push_placed}
 
@@ -17,7 +16,7 @@ pub invariant_of-self : goal.invariant_of-self
 invariant_of-self g c =
     let k = c.of-key.result in
     let place : IsPlace (keys_of c.self.inside.rows.items) k c.in-Some.place = subst (λ ws. IsPlace (keys_of ws) k c.in-Some.place) c.deref.ensures.value c.in-Some.ensures in
-    counted-set c.self.inside.count c.self.inside.rows.items c.self.inside.rising c.self.inside.places.entries c.self.invariant k c.in-Some.place place c.index.result.now _ c.is_some-was.result c.from.result
+    counted-set c.self.inside.count c.self.inside.rows.items c.self.inside.rising c.self.inside.places c.self.invariant k c.in-Some.place place c.index.result.now _ c.is_some-was.result c.from.result
     c.index.ensures c.is_some-was.ensures c.from.ensures (one_more _ _ _ _ _ c.self.invariant c.self.view_is c.requires.few)
 
 pub returns-in-Some-clause-ok : goal.returns-in-Some-clause-ok
@@ -25,16 +24,12 @@ returns-in-Some-clause-ok g c =
     let k = c.of-key.result in
     let place : IsPlace (keys_of c.self.inside.rows.items) k c.in-Some.place = subst (λ ws. IsPlace (keys_of ws) k c.in-Some.place) c.deref.ensures.value c.in-Some.ensures in
     rw (← c.self.view_is, ← c.of-key.ensures, ← c.of-held.ensures)
-    (standing-set c.self.inside.count c.self.inside.rows.items c.self.inside.rising c.self.inside.places.entries c.self.invariant k c.in-Some.place place c.index.result.now _)
+    (standing-set c.self.inside.count c.self.inside.rows.items c.self.inside.rising c.self.inside.places c.self.invariant k c.in-Some.place place c.index.result.now _)
 
 pub returns-in-Some-clause-len : goal.returns-in-Some-clause-len
 returns-in-Some-clause-len g c = said-length c.args.key.now (kept c.args.held c.args.wipes) c.self.inside.rows.items c.args.self.now _ c.self.view_is (returns-in-Some-clause-ok g c)
 
 -- ---- in a new row
-
-on_err : {T E : Type 0} (r : Result T E) (P : Type 0) → P → OnErr r P
-on_err (Ok x) P p = tt
-on_err (Err e) P p = p
 
 pub returns-in_err-push-clause-err : goal.returns-in_err-push-clause-err
 returns-in_err-push-clause-err g c = on_err c.from_residual.result _ (rw c.in_err-push.ensures.items c.self.view_is)
@@ -54,11 +49,12 @@ invariant_of-self-2 g c =
       | then-self-place+then-is_past+in_ok-push w ↦
           let above : AreAbove k c.self.inside.rows.items = subst (λ ws. AreAbove k ws) w.deref-then-self-place.ensures.value (w.is_past.ensures w.if-is_past.true) in
           rw (w.self-inside-is, w.in_ok-push.ensures.items)
-          (counted-front c.self.inside.count c.self.inside.rows.items c.self.inside.rising c.self.inside.places.entries c.self.invariant k none _ w.len-self-inside.result
+          (counted-front c.self.inside.count c.self.inside.rows.items c.self.inside.rising c.self.inside.places c.self.invariant k none _ w.len-self-inside.result
           (w.len-self-inside.ensures ∙ w.push.new.self.ok.0 ∙ ap length w.in_ok-push.ensures.items) few (w.if-self-place.true ∙ c.len-place.ensures ∙ c.self.inside.rows.ok.0) above)
       | else-self-place+in_ok-push_placed w ↦
-          rw (w.self-inside-is, w.in_ok-push_placed.ensures.ok.0, w.in_ok-push_placed.ensures.ok.1)
-          (counted-behind c.self.inside.count c.self.inside.rows.items c.self.inside.rising c.self.inside.places.entries c.self.invariant k none _ few)
+          rw (w.self-inside-is, w.in_ok-push_placed.ensures.ok.0)
+          (counted-behind c.self.inside.count c.self.inside.rows.items c.self.inside.rising c.self.inside.places c.self.invariant k none _ _ few
+          (subst (λ ws. AreIndexed (keys_of ws) c.self.inside.rising w.push_placed.new.places) w.in_ok-push_placed.ensures.ok.0 w.in_ok-push_placed.ensures.ok.1))
     ]
 
 pub returns-clause-ok : goal.returns-clause-ok
@@ -68,10 +64,10 @@ returns-clause-ok g c =
     c.compact.ensures ∙ elim c.if-self-place.branch [
       | then-self-place+then-is_past+in_ok-push w ↦
           rw (w.self-inside-is, w.in_ok-push.ensures.items, ← c.self.view_is, ← c.of-key.ensures, ← c.of-held.ensures)
-          (standing-pushed c.self.inside.count c.self.inside.rows.items c.self.inside.rising c.self.inside.places.entries c.self.invariant k none _)
+          (standing-pushed c.self.inside.count c.self.inside.rows.items c.self.inside.rising c.self.inside.places c.self.invariant k none _)
       | else-self-place+in_ok-push_placed w ↦
           rw (w.self-inside-is, w.in_ok-push_placed.ensures.ok.0, ← c.self.view_is, ← c.of-key.ensures, ← c.of-held.ensures)
-          (standing-pushed c.self.inside.count c.self.inside.rows.items c.self.inside.rising c.self.inside.places.entries c.self.invariant k none _)
+          (standing-pushed c.self.inside.count c.self.inside.rows.items c.self.inside.rising c.self.inside.places c.self.invariant k none _)
     ]
 
 pub returns-clause-len : goal.returns-clause-len
