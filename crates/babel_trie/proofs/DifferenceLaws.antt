@@ -1,11 +1,11 @@
 -- Where two functions differ, a box of their difference is, and nowhere else.
-use Rattle.std.proofs.Common.{◌≡◌, ◌≢◌, ◌⊎◌, inl, inr, ℕ, zero, suc, ◌^◌, ◌<◌, ◌≤◌, List, [], ◌∷◌, length, slice_index_or, Option, Some, None, Contains, refl, sym, ◌∙◌, ap, subst, arith}
+use Rattle.std.proofs.Common.{◌≡◌, ◌⊎◌, inl, inr, ℕ, zero, suc, ◌^◌, ◌<◌, List, [], ◌∷◌, length, slice_index_or, Option, Some, None, Contains, refl, sym, ◌∙◌, ap, subst, arith}
 use Rattle.std.proofs.lemmas.Bool.{cases_lt}
 use Rattle.babel_prefix.specs.Block.{BlockCovers}
-use Rattle.babel_prefix.specs.Best.{Row, answer}
-use Rattle.babel_trie.specs.Boxes.{Answers, HasEqualityTest, IsBefore, IsBox, IsLeastDifference, SameAnswers}
-use Rattle.babel_trie.specs.Differences.{TellsApart, IsDifference, AreDifferences, NoneWhereSame, FirstHasLeast, DifferencesAreFewest}
-use Rattle.babel_trie.specs.Tables.{IsDisjointTable}
+use Rattle.babel_prefix.specs.Best.{Row}
+use Rattle.babel_trie.specs.Boxes.{Answers, HasEqualityTest, IsBefore, IsBox, SameAnswers}
+use Rattle.babel_trie.specs.Differences.{TellsApart, AreDifferences}
+use Rattle.babel_trie.specs.DifferenceLaws.{NoneWhereSame, FirstHasLeast, DifferencesAreFewest}
 use Rattle.babel_trie.specs.declared.differing.Differing.{Differing}
 use Rattle.babel_trie.proofs.BoxLaws.{InABox, in_a_box, same_option}
 use Rattle.babel_trie.proofs.Ranges.{covers_range}

@@ -6,7 +6,7 @@ use Rattle.std.specs.Option.{option_cmp}
 use Rattle.std.specs.Ordering.{ordering_then}
 use Rattle.std.specs.declared.cmp.Ordering.{Ordering}
 use Rattle.babel_trie.specs.Differences.{TellsApart}
-use Rattle.babel_trie.specs.Interned.{Stands, IsTrie, IsHalved, IsJoined, IsNormalLoose, Joins}
+use Rattle.babel_trie.specs.Interned.{Stands, IsHalved, IsJoined, IsNormalLoose}
 use Rattle.babel_trie.specs.Shape.{Shape, leaf, value_at, height, is_low}
 use Rattle.babel_trie.specs.Sound.{KeepsNodes}
 use Rattle.babel_trie.specs.Told.{TellsTriesApart, IsTold, KnowsTold}

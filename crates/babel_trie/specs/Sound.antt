@@ -1,13 +1,14 @@
--- A table whose map has the number of each node: this project's own.
-use Rattle.std.specs.Prelude.{◌≡◌, ◌↔◌, ℕ, ◌<◌, List, Some, slice_get}
+-- A table in which each node is found again: this project's own.
+use Rattle.std.specs.Prelude.{◌≡◌, ℕ, ◌<◌, List, Some, slice_get}
 use Rattle.std.specs.Ordering.{ordering_then, nat_cmp}
 use Rattle.std.specs.declared.cmp.Ordering.{Ordering}
-use Rattle.std.specs.BTreeMap.{BTreeMap, get}
-use Rattle.babel_trie.specs.Interned.{IsNormal}
+use Rattle.babel_trie.specs.Index.{IsIndexed}
+use Rattle.babel_trie.specs.Interned.{IsNormal, HasDistinctNodes}
+use Rattle.babel_trie.specs.Marks.{node_mark}
+use Rattle.babel_trie.specs.declared.index.Index.{Index}
 use Rattle.babel_trie.specs.declared.table.Loose.{Loose}
 use Rattle.babel_trie.specs.declared.table.Loose.TheVariants.{Same, Split}
 use Rattle.babel_trie.specs.declared.table.Node.{Node}
-use Rattle.babel_trie.specs.declared.table.NodeNumber.{NodeNumber}
 use Rattle.babel_trie.specs.declared.table.Sources.{Sources}
 use Rattle.babel_trie.specs.declared.table.Sources.TheVariants.{Constant, Stored}
 
@@ -31,13 +32,13 @@ module _ {V : Type 0} where
       ordering_then (nat_cmp a.skip b.skip) (ordering_then (nat_cmp a.path b.path)
       (ordering_then (cmp a.outside b.outside) (ordering_then (cmp a.low b.low) (cmp a.high b.high))))
 
-  -- the map has a node exactly under its number, each node has its one form, and the halves of a node are constants or have lower numbers
-  pub record IsSound (cmp : Sources V → Sources V → Ordering) (nodes : List (Node V))
-      (numbers : BTreeMap (Node V) NodeNumber) : Type 0 where
+  -- no node stands twice, a search for a node finds its number, each node has its one form, and the halves of a node are constants or have lower numbers
+  pub record IsSound (cmp : Sources V → Sources V → Ordering) (mark : Sources V → ℕ) (nodes : List (Node V))
+      (numbers : Index (Node V)) : Type 0 where
     pub lower : (i : ℕ) (node : Node V) → slice_get nodes i ≡ Some node → HasHalvesBelow i node
     pub normal : (i : ℕ) (node : Node V) → slice_get nodes i ≡ Some node → IsNormal nodes node
-    pub exact : (node : Node V) (number : NodeNumber) → (get (node_cmp cmp) numbers node ≡ Some number)
-        ↔ (slice_get nodes number.0 ≡ Some node)
+    pub distinct : HasDistinctNodes nodes
+    pub indexed : IsIndexed (node_cmp cmp) (node_mark mark) nodes numbers
 
   -- each number keeps its node
   abbrev pub KeepsNodes : List (Node V) → List (Node V) → Type 0

@@ -5,7 +5,7 @@ ghost use Rattle.std.specs.BTreeMap.{IsEmpty};
 ghost use Rattle.babel_prefix.specs.Members.{Listed};
 ghost use Rattle.babel_trie.specs.declared.table.Loose.{Loose};
 
-use crate::lawful::LawfulOrd;
+use crate::lawful::{LawfulOrd, stirred};
 use crate::table::Loose;
 use std::alloc::{AllocError, Global};
 use std::collections::BTreeMap;
@@ -18,9 +18,16 @@ pub struct Both<T> {
 }
 
 impl<T: LawfulOrd> LawfulOrd for Both<T> {
+    ghost use Rattle.babel_trie.specs.Marks.{both_mark};
     ghost use Rattle.babel_trie.specs.NodeOrder.{both_exact};
 
     ghost exact = { both_exact T.cmp T.exact };
+
+    ghost mark = { both_mark T.mark };
+
+    fn mark(&self) -> u64 {
+        stirred(self.left.mark(), self.right.mark())
+    }
 }
 
 /// What was found for each two that were compared.

@@ -163,11 +163,11 @@ impl<V: LawfulOrd> Table<Option<V>> {
         width: u8,
         rows: &[Row<V>],
     ) -> Result<Vec<Change<Sources<Option<V>>>>, AllocError>
-        requires sound { IsSound ⟦<Sources<Option<V>> as Ord>⟧.cmp self.old.nodes.items self.old.numbers }
+        requires sound { IsSound ⟦<Sources<Option<V>> as Ord>⟧.cmp ⟦<Sources<Option<V>> as LawfulOrd>⟧.mark self.old.nodes.items self.old.numbers }
         requires order { InOrder RowOrder rows.now }
         requires table { IsTable width (map row_of rows.now) }
         requires width { width ≤ 128 }
-        ensures sound { OnOk result (IsSound ⟦<Sources<Option<V>> as Ord>⟧.cmp self.new.nodes.items self.new.numbers) }
+        ensures sound { OnOk result (IsSound ⟦<Sources<Option<V>> as Ord>⟧.cmp ⟦<Sources<Option<V>> as LawfulOrd>⟧.mark self.new.nodes.items self.new.numbers) }
         ensures keeps { OnOk result (KeepsNodes self.old.nodes.items self.new.nodes.items) }
         ensures runs { IfOk result (λ list. HasRuns width self.new.nodes.items list.items (answer width (map row_of rows.now))) }
         ensures few { IfOk result (λ list. length list.items ≤ 2 * length rows.now + 1) }

@@ -38,10 +38,10 @@ impl<V: LawfulOrd> Table<Option<V>> {
         family: Family,
         rows: &[Row<V>],
     ) -> Result<Vec<Change<Sources<Option<V>>>>, AllocError>
-        requires sound { IsSound ⟦<Sources<Option<V>> as Ord>⟧.cmp self.old.nodes.items self.old.numbers }
+        requires sound { IsSound ⟦<Sources<Option<V>> as Ord>⟧.cmp ⟦<Sources<Option<V>> as LawfulOrd>⟧.mark self.old.nodes.items self.old.numbers }
         requires family { All (AreOfFamily family) rows.now }
         requires prefixes { HasDistinctPrefixes rows.now }
-        ensures sound { OnOk result (IsSound ⟦<Sources<Option<V>> as Ord>⟧.cmp self.new.nodes.items self.new.numbers) }
+        ensures sound { OnOk result (IsSound ⟦<Sources<Option<V>> as Ord>⟧.cmp ⟦<Sources<Option<V>> as LawfulOrd>⟧.mark self.new.nodes.items self.new.numbers) }
         ensures keeps { OnOk result (KeepsNodes self.old.nodes.items self.new.nodes.items) }
         ensures runs { IfOk result (λ list. HasRuns (width_of family) self.new.nodes.items list.items (answers_in family rows.now)) }
         ensures few { IfOk result (λ list. length list.items ≤ 2 * length rows.now + 1) }

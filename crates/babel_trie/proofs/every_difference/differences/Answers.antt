@@ -1,10 +1,11 @@
 -- The changes of both lists, in one table, have the changes of their difference, whose rows are its boxes.
-use Rattle.std.proofs.Common.{List, Option, refl, sym, subst, arith}
+use Rattle.std.proofs.Common.{ℕ, List, Option, refl, sym, subst, arith}
 use Rattle.std.specs.Option.{option_cmp}
 use Rattle.std.specs.declared.cmp.Ordering.{Ordering}
 use Rattle.babel_prefix.specs.Entries.{answers_in}
 use Rattle.babel_prefix.specs.Width.{width_of}
 use Rattle.babel_trie.specs.Runs.{HasRuns}
+use Rattle.babel_trie.specs.Marks.{option_mark, differing_mark, sources_mark}
 use Rattle.babel_trie.specs.Sound.{IsSound}
 use Rattle.babel_trie.specs.Told.{HasDifference}
 use Rattle.babel_trie.specs.declared.differing.Differing.{Differing}
@@ -48,8 +49,9 @@ of_runs-requires-clause-sound g c =
     let told = c.runs-3.new.self.differences in
     let made = c.into_differences.result in
     let order : Sources (Option (Differing g.row.V.Denot)) → Sources (Option (Differing g.row.V.Denot)) → Ordering = sources_cmp (option_cmp (differing_cmp g.V.Ord.cmp)) in
-    let sound : IsSound order told.nodes.items told.numbers = sound_by told.nodes.items told.numbers (elim [ Constant v ↦ elim [ Constant u ↦ refl | Stored m ↦ refl ] | Stored k ↦ elim [ Constant v ↦ refl | Stored m ↦ refl ] ]) c.in_ok-runs.ensures.sound in
-    sound_by made.nodes.items made.numbers (elim [ Constant v ↦ elim [ Constant u ↦ refl | Stored m ↦ refl ] | Stored k ↦ elim [ Constant v ↦ refl | Stored m ↦ refl ] ]) (subst (λ (t : Table (Option (Differing g.row.V.Denot))). IsSound order t.nodes.items t.numbers) (sym c.into_differences.ensures) sound)
+    let mark : Sources (Option (Differing g.row.V.Denot)) → ℕ = sources_mark (option_mark (differing_mark (option_mark g.V.LawfulOrd.mark))) in
+    let sound : IsSound order mark told.nodes.items told.numbers = sound_by told.nodes.items told.numbers (elim [ Constant v ↦ elim [ Constant u ↦ refl | Stored m ↦ refl ] | Stored k ↦ elim [ Constant v ↦ refl | Stored m ↦ refl ] ]) c.in_ok-runs.ensures.sound in
+    sound_by made.nodes.items made.numbers (elim [ Constant v ↦ elim [ Constant u ↦ refl | Stored m ↦ refl ] | Stored k ↦ elim [ Constant v ↦ refl | Stored m ↦ refl ] ]) (subst (λ (t : Table (Option (Differing g.row.V.Denot))). IsSound order mark t.nodes.items t.numbers) (sym c.into_differences.ensures) sound)
 
 pub of_runs-requires-clause-runs : goal.of_runs-requires-clause-runs
 of_runs-requires-clause-runs g c =

@@ -1,12 +1,10 @@
 -- From one change of either list to the next both say one thing each, which is told apart once.
-use Rattle.std.proofs.Common.{◌≡◌, ℕ, ◌+◌, ◌-◌, ◌^◌, ◌<◌, ◌≤◌, refl, sym, ◌∙◌, subst, ap, length, Option, arith}
+use Rattle.std.proofs.Common.{◌≡◌, ℕ, ◌+◌, ◌-◌, ◌^◌, ◌<◌, ◌≤◌, refl, sym, ◌∙◌, subst, Option, arith}
 use Rattle.std.proofs.Math.Pow.{pow_mono}
 use Rattle.babel_trie.specs.Interned.{HasTrie}
-use Rattle.babel_trie.specs.Runs.{said_at, StartBehind, AreRuns, StartBelow}
+use Rattle.babel_trie.specs.Runs.{said_at, StartBehind}
 use Rattle.babel_trie.specs.declared.table.Sources.{Sources}
 use Rattle.babel_trie.specs.declared.table.Sources.TheVariants.{Constant, Stored}
-use Rattle.babel_trie.specs.declared.runs.Change.{Change}
-use Rattle.babel_trie.specs.declared.differing.Differing.{Differing}
 use Rattle.babel_trie.proofs.ApartLaws.{no_sources, said-step, said-first}
 use Rattle.babel_trie.proofs.NodeLaws.{sound_by}
 use Rattle.babel_trie.proofs.RunBoxes.{some_change, from_zero}

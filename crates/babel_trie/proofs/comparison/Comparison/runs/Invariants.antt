@@ -2,6 +2,7 @@
 use Rattle.std.proofs.Common.{◌≡◌, ℕ, ◌-◌, ◌^◌, ◌≤◌}
 use Rattle.std.specs.Option.{option_cmp}
 use Rattle.babel_trie.specs.Runs.{said_at, AreRuns, StartFrom}
+use Rattle.babel_trie.specs.Marks.{option_mark, differing_mark, sources_mark}
 use Rattle.babel_trie.specs.Sound.{IsSound}
 use Rattle.babel_trie.specs.Told.{KnowsTold}
 use Rattle.babel_trie.proofs.ApartLaws.{no_sources}
@@ -12,7 +13,7 @@ use Rattle.babel_trie.proofs.comparison.Comparison.runs.Given as goal
 
 abbrev pub invariant-loop-list : goal.invariant-loop-list
 invariant-loop-list g l = record {
-  sound : IsSound (sources_cmp (option_cmp (differing_cmp g.V.Ord.cmp))) l.self.differences.nodes.items l.self.differences.numbers;
+  sound : IsSound (sources_cmp (option_cmp (differing_cmp g.V.Ord.cmp))) (sources_mark (option_mark (differing_mark (option_mark g.V.LawfulOrd.mark)))) l.self.differences.nodes.items l.self.differences.numbers;
   known : KnowsTold l.table.nodes.items l.self.differences.nodes.items l.self.known.found;
   in_range : l.at ≤ l.last;
   told : IsToldBelow l.table.nodes.items l.left l.right l.at l.self.differences.nodes.items l.list.items;

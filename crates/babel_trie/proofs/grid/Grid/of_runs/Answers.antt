@@ -1,7 +1,6 @@
 -- The rows of the changes are the boxes of their answers.
 use Rattle.std.proofs.Common.{ℕ, ◌^◌, List, length, sym, ◌∙◌, ap, subst, Option}
 use Rattle.babel_prefix.specs.Best.{answer}
-use Rattle.babel_prefix.specs.Entries.{answers_in}
 use Rattle.babel_prefix.specs.Width.{width_of}
 use Rattle.babel_prefix.proofs.Members.{Listed}
 use Rattle.babel_trie.specs.Counts.{capped}

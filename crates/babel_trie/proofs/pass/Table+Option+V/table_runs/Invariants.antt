@@ -2,6 +2,7 @@
 use Rattle.std.proofs.Common.{◌≡◌, ◌+◌, ◌*◌, ◌≤◌, ◌++◌, List, length}
 use Rattle.std.specs.Option.{option_cmp}
 use Rattle.babel_prefix.specs.Entries.{Entry}
+use Rattle.babel_trie.specs.Marks.{option_mark, sources_mark}
 use Rattle.babel_trie.specs.Pass.{IsOpen, ahead_of}
 use Rattle.babel_trie.specs.Sound.{IsSound, KeepsNodes}
 use Rattle.babel_trie.proofs.NodeLaws.{sources_cmp}
@@ -12,7 +13,7 @@ abbrev pub invariant-loop-next : goal.invariant-loop-next
 invariant-loop-next g l = record {
   gone : List (Entry g.row.V.Denot);
   parts : l.rows ≡ gone ++ l.rest;
-  sound : IsSound (sources_cmp (option_cmp g.V.Ord.cmp)) l.self.nodes.items l.self.numbers;
+  sound : IsSound (sources_cmp (option_cmp g.V.Ord.cmp)) (sources_mark (option_mark g.V.LawfulOrd.mark)) l.self.nodes.items l.self.numbers;
   keeps : KeepsNodes l.fn.self.nodes.items l.self.nodes.items;
   is_open : IsOpen l.pass;
   so_far : AreSoFar l.width gone l.rest l.self.nodes.items l.pass.list.items l.pass.now (ahead_of l.pass);

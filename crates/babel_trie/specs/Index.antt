@@ -1,0 +1,72 @@
+-- Where the elements of a list are found again: this project's own.
+use Rattle.std.specs.Prelude.{◌≡◌, ◌⊎◌, ℕ, zero, suc, ◌+◌, ◌/◌, ◌%◌, ◌^◌, ◌<◌, max, List, length, get_or, Some, slice_get}
+use Rattle.std.specs.BTreeMap.{get}
+use Rattle.std.specs.declared.cmp.Ordering.{Ordering}
+use Rattle.babel_trie.specs.declared.index.Index.{Index}
+use Rattle.babel_trie.specs.declared.table.NodeNumber.{NodeNumber}
+
+-- one of so many slots from this one on has the number, and none before it is free
+abbrev pub IsAmong : List ℕ → ℕ → ℕ → ℕ → Type 0
+IsAmong slots zero at number = ⊥
+IsAmong slots (suc left) at number =
+    (0 < get_or slots at 0) × ((get_or slots at 0 ≡ number + 1) ⊎ IsAmong slots left (at + 1) number)
+
+-- the first of so many slots from this one on that is free
+abbrev pub IsFreeAmong : List ℕ → ℕ → ℕ → ℕ → Type 0
+IsFreeAmong slots zero at place = ⊥
+IsFreeAmong slots (suc left) at place =
+    ((at < length slots) × (get_or slots at 0 ≡ 0) × (place ≡ at))
+    ⊎ ((0 < get_or slots at 0) × IsFreeAmong slots left (at + 1) place)
+
+-- in how many slots an element can stand
+abbrev pub window : ℕ
+window = 16
+
+-- the slot at which a search for a mark begins
+abbrev pub first_slot : List ℕ → ℕ → ℕ
+first_slot slots mark = mark / 2 ^ 32 % max (length slots) 1
+
+-- no element stands twice
+abbrev pub HasDistinct : {K : Type 0} → List K → Type 0
+HasDistinct list = (i j : ℕ) (x : _) → slice_get list i ≡ Some x → slice_get list j ≡ Some x → i ≡ j
+
+module _ {K : Type 0} where
+  -- the list does not have the element
+  abbrev pub IsAbsent : List K → K → Type 0
+  IsAbsent list x = (n : NodeNumber) → slice_get list n.0 ≡ Some x → ⊥
+
+  -- no number of the element is among the slots
+  abbrev pub IsNotAmong : List K → K → List ℕ → ℕ → ℕ → Type 0
+  IsNotAmong list x slots left at =
+      (n : NodeNumber) → slice_get list n.0 ≡ Some x → IsAmong slots left at n.0 → ⊥
+
+module _ {K : Type 0} (cmp : K → K → Ordering) (mark : K → ℕ) where
+  -- a search for the element comes to this number
+  abbrev pub IsFound : Index K → K → NodeNumber → Type 0
+  IsFound index x number =
+      IsAmong index.slots.items window (first_slot index.slots.items (mark x)) number.0
+      ⊎ (get cmp index.crowded x ≡ Some number)
+
+  -- what the map has is right
+  abbrev pub IsRight : List K → Index K → Type 0
+  IsRight list index = (x : K) (number : NodeNumber) → get cmp index.crowded x ≡ Some number →
+      slice_get list number.0 ≡ Some x
+
+  -- a search for each of so many elements comes to its number, and what the map has is right
+  pub record IsIndexedTo (count : ℕ) (list : List K) (index : Index K) : Type 0 where
+    pub found : (x : K) (number : NodeNumber) → number.0 < count → slice_get list number.0 ≡ Some x → IsFound index x number
+    pub right : IsRight list index
+
+  -- a search for each element comes to its number, and what the map has is right
+  abbrev pub IsIndexed : List K → Index K → Type 0
+  IsIndexed list index = IsIndexedTo (length list) list index
+
+  -- what a search came to it comes to, but for another number of this element
+  abbrev pub KeepsFound : Index K → Index K → K → NodeNumber → Type 0
+  KeepsFound old new element number = (x : K) (n : NodeNumber) → (x ≡ element → n ≡ number) →
+      IsFound old x n → IsFound new x n
+
+  -- what the map has is this number of this element, or was there
+  abbrev pub AddsAtMost : Index K → Index K → K → NodeNumber → Type 0
+  AddsAtMost old new element number = (x : K) (n : NodeNumber) → get cmp new.crowded x ≡ Some n →
+      ((x ≡ element) × (n ≡ number)) ⊎ (get cmp old.crowded x ≡ Some n)

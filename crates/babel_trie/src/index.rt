@@ -1,0 +1,141 @@
+//! Where the elements of a list are found again.
+ghost use Rattle.std.specs.Prelude.{◌≡◌, ◌^◌, ◌<◌, ◌++◌, ◌∷◌, [], length, slice_get, Some, IfSome, IfNone, OnOk};
+ghost use Rattle.babel_trie.specs.Index.{IsNotAmong, IsFreeAmong, first_slot, HasDistinct, IsAbsent};
+ghost use Rattle.babel_trie.specs.Index.{IsFound, KeepsFound, AddsAtMost, IsIndexed};
+
+use crate::lawful::{LawfulOrd, are_same};
+use crate::table::NodeNumber;
+use std::alloc::{AllocError, Global};
+use std::collections::BTreeMap;
+
+/// In how many slots an element can stand.
+const WINDOW: u8 = 16;
+
+/// Where the elements of a list are found again, in which none stands twice. Each has one of a few slots, from the one
+/// that its mark leads to on, or, where all of these are taken, a place in a map. So no choice of elements makes a
+/// search longer than one in that map.
+#[derive(Drop)]
+pub struct Index<K: Ord> {
+    /// One more than an element's number, or 0 where the slot is free.
+    slots: Vec<u32>,
+    crowded: BTreeMap<K, NodeNumber>,
+}
+
+/// The number of an element that one of so many slots from this one on has, if none before it is free.
+fn number_among<K: LawfulOrd>(
+    slots: &[u32],
+    list: &[K],
+    element: K,
+    at: usize,
+    left: u8,
+) -> Option<NodeNumber>
+    ensures some { IfSome result (λ n. slice_get list.now n.0 ≡ Some element) }
+    ensures none { IfNone result (IsNotAmong list.now element slots.now left at) }
+{
+    if left == 0 || at >= slots.len() {
+        return None;
+    }
+    let slot = slots[at];
+    if slot == 0 {
+        return None;
+    }
+    let number = NodeNumber(slot - 1);
+    if let Some(other) = list.get(number.index()) {
+        if are_same(*other, element) {
+            return Some(number);
+        }
+    }
+    number_among(slots, list, element, at + 1, left - 1)
+}
+
+/// The first of so many slots from this one on that is free.
+fn free_among(slots: &[u32], at: usize, left: u8) -> Option<usize>
+    ensures { IfSome result (λ place. IsFreeAmong slots.now left at place) }
+{
+    if left == 0 || at >= slots.len() {
+        return None;
+    }
+    if slots[at] == 0 {
+        return Some(at);
+    }
+    free_among(slots, at + 1, left - 1)
+}
+
+impl<K: LawfulOrd> Index<K> {
+    pub fn new(alloc: Global) -> Index<K>
+        ensures { IsIndexed K.cmp K.mark [] result }
+    {
+        Index {
+            slots: Vec::new(alloc),
+            crowded: BTreeMap::new(alloc),
+        }
+    }
+
+    /// The slot at which a search for an element begins.
+    fn first_slot(&self, element: K) -> usize
+        ensures { result ≡ first_slot self.now.slots.items (K.mark element) }
+    {
+        (element.mark() >> 32) as usize % self.slots.len().max(1)
+    }
+
+    /// The number of an element in the list.
+    pub fn get(&self, list: &[K], element: K) -> Option<NodeNumber>
+        requires { IsIndexed K.cmp K.mark list.now self.now }
+        ensures some { IfSome result (λ n. slice_get list.now n.0 ≡ Some element) }
+        ensures none { IfNone result (IsAbsent list.now element) }
+    {
+        let first = self.first_slot(element);
+        let Some(number) = number_among(&self.slots, list, element, first, WINDOW) else {
+            return self.crowded.get(&element).copied();
+        };
+        Some(number)
+    }
+
+    /// Keeps the number of an element.
+    fn keep(&mut self, element: K, number: NodeNumber) -> Result<(), AllocError>
+        ensures kept { OnOk result (IsFound K.cmp K.mark self.new element number) }
+        ensures others { OnOk result (KeepsFound K.cmp K.mark self.old self.new element number) }
+        ensures crowded { OnOk result (AddsAtMost K.cmp K.mark self.old self.new element number) }
+    {
+        let first = self.first_slot(element);
+        if let Some(place) = free_among(&self.slots, first, WINDOW) {
+            if let Some(slot) = number.0.checked_add(1) {
+                self.slots[place] = slot;
+                return Ok(());
+            }
+        }
+        self.crowded.insert(element, number)?;
+        Ok(())
+    }
+
+    /// Makes more slots where half of them are taken, and finds each element of the list its place among them.
+    fn make_room(&mut self, list: &[K]) -> Result<(), AllocError>
+        requires indexed { IsIndexed K.cmp K.mark list.now self.old }
+        requires distinct { HasDistinct list.now }
+        requires few { length list.now < 2 ^ 32 }
+        ensures { OnOk result (IsIndexed K.cmp K.mark list.now self.new) }
+    {
+        if list.len() < self.slots.len() / 2 {
+            return Ok(());
+        }
+        self.slots.clear();
+        self.slots.resize(4 * list.len() + 64, 0)?;
+        for at in 0..list.len() {
+            self.keep(list[at], NodeNumber(at as u32))?;
+        }
+        Ok(())
+    }
+
+    /// Keeps the number of an element that the list is going to have next, and does not have.
+    pub fn add(&mut self, list: &[K], element: K, number: NodeNumber) -> Result<(), AllocError>
+        requires indexed { IsIndexed K.cmp K.mark list.now self.old }
+        requires distinct { HasDistinct list.now }
+        requires next { number.0 ≡ length list.now }
+        requires absent { IsAbsent list.now element }
+        ensures { OnOk result (IsIndexed K.cmp K.mark (list.now ++ element ∷ []) self.new) }
+    {
+        self.make_room(list)?;
+        self.keep(element, number)?;
+        Ok(())
+    }
+}
