@@ -12,8 +12,10 @@ use Rattle.babel_trie.specs.declared.differing.Differing.{Differing}
 use Rattle.babel_tlv.specs.declared.held.Held.{Held}
 use Rattle.babel_tlv.specs.Pair.{Pair}
 use Rattle.babel_table.specs.Rows.{entries_of}
-use Rattle.babel_canon.specs.Differences.{AreFamilyDifferences, DifferencesAreFewest, FirstHasLeast, NoneWhereSame, difference_at}
-use Rattle.babel_canon.specs.Verdict.{IsLeastDifference, SameInFamily}
+use Rattle.babel_canon.specs.Differences.{AreFamilyDifferences, difference_at}
+use Rattle.babel_canon.specs.DifferenceLaws.{DifferencesAreFewest, FirstHasLeast, NoneWhereSame}
+use Rattle.babel_canon.specs.Verdict.{IsLeastDifference}
+use Rattle.babel_canon.specs.FirstDifference.{SameInFamily}
 use Rattle.babel_canon.specs.declared.every_difference.Difference.{Difference}
 use Rattle.babel_canon.proofs.Boxes.{held_test, same_in}
 use Rattle.babel_canon.proofs.DifferenceLists.{differences-length}

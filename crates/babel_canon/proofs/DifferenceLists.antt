@@ -6,7 +6,7 @@ use Rattle.babel_prefix.specs.Best.{Row}
 use Rattle.babel_trie.specs.declared.differing.Differing.{Differing}
 use Rattle.babel_tlv.specs.declared.held.Held.{Held}
 use Rattle.babel_canon.specs.Differences.{difference_at}
-use Rattle.babel_canon.specs.PackedDifferences.{valued_row}
+use Rattle.babel_canon.specs.PackedDifferences.{valued_differences, valued_row}
 use Rattle.babel_canon.specs.declared.values.PackedValue.{PackedValue}
 
 -- how many there are
@@ -14,6 +14,5 @@ pub differences-length : (v4 v6 : List (Row (Differing Held))) → length (map (
 differences-length v4 v6 = omega (arith, length-append (map (difference_at V4) v4) (map (difference_at V6) v6), length-map v4 (difference_at V4), length-map v6 (difference_at V6))
 
 -- how many there are, by the packed boxes
-pub packed-length : (values others : List Held) (v4 v6 : List (Row (Differing PackedValue))) →
-    length (map (difference_at V4) (map (valued_row values) v4) ++ map (difference_at V6) (map (valued_row others) v6)) ≡ length v4 + length v6
-packed-length values others v4 v6 = omega (arith, differences-length (map (valued_row values) v4) (map (valued_row others) v6), length-map v4 (valued_row values), length-map v6 (valued_row others))
+pub valued-length : (values : List Held) (v4 v6 : List (Row (Differing PackedValue))) → length (valued_differences values v4 v6) ≡ length v4 + length v6
+valued-length values v4 v6 = omega (arith, differences-length (map (valued_row values) v4) (map (valued_row values) v6), length-map v4 (valued_row values), length-map v6 (valued_row values))

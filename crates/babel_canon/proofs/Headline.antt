@@ -10,7 +10,7 @@ use Rattle.babel_tlv.specs.declared.mode.Mode.{Mode}
 use Rattle.babel_tlv.specs.declared.mode.Mode.TheVariants as modes
 use Rattle.babel_tlv.specs.Route.{RouteKey}
 use Rattle.babel_tlv.specs.Pair.{Pair}
-use Rattle.babel_tlv.specs.Group.{IsText}
+use Rattle.babel_tlv.specs.Group.{IsCanonicalText}
 use Rattle.babel_tlv.specs.Framing.{TlvAt}
 use Rattle.babel_tlv.specs.Says.{sayings}
 use Rattle.babel_tlv.specs.News.{spoken, pair_event}
@@ -82,18 +82,18 @@ told_one sender octets ps qs one other =
 any_sender : Address
 any_sender = record { family = V4; bits = 0 }
 
-back : (mode : Mode) (body : ℕ) (pairs : List Pair) (octets : List ℕ) (sender : Address) → IsBodySize body → AreRows pairs → AreReadableIn mode pairs → IsText body pairs octets
+back : (mode : Mode) (body : ℕ) (pairs : List Pair) (octets : List ℕ) (sender : Address) → IsBodySize body → AreRows pairs → AreReadableIn mode pairs → IsCanonicalText body pairs octets
     → ReadsBack mode sender octets pairs
 back mode body pairs octets sender size rows reads text = text_reads_back mode body pairs octets sender size.said rows.each (rising-apart pairs rows.rising) reads text
 
-pairs_one : (body : ℕ) (ps qs : List Pair) (octets : List ℕ) → IsBodySize body → AreRows ps → AreRows qs → IsText body ps octets → IsText body qs octets → ps ≡ qs
+pairs_one : (body : ℕ) (ps qs : List Pair) (octets : List ℕ) → IsBodySize body → AreRows ps → AreRows qs → IsCanonicalText body ps octets → IsCanonicalText body qs octets → ps ≡ qs
 pairs_one body ps qs octets size p_rows q_rows p_text q_text =
     told_one any_sender octets ps qs (back modes.Hold body ps octets any_sender size p_rows tt p_text).tells (back modes.Hold body qs octets any_sender size q_rows tt q_text).tells
 
 -- ---- equal octets are of equal answers
 
 pub forms_tell : (body : ℕ) → IsBodySize body → (rows others boxes other_boxes : List Pair) (octets other_octets : List ℕ) → AreBoxes rows boxes → AreBoxes others other_boxes
-    → IsText body boxes octets → IsText body other_boxes other_octets → (octets ≡ other_octets) ↔ AnswerTheSame rows others
+    → IsCanonicalText body boxes octets → IsCanonicalText body other_boxes other_octets → (octets ≡ other_octets) ↔ AnswerTheSame rows others
 forms_tell body size rows others boxes other_boxes octets other_octets are other_are text other_text = (answers_same, octets_same)
   where
     octets_same : AnswerTheSame rows others → octets ≡ other_octets
@@ -102,7 +102,7 @@ forms_tell body size rows others boxes other_boxes octets other_octets are other
     answers_same : octets ≡ other_octets → AnswerTheSame rows others
     answers_same same =
         let boxes_are : boxes ≡ other_boxes =
-        pairs_one body boxes other_boxes other_octets size are.are_rows other_are.are_rows (subst (λ (o : List ℕ). IsText body boxes o) same text) other_text in
+        pairs_one body boxes other_boxes other_octets size are.are_rows other_are.are_rows (subst (λ (o : List ℕ). IsCanonicalText body boxes o) same text) other_text in
         same_on rows boxes others (same_back boxes rows (boxes_answer rows boxes are))
         (subst (λ (l : List Pair). AnswerTheSame l others) (sym boxes_are) (boxes_answer others other_boxes other_are))
 
@@ -115,7 +115,7 @@ pub record IsItsOwn (limits : Bounds) (mode : Mode) (body : ℕ) (boxes : List P
   pub boxes_are : again.boxes ≡ boxes
 
 pub its_own : (limits : Bounds) (mode : Mode) (body : ℕ) → AreBounds limits → IsBodySize body → (rows boxes : List Pair) (octets : List ℕ) → AreBoxes rows boxes → AreReadableIn mode boxes
-    → length boxes ≤ limits.entries → IsText body boxes octets → (any : Address) → IsItsOwn limits mode body boxes octets any
+    → length boxes ≤ limits.entries → IsCanonicalText body boxes octets → (any : Address) → IsItsOwn limits mode body boxes octets any
 its_own limits mode body bounds size rows boxes octets are reads few text any =
     let read = back mode body boxes octets any size are.are_rows reads text in
     record {

@@ -17,8 +17,10 @@ mod Normal
 mod Numbered
 mod ValueLists
 mod SinkLaws
+mod GridLaws
 mod MappedBoxes
 mod PackedDifferences
 mod DifferenceLists
 mod DifferenceLaws
+pub mod OneDifferences
 pub mod Views

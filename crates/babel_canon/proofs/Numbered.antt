@@ -1,47 +1,42 @@
 -- Answers and boxes by number are those by value.
-use Rattle.std.proofs.Common.{◌≡◌, ℕ, zero, suc, ◌<◌, Bool, true, false, not, cond, ◌&&◌, ◌||◌, List, [], ◌∷◌, length, map, get_or, Option, Some, None, refl, sym, ap, subst, ◌∙◌, arith, Contains}
-use Rattle.std.specs.List.{All, AllPairs, find, list_all, slice_get}
+use Rattle.std.proofs.Common.{◌≡◌, ℕ, zero, suc, ◌<◌, Bool, true, false, not, cond, ◌&&◌, ◌||◌, List, [], ◌∷◌, length, map, get_or, Option, Some, None, refl, sym, ap, subst, ◌∙◌, arith}
+use Rattle.std.specs.List.{All, find, list_all, slice_get}
 use Rattle.std.specs.Option.{option_map}
-use Rattle.std.proofs.lemmas.List.{length-map}
-use Rattle.babel_prefix.specs.Block.{Block}
 use Rattle.babel_prefix.specs.Best.{Row, matches, is_no_longer, is_best, answer}
-use Rattle.babel_prefix.proofs.EntryLaws.{Listed-map, map-Listed}
-use Rattle.babel_prefix.proofs.Members.{Listed-from_Contains, Contains-from_Listed, find-Some, find-same}
-use Rattle.babel_trie.specs.Boxes.{Answers, IsUniform, IsConstant, IsBox, IsBefore, IsBoxList, SameAnswers, IsLeastDifference}
+use Rattle.babel_prefix.proofs.Members.{Contains-from_Listed, find-Some, find-same}
+use Rattle.babel_trie.specs.Boxes.{Answers, IsBoxList, SameAnswers, IsLeastDifference}
 use Rattle.babel_tlv.specs.declared.held.Held.{Held}
 use Rattle.babel_canon.specs.declared.values.PackedValue.{PackedValue}
 use Rattle.babel_canon.specs.Values.{HasValue, IsPacked, origin_of, value_of, valued}
 use Rattle.babel_canon.specs.NumberOrder.{same_packed}
+use Rattle.babel_canon.proofs.MappedBoxes.{mapped_boxes, mapped_row}
 
 -- ---- the best row depends on prefixes alone
 
 module _ {A B : Type 0} (h : A → B) where
-  abbrev pub revalued : Row A → Row B
-  revalued row = record { dst = row.dst; src = row.src; value = h row.value }
-
-  found-map : (test : Row B → Bool) (rows : List (Row A)) → find test (map revalued rows) ≡ option_map revalued (find (λ row. test (revalued row)) rows)
+  found-map : (test : Row B → Bool) (rows : List (Row A)) → find test (map (mapped_row h) rows) ≡ option_map (mapped_row h) (find (λ row. test (mapped_row h row)) rows)
   found-map test [] = refl
-  found-map test (row ∷ rows) = by (test (revalued row)) (found-map test rows)
+  found-map test (row ∷ rows) = by (test (mapped_row h row)) (found-map test rows)
     where
-      by : (b : Bool) → find test (map revalued rows) ≡ option_map revalued (find (λ other. test (revalued other)) rows)
-          → cond b (Some (revalued row)) (find test (map revalued rows)) ≡ option_map revalued (cond b (Some row) (find (λ other. test (revalued other)) rows))
+      by : (b : Bool) → find test (map (mapped_row h) rows) ≡ option_map (mapped_row h) (find (λ other. test (mapped_row h other)) rows)
+          → cond b (Some (mapped_row h row)) (find test (map (mapped_row h) rows)) ≡ option_map (mapped_row h) (cond b (Some row) (find (λ other. test (mapped_row h other)) rows))
       by true later = refl
       by false later = later
 
-  all-map : (test : Row B → Bool) (rows : List (Row A)) → list_all test (map revalued rows) ≡ list_all (λ row. test (revalued row)) rows
+  all-map : (test : Row B → Bool) (rows : List (Row A)) → list_all test (map (mapped_row h) rows) ≡ list_all (λ row. test (mapped_row h row)) rows
   all-map test [] = refl
-  all-map test (row ∷ rows) = ap (λ b. test (revalued row) && b) (all-map test rows)
+  all-map test (row ∷ rows) = ap (λ b. test (mapped_row h row) && b) (all-map test rows)
 
-  value-map : (found : Option (Row A)) → option_map (λ (row : Row B). row.value) (option_map revalued found) ≡ option_map h (option_map (λ (row : Row A). row.value) found)
+  value-map : (found : Option (Row A)) → option_map (λ (row : Row B). row.value) (option_map (mapped_row h) found) ≡ option_map h (option_map (λ (row : Row A). row.value) found)
   value-map None = refl
   value-map (Some row) = refl
 
-  pub answer-map : (w : ℕ) (rows : List (Row A)) (d s : ℕ) → answer w (map revalued rows) d s ≡ option_map h (answer w rows d s)
+  pub answer-map : (w : ℕ) (rows : List (Row A)) (d s : ℕ) → answer w (map (mapped_row h) rows) d s ≡ option_map h (answer w rows d s)
   answer-map w rows d s =
       ap (option_map (λ (row : Row B). row.value)) (
-      found-map (is_best w (map revalued rows) d s) rows
-      ∙ ap (option_map revalued) (find-same (λ row. is_best w (map revalued rows) d s (revalued row)) (is_best w rows d s) rows
-      (λ row listed. ap (λ b. matches w d s row && b) (all-map (λ other. not (matches w d s other) || is_no_longer other (revalued row)) rows)))
+      found-map (is_best w (map (mapped_row h) rows) d s) rows
+      ∙ ap (option_map (mapped_row h)) (find-same (λ row. is_best w (map (mapped_row h) rows) d s (mapped_row h row)) (is_best w rows d s) rows
+      (λ row listed. ap (λ b. matches w d s row && b) (all-map (λ other. not (matches w d s other) || is_no_longer other (mapped_row h row)) rows)))
       )
       ∙ value-map (find (is_best w rows d s) rows)
 
@@ -81,9 +76,12 @@ module _ (values : List Held) where
   says_value n None e = absurd e
   says_value n (Some h) e = (ap Some (sym e.restores), subst (λ (k : Held). IsPacked values k n) (sym e.restores) e)
 
-  some_number : (n : Option PackedValue) (h : Held) → Says n (Some h) → (m : PackedValue) × (n ≡ Some m) × (value_of values m ≡ h)
-  some_number None h e = absurd e
-  some_number (Some n) h e = (n, refl, e.restores)
+  -- the answer that one in eight octets stands for
+  pub says_map : (n : Option PackedValue) (h : Option Held) → Says n h → h ≡ option_map (value_of values) n
+  says_map None None e = refl
+  says_map None (Some h) e = absurd e
+  says_map (Some n) None e = absurd e
+  says_map (Some n) (Some h) e = ap Some (sym e.restores)
 
   -- ---- rows by number answer what they answer by value
 
@@ -100,58 +98,14 @@ module _ (values : List Held) where
   -- ---- boxes by number are the boxes by value
 
   module _ (distinct : AreDistinct values) (w : ℕ) (g : Answers PackedValue) (f : Answers Held) (says : (d s : ℕ) → Says (g d s) (f d s)) where
-    to_value : (d s e t : ℕ) → g d s ≡ g e t → f d s ≡ f e t
-    to_value d s e t same = says_one (g e t) (f d s) (f e t) (subst (λ (n : Option PackedValue). Says n (f d s)) same (says d s)) (says e t)
-
     to_number : (d s e t : ℕ) → f d s ≡ f e t → g d s ≡ g e t
     to_number d s e t same = said_once distinct (g d s) (g e t) (f e t) (subst (λ (h : Option Held). Says (g d s) h) same (says d s)) (says e t)
 
-    uniform_by_value : (block : Block) → IsUniform w g block → IsUniform w f block
-    uniform_by_value block u d e s d_in e_in s_in in_d in_e = to_value d s e s (u d e s d_in e_in s_in in_d in_e)
+    pub boxes_by_value : (boxes : List (Row PackedValue)) → IsBoxList w g boxes → IsBoxList w f (map (valued values) boxes)
+    boxes_by_value = mapped_boxes (value_of values) w g f (λ d s. says_map (g d s) (f d s) (says d s)) (λ d s e t _ _ _ _ same. to_number d s e t same)
 
-    uniform_by_number : (block : Block) → IsUniform w f block → IsUniform w g block
-    uniform_by_number block u d e s d_in e_in s_in in_d in_e = to_number d s e s (u d e s d_in e_in s_in in_d in_e)
-
-    constant_by_value : (dst : ℕ) (block : Block) → IsConstant w g dst block → IsConstant w f dst block
-    constant_by_value dst block c s t s_in t_in in_s in_t = to_value dst s dst t (c s t s_in t_in in_s in_t)
-
-    constant_by_number : (dst : ℕ) (block : Block) → IsConstant w f dst block → IsConstant w g dst block
-    constant_by_number dst block c s t s_in t_in in_s in_t = to_number dst s dst t (c s t s_in t_in in_s in_t)
-
-    box_by_value : (box : Row PackedValue) → IsBox w g box → IsBox w f (valued values box)
-    box_by_value box b = record {
-      dst_is_prefix = b.dst_is_prefix;
-      src_is_prefix = b.src_is_prefix;
-      uniform = uniform_by_value box.dst b.uniform;
-      dst_is_longest = λ some u. b.dst_is_longest some (uniform_by_number _ u);
-      constant = λ d d_in in_d. constant_by_value d box.src (b.constant d d_in in_d);
-      src_is_longest = λ d d_in in_d some c. b.src_is_longest d d_in in_d some (constant_by_number d _ c);
-      answered = λ d s d_in s_in in_d in_s. (says_value box.value (f d s) (subst (λ (n : Option PackedValue). Says n (f d s)) (b.answered d s d_in s_in in_d in_s) (says d s))).0;
-    }
-
-    -- the box by number of a box by value
-    box_by_number : (box : Row Held) → IsBox w f box → (numbered : Row PackedValue) × IsBox w g numbered × (valued values numbered ≡ box)
-    box_by_number box b =
-        let d = box.dst.start in
-        let s = box.src.start in
-        let here : f d s ≡ Some box.value = b.answered d s b.dst_is_prefix.start_in_range b.src_is_prefix.start_in_range refl refl in
-        let number = some_number (g d s) box.value (subst (λ (h : Option Held). Says (g d s) h) here (says d s)) in
-        let numbered : Row PackedValue = record { dst = box.dst; src = box.src; value = number.0 } in (
-          numbered,
-          record {
-            dst_is_prefix = b.dst_is_prefix;
-            src_is_prefix = b.src_is_prefix;
-            uniform = uniform_by_number box.dst b.uniform;
-            dst_is_longest = λ some u. b.dst_is_longest some (uniform_by_value _ u);
-            constant = λ e e_in in_e. constant_by_number e box.src (b.constant e e_in in_e);
-            src_is_longest = λ e e_in in_e some c. b.src_is_longest e e_in in_e some (constant_by_value e _ c);
-            answered = λ e t e_in t_in in_e in_t. to_number e t d s (b.answered e t e_in t_in in_e in_t ∙ sym here) ∙ number.1;
-          },
-          ap (λ (h : Held). let r : Row Held = record { dst = box.dst; src = box.src; value = h } in r) number.2,
-        )
-
-    numbers_in : (boxes : List (Row PackedValue)) → IsBoxList w g boxes → All (λ row. HasValue values row.value) boxes
-    numbers_in boxes are i d i_in =
+    pub numbers_of_boxes : (boxes : List (Row PackedValue)) → IsBoxList w g boxes → All (λ row. HasValue values row.value) boxes
+    numbers_of_boxes boxes are i d i_in =
         let box = get_or boxes i d in
         let b = (are.exact box).0 (i, i_in, same_default boxes i d i_in) in
         let at = b.answered box.dst.start box.src.start b.dst_is_prefix.start_in_range b.src_is_prefix.start_in_range refl refl in
@@ -161,37 +115,6 @@ module _ (values : List Held) where
         same_default [] i d i_in = absurd (omega arith)
         same_default (x ∷ xs) zero d i_in = refl
         same_default (x ∷ xs) (suc i) d i_in = same_default xs i d (omega arith)
-
-    in_order : (boxes : List (Row PackedValue)) → AllPairs IsBefore boxes → AllPairs IsBefore (map (valued values) boxes)
-    in_order [] order i j d lt j_in = absurd (omega arith)
-    in_order (first ∷ rest) order i j d lt j_in =
-        let boxes = first ∷ rest in
-        let j_is : j < length boxes = subst (λ (n : ℕ). j < n) (length-map boxes (valued values)) j_in in
-        let i_at = at_place boxes i d first (omega arith) in
-        let j_at = at_place boxes j d first j_is in
-        subst (λ (r : Row Held). IsBefore r (get_or (map (valued values) boxes) j d)) (sym i_at)
-        (subst (λ (r : Row Held). IsBefore (valued values (get_or boxes i first)) r) (sym j_at) (order i j first lt j_is))
-      where
-        at_place : (xs : List (Row PackedValue)) (i : ℕ) (d : Row Held) (e : Row PackedValue) → i < length xs → get_or (map (valued values) xs) i d ≡ valued values (get_or xs i e)
-        at_place [] i d e i_in = absurd (omega arith)
-        at_place (x ∷ xs) zero d e i_in = refl
-        at_place (x ∷ xs) (suc i) d e i_in = at_place xs i d e (omega arith)
-
-    pub boxes_by_value : (boxes : List (Row PackedValue)) → IsBoxList w g boxes → IsBoxList w f (map (valued values) boxes)
-    boxes_by_value boxes are = record {
-      in_order = in_order boxes are.in_order;
-      exact = λ box. (
-        (λ c. let found = Listed-map (valued values) boxes box (Listed-from_Contains (map (valued values) boxes) box c) in
-            subst (IsBox w f) found.2 (box_by_value found.0 ((are.exact found.0).0 (Contains-from_Listed boxes found.0 found.1)))),
-        (λ b. let numbered = box_by_number box b in
-            subst (Contains (map (valued values) boxes)) numbered.2
-            (Contains-from_Listed (map (valued values) boxes) (valued values numbered.0)
-            (map-Listed (valued values) boxes numbered.0 (Listed-from_Contains boxes numbered.0 ((are.exact numbered.0).1 numbered.1))))),
-      );
-    }
-
-    pub numbers_of_boxes : (boxes : List (Row PackedValue)) → IsBoxList w g boxes → All (λ row. HasValue values row.value) boxes
-    numbers_of_boxes boxes are = numbers_in boxes are
 
   -- ---- where answers by number differ, they differ by value
 

@@ -3,7 +3,7 @@ use Rattle.std.proofs.Common.{◌≡◌, ℕ, List, length, refl, sym, ap, subst
 use Rattle.babel_prefix.specs.Address.{Address}
 use Rattle.babel_tlv.specs.declared.mode.Mode.{Mode}
 use Rattle.babel_tlv.specs.Pair.{Pair}
-use Rattle.babel_tlv.specs.Group.{IsText}
+use Rattle.babel_tlv.specs.Group.{IsCanonicalText}
 use Rattle.babel_tlv.proofs.TextOnce.{text_one}
 use Rattle.babel_table.specs.Bounds.{Bounds}
 use Rattle.babel_table.specs.Rows.{Routes}
@@ -17,8 +17,8 @@ use Rattle.babel_canon.proofs.Boxes.{boxes_one}
 pub rows_one : (limits : Bounds) (mode : Mode) (sender : Address) (dump : List ℕ) (table other : Routes) → IsTableOf limits mode sender dump table → IsTableOf limits mode sender dump other → table.rows ≡ other.rows
 rows_one limits mode sender dump table other is_table is_other = ap (λ (t : Routes). t.rows) (table_is_one limits mode sender dump table other is_table is_other)
 
-pub texts_one : (body : ℕ) (ps qs : List Pair) (octets other : List ℕ) → ps ≡ qs → IsText body ps octets → IsText body qs other → octets ≡ other
-texts_one body ps qs octets other same p_text q_text = text_one body qs octets other (subst (λ (l : List Pair). IsText body l octets) same p_text) q_text
+pub texts_one : (body : ℕ) (ps qs : List Pair) (octets other : List ℕ) → ps ≡ qs → IsCanonicalText body ps octets → IsCanonicalText body qs other → octets ≡ other
+texts_one body ps qs octets other same p_text q_text = text_one body qs octets other (subst (λ (l : List Pair). IsCanonicalText body l octets) same p_text) q_text
 
 -- equal rows have equal boxes
 pub boxes_same : (rows others ps qs : List Pair) → rows ≡ others → AreBoxes rows ps → AreBoxes others qs → ps ≡ qs

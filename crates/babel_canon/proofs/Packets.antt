@@ -5,7 +5,7 @@ use Rattle.byteorder.specs.Endian.{big_bytes}
 use borrow.Rule.Slice.PartMut.{mid_of, put_mid}
 use Rattle.babel_tlv.specs.Framing.{framed}
 use Rattle.babel_tlv.specs.Pair.{Pair}
-use Rattle.babel_tlv.specs.Group.{group, group_in, groups_behind, body_of, route_tlvs, update_tlv, pair_family, shared_octets, dst_in, held_seqno, held_metric, written_after, Written, ArePacked, IsText}
+use Rattle.babel_tlv.specs.Group.{group, group_in, groups_behind, body_of, route_tlvs, update_tlv, pair_family, shared_octets, dst_in, held_seqno, held_metric, written_after, Written, ArePacked, IsCanonicalText}
 use Rattle.babel_tlv.proofs.TextTold.{packed}
 use Rattle.babel_canon.specs.Packing.{headed}
 use Rattle.babel_canon.specs.Sizes.{IsBodySize}
@@ -68,7 +68,7 @@ module _ (body : ℕ) (pairs : List Pair) (pair : Pair) where
         writing = after (latest_first [] last) writing ∙ ap written_after (sym (latest_first-snoc [] last pair));
         none = λ e. absurd (not_none last pair e);
         goes_on = λ more packets packs.
-            subst (λ (ps : List Pair). IsText body ps (text.front ++ packed packets)) (sym (append_assoc pairs (pair ∷ []) more))
+            subst (λ (ps : List Pair). IsCanonicalText body ps (text.front ++ packed packets)) (sym (append_assoc pairs (pair ∷ []) more))
             (text.goes_on (pair ∷ more) packets (subst (λ (ps : List Pair). ArePacked body ps packets) (append_assoc last (pair ∷ []) more) packs));
       }
 
@@ -97,8 +97,8 @@ module _ (body : ℕ) (pairs : List Pair) (pair : Pair) where
         writing = writing;
         none = λ e. absurd (not_none [] pair e);
         goes_on = λ more packets packs.
-            subst (λ (ps : List Pair). IsText body ps (old.octets.items ++ packed packets)) (sym (append_assoc pairs (pair ∷ []) more))
-            (subst (λ (o : List ℕ). IsText body (pairs ++ pair ∷ more) o)
+            subst (λ (ps : List Pair). IsCanonicalText body ps (old.octets.items ++ packed packets)) (sym (append_assoc pairs (pair ∷ []) more))
+            (subst (λ (o : List ℕ). IsCanonicalText body (pairs ++ pair ∷ more) o)
             (sym (append_assoc text.front (framed (body_of last)) (packed packets)) ∙ ap (λ (o : List ℕ). o ++ packed packets) (sym text.octets))
             (text.goes_on (pair ∷ more) (last ∷ packets) (pair ∷ more, refl, some, text.fits, full, packs)));
       }
@@ -106,17 +106,17 @@ module _ (body : ℕ) (pairs : List Pair) (pair : Pair) where
 -- ---- all pairs
 
 -- a text with no octet in its last packet is that of no pair
-pub text_none : (body : ℕ) (text : Text) (pairs : List Pair) → IsTextOf body text pairs → text.len ≡ 0 → IsText body pairs []
+pub text_none : (body : ℕ) (text : Text) (pairs : List Pair) → IsTextOf body text pairs → text.len ≡ 0 → IsCanonicalText body pairs []
 text_none body text pairs is none =
     let empty = is.none (some_octets is.last (sym is.long ∙ none)) in
-    subst (λ (ps : List Pair). IsText body ps []) (sym empty.1) ([], refl, refl)
+    subst (λ (ps : List Pair). IsCanonicalText body ps []) (sym empty.1) ([], refl, refl)
 
-pub text_whole : (body : ℕ) (text : Text) (pairs : List Pair) → IsTextOf body text pairs → text.len ≢ 0 → IsText body pairs text.octets.items
+pub text_whole : (body : ℕ) (text : Text) (pairs : List Pair) → IsTextOf body text pairs → text.len ≢ 0 → IsCanonicalText body pairs text.octets.items
 text_whole body text pairs is some =
     let last = is.last in
     let not_empty : last ≢ [] = λ e. some (is.long ∙ ap (λ (ps : List Pair). length (body_of ps)) e) in
-    subst (λ (ps : List Pair). IsText body ps text.octets.items) (append-nil pairs)
-    (subst (λ (o : List ℕ). IsText body (pairs ++ []) o) (ap (λ (o : List ℕ). is.front ++ o) (append-nil (framed (body_of last))) ∙ sym is.octets)
+    subst (λ (ps : List Pair). IsCanonicalText body ps text.octets.items) (append-nil pairs)
+    (subst (λ (o : List ℕ). IsCanonicalText body (pairs ++ []) o) (ap (λ (o : List ℕ). is.front ++ o) (append-nil (framed (body_of last))) ∙ sym is.octets)
     (is.goes_on [] (last ∷ []) ([], refl, not_empty, is.fits, tt, refl)))
 
 -- ---- the length in a header

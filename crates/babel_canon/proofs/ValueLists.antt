@@ -20,7 +20,7 @@ use Rattle.babel_trie.proofs.NumberLaws.{slice_get-push, slice_get-kept, slice_g
 use Rattle.babel_tlv.specs.declared.held.Held.{Held}
 use Rattle.babel_tlv.specs.declared.held.Held.TheVariants as helds
 use Rattle.babel_tlv.specs.contracts.held.HeldOrd.TheImpl.{ghosts}
-use Rattle.babel_tlv.specs.Route.{IsRouteKey}
+use Rattle.babel_tlv.specs.Route.{AreOfOneFamily}
 use Rattle.babel_tlv.specs.Group.{held_seqno, held_metric}
 use Rattle.babel_tlv.specs.Pair.{Pair, held_cmp}
 use Rattle.babel_tlv.proofs.OrderLaws.{held_exact}
@@ -188,7 +188,7 @@ module _ (values : List Held) where
 -- ---- the rows of one family as entries
 
 pub kept_by : (family : Family) (rows : List Pair) (row : Pair) (values more : List Held) (number : PackedValue) (old new : List (Entry PackedValue))
-    → IsRouteKey row.0 → row.0.dst.address.family ≡ family → new ≡ old ++ (row.0.dst, row.0.src, number) ∷ [] → KeepsValues values more → IsPacked more row.1 number
+    → AreOfOneFamily row.0 → row.0.dst.address.family ≡ family → new ≡ old ++ (row.0.dst, row.0.src, number) ∷ [] → KeepsValues values more → IsPacked more row.1 number
     → AreNumberedEntries family rows values old → AreNumberedEntries family (rows ++ row ∷ []) more new
 kept_by family rows row values more number old new one_family here new_is keeps found so_far =
     let entry : Entry PackedValue = (row.0.dst, row.0.src, number) in

@@ -9,7 +9,8 @@ use Rattle.babel_prefix.specs.Entries.{answers_in, answer_for}
 use Rattle.babel_trie.specs.Boxes.{IsLeastDifference as IsLeastPair}
 use Rattle.babel_tlv.specs.Pair.{Pair}
 use Rattle.babel_table.specs.Rows.{entries_of}
-use Rattle.babel_canon.specs.Verdict.{IsLower, IsFirstDifference, IsFirstInFamily, IsLeastInFamily, SameInFamily}
+use Rattle.babel_canon.specs.Verdict.{IsLower}
+use Rattle.babel_canon.specs.FirstDifference.{IsFirstDifference, IsFirstInFamily, IsLeastInFamily, SameInFamily}
 
 module _ (rows others : List Pair) where
   pub same_for : (d s : Address) → SameInFamily d.family rows others → IsAddress d → IsAddress s → d.family ≡ s.family → answer_for (entries_of rows) d s ≡ answer_for (entries_of others) d s

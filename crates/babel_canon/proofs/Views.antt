@@ -18,7 +18,8 @@ use Rattle.babel_tlv.specs.declared.mode.Mode.TheVariants as modes
 use Rattle.babel_tlv.specs.declared.view.View.{View}
 use Rattle.babel_tlv.specs.Pair.{Pair, FitsKey, IsPair}
 use Rattle.babel_tlv.specs.Route.{RouteKey}
-use Rattle.babel_tlv.specs.Views.{HopIsOf, SameUnder, keeps_all, no_address, seen}
+use Rattle.babel_tlv.specs.Views.{SameUnder, keeps_all, no_address, seen}
+use Rattle.babel_tlv.specs.ViewsTell.{HopIsOf}
 use Rattle.babel_tlv.proofs.ViewLaws.{seen_tells_apart, seen_twice_is_seen}
 use Rattle.babel_table.specs.Bounds.{Bounds, AreBounds}
 use Rattle.babel_table.specs.Rows.{AreRows, entries_of}
@@ -29,24 +30,26 @@ use Rattle.babel_canon.specs.Canonical.{HasManyBoxes, NormaliseFault}
 use Rattle.babel_canon.specs.Headline.{Sent}
 use Rattle.babel_canon.specs.RoundTrip.{AreReadableIn}
 use Rattle.babel_canon.specs.Sizes.{IsBodySize}
-use Rattle.babel_canon.specs.Views.{AnswerTheSameUnder, NormalisesUnder, NormaliseFaultUnder, DumpsAnswerTheSameUnder, TellsApartUnder, ReadsAgainUnder, HeadlineUnder, SeenAnswersTell, AllNormalises, SaysFewestUnder}
+use Rattle.babel_canon.specs.Views.{AnswerTheSameUnder, NormalisesUnder, NormaliseFaultUnder, DumpsAnswerTheSameUnder, TellsApartUnder, ReadsAgainUnder, HeadlineUnder, SaysFewestUnder}
+use Rattle.babel_canon.specs.ViewsTell.{SeenAnswersTell, AllNormalises}
 use Rattle.babel_canon.proofs.Boxes.{all_in, box_held, boxes_answer, entry_of, pair_of_row}
 use Rattle.babel_canon.proofs.Fewest.{boxes_are_fewest}
 use Rattle.babel_canon.proofs.Headline.{forms_tell, its_own, readable, rows_readable}
-use Rattle.babel_canon.proofs.Numbered.{answer-map, revalued}
+use Rattle.babel_canon.proofs.MappedBoxes.{mapped_row}
+use Rattle.babel_canon.proofs.Numbered.{answer-map}
 use Rattle.babel_canon.proofs.OneOutcome.{boxes_same, rows_one, texts_one}
 use Rattle.babel_canon.proofs.OneOutcome.{normal_form_is_one as one_without, normal_form_has_no_fault as no_fault_without}
 
 -- ---- the answers of what is seen are what is seen of the answers
 
 seen_rows_in : (view : View) (family : Family) (rows : List Pair)
-    → rows_in family (entries_of (seen_rows view rows)) ≡ map (revalued (seen view)) (rows_in family (entries_of rows))
+    → rows_in family (entries_of (seen_rows view rows)) ≡ map (mapped_row (seen view)) (rows_in family (entries_of rows))
 seen_rows_in view family [] = refl
 seen_rows_in view family (row ∷ rows) = by (are_of_family family (entry_of row)) (seen_rows_in view family rows)
   where
-    by : (b : Bool) → rows_in family (entries_of (seen_rows view rows)) ≡ map (revalued (seen view)) (rows_in family (entries_of rows))
+    by : (b : Bool) → rows_in family (entries_of (seen_rows view rows)) ≡ map (mapped_row (seen view)) (rows_in family (entries_of rows))
         → map row_of (cond b (entry_of (seen_row view row) ∷ filter (are_of_family family) (entries_of (seen_rows view rows))) (filter (are_of_family family) (entries_of (seen_rows view rows))))
-        ≡ map (revalued (seen view)) (map row_of (cond b (entry_of row ∷ filter (are_of_family family) (entries_of rows)) (filter (are_of_family family) (entries_of rows))))
+        ≡ map (mapped_row (seen view)) (map row_of (cond b (entry_of row ∷ filter (are_of_family family) (entries_of rows)) (filter (are_of_family family) (entries_of rows))))
     by true rest = ap (λ (l : List (Row Held)). row_of (entry_of (seen_row view row)) ∷ l) rest
     by false rest = rest
 

@@ -5,7 +5,7 @@ use Rattle.babel_tlv.specs.declared.fault.Fault.{Fault}
 use Rattle.babel_tlv.specs.declared.fault.Fault.TheVariants as faults
 use Rattle.babel_tlv.specs.declared.mode.Mode.{Mode}
 use Rattle.babel_tlv.specs.Pair.{Pair}
-use Rattle.babel_tlv.specs.Group.{IsText}
+use Rattle.babel_tlv.specs.Group.{IsCanonicalText}
 use Rattle.babel_table.specs.Bounds.{Bounds}
 use Rattle.babel_table.specs.Rows.{Routes}
 use Rattle.babel_table.specs.DumpFault.{DumpFault, HasNoFault, IsTableOf}
@@ -21,7 +21,7 @@ pub record Canonical : Type 0 where
 pub record IsCanonical (limits : Bounds) (body : ℕ) (rows : List Pair) (canon : Canonical) : Type 0 where
   pub boxes : AreBoxes rows canon.pairs
   pub few : length canon.pairs ≤ limits.entries
-  pub text : IsText body canon.pairs canon.octets
+  pub text : IsCanonicalText body canon.pairs canon.octets
 
 -- the boxes of the rows' answers, no more than the limit, and the fewest pairs with these answers
 pub record AreCanonical (limits : Bounds) (rows pairs : List Pair) : Type 0 where
@@ -33,7 +33,7 @@ pub record AreCanonical (limits : Bounds) (rows pairs : List Pair) : Type 0 wher
 pub record SaysCanonical (limits : Bounds) (body : ℕ) (rows : List Pair) (octets : List ℕ) : Type 0 where
   pub pairs : List Pair
   pub are_canonical : AreCanonical limits rows pairs
-  pub text : IsText body pairs octets
+  pub text : IsCanonicalText body pairs octets
 
 -- they are so many
 pub record CountsCanonical (limits : Bounds) (rows : List Pair) (count : ℕ) : Type 0 where

@@ -1,25 +1,18 @@
 -- What two tables answer (RFC 9079, 4) differently, as boxes of both families: this project's own.
-use Rattle.std.specs.Prelude.{◌≡◌, ◌↔◌, ◌⊎◌, ℕ, ◌+◌, ◌<◌, ◌≤◌, List, [], ◌∷◌, ◌++◌, length, map, Option}
+use Rattle.std.specs.Prelude.{◌≡◌, ◌⊎◌, ℕ, ◌<◌, List, ◌++◌, length, map}
 use Rattle.babel_prefix.specs.declared.family.Family.{Family}
 use Rattle.babel_prefix.specs.declared.family.Family.TheVariants.{V4, V6}
 use Rattle.babel_prefix.specs.Width.{width_of}
-use Rattle.babel_prefix.specs.Address.{Address, prefix_of}
+use Rattle.babel_prefix.specs.Address.{prefix_of}
 use Rattle.babel_prefix.specs.Best.{Row}
-use Rattle.babel_prefix.specs.Entries.{answers_in}
-use Rattle.babel_trie.specs.Boxes.{Answers}
-use Rattle.babel_trie.specs.Differences.{IsDifference}
 use Rattle.babel_trie.specs.Differences.{AreDifferences as AreBoxesOfDifference}
-use Rattle.babel_trie.specs.Tables.{IsDisjointTable}
 use Rattle.babel_trie.specs.declared.differing.Differing.{Differing}
 use Rattle.babel_tlv.specs.declared.fault.Fault.{Fault}
 use Rattle.babel_tlv.specs.declared.fault.Fault.TheVariants as faults
 use Rattle.babel_tlv.specs.declared.held.Held.{Held}
 use Rattle.babel_tlv.specs.Pair.{Pair}
 use Rattle.babel_table.specs.Bounds.{Bounds}
-use Rattle.babel_table.specs.Rows.{entries_of}
-use Rattle.babel_canon.specs.Boxes.{AnswerTheSame}
-use Rattle.babel_canon.specs.Fewest.{CoversBoth}
-use Rattle.babel_canon.specs.Verdict.{IsLeastDifference}
+use Rattle.babel_canon.specs.Boxes.{answers_of}
 use Rattle.babel_canon.specs.declared.every_difference.Difference.{Difference}
 
 -- a box of a family as a difference
@@ -31,9 +24,10 @@ difference_at family row = record {
 }
 
 -- the boxes of what rows and others answer differently in a family
-abbrev pub AreFamilyDifferences : Family → List Pair → List Pair → List (Row (Differing Held)) → Type 0
+abbrev pub AreFamilyDifferences :
+    Family → List Pair → List Pair → List (Row (Differing Held)) → Type 0
 AreFamilyDifferences family rows others boxes =
-    AreBoxesOfDifference (width_of family) (answers_in family (entries_of rows)) (answers_in family (entries_of others)) boxes
+    AreBoxesOfDifference (width_of family) (answers_of family rows) (answers_of family others) boxes
 
 -- the differences are the boxes of what rows and others answer differently: IPv4 first, then by destination, then by source
 pub record AreDifferences (rows others : List Pair) (differences : List Difference) : Type 0 where
@@ -49,31 +43,13 @@ pub record CountsDifferences (rows others : List Pair) (count : ℕ) : Type 0 wh
   pub are_differences : AreDifferences rows others differences
   pub count_is : count ≡ length differences
 
--- more differences than the limit, or want of memory
+-- the differences are more than the limit
+abbrev pub HasManyDifferences : Bounds → List Pair → List Pair → Type 0
+HasManyDifferences limits rows others =
+    (differences : List Difference)
+    × AreDifferences rows others differences × (limits.entries < length differences)
+
+-- too many differences, or want of memory
 abbrev pub DifferencesFault : Bounds → List Pair → List Pair → Fault → Type 0
 DifferencesFault limits rows others fault =
-    ((fault ≡ faults.TooManyPairs)
-    × ((differences : List Difference) × AreDifferences rows others differences × (limits.entries < length differences)))
-    ⊎ (fault ≡ faults.Memory)
-
--- there is none exactly where the answers are the same
-abbrev pub NoneWhereSame : Type 0
-NoneWhereSame = (rows others : List Pair) (differences : List Difference) → AreDifferences rows others differences
-    → (differences ≡ []) ↔ AnswerTheSame rows others
-
--- two disjoint lists of rows that tell the same differences, one of each family, are together no shorter
-abbrev pub DifferencesAreFewest : Type 0
-DifferencesAreFewest =
-    (rows others : List Pair) (differences : List Difference) → AreDifferences rows others differences
-    → (told : (family : Family) → Answers (Differing Held))
-    → ((family : Family) → IsDifference (width_of family) (answers_in family (entries_of rows)) (answers_in family (entries_of others)) (told family))
-    → (v4 v6 : List (Row (Differing Held)))
-    → IsDisjointTable (width_of V4) (told V4) v4 → IsDisjointTable (width_of V6) (told V6) v6
-    → length differences ≤ length v4 + length v6
-
--- the first one has the least pair of addresses at which the answers differ
-abbrev pub FirstHasLeast : Type 0
-FirstHasLeast =
-    (rows others : List Pair) (first : Difference) (rest : List Difference) → AreDifferences rows others (first ∷ rest)
-    → (dst src : Address) (left right : Option Held) → IsLeastDifference rows others dst src left right
-    → CoversBoth first.key dst src
+    ((fault ≡ faults.TooManyPairs) × HasManyDifferences limits rows others) ⊎ (fault ≡ faults.Memory)

@@ -6,7 +6,7 @@ use Rattle.babel_prefix.specs.Address.{Address, AddressPrefix, IsAddress, Covers
 use Rattle.babel_tlv.specs.declared.mode.Mode.{Mode}
 use Rattle.babel_tlv.specs.Route.{RouteKey, IsKey}
 use Rattle.babel_tlv.specs.Pair.{Pair}
-use Rattle.babel_tlv.specs.Group.{IsText}
+use Rattle.babel_tlv.specs.Group.{IsCanonicalText}
 use Rattle.babel_table.specs.Bounds.{Bounds}
 use Rattle.babel_table.specs.Rows.{Routes}
 use Rattle.babel_table.specs.DumpFault.{IsTableOf}
@@ -43,7 +43,7 @@ pub record SaysFewest (limits : Bounds) (mode : Mode) (body : ℕ) (sender : Add
   pub is_table : IsTableOf limits mode sender dump table
   pub pairs : List Pair
   pub fewest : AreFewest table.rows pairs
-  pub text : IsText body pairs octets
+  pub text : IsCanonicalText body pairs octets
 
 -- the boxes of rows are the fewest
 abbrev pub BoxesAreFewest : Type 0

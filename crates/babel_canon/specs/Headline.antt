@@ -5,7 +5,7 @@ use Rattle.babel_tlv.specs.declared.fault.Fault.{Fault}
 use Rattle.babel_tlv.specs.declared.fault.Fault.TheVariants as faults
 use Rattle.babel_tlv.specs.declared.mode.Mode.{Mode}
 use Rattle.babel_tlv.specs.Pair.{Pair}
-use Rattle.babel_tlv.specs.Group.{IsText}
+use Rattle.babel_tlv.specs.Group.{IsCanonicalText}
 use Rattle.babel_table.specs.Bounds.{Bounds, AreBounds}
 use Rattle.babel_table.specs.Rows.{Routes}
 use Rattle.babel_table.specs.DumpFault.{HasNoFault, IsTableOf}
@@ -22,7 +22,7 @@ pub record Normalises (limits : Bounds) (mode : Mode) (body : ℕ) (sender : Add
   pub boxes : List Pair
   pub are_boxes : AreBoxes table.rows boxes
   pub few : length boxes ≤ limits.entries
-  pub text : IsText body boxes octets
+  pub text : IsCanonicalText body boxes octets
 
 -- a dump, and who sent it
 pub record Sent : Type 0 where

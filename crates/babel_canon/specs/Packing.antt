@@ -3,7 +3,7 @@ use Rattle.std.specs.Prelude.{◌≡◌, ℕ, List, ◌∷◌, ◌++◌, length}
 use Rattle.std.specs.Int.{w16, to_be_bytes}
 use Rattle.std.specs.List.{AllByRecursion}
 use Rattle.babel_tlv.specs.Pair.{Pair, IsPair}
-use Rattle.babel_tlv.specs.Group.{IsText}
+use Rattle.babel_tlv.specs.Group.{IsCanonicalText}
 use Rattle.babel_canon.specs.Sizes.{IsBodySize}
 
 -- a header that says this length, and a body
@@ -18,8 +18,8 @@ HasLength at len old new =
 -- pairs have exactly one text
 pub record HaveOneText (body : ℕ) (pairs : List Pair) : Type 0 where
   pub text : List ℕ
-  pub is_text : IsText body pairs text
-  pub one : (other : List ℕ) → IsText body pairs other → other ≡ text
+  pub is_text : IsCanonicalText body pairs text
+  pub one : (other : List ℕ) → IsCanonicalText body pairs other → other ≡ text
 
 abbrev pub TextIsOne : Type 0
 TextIsOne = (body : ℕ) (pairs : List Pair) → IsBodySize body → AllByRecursion IsPair pairs → HaveOneText body pairs

@@ -12,7 +12,7 @@ use Rattle.babel_tlv.specs.Route.{RouteKey}
 use Rattle.babel_tlv.specs.Pair.{Pair, IsPair}
 use Rattle.babel_tlv.specs.Framing.{TlvAt, Framed}
 use Rattle.babel_tlv.specs.Says.{sayings}
-use Rattle.babel_tlv.specs.Group.{IsText}
+use Rattle.babel_tlv.specs.Group.{IsCanonicalText}
 use Rattle.babel_tlv.specs.News.{spoken, pair_event}
 use Rattle.babel_table.specs.Bounds.{Bounds}
 use Rattle.babel_table.specs.Holds.{Holds}
@@ -56,5 +56,5 @@ pub record ReadsBack (mode : Mode) (sender : Address) (octets : List ℕ) (pairs
 abbrev pub TextReadsBack : Type 0
 TextReadsBack =
     (mode : Mode) (body : ℕ) (pairs : List Pair) (octets : List ℕ) (sender : Address) → body < 2 ^ 16
-    → AllByRecursion IsPair pairs → HaveDistinctKeys pairs → AreReadableIn mode pairs → IsText body pairs octets
+    → AllByRecursion IsPair pairs → HaveDistinctKeys pairs → AreReadableIn mode pairs → IsCanonicalText body pairs octets
     → ReadsBack mode sender octets pairs

@@ -14,11 +14,13 @@ abbrev pub numbered_pair : List Held → Entry PackedValue → Pair
 numbered_pair values entry = pair_of (valued_entry values entry)
 
 -- the pairs are those of the rows, with these values
-pub record IsListOf (given values : List Held) (pairs : List Pair) (rows : List (Entry PackedValue)) : Type 0 where
+pub record IsListOf (given values : List Held) (pairs : List Pair)
+    (rows : List (Entry PackedValue)) : Type 0 where
   pub values_are : values ≡ given
   pub pairs_are : pairs ≡ map (numbered_pair given) rows
 
 -- the text has the pairs of the rows, with these values
-pub record IsWrittenOf (given : List Held) (body : ℕ) (values : List Held) (text : Text) (rows : List (Entry PackedValue)) : Type 0 where
+pub record IsWrittenOf (given : List Held) (body : ℕ) (values : List Held) (text : Text)
+    (rows : List (Entry PackedValue)) : Type 0 where
   pub values_are : values ≡ given
   pub text_of : IsTextOf body text (map (numbered_pair given) rows)

@@ -10,7 +10,7 @@ use Rattle.babel_tlv.specs.Group.{held_seqno, held_metric}
 use Rattle.babel_tlv.specs.Pair.{Pair, held_cmp}
 use Rattle.babel_table.specs.Rows.{entries_of}
 use Rattle.babel_canon.specs.declared.values.PackedValue.{PackedValue}
-use Rattle.babel_canon.specs.Grids.{AreFamilyBoxes}
+use Rattle.babel_canon.specs.Grids.{AreFamilyBoxes, both_families}
 
 -- what routes of one router by one next hop have in common: the route of these with seqno and metric 0
 abbrev pub origin_of : Held → Held
@@ -57,7 +57,8 @@ abbrev pub valued_entry : List Held → Entry PackedValue → Entry Held
 valued_entry values entry = (entry.0, entry.1, value_of values entry.2)
 
 -- with the values that theirs stand for these are the entries of rows in a family
-pub record AreNumberedEntries (family : Family) (rows : List Pair) (values : List Held) (entries : List (Entry PackedValue)) : Type 0 where
+pub record AreNumberedEntries (family : Family) (rows : List Pair) (values : List Held)
+    (entries : List (Entry PackedValue)) : Type 0 where
   pub of_family : All (AreOfFamily family) entries
   pub numbers : All (λ entry. HasValue values entry.2) entries
   pub items : map (valued_entry values) entries ≡ filter (are_of_family family) (entries_of rows)
@@ -67,6 +68,11 @@ abbrev pub valued : List Held → Row PackedValue → Row Held
 valued values row = record { dst = row.dst; src = row.src; value = value_of values row.value }
 
 -- with the values that theirs stand for these are the boxes of what rows answer in a family
-pub record AreNumberedBoxes (family : Family) (rows : List Pair) (values : List Held) (boxes : List (Row PackedValue)) : Type 0 where
+pub record AreNumberedBoxes (family : Family) (rows : List Pair) (values : List Held)
+    (boxes : List (Row PackedValue)) : Type 0 where
   pub numbers : All (λ row. HasValue values row.value) boxes
   pub boxes_are : AreFamilyBoxes family rows (map (valued values) boxes)
+
+-- the boxes of both families as pairs, IPv4 first, with the values that theirs stand for
+abbrev pub valued_pairs : List Held → List (Row PackedValue) → List (Row PackedValue) → List Pair
+valued_pairs values v4 v6 = both_families (map (valued values) v4) (map (valued values) v6)

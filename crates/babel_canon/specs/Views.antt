@@ -7,14 +7,14 @@ use Rattle.babel_tlv.specs.declared.fault.Fault.TheVariants as faults
 use Rattle.babel_tlv.specs.declared.mode.Mode.{Mode}
 use Rattle.babel_tlv.specs.declared.view.View.{View}
 use Rattle.babel_tlv.specs.Pair.{Pair}
-use Rattle.babel_tlv.specs.Group.{IsText}
-use Rattle.babel_tlv.specs.Views.{SameUnder, keeps_all}
+use Rattle.babel_tlv.specs.Group.{IsCanonicalText}
+use Rattle.babel_tlv.specs.Views.{SameUnder}
 use Rattle.babel_table.specs.Bounds.{Bounds, AreBounds}
-use Rattle.babel_table.specs.Rows.{AreRows, Routes, entries_of}
+use Rattle.babel_table.specs.Rows.{Routes, entries_of}
 use Rattle.babel_table.specs.Seen.{seen_rows}
 use Rattle.babel_table.specs.DumpFault.{DumpFault, HasNoFault, IsTableOf}
 use Rattle.babel_canon.specs.Sizes.{IsBodySize}
-use Rattle.babel_canon.specs.Boxes.{AreBoxes, AnswerTheSame}
+use Rattle.babel_canon.specs.Boxes.{AreBoxes}
 use Rattle.babel_canon.specs.Canonical.{HasManyBoxes, NormaliseFault}
 use Rattle.babel_canon.specs.Fewest.{AreFewest}
 use Rattle.babel_canon.specs.Headline.{Normalises, Sent}
@@ -34,7 +34,7 @@ pub record NormalisesUnder (view : View) (limits : Bounds) (mode : Mode) (body :
   pub boxes : List Pair
   pub are_boxes : AreBoxes (seen_rows view table.rows) boxes
   pub few : length boxes ≤ limits.entries
-  pub text : IsText body boxes octets
+  pub text : IsCanonicalText body boxes octets
 
 -- the dump's own fault; or too many pairs under the view, where it has none; or want of memory
 abbrev pub NormaliseFaultUnder : View → Bounds → Mode → Address → List ℕ → Fault → Type 0
@@ -75,7 +75,7 @@ pub record SaysFewestUnder (view : View) (limits : Bounds) (mode : Mode) (body :
   pub is_table : IsTableOf limits mode sender dump table
   pub pairs : List Pair
   pub fewest : AreFewest (seen_rows view table.rows) pairs
-  pub text : IsText body pairs octets
+  pub text : IsCanonicalText body pairs octets
 
 -- The headline for every view: canonical octets under a view are equal exactly where the answers under it are the same,
 -- and, read with any sender, give the answers under the view again and are their own canonical form.
@@ -84,19 +84,3 @@ HeadlineUnder =
     (view : View) (limits : Bounds) (mode : Mode) (body : ℕ) → AreBounds limits → IsBodySize body → (one : Sent)
     (octets : List ℕ) → NormalisesUnder view limits mode body one.sender one.dump octets
     → TellsApartUnder view limits mode body one octets × ((any : Address) → ReadsAgainUnder view limits mode body one octets any)
-
--- tables answer the same under a view exactly where what the view sees of them answers the same
-abbrev pub SeenAnswersTell : Type 0
-SeenAnswersTell =
-    (view : View) (rows others : List Pair) → AreRows rows → AreRows others
-    → AnswerTheSameUnder view rows others ↔ AnswerTheSame (seen_rows view rows) (seen_rows view others)
-
--- the view that keeps all sees rows as they are
-abbrev pub AllRowsAreSeen : Type 0
-AllRowsAreSeen = (rows : List Pair) → seen_rows keeps_all rows ≡ rows
-
--- under the view that keeps all the canonical form is that without a view
-abbrev pub AllNormalises : Type 0
-AllNormalises =
-    (limits : Bounds) (mode : Mode) (body : ℕ) (sender : Address) (dump octets : List ℕ)
-    → NormalisesUnder keeps_all limits mode body sender dump octets ↔ Normalises limits mode body sender dump octets

@@ -3,7 +3,7 @@ use Rattle.std.specs.Prelude.{◌≡◌, ℕ, ◌≤◌, List, [], ◌∷◌, �
 use Rattle.std.specs.List.{flat_map}
 use Rattle.babel_tlv.specs.Framing.{framed}
 use Rattle.babel_tlv.specs.Pair.{Pair}
-use Rattle.babel_tlv.specs.Group.{body_of, written_after, ArePacked, IsText}
+use Rattle.babel_tlv.specs.Group.{body_of, written_after, ArePacked, IsCanonicalText}
 use Rattle.babel_canon.specs.declared.text.Text.{Text}
 
 -- the earlier pairs, the latest first, behind further ones
@@ -24,4 +24,4 @@ pub record IsTextOf (body : ℕ) (text : Text) (pairs : List Pair) : Type 0 wher
   pub writing : text.writing ≡ written_after (latest_first [] last)
   pub none : last ≡ [] → (front ≡ []) × (pairs ≡ [])
   pub goes_on : (more : List Pair) (packets : List (List Pair)) → ArePacked body (last ++ more) packets
-      → IsText body (pairs ++ more) (front ++ flat_map (λ packet. framed (body_of packet)) packets)
+      → IsCanonicalText body (pairs ++ more) (front ++ flat_map (λ packet. framed (body_of packet)) packets)

@@ -1,16 +1,15 @@
-ghost use Rattle.std.specs.Prelude.{◌≡◌, ◌+◌, ◌≤◌, IfOk, IfErr, length, map};
+ghost use Rattle.std.specs.Prelude.{◌≡◌, ◌+◌, ◌≤◌, IfOk, IfErr, length};
 ghost use Rattle.babel_prefix.specs.declared.family.Family.TheVariants.{V4, V6};
 ghost use Rattle.babel_canon.specs.Boxes.{AreBoxes};
 ghost use Rattle.babel_canon.specs.Canonical.{AreCanonical, CanonicalFault, CountsCanonical, IsCanonical, SaysCanonical};
 ghost use Rattle.babel_canon.specs.Fewest.{AreFewest};
-ghost use Rattle.babel_canon.specs.Grids.{both_families};
-ghost use Rattle.babel_canon.specs.Values.{AreNumbered, valued};
+ghost use Rattle.babel_canon.specs.Values.{AreNumbered, valued_pairs};
 
 use crate::body::Body;
 use crate::grids::Grids;
 use crate::packing::write_text;
 use crate::sinks::{listed, written};
-use crate::values::Values;
+use crate::values::{PackedValue, Values};
 use babel_table::{Limits, Table};
 use babel_tlv::{Fault, Held, Key};
 use std::alloc::Global;
@@ -61,12 +60,14 @@ fn counted_grids(
     limits: Limits,
     table: &Table,
     values: &mut Values,
-) -> Result<Grids, Fault>
+) -> Result<Grids<PackedValue>, Fault>
     requires { AreNumbered values.old.list.items values.old.numbers }
     ensures v4 { IfOk result (λ grids. grids.v4.family ≡ V4) }
     ensures v6 { IfOk result (λ grids. grids.v6.family ≡ V6) }
-    ensures few { IfOk result (λ grids. length grids.v4.boxes + length grids.v6.boxes ≤ limits.entries) }
-    ensures boxes { IfOk result (λ grids. AreBoxes table.now.rows (both_families (map (valued values.new.list.items) grids.v4.boxes) (map (valued values.new.list.items) grids.v6.boxes))) }
+    ensures few { IfOk result (λ grids.
+        length grids.v4.boxes + length grids.v6.boxes ≤ limits.entries) }
+    ensures boxes { IfOk result (λ grids. AreBoxes table.now.rows
+        (valued_pairs values.new.list.items grids.v4.boxes grids.v6.boxes)) }
     ensures err { IfErr result (CanonicalFault limits table.now.rows) }
 {
     let grids = Grids::of(alloc, table, values)?;

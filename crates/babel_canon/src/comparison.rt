@@ -1,5 +1,6 @@
 ghost use Rattle.std.specs.Prelude.{◌≡◌, IfOk, IfErr};
-ghost use Rattle.babel_canon.specs.Verdict.{IsVerdict, IsFirstDifference, IsFirstInFamily};
+ghost use Rattle.babel_canon.specs.Verdict.{IsVerdict};
+ghost use Rattle.babel_canon.specs.FirstDifference.{IsFirstDifference, IsFirstInFamily};
 
 use crate::grids::family_entries;
 use crate::values::Values;

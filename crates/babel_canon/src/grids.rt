@@ -10,17 +10,17 @@ use crate::values::{PackedValue, Values};
 use babel_prefix::{Family, Prefix};
 use babel_table::Table;
 use babel_tlv::{Held, Key};
-use babel_trie::{Grid, Sink};
+use babel_trie::{Grid, LawfulOrd, Sink};
 use std::alloc::{AllocError, Global};
 
 /// A destination prefix, a source prefix, and what is answered there, packed.
 pub(crate) type Row = (Prefix, Prefix, PackedValue);
 
-/// What a table answers for the addresses of each family.
+/// What is answered for the addresses of each family.
 #[derive(Drop)]
-pub(crate) struct Grids {
-    pub v4: Grid<PackedValue>,
-    pub v6: Grid<PackedValue>,
+pub(crate) struct Grids<V: LawfulOrd> {
+    pub v4: Grid<V>,
+    pub v6: Grid<V>,
 }
 
 /// The rows of one family of a table, with their values packed, as a grid takes them.
@@ -34,7 +34,8 @@ pub(crate) fn family_entries(
     ensures numbered { OnOk result (AreNumbered values.new.list.items values.new.numbers) }
     ensures keeps { OnOk result (KeepsValues values.old.list.items values.new.list.items) }
     ensures prefixes { IfOk result (λ entries. HasDistinctPrefixes entries.items) }
-    ensures entries { IfOk result (λ entries. AreNumberedEntries family table.now.rows values.new.list.items entries.items) }
+    ensures entries { IfOk result (λ entries.
+        AreNumberedEntries family table.now.rows values.new.list.items entries.items) }
 {
     let mut entries = Vec::new(alloc);
     for (key, held) in table.rows() {
@@ -57,31 +58,40 @@ fn family_grid(
     ensures numbered { OnOk result (AreNumbered values.new.list.items values.new.numbers) }
     ensures keeps { OnOk result (KeepsValues values.old.list.items values.new.list.items) }
     ensures family { IfOk result (λ grid. grid.family ≡ family) }
-    ensures boxes { IfOk result (λ grid. AreNumberedBoxes family table.now.rows values.new.list.items grid.boxes) }
+    ensures boxes { IfOk result (λ grid.
+        AreNumberedBoxes family table.now.rows values.new.list.items grid.boxes) }
 {
     let entries = family_entries(alloc, family, table, values)?;
     let grid = Grid::of(alloc, family, &entries)?;
     Ok(grid)
 }
 
-impl Grids {
+impl Grids<PackedValue> {
     /// What a table answers, with these values.
-    pub(crate) fn of(alloc: Global, table: &Table, values: &mut Values) -> Result<Grids, AllocError>
+    pub(crate) fn of(
+        alloc: Global,
+        table: &Table,
+        values: &mut Values,
+    ) -> Result<Grids<PackedValue>, AllocError>
         requires { AreNumbered values.old.list.items values.old.numbers }
         ensures numbered { OnOk result (AreNumbered values.new.list.items values.new.numbers) }
         ensures keeps { OnOk result (KeepsValues values.old.list.items values.new.list.items) }
         ensures rows { AreRows table.now.rows }
         ensures v4_family { IfOk result (λ grids. grids.v4.family ≡ V4) }
         ensures v6_family { IfOk result (λ grids. grids.v6.family ≡ V6) }
-        ensures v4_boxes { IfOk result (λ grids. AreNumberedBoxes V4 table.now.rows values.new.list.items grids.v4.boxes) }
-        ensures v6_boxes { IfOk result (λ grids. AreNumberedBoxes V6 table.now.rows values.new.list.items grids.v6.boxes) }
+        ensures v4_boxes { IfOk result (λ grids.
+            AreNumberedBoxes V4 table.now.rows values.new.list.items grids.v4.boxes) }
+        ensures v6_boxes { IfOk result (λ grids.
+            AreNumberedBoxes V6 table.now.rows values.new.list.items grids.v6.boxes) }
     {
         let _valid = table.rows();
         let v4 = family_grid(alloc, Family::V4, table, values)?;
         let v6 = family_grid(alloc, Family::V6, table, values)?;
         Ok(Grids { v4, v6 })
     }
+}
 
+impl<V: LawfulOrd> Grids<V> {
     /// How many boxes there are in both, or the greatest number if there are more.
     pub(crate) fn count(&self) -> u64
         ensures { result ≡ min (length self.now.v4.boxes + length self.now.v6.boxes) (2 ^ 64 - 1) }
@@ -90,11 +100,13 @@ impl Grids {
     }
 
     /// Puts the boxes out, IPv4 first. Those of IPv4 are gone before the first of IPv6 is put out.
-    pub(crate) fn put_boxes<S: Sink<PackedValue>>(self, out: &mut S) -> Result<(), AllocError>
+    #[tactic(auto, using(crate::proofs::GridLaws::put_of_family))]
+    pub(crate) fn put_boxes<S: Sink<V>>(self, out: &mut S) -> Result<(), AllocError>
         requires v4 { self.v4.family ≡ V4 }
         requires v6 { self.v6.family ≡ V6 }
-        ensures { OnOk result ((rows : List (Entry PackedValue)) → S.has out.old rows
-            → S.has out.new ((rows ++ map (entry_at V4) self.v4.boxes) ++ map (entry_at V6) self.v6.boxes)) }
+        ensures { OnOk result ((rows : List (Entry V)) → S.has out.old rows
+            → S.has out.new
+            ((rows ++ map (entry_at V4) self.v4.boxes) ++ map (entry_at V6) self.v6.boxes)) }
     {
         let Grids { v4, v6 } = self;
         v4.put_boxes(out)?;

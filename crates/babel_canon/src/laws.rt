@@ -1,11 +1,12 @@
 //! Laws of the definitions.
 ghost use Rattle.babel_canon.specs.RoundTrip.{TextReadsBack};
-ghost use Rattle.babel_canon.specs.Boxes.{BoxesAnswer, BoxesTellApart};
-ghost use Rattle.babel_canon.specs.Differences.{DifferencesAreFewest, FirstHasLeast, NoneWhereSame};
+ghost use Rattle.babel_canon.specs.BoxesTell.{BoxesAnswer, BoxesTellApart};
+ghost use Rattle.babel_canon.specs.DifferenceLaws.{DifferencesAreFewest, DifferencesAreOne, FirstHasLeast, NoneWhereSame};
 ghost use Rattle.babel_canon.specs.Fewest.{BoxesAreFewest};
 ghost use Rattle.babel_canon.specs.Packing.{TextIsOne};
 ghost use Rattle.babel_canon.specs.Headline.{Headline};
-ghost use Rattle.babel_canon.specs.Views.{AllNormalises, AllRowsAreSeen, HeadlineUnder, SeenAnswersTell};
+ghost use Rattle.babel_canon.specs.Views.{HeadlineUnder};
+ghost use Rattle.babel_canon.specs.ViewsTell.{AllNormalises, AllRowsAreSeen, SeenAnswersTell};
 ghost use Rattle.babel_canon.specs.OneOutcome.{NormalFormIsOne, NormaliseFaultIsOne, NormalFormHasNoFault, VerdictIsOne};
 
 /// Pairs have exactly one canonical text for each size of a body.
@@ -65,4 +66,9 @@ pub fn differences_are_boxes()
     ensures none { NoneWhereSame }
     ensures first { FirstHasLeast }
     ensures fewest { DifferencesAreFewest }
+{}
+
+/// Two tables have at most one list of differences.
+pub fn differences_are_one()
+    ensures { DifferencesAreOne }
 {}

@@ -30,8 +30,10 @@ pub fn normalise(
 ) -> Result<Vec<u8>, Fault>
     ensures ok { IfOk result (λ text. Normalises limits mode body sender dump.now text.items) }
     ensures err { IfErr result (NormaliseFault limits mode sender dump.now) }
-    ensures tells_apart { IfOk result (λ text. TellsApart limits mode body (record { sender = sender; dump = dump.now }) text.items) }
-    ensures reads_again { IfOk result (λ text. (any : Address) → ReadsAgain limits mode body (record { sender = sender; dump = dump.now }) text.items any) }
+    ensures tells_apart { IfOk result (λ text.
+        TellsApart limits mode body (record { sender = sender; dump = dump.now }) text.items) }
+    ensures reads_again { IfOk result (λ text. (any : Address) →
+        ReadsAgain limits mode body (record { sender = sender; dump = dump.now }) text.items any) }
     ensures fewest { IfOk result (λ text. SaysFewest limits mode body sender dump.now text.items) }
 {
     let _sizes = (limits.entries(), body.octets());
@@ -57,13 +59,17 @@ pub fn normalise_under(
     sender: Addr,
     dump: &[u8],
 ) -> Result<Vec<u8>, Fault>
-    ensures ok { IfOk result (λ text. NormalisesUnder view limits mode body sender dump.now text.items) }
+    ensures ok { IfOk result (λ text.
+        NormalisesUnder view limits mode body sender dump.now text.items) }
     ensures err { IfErr result (NormaliseFaultUnder view limits mode sender dump.now) }
     ensures tells_apart { IfOk result (λ text.
-        TellsApartUnder view limits mode body (record { sender = sender; dump = dump.now }) text.items) }
+        TellsApartUnder view limits mode body
+        (record { sender = sender; dump = dump.now }) text.items) }
     ensures reads_again { IfOk result (λ text. (any : Address)
-        → ReadsAgainUnder view limits mode body (record { sender = sender; dump = dump.now }) text.items any) }
-    ensures fewest { IfOk result (λ text. SaysFewestUnder view limits mode body sender dump.now text.items) }
+        → ReadsAgainUnder view limits mode body
+        (record { sender = sender; dump = dump.now }) text.items any) }
+    ensures fewest { IfOk result (λ text.
+        SaysFewestUnder view limits mode body sender dump.now text.items) }
 {
     let _valid = (limits.entries(), body.octets());
     let table = read_dump(alloc, limits, mode, sender, dump)?;

@@ -1,6 +1,6 @@
 //! The canonical text of pairs, written as they come.
 ghost use Rattle.std.specs.Prelude.{◌≡◌, ◌+◌, ◌≤◌, ◌++◌, ◌∷◌, ℕ, List, [], length, IfOk, OnOk};
-ghost use Rattle.babel_tlv.specs.Group.{IsText, written_after};
+ghost use Rattle.babel_tlv.specs.Group.{IsCanonicalText, written_after};
 ghost use Rattle.babel_tlv.specs.Pair.{Pair};
 ghost use Rattle.babel_canon.specs.Packing.{HasLength, headed};
 ghost use Rattle.babel_canon.specs.Writing.{IsTextOf};
@@ -44,7 +44,8 @@ impl Text {
 
     /// Begins a packet.
     fn begin(&mut self) -> Result<(), AllocError>
-        ensures octets { OnOk result (self.new.octets.items ≡ self.old.octets.items ++ headed 0 []) }
+        ensures octets { OnOk result
+            (self.new.octets.items ≡ self.old.octets.items ++ headed 0 []) }
         ensures at { OnOk result (self.new.at ≡ length self.old.octets.items) }
         ensures len { OnOk result (self.new.len ≡ 0) }
         ensures writing { OnOk result (self.new.writing ≡ written_after []) }
@@ -61,7 +62,8 @@ impl Text {
     /// Puts a group behind the others of the packet.
     fn append(&mut self, group: &[u8]) -> Result<(), AllocError>
         requires { self.old.len + length group.now ≤ 65535 }
-        ensures octets { OnOk result ((front body : List ℕ) → length front ≡ self.old.at → self.old.octets.items ≡ front ++ headed self.old.len body
+        ensures octets { OnOk result ((front body : List ℕ) → length front ≡ self.old.at
+            → self.old.octets.items ≡ front ++ headed self.old.len body
             → self.new.octets.items ≡ front ++ headed self.new.len (body ++ group.now)) }
         ensures at { OnOk result (self.new.at ≡ self.old.at) }
         ensures len { OnOk result (self.new.len ≡ self.old.len + length group.now) }
@@ -76,7 +78,8 @@ impl Text {
 
     /// Puts the group of a pair behind the others, in a new packet where the last one has no room for it.
     pub(crate) fn put(&mut self, key: &Key, held: &Held) -> Result<(), AllocError>
-        ensures { OnOk result ((body : ℕ) (pairs : List Pair) → IsTextOf body self.old pairs → IsTextOf body self.new (pairs ++ (key.now, held.now) ∷ [])) }
+        ensures { OnOk result ((body : ℕ) (pairs : List Pair) → IsTextOf body self.old pairs
+            → IsTextOf body self.new (pairs ++ (key.now, held.now) ∷ [])) }
     {
         let limit = self.body.octets() as usize;
         let mut writing = self.writing;
@@ -94,7 +97,8 @@ impl Text {
 
     /// The octets of the text.
     pub(crate) fn into_octets(self) -> Vec<u8>
-        ensures { (body : ℕ) (pairs : List Pair) → IsTextOf body self pairs → IsText body pairs result.items }
+        ensures { (body : ℕ) (pairs : List Pair) → IsTextOf body self pairs
+            → IsCanonicalText body pairs result.items }
     {
         let Text { octets, len, .. } = self;
         let mut octets = octets;
@@ -111,7 +115,7 @@ pub(crate) fn write_text(
     body: Body,
     pairs: &[(Key, Held)],
 ) -> Result<Vec<u8>, AllocError>
-    ensures { IfOk result (λ text. IsText body pairs.now text.items) }
+    ensures { IfOk result (λ text. IsCanonicalText body pairs.now text.items) }
 {
     let mut text = Text::new(alloc, body, pairs.len())?;
     for (key, held) in pairs {

@@ -2,10 +2,10 @@
 ghost use Rattle.std.specs.Prelude.{◌≡◌, ◌∷◌, ◌++◌, ℕ, List, [], IfOk, OnOk, map};
 ghost use Rattle.babel_prefix.specs.declared.family.Family.TheVariants.{V4, V6};
 ghost use Rattle.babel_prefix.specs.Entries.{Entry};
-ghost use Rattle.babel_tlv.specs.Group.{IsText};
+ghost use Rattle.babel_tlv.specs.Group.{IsCanonicalText};
 ghost use Rattle.babel_tlv.specs.declared.held.Held.{Held};
-ghost use Rattle.babel_canon.specs.Grids.{both_families, pair_of};
-ghost use Rattle.babel_canon.specs.Values.{valued, valued_entry};
+ghost use Rattle.babel_canon.specs.Grids.{pair_of};
+ghost use Rattle.babel_canon.specs.Values.{valued_entry, valued_pairs};
 ghost use Rattle.babel_canon.specs.Sinks.{IsListOf, IsWrittenOf};
 ghost use Rattle.babel_canon.specs.declared.values.PackedValue.{PackedValue};
 
@@ -20,7 +20,7 @@ use std::alloc::{AllocError, Global};
 use std::marker::{Brand, PhantomData};
 
 /// The list that packed values refer to, and the greatest length of a packet's body, which no sink changes.
-trait Given {
+pub(crate) trait Given {
     ghost values: { List Held };
 
     ghost body: { ℕ };
@@ -45,8 +45,10 @@ impl<'a, G: Given> Sink<PackedValue> for PairList<'a, G> {
 
     fn put(&mut self, row: Row) -> Result<(), AllocError>
         requires { row.0.address.family ≡ row.1.address.family }
-        ensures { OnOk result ((rows : List (Entry PackedValue)) → IsListOf G.values self.old.values.now.list.items self.old.pairs.items rows
-            → IsListOf G.values self.new.values.now.list.items self.new.pairs.items (rows ++ row ∷ [])) }
+        ensures { OnOk result ((rows : List (Entry PackedValue))
+            → IsListOf G.values self.old.values.now.list.items self.old.pairs.items rows
+            → IsListOf G.values self.new.values.now.list.items self.new.pairs.items
+            (rows ++ row ∷ [])) }
     {
         let (dst, src, value) = row;
         let key = Key::new(dst, src).unwrap();
@@ -65,12 +67,15 @@ struct PairText<'a, G: Given> {
 }
 
 impl<'a, G: Given> Sink<PackedValue> for PairText<'a, G> {
-    ghost has = { λ text rows. IsWrittenOf G.values G.body text.values.now.list.items text.text rows };
+    ghost has = { λ text rows.
+        IsWrittenOf G.values G.body text.values.now.list.items text.text rows };
 
     fn put(&mut self, row: Row) -> Result<(), AllocError>
         requires { row.0.address.family ≡ row.1.address.family }
-        ensures { OnOk result ((rows : List (Entry PackedValue)) → IsWrittenOf G.values G.body self.old.values.now.list.items self.old.text rows
-            → IsWrittenOf G.values G.body self.new.values.now.list.items self.new.text (rows ++ row ∷ [])) }
+        ensures { OnOk result ((rows : List (Entry PackedValue))
+            → IsWrittenOf G.values G.body self.old.values.now.list.items self.old.text rows
+            → IsWrittenOf G.values G.body self.new.values.now.list.items self.new.text
+            (rows ++ row ∷ [])) }
     {
         let (dst, src, value) = row;
         let key = Key::new(dst, src).unwrap();
@@ -82,13 +87,14 @@ impl<'a, G: Given> Sink<PackedValue> for PairText<'a, G> {
 
 fn listed_by<G: Given>(
     alloc: Global,
-    grids: Grids,
+    grids: Grids<PackedValue>,
     values: &Values,
 ) -> Result<Vec<(Key, Held)>, AllocError>
     requires given { values.now.list.items ≡ G.values }
     requires v4 { grids.v4.family ≡ V4 }
     requires v6 { grids.v6.family ≡ V6 }
-    ensures { IfOk result (λ pairs. pairs.items ≡ both_families (map (valued G.values) grids.v4.boxes) (map (valued G.values) grids.v6.boxes)) }
+    ensures { IfOk result (λ pairs.
+        pairs.items ≡ valued_pairs G.values grids.v4.boxes grids.v6.boxes) }
 {
     let count = grids.count() as usize;
     let mut list: PairList<'_, G> = PairList {
@@ -103,14 +109,15 @@ fn listed_by<G: Given>(
 fn written_by<G: Given>(
     alloc: Global,
     body: Body,
-    grids: Grids,
+    grids: Grids<PackedValue>,
     values: &Values,
 ) -> Result<Vec<u8>, AllocError>
     requires given { values.now.list.items ≡ G.values }
     requires body { body ≡ G.body }
     requires v4 { grids.v4.family ≡ V4 }
     requires v6 { grids.v6.family ≡ V6 }
-    ensures { IfOk result (λ octets. IsText G.body (both_families (map (valued G.values) grids.v4.boxes) (map (valued G.values) grids.v6.boxes)) octets.items) }
+    ensures { IfOk result (λ octets.
+        IsCanonicalText G.body (valued_pairs G.values grids.v4.boxes grids.v6.boxes) octets.items) }
 {
     let count = grids.count() as usize;
     let mut text: PairText<'_, G> = PairText {
@@ -126,12 +133,13 @@ fn written_by<G: Given>(
 /// The boxes of grids as pairs, IPv4 first, with the values that theirs stand for.
 pub(crate) fn listed(
     alloc: Global,
-    grids: Grids,
+    grids: Grids<PackedValue>,
     values: &Values,
 ) -> Result<Vec<(Key, Held)>, AllocError>
     requires v4 { grids.v4.family ≡ V4 }
     requires v6 { grids.v6.family ≡ V6 }
-    ensures { IfOk result (λ pairs. pairs.items ≡ both_families (map (valued values.now.list.items) grids.v4.boxes) (map (valued values.now.list.items) grids.v6.boxes)) }
+    ensures { IfOk result (λ pairs.
+        pairs.items ≡ valued_pairs values.now.list.items grids.v4.boxes grids.v6.boxes) }
 {
     listed_by::<Brand>(alloc, grids, values)
 }
@@ -140,12 +148,14 @@ pub(crate) fn listed(
 pub(crate) fn written(
     alloc: Global,
     body: Body,
-    grids: Grids,
+    grids: Grids<PackedValue>,
     values: &Values,
 ) -> Result<Vec<u8>, AllocError>
     requires v4 { grids.v4.family ≡ V4 }
     requires v6 { grids.v6.family ≡ V6 }
-    ensures { IfOk result (λ octets. IsText body (both_families (map (valued values.now.list.items) grids.v4.boxes) (map (valued values.now.list.items) grids.v6.boxes)) octets.items) }
+    ensures { IfOk result (λ octets.
+        IsCanonicalText body (valued_pairs values.now.list.items grids.v4.boxes grids.v6.boxes)
+        octets.items) }
 {
     written_by::<Brand>(alloc, body, grids, values)
 }

@@ -1,5 +1,5 @@
 //! Values in eight octets: where routes come from has a number, and stands once in a list.
-ghost use Rattle.std.specs.Prelude.{◌≡◌, IfOk, OnOk, Some, slice_get, true};
+ghost use Rattle.std.specs.Prelude.{◌≡◌, ◌+◌, ◌*◌, ◌^◌, IfOk, OnOk, Some, slice_get, true};
 ghost use Rattle.babel_tlv.specs.Group.{held_metric, held_seqno};
 ghost use Rattle.babel_canon.specs.Values.{AreNumbered, HasFiniteMetric, IsPacked, KeepsValues, origin_of, value_of};
 
@@ -21,6 +21,12 @@ impl LawfulOrd for PackedValue {
     ghost use Rattle.babel_canon.specs.NumberOrder.{packed_exact};
 
     ghost exact = { packed_exact };
+
+    ghost mark = { λ v. v.origin * 2 ^ 32 + v.seqno * 2 ^ 16 + v.metric };
+
+    fn mark(&self) -> u64 {
+        (u64::from(self.origin) << 32) + (u64::from(self.seqno) << 16) + u64::from(self.metric)
+    }
 }
 
 /// Each origin once, the number of each, and the number that was asked for last.
@@ -98,7 +104,8 @@ impl Values {
     fn number_of(&mut self, held: &Held) -> Result<u32, AllocError>
         requires { AreNumbered self.old.list.items self.old.numbers }
         ensures numbered { OnOk result (AreNumbered self.new.list.items self.new.numbers) }
-        ensures found { IfOk result (λ number. slice_get self.new.list.items number ≡ Some (origin_of held.now)) }
+        ensures found { IfOk result (λ number.
+            slice_get self.new.list.items number ≡ Some (origin_of held.now)) }
         ensures keeps { OnOk result (KeepsValues self.old.list.items self.new.list.items) }
     {
         let origin = origin_of(held);

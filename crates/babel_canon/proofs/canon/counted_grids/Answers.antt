@@ -1,23 +1,18 @@
-use Rattle.std.proofs.Common.{◌<◌, length, map, arith, inl, refl}
-use Rattle.std.proofs.lemmas.List.{length-map}
-use Rattle.babel_canon.specs.Grids.{both_families}
-use Rattle.babel_canon.specs.Values.{valued}
-use Rattle.babel_canon.proofs.Families.{both_are_boxes, both-length}
+-- The boxes of both families, with their values, are those of the table; and so many are too many.
+use Rattle.std.proofs.Common.{◌<◌, length, arith, inl, refl}
+use Rattle.babel_canon.specs.Values.{valued_pairs}
+use Rattle.babel_canon.proofs.SinkLaws.{boxes-length, boxes_of_both}
 use Rattle.babel_canon.proofs.canon.counted_grids.Goals as goal
 
 pub returns-then-count-entries-clause-err : goal.returns-then-count-entries-clause-err
 returns-then-count-entries-clause-err c =
     let values = c.of.new.values.list.items in
-    let v4 = map (valued values) c.in_ok-grids.grids.v4.boxes in
-    let v6 = map (valued values) c.in_ok-grids.grids.v6.boxes in
-    let are = both_are_boxes c.args.table.now.rows v4 v6 c.of.ensures.rows c.in_ok-grids.ensures.v4_boxes.boxes_are c.in_ok-grids.ensures.v6_boxes.boxes_are in
-    let many : c.args.limits.entries < length (both_families v4 v6) =
-    omega (arith, both-length v4 v6, length-map c.in_ok-grids.grids.v4.boxes (valued values), length-map c.in_ok-grids.grids.v6.boxes (valued values), c.count.ensures, c.entries.ensures.value, c.if-count-entries.true) in
-    inl (refl, (both_families v4 v6, are, many))
+    let v4 = c.in_ok-grids.grids.v4.boxes in
+    let v6 = c.in_ok-grids.grids.v6.boxes in
+    let are = boxes_of_both values c.args.table.now.rows v4 v6 c.of.ensures.rows c.in_ok-grids.ensures.v4_boxes c.in_ok-grids.ensures.v6_boxes in
+    let many : c.args.limits.entries < length (valued_pairs values v4 v6) = omega (arith, boxes-length values v4 v6, c.count.ensures, c.entries.ensures.value, c.if-count-entries.true) in
+    inl (refl, (valued_pairs values v4 v6, are, many))
 
 pub returns-clause-boxes : goal.returns-clause-boxes
 returns-clause-boxes c =
-    let values = c.of.new.values.list.items in
-    let v4 = map (valued values) c.in_ok-grids.grids.v4.boxes in
-    let v6 = map (valued values) c.in_ok-grids.grids.v6.boxes in
-    both_are_boxes c.args.table.now.rows v4 v6 c.of.ensures.rows c.in_ok-grids.ensures.v4_boxes.boxes_are c.in_ok-grids.ensures.v6_boxes.boxes_are
+    boxes_of_both c.of.new.values.list.items c.args.table.now.rows c.in_ok-grids.grids.v4.boxes c.in_ok-grids.grids.v6.boxes c.of.ensures.rows c.in_ok-grids.ensures.v4_boxes c.in_ok-grids.ensures.v6_boxes

@@ -10,7 +10,7 @@ use Rattle.babel_tlv.specs.Pair.{Pair}
 use Rattle.babel_table.specs.Rows.{entries_of}
 use Rattle.babel_canon.specs.declared.values.PackedValue.{PackedValue}
 use Rattle.babel_canon.specs.Values.{AreNumberedEntries}
-use Rattle.babel_canon.specs.Verdict.{IsFirstInFamily}
+use Rattle.babel_canon.specs.FirstDifference.{IsFirstInFamily}
 use Rattle.babel_canon.proofs.Numbered.{AreDistinct, same_by_value, difference_by_value}
 use Rattle.babel_canon.proofs.ValueLists.{distinct, entries_still, entries_say}
 use Rattle.babel_canon.proofs.comparison.family_difference.Goals as goal

@@ -2,7 +2,7 @@ use Rattle.std.proofs.Common.{Option, subst}
 use Rattle.std.proofs.lemmas.Result.{IfOk-weaker}
 use Rattle.babel_prefix.specs.declared.family.Family.TheVariants.{V4, V6}
 use Rattle.babel_prefix.specs.Address.{Address}
-use Rattle.babel_canon.specs.Verdict.{IsFirstDifference, IsFirstInFamily, SameInFamily}
+use Rattle.babel_canon.specs.FirstDifference.{IsFirstDifference, IsFirstInFamily, SameInFamily}
 use Rattle.babel_canon.proofs.Verdicts.{difference_v4, difference_v6}
 use Rattle.babel_canon.proofs.comparison.first_difference.Goals as goal
 

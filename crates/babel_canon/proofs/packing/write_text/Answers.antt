@@ -1,6 +1,6 @@
 use Rattle.std.proofs.Common.{◌≡◌, ◌+◌, [], ◌∷◌, ◌++◌, List, take, sym, ap, subst, ◌∙◌}
 use Rattle.std.proofs.lemmas.List.{take_more, take_all}
-use Rattle.babel_tlv.specs.Group.{IsText}
+use Rattle.babel_tlv.specs.Group.{IsCanonicalText}
 use Rattle.babel_tlv.specs.Pair.{Pair}
 use Rattle.babel_canon.specs.Writing.{IsTextOf}
 use Rattle.babel_canon.proofs.packing.write_text.Goals as goal
@@ -16,5 +16,5 @@ loop-key-preserved c =
 
 pub returns : goal.returns
 returns c =
-    subst (λ (ps : List Pair). IsText c.args.body ps c.into_octets.result.items) (take_all c.loop-key.key-index c.args.pairs.now c.loop-key-test.false)
+    subst (λ (ps : List Pair). IsCanonicalText c.args.body ps c.into_octets.result.items) (take_all c.loop-key.key-index c.args.pairs.now c.loop-key-test.false)
     (c.into_octets.ensures c.args.body (take c.loop-key.key-index c.args.pairs.now) c.loop-key.invariant)

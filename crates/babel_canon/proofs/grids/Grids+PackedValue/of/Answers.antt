@@ -1,6 +1,6 @@
 use Rattle.babel_prefix.specs.declared.family.Family.TheVariants.{V4}
 use Rattle.babel_canon.proofs.ValueLists.{boxes_still}
-use Rattle.babel_canon.proofs.grids.Grids.of.Goals as goal
+use Rattle.babel_canon.proofs.grids.Grids+PackedValue.of.Goals as goal
 
 pub returns-clause-v4_boxes : goal.returns-clause-v4_boxes
 returns-clause-v4_boxes c =

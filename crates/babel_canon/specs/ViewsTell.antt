@@ -1,0 +1,29 @@
+-- What follows of what views see of tables, and that the view that keeps all is none.
+use Rattle.std.specs.Prelude.{◌≡◌, ℕ, List, ◌↔◌}
+use Rattle.babel_prefix.specs.Address.{Address}
+use Rattle.babel_tlv.specs.declared.mode.Mode.{Mode}
+use Rattle.babel_tlv.specs.declared.view.View.{View}
+use Rattle.babel_tlv.specs.Pair.{Pair}
+use Rattle.babel_tlv.specs.Views.{keeps_all}
+use Rattle.babel_table.specs.Bounds.{Bounds}
+use Rattle.babel_table.specs.Rows.{AreRows}
+use Rattle.babel_table.specs.Seen.{seen_rows}
+use Rattle.babel_canon.specs.Boxes.{AnswerTheSame}
+use Rattle.babel_canon.specs.Headline.{Normalises}
+use Rattle.babel_canon.specs.Views.{AnswerTheSameUnder, NormalisesUnder}
+
+-- tables answer the same under a view exactly where what the view sees of them answers the same
+abbrev pub SeenAnswersTell : Type 0
+SeenAnswersTell =
+    (view : View) (rows others : List Pair) → AreRows rows → AreRows others
+    → AnswerTheSameUnder view rows others ↔ AnswerTheSame (seen_rows view rows) (seen_rows view others)
+
+-- the view that keeps all sees rows as they are
+abbrev pub AllRowsAreSeen : Type 0
+AllRowsAreSeen = (rows : List Pair) → seen_rows keeps_all rows ≡ rows
+
+-- under the view that keeps all the canonical form is that without a view
+abbrev pub AllNormalises : Type 0
+AllNormalises =
+    (limits : Bounds) (mode : Mode) (body : ℕ) (sender : Address) (dump octets : List ℕ)
+    → NormalisesUnder keeps_all limits mode body sender dump octets ↔ Normalises limits mode body sender dump octets
