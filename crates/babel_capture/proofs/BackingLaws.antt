@@ -12,7 +12,7 @@ use Rattle.babel_capture.specs.Frame.{header_sight, raw_sight, family_sight, pro
 use Rattle.babel_capture.specs.Headers.{NextHeader, has_len, header_len, is_first_fragment, has_more_fragments as more, past_header, past_headers}
 use Rattle.babel_capture.specs.Ipv4.{ipv4_sight, ipv4_header_len, total_len, ipv4_sender, has_more_fragments, carries_udp, is_later_fragment}
 use Rattle.babel_capture.specs.Ipv6.{ipv6_sight, ipv6_sender, payload_len, first_header, upper_sight}
-use Rattle.babel_capture.specs.Octets.{number_at, ip_version}
+use Rattle.babel_capture.specs.Octets.{network_number, ip_version}
 use Rattle.babel_capture.specs.Sight.{Sight, other, fragment, cut, datagram}
 use Rattle.babel_capture.specs.Udp.{udp_sight, udp_len, is_babel}
 
@@ -215,7 +215,7 @@ past_tag-part : (payload : Payload) → IsAfter (past_tag payload) payload
 unfolding past_tag
 past_tag-part payload =
     let untagged : Payload = record {
-      ether_type = number_at 2 2 payload.octets;
+      ether_type = network_number 2 2 payload.octets;
       octets = drop 4 payload.octets;
       whole = payload.whole - 4;
     } in
@@ -249,7 +249,7 @@ typed_backed interface payload =
 header_backed : (place len : ℕ) (interface : Option ℕ) (octets : List ℕ) (whole : ℕ)
     → Backs octets whole (header_sight place len interface octets whole)
 header_backed place len interface octets whole =
-    let payload : Payload = record { ether_type = number_at place 2 octets; octets = drop len octets; whole = whole - len } in
+    let payload : Payload = record { ether_type = network_number place 2 octets; octets = drop len octets; whole = whole - len } in
     unless octets whole (nat_lt (length octets) len) (typed_sight interface payload) (λ _.
     Backs-part (drop len octets) (whole - len) octets whole (IsPart-after len octets whole) (typed_sight interface payload) (typed_backed interface payload))
 
@@ -274,4 +274,4 @@ frame_backed links.Loop octets whole = family_backed octets whole
 frame_backed links.Cooked octets whole = header_backed 14 16 None octets whole
 frame_backed links.RawIpv4 octets whole = ipv4_backed None octets whole
 frame_backed links.RawIpv6 octets whole = ipv6_backed None octets whole
-frame_backed links.Cooked2 octets whole = header_backed 0 20 (Some (number_at 4 4 octets)) octets whole
+frame_backed links.Cooked2 octets whole = header_backed 0 20 (Some (network_number 4 4 octets)) octets whole

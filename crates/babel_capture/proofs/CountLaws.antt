@@ -9,7 +9,8 @@ use Rattle.std.proofs.lemmas.List.{length-append}
 use Rattle.babel_capture.specs.declared.reason.Reason.{Reason}
 use Rattle.babel_capture.specs.declared.reason.Reason.TheVariants as reasons
 use Rattle.babel_capture.specs.Findings.{Found, passed, left, snapped, found}
-use Rattle.babel_capture.specs.Counts.{Made, Counts, all_reasons, is_left_for, left_for, counts_of, one_more, left_with, counted_with, reason_of}
+use Rattle.babel_capture.specs.Counts.{Made, Counts, all_reasons, is_left_for, left_for, counts_of}
+use Rattle.babel_capture.specs.Counting.{one_more, left_with, counted_with, reason_of}
 
 abbrev Count : Type 0
 Count = Option (ℕ × ℕ)

@@ -13,7 +13,8 @@ use Rattle.babel_capture.specs.declared.fault.Fault.TheVariants as faults
 use Rattle.babel_capture.specs.declared.tallies.Origin.{Origin}
 use Rattle.babel_capture.specs.Blocks.{Sighting, sight_in}
 use Rattle.babel_capture.specs.Contents.{Captured}
-use Rattle.babel_capture.specs.Counts.{Made, counted_with, reason_of}
+use Rattle.babel_capture.specs.Counts.{Made}
+use Rattle.babel_capture.specs.Counting.{counted_with, reason_of}
 use Rattle.babel_capture.specs.Findings.{Found, passed, left, snapped, found, Finds}
 use Rattle.babel_capture.specs.Sight.{Sight}
 use Rattle.babel_capture.specs.Gathering.{AreMade, Gathering, IsGathered, IsRefusedPacket, octets_found, dump_of, dump_with}

@@ -14,14 +14,14 @@ use Rattle.babel_capture.specs.Headers.{NextHeader, past_header, past_headers}
 use Rattle.babel_capture.specs.Ipv4.{ipv4_sight, ipv4_header_len, total_len, carries_udp, is_later_fragment, has_more_fragments}
 use Rattle.babel_capture.specs.Ipv6.{ipv6_sight, payload_len, first_header}
 use Rattle.babel_capture.specs.LaidOut.{UdpDatagram, udp_octets, IsBabel, Ipv4Header, ipv4_octets, IsIpv4, Ipv6Header, ipv6_octets, IsIpv6, ethernet_octets, ipv4_frame, ipv6_frame}
-use Rattle.babel_capture.specs.Octets.{number_at, ip_version}
+use Rattle.babel_capture.specs.Octets.{network_number, ip_version}
 use Rattle.babel_capture.specs.Sight.{datagram}
 use Rattle.babel_capture.specs.Udp.{udp_sight, udp_len, is_babel}
 use Rattle.babel_capture.proofs.OctetLaws.{big_from-drop}
 
 -- a number reads back from where it was written
-number-back : (before : List ℕ) (n x : ℕ) (after : List ℕ) → x < 256 ^ n → number_at (length before) n (before ++ (big_bytes n x ++ after)) ≡ x
-unfolding number_at
+number-back : (before : List ℕ) (n x : ℕ) (after : List ℕ) → x < 256 ^ n → network_number (length before) n (before ++ (big_bytes n x ++ after)) ≡ x
+unfolding network_number
 number-back before n x after fits =
     let octets = before ++ (big_bytes n x ++ after) in
     let start : length before + 0 ≡ length before = omega arith in
@@ -46,9 +46,9 @@ udp_laid_out : (sender : Address) (interface : Option ℕ) (udp : UdpDatagram) (
 udp_laid_out sender interface udp whole fits there =
     let octets = udp_octets udp in
     let len = 8 + length udp.payload in
-    let at_source : number_at 0 2 octets ≡ udp.source =
+    let at_source : network_number 0 2 octets ≡ udp.source =
     number-back [] 2 udp.source (big_bytes 2 udp.destination ++ big_bytes 2 len ++ big_bytes 2 udp.checksum ++ udp.payload) fits.source_fits in
-    let at_destination : number_at 2 2 octets ≡ udp.destination =
+    let at_destination : network_number 2 2 octets ≡ udp.destination =
     number-back (big_bytes 2 udp.source) 2 udp.destination (big_bytes 2 len ++ big_bytes 2 udp.checksum ++ udp.payload) fits.destination_fits in
     let at_len : udp_len octets ≡ len =
     number-back (big_bytes 2 udp.source ++ big_bytes 2 udp.destination) 2 len (big_bytes 2 udp.checksum ++ udp.payload) fits.len_fits in
@@ -67,7 +67,7 @@ past-udp zero header udp = refl
 past-udp (suc n) header udp = ap past_header (past-udp n header udp) ∙ past_udp header udp
 
 ipv6_seen : (interface : Option ℕ) (octets carried : List ℕ) (sender whole : ℕ) → 40 ≤ length octets → ip_version octets ≡ 6 → payload_len octets ≡ length carried
-    → slice_index octets 6 ≡ 17 → number_at 8 16 octets ≡ sender → 40 + length carried ≤ whole → take (length carried) (drop 40 octets) ≡ carried
+    → slice_index octets 6 ≡ 17 → network_number 8 16 octets ≡ sender → 40 + length carried ≤ whole → take (length carried) (drop 40 octets) ≡ carried
     → ipv6_sight interface octets whole ≡ udp_sight (record { family = V6; bits = sender }) interface false carried (length carried)
 unfolding ipv6_sight
 ipv6_seen interface octets carried sender whole long version len number from there kept =
@@ -90,7 +90,7 @@ ipv6_laid_out interface ip carried padding whole fits there =
     let version : ip_version octets ≡ 6 = omega arith in
     let behind = big_bytes 16 ip.destination ++ carried ++ padding in
     let at_len : payload_len octets ≡ len = number-back front 2 len (17 ∷ ip.hop_limit ∷ big_bytes 16 ip.sender ++ behind) fits.len_fits in
-    let at_sender : number_at 8 16 octets ≡ ip.sender = number-back (front ++ big_bytes 2 len ++ 17 ∷ ip.hop_limit ∷ []) 16 ip.sender behind fits.sender_fits in
+    let at_sender : network_number 8 16 octets ≡ ip.sender = number-back (front ++ big_bytes 2 len ++ 17 ∷ ip.hop_limit ∷ []) 16 ip.sender behind fits.sender_fits in
     ipv6_seen interface octets carried ip.sender whole (omega arith) version at_len refl at_sender there (take-append_seam carried padding)
 
 babel_over_ipv6 : (interface : Option ℕ) (ip : Ipv6Header) (udp : UdpDatagram) (padding : List ℕ) (whole : ℕ) → IsBabel udp → IsIpv6 ip (udp_octets udp)
@@ -106,7 +106,7 @@ babel_over_ipv6 interface ip udp padding whole babel fits there =
 
 ipv4_seen : (interface : Option ℕ) (octets carried : List ℕ) (header sender whole : ℕ) → 20 ≤ length octets → ip_version octets ≡ 4
     → ipv4_header_len octets ≡ header → 20 ≤ header → total_len octets ≡ header + length carried → header + length carried ≤ whole
-    → (carries_udp octets ≡ true) × (is_later_fragment octets ≡ false) → has_more_fragments octets ≡ false → number_at 12 4 octets ≡ sender
+    → (carries_udp octets ≡ true) × (is_later_fragment octets ≡ false) → has_more_fragments octets ≡ false → network_number 12 4 octets ≡ sender
     → drop header (take (header + length carried) octets) ≡ carried
     → ipv4_sight interface octets whole ≡ udp_sight (record { family = V4; bits = sender }) interface false carried (length carried)
 unfolding ipv4_sight
@@ -156,9 +156,9 @@ babel_over_ipv4 interface ip udp padding whole babel fits there =
     let at_header : ipv4_header_len octets ≡ header = ap (λ (n : ℕ). 4 * n) (words_of words few) ∙ omega arith in
     let at_total : total_len octets ≡ total = number-back start 2 total (big_bytes 2 ip.id ++ big_bytes 2 ip.flags ++ ip.ttl ∷ 17 ∷ big_bytes 2 ip.checksum
     ++ big_bytes 4 ip.sender ++ big_bytes 4 ip.destination ++ behind) fits.len_fits in
-    let at_flags : number_at 6 2 octets ≡ ip.flags = number-back to_flags 2 ip.flags (ip.ttl ∷ 17 ∷ big_bytes 2 ip.checksum
+    let at_flags : network_number 6 2 octets ≡ ip.flags = number-back to_flags 2 ip.flags (ip.ttl ∷ 17 ∷ big_bytes 2 ip.checksum
     ++ big_bytes 4 ip.sender ++ big_bytes 4 ip.destination ++ behind) (flags_fit ip.flags fits.no_fragment) in
-    let at_sender : number_at 12 4 octets ≡ ip.sender = number-back to_sender 4 ip.sender (big_bytes 4 ip.destination ++ behind) fits.sender_fits in
+    let at_sender : network_number 12 4 octets ≡ ip.sender = number-back to_sender 4 ip.sender (big_bytes 4 ip.destination ++ behind) fits.sender_fits in
     let is_first : is_later_fragment octets ≡ false = rw at_flags (offset_of ip.flags fits.no_fragment) in
     let is_last : has_more_fragments octets ≡ false = rw at_flags (more_of ip.flags fits.no_fragment) in
     let front_len : length front ≡ header = omega (arith, fits.options_len) in
@@ -190,8 +190,8 @@ ethernet_laid_out addresses ether_type packet padding whole sized fits plain =
     let rest = packet ++ padding in
     let octets = addresses ++ (big_bytes 2 ether_type ++ rest) in
     let payload : Payload = record { ether_type = ether_type; octets = rest; whole = whole - 14 } in
-    let at_type : number_at 12 2 octets ≡ ether_type =
-    ap (λ (place : ℕ). number_at place 2 octets) (sym sized) ∙ number-back addresses 2 ether_type rest fits in
+    let at_type : network_number 12 2 octets ≡ ether_type =
+    ap (λ (place : ℕ). network_number place 2 octets) (sym sized) ∙ number-back addresses 2 ether_type rest fits in
     let header : 14 ≡ length addresses + 2 = omega arith in
     let at_rest : drop 14 octets ≡ rest = ap (λ (n : ℕ). drop n octets) header ∙ drop-append-add addresses (big_bytes 2 ether_type ++ rest) 2 in
     let long : nat_lt (length octets) 14 ≡ false =

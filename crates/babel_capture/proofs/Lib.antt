@@ -1,12 +1,16 @@
 pub mod BackingLaws
 pub mod CountLaws
+pub mod Entries
 pub mod FindingLaws
 pub mod FramingLaws
 pub mod GatherLaws
 pub mod LaidOutLaws
 pub mod NumberLaws
 pub mod OctetLaws
+pub mod OneCapture
+pub mod OneOrigin
 pub mod PacketLaws
 pub mod ReadingLaws
+pub mod SenderLaws
 pub mod StreamLaws
 pub mod TallyLaws

@@ -2,7 +2,7 @@
 use Rattle.std.proofs.Common.{◌≡◌, ℕ, zero, suc, ◌+◌, ◌-◌, List, length, take, drop, refl, ap, ◌∙◌, arith}
 use Rattle.std.proofs.lemmas.List.{get_or-drop, length-drop, take_all}
 use Rattle.byteorder.specs.Endian.{big_from, big_number}
-use Rattle.babel_capture.specs.Octets.{number_at}
+use Rattle.babel_capture.specs.Octets.{network_number}
 
 pub big_from-drop : (i n at : ℕ) (octets : List ℕ) → big_from i n (drop at octets) ≡ big_from (at + i) n octets
 big_from-drop i zero at octets = refl
@@ -13,8 +13,8 @@ big_from-drop i (suc n) at octets =
     rw (octet, rest, next) refl
 
 -- the first number of n octets in what comes after `at` octets
-pub number-is : (n at : ℕ) (octets : List ℕ) → big_number n (take (length octets - at) (drop at octets)) ≡ number_at at n octets
-unfolding number_at
+pub number-is : (n at : ℕ) (octets : List ℕ) → big_number n (take (length octets - at) (drop at octets)) ≡ network_number at n octets
+unfolding network_number
 number-is n at octets =
     let start : at + 0 ≡ at = omega arith in
     let rest = take_all (length octets - at) (drop at octets) (omega (arith, length-drop at octets)) in

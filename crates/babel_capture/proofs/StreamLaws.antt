@@ -1,6 +1,6 @@
 -- Octets in pieces.
 use Rattle.std.proofs.Common.{◌≡◌, ◌≢◌, ℕ, List, [], ◌++◌, length, take, drop, refl, sym, ap, subst, ◌∙◌, append_assoc, inl, inr, arith}
-use Rattle.std.specs.Prelude.{Err, Option, Some, None, ◌⊎◌}
+use Rattle.std.specs.Prelude.{Ok, Err, Result, IfErr, OnOk, Option, Some, None, ◌⊎◌}
 use Rattle.std.proofs.lemmas.List.{append-nil, take-append-drop, take-append-le, length-append}
 use Rattle.babel_capture.specs.declared.fault.Fault.{Fault}
 use Rattle.babel_capture.specs.declared.fault.Fault.TheVariants as faults
@@ -55,6 +55,45 @@ stops-more limit wanted octets more fault stops = record {
   stops = stops-more-at wanted (senders_of stops.made) (context_behind (start limit) stops.blocks) (length (octets_of stops.blocks)) stops.rest more fault stops.stops;
 }
 
+-- ---- a piece in two parts, one after the other
+
+-- from here the octets lead there; or they have this fault
+abbrev pub Takes : Progress → List ℕ → Progress → List ℕ → List ℕ → Type 0
+Takes old before new after piece = (limit : ℕ) (fed : List ℕ) → HasTaken limit old before fed → HasTaken limit new after (fed ++ piece)
+
+abbrev pub Fails : Progress → List ℕ → List ℕ → Fault → Type 0
+Fails old before piece fault = (fault ≡ faults.Memory) ⊎ ((limit : ℕ) (fed : List ℕ) → HasTaken limit old before fed → Stops limit old.gathering.wanted (fed ++ piece) fault)
+
+module _ (front back piece : List ℕ) (whole : front ++ back ≡ piece) where
+  behind : (fed : List ℕ) → (fed ++ front) ++ back ≡ fed ++ piece
+  behind fed = append_assoc fed front back ∙ ap (λ (t : List ℕ). fed ++ t) whole
+
+  pub takes-both : (old next new : Progress) (before between after : List ℕ) → Takes old before next between front → Takes next between new after back → Takes old before new after piece
+  takes-both old next new before between after one two limit fed taken = subst (λ (t : List ℕ). HasTaken limit new after t) (behind fed) (two limit (fed ++ front) (one limit fed taken))
+
+  pub fails-first : (old : Progress) (before : List ℕ) (fault : Fault) → Fails old before front fault → Fails old before piece fault
+  fails-first old before fault (inl memory) = inl memory
+  fails-first old before fault (inr stops) = inr (λ limit fed taken.
+      subst (λ (t : List ℕ). Stops limit old.gathering.wanted t fault) (behind fed) (stops-more limit old.gathering.wanted (fed ++ front) back fault (stops limit fed taken)))
+
+  pub fails-later : (old next : Progress) (before between : List ℕ) (fault : Fault) → next.gathering.wanted ≡ old.gathering.wanted → Takes old before next between front
+      → Fails next between back fault → Fails old before piece fault
+  fails-later old next before between fault same one (inl memory) = inl memory
+  fails-later old next before between fault same one (inr stops) = inr (λ limit fed taken.
+      subst (λ (w : Wanted). Stops limit w (fed ++ piece) fault) same
+      (subst (λ (t : List ℕ). Stops limit next.gathering.wanted t fault) (behind fed) (stops limit (fed ++ front) (one limit fed taken))))
+
+pub split-whole : (n : ℕ) (front back piece : List ℕ) → front ≡ take n piece → back ≡ drop n piece → front ++ back ≡ piece
+split-whole n front back piece is_front is_back = ap (λ (t : List ℕ). t ++ back) is_front ∙ ap (λ (t : List ℕ). take n piece ++ t) is_back ∙ take-append-drop n piece
+
+pub err-map : {A : Type 0} (P Q : Fault → Type 0) (r : Result A Fault) → ((fault : Fault) → P fault → Q fault) → IfErr r P → IfErr r Q
+err-map P Q (Ok value) follows holds = tt
+err-map P Q (Err fault) follows holds = follows fault holds
+
+pub ok-map : {A : Type 0} (P Q : Type 0) (r : Result A Fault) → (P → Q) → OnOk r P → OnOk r Q
+ok-map P Q (Ok value) follows holds = follows holds
+ok-map P Q (Err fault) follows holds = tt
+
 -- ---- the end
 
 module _ (limit : ℕ) (progress : Progress) (pending fed : List ℕ) (taken : HasTaken limit progress pending fed) where
@@ -106,7 +145,15 @@ read-to-cut limit progress pending fed cut started which taken = record {
   read = taken.read;
   rest = pending;
   whole = taken.whole;
-  is_read = read-before limit progress pending fed taken started;
+  is_read = record {
+    blocks = taken.leads.blocks;
+    whole = taken.leads.whole;
+    are_blocks = taken.leads.are_blocks;
+    started = subst HasStarted taken.leads.context started;
+    gathered = taken.leads.gathered;
+  };
+  partial = subst (λ (n : ℕ). IsPartial (context_behind (start limit) taken.leads.blocks) n pending) taken.leads.place
+      (subst (λ (c : Before). IsPartial c progress.at pending) taken.leads.context taken.partial);
   where_cut = subst (λ (n : ℕ). ((pending ≡ []) × (cut ≡ None)) ⊎ ((pending ≢ []) × (cut ≡ Some n))) taken.leads.place which;
 }
 

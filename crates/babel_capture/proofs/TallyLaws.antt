@@ -1,15 +1,19 @@
--- Tallies and one packet more.
-use Rattle.std.proofs.Common.{◌≡◌, ◌≤◌, ℕ, List, length, refl, sym, ap, subst, ◌∙◌, rules}
-use Rattle.std.specs.Prelude.{Bool, true, false, not, IsTrue, Option, None, Some, is_some}
+-- Tallies with one packet more are the stated ones, of a new sender and of one that is there.
+use Rattle.std.proofs.Common.{◌≡◌, ℕ, List, Option, Some, sym, ap, subst, ◌∙◌, rules}
+use Rattle.std.specs.Cmp.{IsTotalOrder}
 use Rattle.std.specs.declared.cmp.Ordering.{Ordering}
 use Rattle.std.proofs.Math.Path.{fun_ext}
 use Rattle.std.specs.BTreeMap.{insert_entry, is_at}
-use Rattle.std.specs.Map.{lookup}
+use Rattle.std.specs.List.Sorted.{IsStrictlySortedBy}
+use Rattle.std.specs.Map.{keys_of, lookup, set_value}
+use Rattle.std.proofs.lemmas.Cmp.{nat_cmp_total, on_total, then_total}
+use Rattle.babel_prefix.specs.TotalOrder.{address_total}
 use Rattle.std.specs.Option.{unwrap_or}
 use Rattle.babel_capture.specs.contracts.tallies.OriginOrd.TheImpl.{ghosts}
 use Rattle.babel_capture.specs.declared.tallies.Origin.{Origin}
 use Rattle.babel_capture.specs.declared.tallies.Tally.{Tally}
-use Rattle.babel_capture.specs.Tallies.{IsOneTooMany, Senders, no_packets, one_more, origin_cmp, tallied, tally_of}
+use Rattle.babel_capture.specs.Tallies.{Senders, no_packets, one_more, origin_cmp, tallied, tally_of}
+use Rattle.babel_capture.proofs.Entries.{set_value-insert}
 
 -- the order of the type is the stated one
 pub origin_order : ghosts.cmp ≡ origin_cmp
@@ -29,11 +33,13 @@ tallied-by senders after origin packet tally is entries =
 pub unknown-by : (senders : Senders) (origin : Origin) → lookup (is_at (ghosts.cmp origin)) senders ≡ tally_of senders origin
 unknown-by senders origin = ap (λ (k : Origin → Origin → Ordering). lookup (is_at (k origin)) senders) origin_order
 
--- the code's test says whether the sender is one too many
-pub one-too-many-by : (senders : Senders) (origin : Origin) (has : Bool) → has ≡ is_some (lookup (is_at (ghosts.cmp origin)) senders) → 65536 ≤ length senders
-    → (IsTrue (not has) → IsOneTooMany senders origin) × (IsOneTooMany senders origin → IsTrue (not has))
-one-too-many-by senders origin has is full = by (tally_of senders origin) refl (is ∙ ap is_some (unknown-by senders origin))
-  where
-    by : (tally : Option Tally) → tally_of senders origin ≡ tally → has ≡ is_some (tally_of senders origin) → (IsTrue (not has) → IsOneTooMany senders origin) × (IsOneTooMany senders origin → IsTrue (not has))
-    by None none says = let e : has ≡ false = says ∙ ap is_some none in (λ _. (full, none), λ _. subst (λ b. IsTrue (not b)) (sym e) refl)
-    by (Some tally) some says = let e : has ≡ true = says ∙ ap is_some some in (λ holds. let wrong : IsTrue (not true) = subst (λ b. IsTrue (not b)) e holds in absurd cc, λ many. absurd cc)
+pub origin_total : IsTotalOrder origin_cmp
+origin_total = then_total (on_total (λ (o : Origin). o.interface) nat_cmp_total) (on_total (λ (o : Origin). o.sender) address_total)
+
+-- a tally that is there already is written in its place
+pub updated-by : (senders after : Senders) (origin : Origin) (packet : List ℕ) (before tally : Tally)
+    → lookup (is_at (ghosts.cmp origin)) senders ≡ Some before → tally ≡ one_more before packet → IsStrictlySortedBy ghosts.cmp (keys_of senders)
+    → after ≡ set_value (is_at (ghosts.cmp origin)) senders tally → after ≡ tallied senders origin packet
+updated-by senders after origin packet before tally found is sorted entries =
+    tallied-by senders after origin packet tally (is ∙ ap (λ (t : Option Tally). one_more (unwrap_or t no_packets) packet) (sym found))
+    (entries ∙ set_value-insert (subst IsTotalOrder (sym origin_order) origin_total) origin tally before senders sorted found)

@@ -19,12 +19,13 @@ pub record IsRead (limit : ℕ) (octets : List ℕ) (gathering : Gathering) : Ty
   pub started : HasStarted (context_behind (start limit) blocks)
   pub gathered : IsGathered (sightings_of blocks) gathering
 
--- the octets are a capture whose last block is cut short, at this offset if it is
+-- the octets are a capture, and then less than a block: its last one is cut short, at this offset if there are any
 pub record IsReadToCut (limit : ℕ) (octets : List ℕ) (gathering : Gathering) (cut : Option ℕ) : Type 0 where
   pub read : List ℕ
   pub rest : List ℕ
   pub whole : octets ≡ read ++ rest
   pub is_read : IsRead limit read gathering
+  pub partial : IsPartial (context_behind (start limit) is_read.blocks) (length read) rest
   pub where_cut : ((rest ≡ []) × (cut ≡ None)) ⊎ ((rest ≢ []) × (cut ≡ Some (length read)))
 
 -- the octets end before the first block is whole, or within a later one

@@ -137,7 +137,7 @@ typed_said before at order block kind =
 
 abbrev pub pcapng_said : Before → ℕ → Order → List ℕ → Result Content Fault
 pcapng_said before at order block =
-    if number_at order 4 block 0 == 168627466 then section_said at block
+    if number_at order 4 block 0 == 0x0a0d0d0a then section_said at block
     else if number_at order 4 block (length block - 4) == length block
     then typed_said before at order block (number_at order 4 block 0)
     else Err (faults.BadLength at)

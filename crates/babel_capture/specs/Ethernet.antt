@@ -3,7 +3,7 @@ use Rattle.std.specs.Prelude.{ℕ, zero, suc, ◌-◌, Bool, ◌==◌, ◌&&◌,
 use Rattle.std.specs.Prelude.{List, length, drop, Option}
 use Rattle.babel_capture.specs.Ipv4.{ipv4_sight}
 use Rattle.babel_capture.specs.Ipv6.{ipv6_sight}
-use Rattle.babel_capture.specs.Octets.{number_at}
+use Rattle.babel_capture.specs.Octets.{network_number}
 use Rattle.babel_capture.specs.Sight.{Sight, other}
 
 -- an EtherType, the octets after it that the recorder kept, and how many there were
@@ -20,7 +20,7 @@ is_tag ether_type = ether_type == 0x8100 || ether_type == 0x88a8
 unfoldable pub past_tag : Payload → Payload
 past_tag payload =
     if is_tag payload.ether_type && nat_le 4 (length payload.octets) then record {
-      ether_type = number_at 2 2 payload.octets;
+      ether_type = network_number 2 2 payload.octets;
       octets = drop 4 payload.octets;
       whole = payload.whole - 4;
     }
@@ -35,8 +35,8 @@ past_tags (suc n) payload = past_tag (past_tags n payload)
 abbrev pub ip_sight : Option ℕ → Payload → Sight
 ip_sight interface payload =
     if payload.ether_type == 0x0800 then ipv4_sight interface payload.octets payload.whole
-    else (if payload.ether_type == 0x86dd then ipv6_sight interface payload.octets payload.whole
-    else other)
+    else if payload.ether_type == 0x86dd then ipv6_sight interface payload.octets payload.whole
+    else other
 
 -- IPv4 or IPv6 after at most 4 tags
 unfoldable pub typed_sight : Option ℕ → Payload → Sight

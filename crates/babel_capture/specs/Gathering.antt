@@ -7,7 +7,7 @@ use Rattle.babel_capture.specs.declared.tallies.Origin.{Origin}
 use Rattle.babel_capture.specs.declared.wanted.Wanted.{Wanted}
 use Rattle.babel_capture.specs.declared.wanted.Wanted.TheVariants as wanteds
 use Rattle.babel_capture.specs.Blocks.{Sighting, sight_in}
-use Rattle.babel_capture.specs.Contents.{Captured, Content, file, section, describes, holds, nothing}
+use Rattle.babel_capture.specs.Contents.{Captured, Content, holds}
 use Rattle.babel_capture.specs.Counts.{Counts, Made, counts_of}
 use Rattle.babel_capture.specs.Findings.{Found, passed, left, snapped, found, Finds}
 use Rattle.babel_capture.specs.Tallies.{Senders, IsOneTooMany, senders_of}
@@ -64,8 +64,5 @@ IsRefusedPacket wanted senders at packet fault =
 
 -- the block at this offset holds a packet that is refused
 abbrev pub IsRefused : Wanted → Senders → ℕ → Content → Fault → Type 0
-IsRefused wanted senders at (file order interface) fault = ⊥
-IsRefused wanted senders at (section order) fault = ⊥
-IsRefused wanted senders at (describes interface) fault = ⊥
 IsRefused wanted senders at (holds packet) fault = IsRefusedPacket wanted senders at packet fault
-IsRefused wanted senders at nothing fault = ⊥
+IsRefused wanted senders at content fault = ⊥

@@ -2,7 +2,7 @@
 use Rattle.std.specs.Prelude.{ℕ, zero, suc, ◌+◌, ◌-◌, ◌*◌, Bool, not, ◌==◌, ◌&&◌, ◌||◌, nat_lt}
 use Rattle.std.specs.Prelude.{bit_and}
 use Rattle.std.specs.Prelude.{if◌then◌else◌, List, length, drop, slice_index}
-use Rattle.babel_capture.specs.Octets.{number_at}
+use Rattle.babel_capture.specs.Octets.{network_number}
 
 -- a header after the fixed one: its number; whether the headers before it say that the packet is
 -- the first of several fragments; the octets from its first one on that the recorder kept, and how
@@ -24,28 +24,28 @@ header_len octets = 8 * (slice_index octets 1 + 1)
 -- RFC 8200, 4.5: the fragment header, of 8 octets, in the first fragment; whether there are more
 -- fragments. An atomic fragment (RFC 6946) is the first one and has no more.
 abbrev pub is_first_fragment : ℕ → List ℕ → Bool
-is_first_fragment number octets = number == 44 && bit_and (number_at 2 2 octets) 0xfff8 == 0
+is_first_fragment number octets = number == 44 && bit_and (network_number 2 2 octets) 0xfff8 == 0
 
 abbrev pub has_more_fragments : List ℕ → Bool
-has_more_fragments octets = not (bit_and (number_at 2 2 octets) 0x0001 == 0)
+has_more_fragments octets = not (bit_and (network_number 2 2 octets) 0x0001 == 0)
 
 -- past the next header, where it is one of these
 unfoldable pub past_header : NextHeader → NextHeader
 past_header header =
     if nat_lt (length header.octets) 8 then header
-    else (if has_len header.number then record {
+    else if has_len header.number then record {
       number = slice_index header.octets 0;
       is_fragment = header.is_fragment;
       octets = drop (header_len header.octets) header.octets;
       whole = header.whole - header_len header.octets;
     }
-    else (if is_first_fragment header.number header.octets then record {
+    else if is_first_fragment header.number header.octets then record {
       number = slice_index header.octets 0;
       is_fragment = header.is_fragment || has_more_fragments header.octets;
       octets = drop 8 header.octets;
       whole = header.whole - 8;
     }
-    else header))
+    else header
 
 -- past as many headers at most
 unfoldable pub past_headers : ℕ → NextHeader → NextHeader

@@ -4,16 +4,16 @@ use Rattle.std.specs.Prelude.{length, drop, take, slice_index, Option}
 use Rattle.babel_prefix.specs.Address.{Address}
 use Rattle.babel_prefix.specs.declared.family.Family.TheVariants.{V6}
 use Rattle.babel_capture.specs.Headers.{NextHeader, past_headers}
-use Rattle.babel_capture.specs.Octets.{number_at, ip_version}
+use Rattle.babel_capture.specs.Octets.{network_number, ip_version}
 use Rattle.babel_capture.specs.Sight.{Sight, other}
 use Rattle.babel_capture.specs.Udp.{udp_sight}
 
 -- RFC 8200, 3: the octets after the fixed header of 40
 abbrev pub payload_len : List ℕ → ℕ
-payload_len octets = number_at 4 2 octets
+payload_len octets = network_number 4 2 octets
 
 abbrev pub ipv6_sender : List ℕ → Address
-ipv6_sender octets = record { family = V6; bits = number_at 8 16 octets }
+ipv6_sender octets = record { family = V6; bits = network_number 8 16 octets }
 
 -- the first header after the fixed one, which says its number; the packet ends where its payload
 -- does
@@ -36,5 +36,5 @@ upper_sight sender interface upper =
 unfoldable pub ipv6_sight : Option ℕ → List ℕ → ℕ → Sight
 ipv6_sight interface octets whole =
     if nat_lt (length octets) 40 || not (ip_version octets == 6) then other
-    else (if nat_lt whole (40 + payload_len octets) then other
-    else upper_sight (ipv6_sender octets) interface (past_headers 8 (first_header octets)))
+    else if nat_lt whole (40 + payload_len octets) then other
+    else upper_sight (ipv6_sender octets) interface (past_headers 8 (first_header octets))

@@ -13,7 +13,7 @@ use Rattle.babel_capture.specs.Numbers.{number_at}
 -- draft-ietf-opsawg-pcap, 4: 0xA1B2C3D4 where times are in microseconds, 0xA1B23C4D where they are
 -- in nanoseconds
 abbrev pub is_pcap_magic : ℕ → Bool
-is_pcap_magic number = number == 2712847316 || number == 2712812621
+is_pcap_magic number = number == 0xa1b2c3d4 || number == 0xa1b23c4d
 
 -- the byte order of a pcap file, by its first octets
 abbrev pub pcap_order : List ℕ → Option Order
@@ -25,13 +25,13 @@ pcap_order header =
 -- draft-ietf-opsawg-pcapng, 4.1: the type of a section header, 0x0A0D0D0A, which is the same in
 -- either order
 abbrev pub is_section : List ℕ → Bool
-is_section header = number_at orders.Big 4 header 0 == 168627466
+is_section header = number_at orders.Big 4 header 0 == 0x0a0d0d0a
 
 -- draft-ietf-opsawg-pcapng, 4.1: the byte order of a section, by the number 0x1A2B3C4D at 8
 abbrev pub section_order : ℕ → List ℕ → Result Order Fault
 section_order at header =
-    if number_at orders.Big 4 header 8 == 439041101 then Ok orders.Big
-    else if number_at orders.Little 4 header 8 == 439041101 then Ok orders.Little
+    if number_at orders.Big 4 header 8 == 0x1a2b3c4d then Ok orders.Big
+    else if number_at orders.Little 4 header 8 == 0x1a2b3c4d then Ok orders.Little
     else Err (faults.BadOrder at)
 
 -- draft-ietf-opsawg-pcapng, 3.1: the total length, a multiple of 4, and here at least so many

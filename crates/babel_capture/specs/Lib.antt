@@ -4,6 +4,7 @@ pub mod Capture
 pub mod Contents
 pub mod Context
 pub mod Counts
+pub mod Counting
 pub mod Ethernet
 pub mod Findings
 pub mod Frame
@@ -16,9 +17,12 @@ pub mod Layers
 pub mod Lengths
 pub mod Link
 pub mod Numbers
+pub mod OneCapture
+pub mod OneOrigin
 pub mod Octets
 pub mod Packets
 pub mod Reading
+pub mod Senders
 pub mod Sight
 pub mod Tallies
 pub mod Udp

@@ -2,9 +2,9 @@
 use Rattle.std.specs.Prelude.{ℕ, ◌/◌, ◌^◌, List, slice_index}
 use Rattle.byteorder.specs.Endian.{big_from}
 
--- the number in this many octets from a place on, the highest first: number_at PLACE COUNT OCTETS
-unfoldable pub number_at : ℕ → ℕ → List ℕ → ℕ
-number_at place count octets = big_from place count octets
+-- the number in this many octets from a place on, the highest first: network_number PLACE COUNT OCTETS
+unfoldable pub network_number : ℕ → ℕ → List ℕ → ℕ
+network_number place count octets = big_from place count octets
 
 -- RFC 791, 3.1; RFC 8200, 3: the version of an IP packet, the highest four bits
 abbrev pub ip_version : List ℕ → ℕ

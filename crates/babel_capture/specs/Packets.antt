@@ -14,11 +14,4 @@ pub record ArePackets (octets : List ℕ) : Type 0 where
 -- a TLV runs past the end of its packet's body: RFC 8966, 4.3
 abbrev pub IsPastEnd : Fault → Type 0
 IsPastEnd (faults.TlvPastEnd at) = Unit {0}
-IsPastEnd (faults.Truncated at) = ⊥
-IsPastEnd (faults.BadMagic at) = ⊥
-IsPastEnd (faults.BadVersion at) = ⊥
-IsPastEnd (faults.EncodingSetsRouterId at) = ⊥
-IsPastEnd (faults.TooManyRoutes at) = ⊥
-IsPastEnd faults.TooLong = ⊥
-IsPastEnd faults.TooManyPairs = ⊥
-IsPastEnd faults.Memory = ⊥
+IsPastEnd fault = ⊥

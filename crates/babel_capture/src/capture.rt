@@ -46,8 +46,9 @@ impl Capture {
     }
 
     /// Takes the next octets of the capture. A fault is answered as soon as the octets so far have
-    /// it, whatever comes after them; after any fault every later call answers that fault. The piece
-    /// is copied, so that the memory taken goes with the longest block and the longest piece.
+    /// it, whatever comes after them; after any fault every later call answers that fault. Of the
+    /// piece only octets of a block that is not whole in it are copied, so that the memory taken
+    /// goes with the longest block.
     pub fn feed(&mut self, piece: &[u8]) -> Result<(), Fault>
         // The reader stands where the octets that it was fed before, and these, lead it.
         ensures fed { (fed : List ℕ) → HasRead self.old fed → HasRead self.new (fed ++ piece.now) }
@@ -83,6 +84,8 @@ impl Capture {
     pub fn finish(self) -> Result<Gathered, Fault>
         ensures ok { IfOk result (λ gathered. (fed : List ℕ) → HasRead self fed
             → IsRead self.limit fed gathered) }
+        ensures wanted { IfOk result (λ gathered. gathered.wanted
+            ≡ self.progress.gathering.wanted) }
         ensures fault { IfErr result (λ fault. fault ≢ Fault.Memory → (fed : List ℕ)
             → HasRead self fed
             → CaptureFault self.limit self.progress.gathering.wanted fed fault) }
@@ -99,6 +102,10 @@ impl Capture {
     pub fn finish_at_cut(self) -> Result<(Gathered, Option<u64>), Fault>
         ensures ok { IfOk result (λ given. (fed : List ℕ) → HasRead self fed
             → IsReadToCut self.limit fed given.0 given.1) }
+        ensures wanted { IfOk result (λ given. given.0.wanted
+            ≡ self.progress.gathering.wanted) }
+        ensures not_cut { self.fault ≡ None
+            → IfErr result (λ fault. fault ≡ Fault.NotCapture) }
         ensures fault { IfErr result (λ fault. fault ≢ Fault.Memory → (fed : List ℕ)
             → HasRead self fed
             → CaptureFault self.limit self.progress.gathering.wanted fed fault) }

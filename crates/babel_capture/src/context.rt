@@ -120,6 +120,18 @@ impl Context {
         Ok(Some(&octets[..len as usize]))
     }
 
+    /// How many octets make the header whole that these octets, at this offset, begin; or, if it is, the block.
+    pub fn lacking(&self, at: u64, octets: &[u8]) -> usize {
+        let header_len = self.layout.header_len();
+        if octets.len() < header_len {
+            return header_len - octets.len();
+        }
+        match self.layout.block_len(&octets[..header_len], at) {
+            Ok(len) => (len as usize).saturating_sub(octets.len()),
+            Err(_) => 0,
+        }
+    }
+
     /// Takes what a block says.
     pub fn take(&mut self, said: &Block<'_>) -> Result<(), AllocError>
         ensures limit { self.new.limit ≡ self.old.limit }

@@ -65,6 +65,13 @@ impl Gathered {
         &self.dump
     }
 
+    /// The dump alone.
+    pub fn into_dump(self) -> Vec<u8>
+        ensures { result.items ≡ self.dump }
+    {
+        self.dump
+    }
+
     /// How many packets the capture has, and which wanted datagrams were left out.
     pub fn report(&self) -> Report
         ensures { result ≡ self.now.report }

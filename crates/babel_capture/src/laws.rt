@@ -2,8 +2,11 @@
 ghost use Rattle.std.specs.Prelude.{◌≡◌, ℕ, ◌+◌, ◌≤◌, ◌++◌, List, length, None};
 ghost use Rattle.babel_capture.specs.Capture.{IsRead};
 ghost use Rattle.babel_capture.specs.Gathering.{Gathering};
+ghost use Rattle.babel_capture.specs.OneCapture.{CaptureIsOne, CutCaptureIsOne};
+ghost use Rattle.babel_capture.specs.OneOrigin.{NamedIsOne};
 ghost use Rattle.babel_capture.specs.Packets.{ArePackets, IsPastEnd};
 ghost use Rattle.babel_capture.specs.Reading.{Stops};
+ghost use Rattle.babel_capture.specs.Senders.{AreSenders};
 ghost use Rattle.babel_tlv.specs.Framing.{FrameFault};
 ghost use Rattle.babel_tlv.specs.declared.fault.Fault.{Fault as DumpFault};
 ghost use Rattle.babel_capture.specs.declared.fault.Fault.{Fault};
@@ -54,9 +57,29 @@ pub fn dump_is_framed()
         → (fault : DumpFault) → FrameFault gathering.dump fault → IsPastEnd fault }
 {}
 
+/// The senders that are counted of a capture are those of whom a packet was found: each once on each
+/// interface, by interface and then by address, with the number of its packets and of their octets.
+pub fn senders_are_those_found()
+    ensures { (limit : ℕ) (octets : List ℕ) (gathering : Gathering)
+        → (read : IsRead limit octets gathering)
+        → AreSenders read.gathered.made gathering.senders }
+{}
+
 /// A fault of a capture that shows before its end stays its fault, however it goes on.
 pub fn fault_stays()
     ensures { (limit : ℕ) (wanted : Wanted) (octets more : List ℕ) (fault : Fault)
         → Stops limit wanted octets fault
         → Stops limit wanted (octets ++ more) fault }
+{}
+
+/// Octets are one capture: however its pieces were cut, what the packets of it give is one, and so
+/// is the place where it is cut short.
+pub fn capture_is_one()
+    ensures whole { CaptureIsOne }
+    ensures cut { CutCaptureIsOne }
+{}
+
+/// Where the datagrams of one sender on one interface are wanted, there is one tally at most.
+pub fn named_is_one()
+    ensures { NamedIsOne }
 {}

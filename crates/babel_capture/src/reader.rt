@@ -90,6 +90,15 @@ impl Reader {
         self.context.first_block(self.at, octets)
     }
 
+    /// How many octets these lack to be a block, or to be its header; 0 if there are none.
+    pub fn lacking(&self, octets: &[u8]) -> usize {
+        if octets.is_empty() {
+            0
+        } else {
+            self.context.lacking(self.at, octets)
+        }
+    }
+
     /// Takes the whole blocks that the octets begin with: how many octets they are.
     pub fn take_blocks(&mut self, octets: &[u8]) -> Result<usize, Fault>
         ensures wanted { self.new.gathering.wanted ≡ self.old.gathering.wanted }

@@ -1,5 +1,6 @@
 ghost use Rattle.std.specs.Prelude.{◌≡◌, ◌+◌, ◌^◌, ◌<◌, [], IfSome};
-ghost use Rattle.babel_capture.specs.Counts.{Counts, count_at, counted_with, counts_of, one_more, reason_place};
+ghost use Rattle.babel_capture.specs.Counts.{Counts, count_at, counts_of, reason_place};
+ghost use Rattle.babel_capture.specs.Counting.{counted_with, one_more};
 
 use crate::reason::Reason;
 use std::marker::Model;

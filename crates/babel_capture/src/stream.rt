@@ -1,4 +1,4 @@
-ghost use Rattle.std.specs.Prelude.{◌≡◌, ◌≤◌, ◌++◌, ◌⊎◌, ℕ, List, [], drop, vec_len, OnOk, IfOk, IfErr};
+ghost use Rattle.std.specs.Prelude.{◌≡◌, ◌≤◌, ◌++◌, ◌⊎◌, ℕ, List, [], drop, length, vec_len, OnOk, IfOk, IfErr};
 ghost use Rattle.babel_capture.specs.Capture.{CaptureFault, IsRead, IsReadToCut};
 ghost use Rattle.babel_capture.specs.Reading.{HasTaken, Stops};
 
@@ -30,8 +30,47 @@ fn remove_front(octets: &mut Vec<u8>, used: usize)
 }
 
 impl Stream {
-    /// Takes the next octets.
+    /// Takes the next octets. They are copied only as far as they complete the block that is pending,
+    /// and where they begin one that is not whole: the others are read where they lie.
     pub fn take(&mut self, piece: &[u8]) -> Result<(), Fault>
+        ensures wanted { self.new.reader.gathering.wanted ≡ self.old.reader.gathering.wanted }
+        ensures ok { OnOk result ((limit : ℕ) (fed : List ℕ)
+            → HasTaken limit self.old.reader self.old.pending.items fed
+            → HasTaken limit self.new.reader self.new.pending.items (fed ++ piece.now)) }
+        ensures err { IfErr result (λ fault. (fault ≡ Fault.Memory) ⊎ ((limit : ℕ) (fed : List ℕ)
+            → HasTaken limit self.old.reader self.old.pending.items fed
+            → Stops limit self.old.reader.gathering.wanted (fed ++ piece.now) fault)) }
+    {
+        let (header, rest) = piece.split_at(self.lacking_of(piece));
+        self.take_behind(header)?;
+        self.take_past_header(rest)
+    }
+
+    /// Takes octets where the header of the block that is pending is whole, if one is.
+    fn take_past_header(&mut self, piece: &[u8]) -> Result<(), Fault>
+        ensures wanted { self.new.reader.gathering.wanted ≡ self.old.reader.gathering.wanted }
+        ensures ok { OnOk result ((limit : ℕ) (fed : List ℕ)
+            → HasTaken limit self.old.reader self.old.pending.items fed
+            → HasTaken limit self.new.reader self.new.pending.items (fed ++ piece.now)) }
+        ensures err { IfErr result (λ fault. (fault ≡ Fault.Memory) ⊎ ((limit : ℕ) (fed : List ℕ)
+            → HasTaken limit self.old.reader self.old.pending.items fed
+            → Stops limit self.old.reader.gathering.wanted (fed ++ piece.now) fault)) }
+    {
+        let (block, rest) = piece.split_at(self.lacking_of(piece));
+        self.take_behind(block)?;
+        self.take_in_place(rest)
+    }
+
+    /// How many of these octets complete the header of the block that is pending, or, if that is whole,
+    /// the block.
+    fn lacking_of(&self, piece: &[u8]) -> usize
+        ensures { result ≤ length piece.now }
+    {
+        self.reader.lacking(&self.pending).min(piece.len())
+    }
+
+    /// Takes octets that come behind those of the block that is pending.
+    fn take_behind(&mut self, piece: &[u8]) -> Result<(), Fault>
         ensures wanted { self.new.reader.gathering.wanted ≡ self.old.reader.gathering.wanted }
         ensures ok { OnOk result ((limit : ℕ) (fed : List ℕ)
             → HasTaken limit self.old.reader self.old.pending.items fed
@@ -43,6 +82,25 @@ impl Stream {
         self.pending.extend_from_slice(piece)?;
         let used = self.reader.take_blocks(&self.pending)?;
         remove_front(&mut self.pending, used);
+        Ok(())
+    }
+
+    /// Takes octets, where they lie if no block is pending.
+    fn take_in_place(&mut self, piece: &[u8]) -> Result<(), Fault>
+        ensures wanted { self.new.reader.gathering.wanted ≡ self.old.reader.gathering.wanted }
+        ensures ok { OnOk result ((limit : ℕ) (fed : List ℕ)
+            → HasTaken limit self.old.reader self.old.pending.items fed
+            → HasTaken limit self.new.reader self.new.pending.items (fed ++ piece.now)) }
+        ensures err { IfErr result (λ fault. (fault ≡ Fault.Memory) ⊎ ((limit : ℕ) (fed : List ℕ)
+            → HasTaken limit self.old.reader self.old.pending.items fed
+            → Stops limit self.old.reader.gathering.wanted (fed ++ piece.now) fault)) }
+    {
+        if !self.pending.is_empty() {
+            return self.take_behind(piece);
+        }
+        let used = self.reader.take_blocks(piece)?;
+        let (_blocks, left) = piece.split_at(used);
+        self.pending.extend_from_slice(left)?;
         Ok(())
     }
 
@@ -62,6 +120,7 @@ impl Stream {
         ensures ok { IfOk result (λ gathered. (limit : ℕ) (fed : List ℕ)
             → HasTaken limit self.reader self.pending.items fed
             → IsRead limit fed gathered) }
+        ensures wanted { IfOk result (λ gathered. gathered.wanted ≡ self.reader.gathering.wanted) }
         ensures fault { IfErr result (λ fault. (limit : ℕ) (fed : List ℕ)
             → HasTaken limit self.reader self.pending.items fed
             → CaptureFault limit self.reader.gathering.wanted fed fault) }
@@ -82,6 +141,8 @@ impl Stream {
         ensures ok { IfOk result (λ given. (limit : ℕ) (fed : List ℕ)
             → HasTaken limit self.reader self.pending.items fed
             → IsReadToCut limit fed given.0 given.1) }
+        ensures wanted { IfOk result (λ given. given.0.wanted ≡ self.reader.gathering.wanted) }
+        ensures err { IfErr result (λ fault. fault ≡ Fault.NotCapture) }
         ensures fault { IfErr result (λ fault. (limit : ℕ) (fed : List ℕ)
             → HasTaken limit self.reader self.pending.items fed
             → CaptureFault limit self.reader.gathering.wanted fed fault) }

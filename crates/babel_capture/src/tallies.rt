@@ -1,5 +1,5 @@
-ghost use Rattle.std.specs.Prelude.{◌≡◌, ◌⊎◌, ◌↔◌, [], IsTrue, IfErr, IfSome, OnOk};
-ghost use Rattle.babel_capture.specs.Tallies.{IsOneTooMany, one_more, tallied};
+ghost use Rattle.std.specs.Prelude.{◌≡◌, ◌⊎◌, [], IfErr, IfSome, None, OnOk};
+ghost use Rattle.babel_capture.specs.Tallies.{IsOneTooMany, one_more, tallied, tally_of};
 
 use crate::fault::Fault;
 use babel_prefix::Addr;
@@ -69,11 +69,24 @@ impl Tallies {
         &self.tallies
     }
 
-    /// Whether the sender is one more than are kept.
-    fn is_one_too_many(&self, origin: &Origin) -> bool
-        ensures { IsTrue result ↔ IsOneTooMany self.now origin.now }
+    /// Counts the first packet of a sender.
+    fn add_first(&mut self, at: u64, origin: Origin, packet: &[u8]) -> Result<(), Fault>
+        requires { tally_of self.old origin ≡ None }
+        ensures ok { OnOk result (self.new ≡ tallied self.old origin packet.now) }
+        ensures err { IfErr result (λ fault. (fault ≡ Fault.Memory)
+            ⊎ ((fault ≡ Fault.TooManySenders at) × IsOneTooMany self.old origin)) }
     {
-        self.tallies.len() >= MAX_SENDERS && !self.tallies.contains_key(origin)
+        if self.tallies.len() >= MAX_SENDERS {
+            return Err(Fault::TooManySenders { at });
+        }
+        let tally = Tally {
+            packets: 1,
+            octets: packet.len() as u64,
+        };
+        match self.tallies.insert(origin, tally) {
+            Ok(_) => Ok(()),
+            Err(_) => Err(Fault::Memory),
+        }
     }
 
     /// Counts a packet, which is in the block at this offset.
@@ -82,20 +95,13 @@ impl Tallies {
         ensures err { IfErr result (λ fault. (fault ≡ Fault.Memory)
             ⊎ ((fault ≡ Fault.TooManySenders at) × IsOneTooMany self.old origin)) }
     {
-        if self.is_one_too_many(&origin) {
-            return Err(Fault::TooManySenders { at });
-        }
-        let none = Tally {
-            packets: 0,
-            octets: 0,
+        let Some(tally) = self.tallies.get_mut(&origin) else {
+            return self.add_first(at, origin, packet);
         };
-        let before = self.tallies.get(&origin).copied().unwrap_or(none);
-        let Some(tally) = before.with(packet) else {
+        let Some(more) = tally.with(packet) else {
             return Err(Fault::Memory);
         };
-        match self.tallies.insert(origin, tally) {
-            Ok(_) => Ok(()),
-            Err(_) => Err(Fault::Memory),
-        }
+        *tally = more;
+        Ok(())
     }
 }

@@ -2,7 +2,7 @@ use Rattle.std.proofs.Common.{◌+◌, refl, ap, ◌∙◌}
 use Rattle.std.specs.Prelude.{None, Some}
 use Rattle.babel_capture.specs.Blocks.{sighting_of}
 use Rattle.babel_capture.specs.Contents.{captured_of}
-use Rattle.babel_capture.specs.Counts.{counted_with}
+use Rattle.babel_capture.specs.Counting.{counted_with}
 use Rattle.babel_capture.specs.Findings.{finding_of}
 use Rattle.babel_capture.specs.Gathering.{Gathering, dump_with}
 use Rattle.babel_capture.specs.Tallies.{tallied}

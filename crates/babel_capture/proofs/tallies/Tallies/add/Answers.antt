@@ -1,21 +1,19 @@
-use Rattle.std.proofs.Common.{rules, ◌≡◌, sym, subst, ap, ◌∙◌}
-use Rattle.std.specs.Prelude.{OnOk}
-use Rattle.std.specs.Map.{lookup}
-use Rattle.std.specs.Option.{unwrap_or}
-use Rattle.std.specs.BTreeMap.{is_at, insert_entry}
-use Rattle.babel_capture.specs.Tallies.{Senders, no_packets, one_more, tallied}
+-- The tally of a sender that is kept has one packet more.
+use Rattle.std.proofs.Common.{rules, ◌≡◌, subst}
+use Rattle.std.specs.Prelude.{Some}
+use Rattle.std.specs.BTreeMap.{is_at}
+use Rattle.std.specs.List.Sorted.{IsStrictlySortedBy}
+use Rattle.std.specs.Map.{keys_of, lookup, set_value}
+use Rattle.babel_capture.specs.Tallies.{Senders, one_more}
 use Rattle.babel_capture.specs.contracts.tallies.OriginOrd.TheImpl.{ghosts}
-use Rattle.babel_capture.proofs.TallyLaws.{tallied-by}
-use Rattle.babel_capture.proofs.tallies.Tallies.add.Goals.{in-Ok, in-Err}
+use Rattle.babel_capture.proofs.TallyLaws.{updated-by}
 use Rattle.babel_capture.proofs.tallies.Tallies.add.Goals as goal
 
 pub returns-clause-ok : goal.returns-clause-ok
 returns-clause-ok c =
-    let is : c.in-Some.tally ≡ one_more (unwrap_or (lookup (is_at (ghosts.cmp c.args.origin)) c.args.self.now) no_packets) c.args.packet.now = search rules in
-    elim c.match-insert.branch [
-      | in-Ok w ↦ subst (λ r. OnOk r (c.insert.new.self.entries ≡ tallied c.args.self.now c.args.origin c.args.packet.now)) (sym w.result-is)
-          (tallied-by c.args.self.now c.insert.new.self.entries c.args.origin c.args.packet.now c.in-Some.tally is
-          (subst (λ r. OnOk r (c.insert.new.self.entries ≡ insert_entry ghosts.cmp c.self.inside.tallies.entries c.args.origin c.in-Some.tally)) w.in-Ok.is c.insert.ensures.entries
-          ∙ ap (λ (s : Senders). insert_entry ghosts.cmp s c.args.origin c.in-Some.tally) c.self.view_is))
-      | in-Err w ↦ subst (λ r. OnOk r (c.insert.new.self.entries ≡ tallied c.args.self.now c.args.origin c.args.packet.now)) (sym w.result-is) tt
-    ]
+    let found : lookup (is_at (ghosts.cmp c.args.origin)) c.args.self.now ≡ Some c.in-Some.tally.now = search rules in
+    let more : c.in-Some-with.more ≡ one_more c.in-Some.tally.now c.args.packet.now = search rules in
+    let sorted : IsStrictlySortedBy ghosts.cmp (keys_of c.args.self.now) = subst (λ (s : Senders). IsStrictlySortedBy ghosts.cmp (keys_of s)) c.self.view_is c.get_mut.ensures.ordered in
+    let written : (c.get_mut.follows.lender c.in-Some-with.more).entries ≡ set_value (is_at (ghosts.cmp c.args.origin)) c.args.self.now c.in-Some-with.more =
+    subst (λ (s : Senders). (c.get_mut.follows.lender c.in-Some-with.more).entries ≡ set_value (is_at (ghosts.cmp c.args.origin)) s c.in-Some-with.more) c.self.view_is (c.get_mut.follows.holds c.in-Some-with.more).0 in
+    updated-by c.args.self.now (c.get_mut.follows.lender c.in-Some-with.more).entries c.args.origin c.args.packet.now c.in-Some.tally.now c.in-Some-with.more found more sorted written

@@ -1,0 +1,231 @@
+-- Octets are one capture, whose packets give one dump, one report and one list of senders.
+use Rattle.std.proofs.Common.{◌≡◌, ◌≢◌, ℕ, ◌+◌, ◌*◌, ◌/◌, ◌%◌, ◌<◌, List, [], ◌∷◌, ◌++◌, length, take, drop, refl, sym, ap, subst, ◌∙◌, append_assoc, inl, inr, arith, length-append, slice_index}
+use Rattle.std.specs.Prelude.{◌⊎◌, Some, None, Result, Ok, Err}
+use Rattle.std.specs.Result.{IsOkAnd}
+use Rattle.std.proofs.lemmas.List.{append-nil, drop_at, take-append-le, take_at}
+use Rattle.babel_prefix.specs.Address.{Address}
+use Rattle.babel_tlv.specs.Framing.{BeginsPacket, HasHeader, LacksBody, framed}
+use Rattle.babel_tlv.proofs.OneReading.{framed_one}
+use Rattle.babel_capture.specs.declared.fault.Fault.{Fault}
+use Rattle.babel_capture.specs.declared.layout.Layout.{Layout}
+use Rattle.babel_capture.specs.declared.layout.Layout.TheVariants as layouts
+use Rattle.babel_capture.specs.declared.reason.Reason.TheVariants as reasons
+use Rattle.babel_capture.specs.declared.wanted.Wanted.{Wanted}
+use Rattle.babel_capture.specs.declared.wanted.Wanted.TheVariants as wanteds
+use Rattle.babel_capture.specs.Blocks.{AreBlocks, BlockAt, IsBlock, IsPartial, Sighting, context_behind, header_of, octets_of, sightings_of, start}
+use Rattle.babel_capture.specs.Capture.{IsRead, IsReadToCut}
+use Rattle.babel_capture.specs.Contents.{Content, block_said, context_after, nothing}
+use Rattle.babel_capture.specs.Context.{Before}
+use Rattle.babel_capture.specs.Counts.{Counts, Made, counts_of}
+use Rattle.babel_capture.specs.Findings.{CutIs, Either, Finds, Found, IsWanted, PayloadIs, found, interface_in, left, passed}
+use Rattle.babel_capture.specs.Gathering.{AreMade, Gathering, IsGathered, dump_of}
+use Rattle.babel_capture.specs.Lengths.{block_len, header_len}
+use Rattle.babel_capture.specs.OneCapture.{CaptureIsOne, CutCaptureIsOne}
+use Rattle.babel_capture.specs.Sight.{Sight, cut, datagram, fragment, other}
+use Rattle.babel_capture.specs.Tallies.{Senders, senders_of}
+
+-- ---- what is made of a packet
+
+module _ (what again : Found) where
+  same_of : (value : Found) → what ≡ value → again ≡ value → what ≡ again
+  same_of value is is_again = is ∙ sym is_again
+
+  either_one : (P M U N V : Type 0) → (M → N → what ≡ again) → (U → V → what ≡ again) → Either P M U → Either P N V → what ≡ again
+  either_one P M U N V met unmet (inl (holds, is)) (inl (holds_too, is_again)) = met is is_again
+  either_one P M U N V met unmet (inl (holds, is)) (inr (not, is_again)) = absurd (not holds)
+  either_one P M U N V met unmet (inr (not, is)) (inl (holds, is_again)) = absurd (not holds)
+  either_one P M U N V met unmet (inr (not, is)) (inr (not_too, is_again)) = unmet is is_again
+
+-- a packet is no shorter than its header says
+begins_whole : (payload body : List ℕ) → BeginsPacket payload body → (length payload < 4) ⊎ LacksBody payload → ⊥
+begins_whole payload body (fits, rest, is) (inl short) =
+    let long : length payload ≡ length (framed body) + length rest = ap length is ∙ length-append (framed body) rest in
+    omega (arith, short, long)
+begins_whole payload body (fits, rest, is) (inr lacks) =
+    let lacks_too : LacksBody (framed body ++ rest) = subst LacksBody is lacks in
+    let back : length body / 256 % 256 * 256 + length body % 256 ≡ length body = omega arith in
+    let short : length (framed body ++ rest) < 4 + (length body / 256 % 256 * 256 + length body % 256) = lacks_too.3 in
+    omega (arith, short, back, length-append body rest)
+
+begins_magic : (payload body : List ℕ) → BeginsPacket payload body → slice_index payload 0 ≡ 42
+begins_magic payload body begins = ap (λ (t : List ℕ). slice_index t 0) begins.2
+
+begins_version : (payload body : List ℕ) → BeginsPacket payload body → slice_index payload 1 ≡ 2
+begins_version payload body begins = ap (λ (t : List ℕ). slice_index t 1) begins.2
+
+-- one that is shorter has either no header, or a good one
+short_magic : (payload : List ℕ) → (length payload < 4) ⊎ LacksBody payload → HasHeader payload → slice_index payload 0 ≡ 42
+short_magic payload (inl short) long = absurd (omega (arith, short, long))
+short_magic payload (inr lacks) long = lacks.1
+
+short_version : (payload : List ℕ) → (length payload < 4) ⊎ LacksBody payload → HasHeader payload → slice_index payload 1 ≡ 2
+short_version payload (inl short) long = absurd (omega (arith, short, long))
+short_version payload (inr lacks) long = lacks.2
+
+payload_one : (interface : ℕ) (sender : Address) (payload : List ℕ) (what again : Found) → PayloadIs interface sender payload what → PayloadIs interface sender payload again → what ≡ again
+payload_one interface sender payload what again (inl (body, begins, is)) (inl (other_body, begins_again, is_again)) =
+    let same : body ≡ other_body = (framed_one body other_body begins.1 begins_again.1 begins.0 begins_again.0 (sym begins.2 ∙ begins_again.2)).0 in
+    is ∙ ap (λ (b : List ℕ). found interface sender (framed b)) same ∙ sym is_again
+payload_one interface sender payload what again (inl (body, begins, is)) (inr (inl (short, is_again))) = absurd (begins_whole payload body begins short)
+payload_one interface sender payload what again (inl (body, begins, is)) (inr (inr (inl (long, magic, is_again)))) = absurd (magic (begins_magic payload body begins))
+payload_one interface sender payload what again (inl (body, begins, is)) (inr (inr (inr (long, magic, version, is_again)))) = absurd (version (begins_version payload body begins))
+payload_one interface sender payload what again (inr (inl (short, is))) (inl (body, begins, is_again)) = absurd (begins_whole payload body begins short)
+payload_one interface sender payload what again (inr (inl (short, is))) (inr (inl (short_too, is_again))) = is ∙ sym is_again
+payload_one interface sender payload what again (inr (inl (short, is))) (inr (inr (inl (long, magic, is_again)))) = absurd (magic (short_magic payload short long))
+payload_one interface sender payload what again (inr (inl (short, is))) (inr (inr (inr (long, magic, version, is_again)))) = absurd (version (short_version payload short long))
+payload_one interface sender payload what again (inr (inr (inl (long, magic, is)))) (inl (body, begins, is_again)) = absurd (magic (begins_magic payload body begins))
+payload_one interface sender payload what again (inr (inr (inl (long, magic, is)))) (inr (inl (short, is_again))) = absurd (magic (short_magic payload short long))
+payload_one interface sender payload what again (inr (inr (inl (long, magic, is)))) (inr (inr (inl (long_too, magic_too, is_again)))) = is ∙ sym is_again
+payload_one interface sender payload what again (inr (inr (inl (long, magic, is)))) (inr (inr (inr (long_too, magic_too, version, is_again)))) = absurd (magic magic_too)
+payload_one interface sender payload what again (inr (inr (inr (long, magic, version, is)))) (inl (body, begins, is_again)) = absurd (version (begins_version payload body begins))
+payload_one interface sender payload what again (inr (inr (inr (long, magic, version, is)))) (inr (inl (short, is_again))) = absurd (version (short_version payload short long))
+payload_one interface sender payload what again (inr (inr (inr (long, magic, version, is)))) (inr (inr (inl (long_too, magic_too, is_again)))) = absurd (magic_too magic)
+payload_one interface sender payload what again (inr (inr (inr (long, magic, version, is)))) (inr (inr (inr (long_too, magic_too, version_too, is_again)))) = is ∙ sym is_again
+
+cut_one : (wanted : Wanted) (what again : Found) → CutIs wanted what → CutIs wanted again → what ≡ again
+cut_one wanteds.Everyone what again is is_again = is ∙ sym is_again
+cut_one (wanteds.Sender sender interface) what again is is_again = is ∙ sym is_again
+
+finds_one : (wanted : Wanted) (interface : ℕ) (sight : Sight) (what again : Found) → Finds wanted interface sight what → Finds wanted interface sight again → what ≡ again
+finds_one wanted interface other what again is is_again = is ∙ sym is_again
+finds_one wanted interface (fragment sender number) what again is is_again =
+    either_one what again (IsWanted wanted sender (interface_in interface number)) _ _ _ _ (same_of what again (left reasons.Fragment)) (same_of what again passed) is is_again
+finds_one wanted interface (cut sender number) what again is is_again =
+    either_one what again (IsWanted wanted sender (interface_in interface number)) _ _ _ _ (cut_one wanted what again) (same_of what again passed) is is_again
+finds_one wanted interface (datagram sender number payload) what again is is_again =
+    either_one what again (IsWanted wanted sender (interface_in interface number)) _ _ _ _ (payload_one (interface_in interface number) sender payload what again) (same_of what again passed) is is_again
+
+one_made : (made others : Made) → made.number ≡ others.number → made.what ≡ others.what → made ≡ others
+one_made made others number what =
+    let made_of : ℕ → Found → Made = λ n w. record { number = n; what = w } in
+    ap (λ (n : ℕ). made_of n made.what) number ∙ ap (λ (w : Found). made_of others.number w) what
+
+made_one : (wanted : Wanted) (sightings : List Sighting) (made others : List Made) → AreMade wanted sightings made → AreMade wanted sightings others → made ≡ others
+made_one wanted [] made others are are_too = are ∙ sym are_too
+made_one wanted (sighting ∷ later) made others (one, rest, is, number, finds, whole, are) (again, rest_again, is_again, number_again, finds_again, whole_again, are_again) =
+    let what : one.what ≡ again.what = finds_one wanted sighting.interface sighting.what one.what again.what finds finds_again in
+    let same : one ≡ again = one_made one again (number ∙ sym number_again) what in
+    let behind : rest ≡ rest_again = made_one wanted later rest rest_again are are_again in
+    is ∙ ap (λ (m : Made). m ∷ rest) same ∙ ap (λ (ms : List Made). again ∷ ms) behind ∙ sym is_again
+
+-- ---- blocks
+
+abbrev len_or_none : Result ℕ Fault → ℕ
+len_or_none (Ok len) = len
+len_or_none (Err fault) = 0
+
+abbrev content_or_none : Result Content Fault → Content
+content_or_none (Ok content) = content
+content_or_none (Err fault) = nothing
+
+module _ (before : Before) (at : ℕ) where
+  -- the octets of a block are known from its front, and so is what stands behind it
+  block_one : (block another rest behind : List ℕ) → IsBlock before at block → IsBlock before at another → block ++ rest ≡ another ++ behind → (block ≡ another) × (rest ≡ behind)
+  block_one block another rest behind is is_too same =
+      let header : header_of before block ≡ header_of before another =
+      sym (take-append-le (header_len before.layout) block rest is.header) ∙ ap (take (header_len before.layout)) same
+      ∙ take-append-le (header_len before.layout) another behind is_too.header in
+      let len : length block ≡ length another =
+      ap len_or_none (sym is.len ∙ ap (block_len before at) header ∙ is_too.len) in (
+        sym (take_at block rest (length block) refl) ∙ ap (take (length block)) same ∙ take_at another behind (length block) (sym len),
+        sym (drop_at block rest (length block) refl) ∙ ap (drop (length block)) same ∙ drop_at another behind (length block) (sym len),
+      )
+
+  -- less than a block begins with none
+  partial_none : (block rest : List ℕ) → IsBlock before at block → IsPartial before at (block ++ rest) → ⊥
+  partial_none block rest is (inl short) = omega (arith, short, is.header, length-append block rest)
+  partial_none block rest is (inr (header, less)) =
+      let front : header_of before (block ++ rest) ≡ header_of before block = take-append-le (header_len before.layout) block rest is.header in
+      let below : length (block ++ rest) < length block =
+      subst (λ (r : Result ℕ Fault). IsOkAnd r (λ len. length (block ++ rest) < len)) (ap (block_len before at) front ∙ is.len) less in
+      omega (arith, below, length-append block rest)
+
+one_block : (one another : BlockAt) → one.at ≡ another.at → one.octets ≡ another.octets → one.content ≡ another.content → one ≡ another
+one_block one another at octets content =
+    let block_of : ℕ → List ℕ → Content → BlockAt = λ n t c. record { at = n; octets = t; content = c } in
+    ap (λ (n : ℕ). block_of n one.octets one.content) at ∙ ap (λ (t : List ℕ). block_of another.at t one.content) octets
+    ∙ ap (λ (c : Content). block_of another.at another.octets c) content
+
+blocks_one : (before : Before) (at : ℕ) (blocks others : List BlockAt) (rest behind : List ℕ) → AreBlocks before at blocks → AreBlocks before at others
+    → octets_of blocks ++ rest ≡ octets_of others ++ behind → IsPartial (context_behind before blocks) (at + length (octets_of blocks)) rest
+    → IsPartial (context_behind before others) (at + length (octets_of others)) behind → (blocks ≡ others) × (rest ≡ behind)
+blocks_one before at [] [] rest behind are are_too same partial partial_too = (refl, same)
+blocks_one before at [] (another ∷ others) rest behind are (here, is, said, are_too) same partial partial_too =
+    absurd (partial_none before at another.octets (octets_of others ++ behind) is
+    (subst (λ (n : ℕ). IsPartial before n (another.octets ++ (octets_of others ++ behind))) (omega arith)
+    (subst (λ (t : List ℕ). IsPartial before (at + 0) t) (same ∙ append_assoc another.octets (octets_of others) behind) partial)))
+blocks_one before at (one ∷ blocks) [] rest behind (here, is, said, are) are_too same partial partial_too =
+    absurd (partial_none before at one.octets (octets_of blocks ++ rest) is
+    (subst (λ (n : ℕ). IsPartial before n (one.octets ++ (octets_of blocks ++ rest))) (omega arith)
+    (subst (λ (t : List ℕ). IsPartial before (at + 0) t) (sym same ∙ append_assoc one.octets (octets_of blocks) rest) partial_too)))
+blocks_one before at (one ∷ blocks) (another ∷ others) rest behind (here, is, said, are) (here_too, is_too, said_too, are_too) same partial partial_too =
+    let first = block_one before at one.octets another.octets (octets_of blocks ++ rest) (octets_of others ++ behind) is is_too
+    (sym (append_assoc one.octets (octets_of blocks) rest) ∙ same ∙ append_assoc another.octets (octets_of others) behind) in
+    let content : one.content ≡ another.content =
+    ap content_or_none (sym said ∙ ap (block_said before at) first.0 ∙ said_too) in
+    let block : one ≡ another = one_block one another (here ∙ sym here_too) first.0 content in
+    let place : at + length another.octets ≡ at + length one.octets = ap (λ (t : List ℕ). at + length t) (sym first.0) in
+    let context : context_after before another.content ≡ context_after before one.content = ap (context_after before) (sym content) in
+    let on = blocks_one (context_after before one.content) (at + length one.octets) blocks others rest behind are
+    (subst (λ (c : Before). AreBlocks c (at + length one.octets) others) context (subst (λ (n : ℕ). AreBlocks (context_after before another.content) n others) place are_too)) first.1
+    (subst (λ (n : ℕ). IsPartial (context_behind (context_after before one.content) blocks) n rest) (omega (arith, length-append one.octets (octets_of blocks))) partial)
+    (subst (λ (c : Before). IsPartial (context_behind c others) (at + length one.octets + length (octets_of others)) behind) context
+    (subst (λ (n : ℕ). IsPartial (context_behind (context_after before another.content) others) n behind) (omega (arith, length-append another.octets (octets_of others), place)) partial_too)) in
+    (ap (λ (b : BlockAt). b ∷ blocks) block ∙ ap (λ (bs : List BlockAt). another ∷ bs) on.0, on.1)
+
+-- ---- captures
+
+some_header : (layout : Layout) → 0 < header_len layout
+some_header layouts.Start = omega arith
+some_header (layouts.Pcap order) = omega arith
+some_header (layouts.Section order) = omega arith
+
+one_gathering : (one another : Gathering) → one.wanted ≡ another.wanted → one.dump ≡ another.dump → one.report ≡ another.report → one.senders ≡ another.senders → one ≡ another
+one_gathering one another wanted dump report senders =
+    let of : Wanted → List ℕ → Counts → Senders → Gathering = λ w d r s. record { wanted = w; dump = d; report = r; senders = s } in
+    ap (λ (w : Wanted). of w one.dump one.report one.senders) wanted ∙ ap (λ (d : List ℕ). of another.wanted d one.report one.senders) dump
+    ∙ ap (λ (r : Counts). of another.wanted another.dump r one.senders) report ∙ ap (λ (s : Senders). of another.wanted another.dump another.report s) senders
+
+gathered_one : (sightings : List Sighting) (one another : Gathering) → IsGathered sightings one → IsGathered sightings another → one.wanted ≡ another.wanted → one ≡ another
+gathered_one sightings one another is is_too wanted =
+    let made : is.made ≡ is_too.made =
+    made_one one.wanted sightings is.made is_too.made is.are_made (subst (λ (w : Wanted). AreMade w sightings is_too.made) (sym wanted) is_too.are_made) in
+    one_gathering one another wanted
+    (is.dump ∙ ap (dump_of one.wanted) made ∙ ap (λ (w : Wanted). dump_of w is_too.made) wanted ∙ sym is_too.dump)
+    (is.report ∙ ap counts_of made ∙ sym is_too.report)
+    (is.senders ∙ ap senders_of made ∙ sym is_too.senders)
+
+pub cut_capture_is_one : CutCaptureIsOne
+cut_capture_is_one limit octets one another place other_place is is_too wanted = by (blocks_one (start limit) 0 is.is_read.blocks is_too.is_read.blocks is.rest is_too.rest is.is_read.are_blocks is_too.is_read.are_blocks
+    (ap (λ (t : List ℕ). t ++ is.rest) (sym is.is_read.whole) ∙ sym is.whole ∙ is_too.whole ∙ ap (λ (t : List ℕ). t ++ is_too.rest) is_too.is_read.whole)
+    (subst (λ (n : ℕ). IsPartial (context_behind (start limit) is.is_read.blocks) n is.rest) (omega (arith, ap length is.is_read.whole)) is.partial)
+    (subst (λ (n : ℕ). IsPartial (context_behind (start limit) is_too.is_read.blocks) n is_too.rest) (omega (arith, ap length is_too.is_read.whole)) is_too.partial))
+  where
+    places : is.read ≡ is_too.read → is.rest ≡ is_too.rest → ((is.rest ≡ []) × (place ≡ None)) ⊎ ((is.rest ≢ []) × (place ≡ Some (length is.read)))
+        → ((is_too.rest ≡ []) × (other_place ≡ None)) ⊎ ((is_too.rest ≢ []) × (other_place ≡ Some (length is_too.read))) → place ≡ other_place
+    places read rest (inl (none, at)) (inl (none_too, at_too)) = at ∙ sym at_too
+    places read rest (inl (none, at)) (inr (some, at_too)) = absurd (some (sym rest ∙ none))
+    places read rest (inr (some, at)) (inl (none, at_too)) = absurd (some (rest ∙ none))
+    places read rest (inr (some, at)) (inr (some_too, at_too)) = at ∙ ap (λ (t : List ℕ). Some (length t)) read ∙ sym at_too
+
+    by : (is.is_read.blocks ≡ is_too.is_read.blocks) × (is.rest ≡ is_too.rest) → (one ≡ another) × (place ≡ other_place)
+    by (blocks, rest) = (
+      gathered_one (sightings_of is.is_read.blocks) one another is.is_read.gathered
+          (subst (λ (bs : List BlockAt). IsGathered (sightings_of bs) another) (sym blocks) is_too.is_read.gathered) wanted,
+      places (is.is_read.whole ∙ ap octets_of blocks ∙ sym is_too.is_read.whole) rest is.where_cut is_too.where_cut,
+    )
+
+-- a whole capture is one that is cut nowhere
+pub uncut : (limit : ℕ) (octets : List ℕ) (gathering : Gathering) → IsRead limit octets gathering → IsReadToCut limit octets gathering None
+uncut limit octets gathering is = record {
+  read = octets;
+  rest = [];
+  whole = sym (append-nil octets);
+  is_read = is;
+  partial = inl (some_header (context_behind (start limit) is.blocks).layout);
+  where_cut = inl (refl, refl);
+}
+
+pub capture_is_one : CaptureIsOne
+capture_is_one limit octets one another is is_too wanted =
+    (cut_capture_is_one limit octets one another None None (uncut limit octets one is) (uncut limit octets another is_too) wanted).0

@@ -1,0 +1,39 @@
+-- The senders of a capture, as what has to hold of them. It is this project's own.
+use Rattle.std.specs.Prelude.{◌≡◌, ℕ, Bool, false, List, [], ◌∷◌, length, map, sum_by, Option, None, Some}
+use Rattle.std.specs.List.{filter}
+use Rattle.std.specs.List.Sorted.{IsStrictlySortedBy}
+use Rattle.std.specs.BTreeMap.{is_at}
+use Rattle.std.specs.Map.{keys_of}
+use Rattle.babel_capture.specs.declared.tallies.Origin.{Origin}
+use Rattle.babel_capture.specs.declared.tallies.Tally.{Tally}
+use Rattle.babel_capture.specs.Counts.{Made}
+use Rattle.babel_capture.specs.Findings.{Found, passed, left, snapped, found}
+use Rattle.babel_capture.specs.Gathering.{octets_found}
+use Rattle.babel_capture.specs.Tallies.{Senders, origin_cmp, tally_of}
+
+-- a packet of this sender on this interface was found
+abbrev pub is_from : Origin → Found → Bool
+is_from origin passed = false
+is_from origin (left reason) = false
+is_from origin snapped = false
+is_from origin (found interface sender packet) =
+    is_at (origin_cmp origin) (record { interface = interface; sender = sender })
+
+-- its packets, in order
+abbrev pub packets_from : Origin → List Made → List (List ℕ)
+packets_from origin made =
+    map (λ one. octets_found one.what) (filter (λ one. is_from origin one.what) made)
+
+-- how many packets these are, and of how many octets in all; nothing where there are none
+abbrev pub tally_for : List (List ℕ) → Option Tally
+tally_for [] = None
+tally_for (packet ∷ packets) = Some (record {
+  packets = length (packet ∷ packets);
+  octets = sum_by length (packet ∷ packets);
+})
+
+-- The senders, each on each interface, by interface and then by address, and each once: exactly
+-- those of whom a packet was found, with the tally of their packets.
+pub record AreSenders (made : List Made) (senders : Senders) : Type 0 where
+  pub in_order : IsStrictlySortedBy origin_cmp (keys_of senders)
+  pub tallies : (origin : Origin) → tally_of senders origin ≡ tally_for (packets_from origin made)
