@@ -1,10 +1,10 @@
 -- A run that finished wrote what was found of its dumps, or answered why nothing was found.
-use Rattle.std.proofs.Common.{◌≡◌, ℕ, List, Option, None, Some, Result, Ok, Err, arith, ap, sym, subst, rules}
+use Rattle.std.proofs.Common.{◌≡◌, ℕ, Bool, List, Option, None, Some, Result, Ok, Err, arith, ap, sym, subst, rules}
 use Rattle.std.specs.Prelude.{IfOk, IfErr}
 use Rattle.std.specs.Io.KnownBytes.{Keeps}
 use Rattle.babel_tlv.specs.declared.fault.Fault.{Fault}
-use Rattle.babel_dump.specs.Command.{Compares, InTurn}
-use Rattle.babel_dump.specs.Given.{Input, IsFaultOfGiven}
+use Rattle.babel_dump.specs.Command.{Compares, GaveSound, InTurn, ListsDifferences}
+use Rattle.babel_dump.specs.Given.{Input}
 use Rattle.babel_dump.specs.Parts.{Finished, Gathered, SaysSo}
 use Rattle.babel_dump.specs.Run.{HasCause, Output, Ran, Reports, UnlessWrite, run_status}
 use Rattle.babel_dump.specs.declared.finish.Found.{Found}
@@ -86,12 +86,22 @@ reports reader other writer Refuses Says (Ok found) (Ok outcome) gathered finish
 reports reader other writer Refuses Says (Ok found) (Err fault) gathered finished = tt
 reports reader other writer Refuses Says (Err fault) result gathered finished = rw finished.0 tt
 
--- both dumps were found sound where the verdict was written or its write failed
-pub in_turn : (reader other : Input) (format : Format) (writer : Output) (untouched : Type 0) (found : Result Found RunFault) (result : Result Outcome RunFault)
-    → Gathered reader (Some other) (IsFaultOfGiven reader) (SaysSo reader (Some other) (Compares reader other format)) found
-    → IfErr found (InTurn reader other untouched) → Finished writer found result
-    → IfErr (run_status result) (InTurn reader other untouched)
-in_turn reader other format writer untouched (Ok found) (Ok outcome) gathered turn finished = tt
-in_turn reader other format writer untouched (Ok found) (Err fault) gathered turn finished =
-    let gave = gathered.made.0.gave in rw finished.2 ((gave.table, gave.gave), (gave.other_table, gave.other_gave))
-in_turn reader other format writer untouched (Err fault) result gathered turn finished = rw finished.0 turn
+-- both dumps were found sound where what was found of them was written or its write failed
+pub in_turn : (reader other : Input) (AfterBoth Refuses : Fault → Type 0) (Says : List ℕ → ℕ → Type 0) (writer : Output) (untouched : Type 0)
+    (found : Result Found RunFault) (result : Result Outcome RunFault) → ((text : List ℕ) (status : ℕ) → Says text status → GaveSound reader × GaveSound other)
+    → Gathered reader (Some other) Refuses (SaysSo reader (Some other) Says) found
+    → IfErr found (InTurn reader other AfterBoth untouched) → Finished writer found result
+    → IfErr (run_status result) (InTurn reader other AfterBoth untouched)
+in_turn reader other AfterBoth Refuses Says writer untouched (Ok found) (Ok outcome) sound gathered turn finished = tt
+in_turn reader other AfterBoth Refuses Says writer untouched (Ok found) (Err fault) sound gathered turn finished =
+    rw finished.2 (sound found.text.items found.outcome.status gathered.made.0)
+in_turn reader other AfterBoth Refuses Says writer untouched (Err fault) result sound gathered turn finished = rw finished.0 turn
+
+-- a comparison, and a list of differences, speak of sound dumps
+pub compared_sound : (reader other : Input) (format : Format) (text : List ℕ) (status : ℕ) → Compares reader other format text status → GaveSound reader × GaveSound other
+compared_sound reader other format text status says = ((says.gave.table, says.gave.gave), (says.gave.other_table, says.gave.other_gave))
+
+pub listed_sound : (reader other : Input) (count : Bool) (format : Format) (text : List ℕ) (status : ℕ) → ListsDifferences reader other count format text status
+    → GaveSound reader × GaveSound other
+listed_sound reader other count format text status says =
+    ((says.gave.table, says.gave.gave), (says.gave.other_table, says.gave.other_gave))

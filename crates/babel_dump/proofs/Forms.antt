@@ -15,7 +15,8 @@ use Rattle.babel_canon.specs.Canonical.{AreCanonical, CanonicalFault, HasManyBox
 use Rattle.babel_canon.specs.Fewest.{AreFewest, SaysFewest}
 use Rattle.babel_canon.specs.Headline.{Headline, Normalises, Sent}
 use Rattle.babel_canon.specs.Packing.{TextIsOne}
-use Rattle.babel_canon.specs.Views.{AllNormalises, HeadlineUnder, NormalisesUnder, SaysFewestUnder}
+use Rattle.babel_canon.specs.Views.{HeadlineUnder, NormalisesUnder, SaysFewestUnder}
+use Rattle.babel_canon.specs.ViewsTell.{AllNormalises}
 use Rattle.babel_dump.specs.Given.{GaveNormal, GaveTable, Input, IsFaultOfForm, IsNormal}
 use Rattle.babel_dump.specs.InFormat.{pairs_or_counts_in}
 use Rattle.babel_dump.specs.Parts.{SaysPairs}

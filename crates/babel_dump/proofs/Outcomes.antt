@@ -13,22 +13,25 @@ use Rattle.babel_table.specs.Seen.{seen_rows}
 use Rattle.babel_table.proofs.OutcomeLaws.{fault_is_one, fault_stays, table_is_one}
 use Rattle.babel_canon.specs.Boxes.{AreBoxes}
 use Rattle.babel_canon.specs.Canonical.{HasManyBoxes}
+use Rattle.babel_canon.specs.Differences.{AreDifferences}
 use Rattle.babel_canon.specs.Verdict.{IsVerdict}
 use Rattle.babel_canon.specs.Views.{NormalisesUnder}
+use Rattle.babel_canon.specs.declared.every_difference.Difference.{Difference}
 use Rattle.babel_canon.specs.declared.verdict.Verdict.{Verdict}
 use Rattle.babel_canon.proofs.OneOutcome.{boxes_same}
 use Rattle.babel_canon.proofs.Views.{normal_form_is_one}
+use Rattle.babel_canon.proofs.OneDifferences.{differences_are_one}
 use Rattle.babel_canon.proofs.OneVerdict.{verdict_is_one}
-use Rattle.babel_dump.specs.Command.{Compares, InTurn, ListsPairs, LooksUp, Shows, WritesNormal}
+use Rattle.babel_dump.specs.Command.{Compares, InTurn, IsOfMemory, IsOfMemoryOrMany, ListsDifferences, ListsPairs, LooksUp, Shows, WritesNormal}
 use Rattle.babel_dump.specs.AskedPairs.{AskFor, IsFirstWrong, asking, lines_of}
 use Rattle.babel_dump.specs.Device.{AppendsPrefix}
 use Rattle.babel_dump.specs.Each.{GavePairsOf, GaveText, LooksUpEach, RanOverPairs, RefusedPairs, RefusesPairs}
-use Rattle.babel_dump.specs.Given.{GaveAll, GaveDump, GaveIgnored, GaveTable, Input, IsFaultOfForm, IsFaultOfGiven, IsOfWhole, read_from}
-use Rattle.babel_dump.specs.InFormat.{answer_line_in, each_in, lookup_in, pairs_or_counts_in, show_in, verdict_in}
+use Rattle.babel_dump.specs.Given.{GaveAll, GaveDifferences, GaveDump, GaveIgnored, GaveTable, Input, IsFaultOfDifferences, IsFaultOfForm, IsFaultOfGiven, IsOfWhole, read_from}
+use Rattle.babel_dump.specs.InFormat.{answer_line_in, differences_or_count_in, each_in, lookup_in, pairs_or_counts_in, show_in, verdict_in}
 use Rattle.babel_dump.specs.JobRun.{left_reading, reading_of, right_reading}
-use Rattle.babel_dump.specs.OneOutcome.{FaultIsOfAll, FaultIsOne, IsOfOctets, NothingWritten, OtherFaultIsOfAll, RanOver, StatusIsOne, StatusOrFault, WrittenIsPrefix}
+use Rattle.babel_dump.specs.OneOutcome.{FaultIsOfAll, FaultIsOne, IsOfOctets, IsOverBoth, NothingWritten, OtherFaultIsOfAll, RanOver, StatusIsOne, StatusOrFault, WrittenIsPrefix}
 use Rattle.babel_dump.specs.Run.{HasCause, Output, Ran, UnlessWrite, run_status}
-use Rattle.babel_dump.specs.RunText.{answer_in, each_status, form_text, lacks_route, lookup_status, verdict_status}
+use Rattle.babel_dump.specs.RunText.{answer_in, differences_status, each_status, form_text, lacks_route, lookup_status, verdict_status}
 use Rattle.babel_dump.specs.Ignored.{IgnoresNone, first_ignored}
 use Rattle.babel_dump.specs.declared.format.Format.{Format}
 use Rattle.babel_dump.specs.declared.ignored.IgnoredTlv.{IgnoredTlv}
@@ -37,6 +40,7 @@ use Rattle.babel_dump.specs.declared.job.DumpFile.{DumpFile}
 use Rattle.babel_dump.specs.declared.job.Job.{Job}
 use Rattle.babel_dump.specs.declared.job.Job.TheVariants as jobs
 use Rattle.babel_dump.specs.declared.job.OneDump.{OneDump}
+use Rattle.babel_dump.specs.declared.job.TwoDumps.{TwoDumps}
 use Rattle.babel_dump.specs.declared.outcome.Outcome.{Outcome}
 use Rattle.babel_dump.specs.declared.pairs_fault.PairsFault.TheVariants as pairs_faults
 use Rattle.babel_dump.specs.declared.reading.Reading.{Reading}
@@ -53,7 +57,7 @@ begins (Some xs) None dump given has gave = absurd gave
 begins (Some xs) (Some ys) dump given has gave = (ys, cc)
 
 -- at its end they are all
-all_of : (old new : Option (List ℕ)) (dump given : List ℕ) → old ≡ Some dump → Consumes old new given → IsAtEnd new → given ≡ dump
+pub all_of : (old new : Option (List ℕ)) (dump given : List ℕ) → old ≡ Some dump → Consumes old new given → IsAtEnd new → given ≡ dump
 all_of None new dump given has gave end = absurd cc
 all_of (Some xs) None dump given has gave end = absurd gave
 all_of (Some xs) (Some ys) dump given has gave end =
@@ -183,6 +187,21 @@ pub record TablesSay (reading other_reading : Reading) (format : Format) (dump o
   pub text_is : text ≡ verdict_in format reading.view verdict
   pub status_is : status ≡ verdict_status verdict
 
+-- two dumps have these tables, and these are all that the tables answer differently
+pub record HaveDifferences (reading other_reading : Reading) (dump other : List ℕ) (differences : List Difference) : Type 0 where
+  pub table : Routes
+  pub sound : IsSound reading dump table
+  pub other_table : Routes
+  pub other_sound : IsSound other_reading other other_table
+  pub are_differences : AreDifferences (seen_rows reading.view table.rows) (seen_rows reading.view other_table.rows) differences
+
+pub record DifferencesSay (reading other_reading : Reading) (count : Bool) (format : Format) (dump other : List ℕ) (text : List ℕ) (status : ℕ) : Type 0 where
+  pub differences : List Difference
+  pub have : HaveDifferences reading other_reading dump other differences
+  pub few : length differences ≤ reading.limits.entries
+  pub text_is : text ≡ differences_or_count_in format reading.view count differences
+  pub status_is : status ≡ differences_status (length differences)
+
 -- a text asks for these pairs, and is no longer than a dump may be
 pub record AreAskedBy (reading : Reading) (text : List ℕ) (pairs : List AddrPair) : Type 0 where
   pub in_limit : length text ≤ reading.limits.bytes
@@ -204,6 +223,8 @@ SaysOf limits (jobs.Normalise dump body hex) octets other text status = NormalSa
 SaysOf limits (jobs.Pairs dump count) octets other text status = PairsSay (reading_of limits dump) count dump.format octets text status
 SaysOf limits (jobs.Compare dumps) octets other text status =
     TablesSay (left_reading limits dumps) (right_reading limits dumps) dumps.format octets other text status
+SaysOf limits (jobs.Differences dumps count) octets other text status =
+    DifferencesSay (left_reading limits dumps) (right_reading limits dumps) count dumps.format octets other text status
 
 -- the fault is a dump's own, or that a TLV of it was ignored, and is answered as one of these
 abbrev pub FaultAs : (Fault → RunFault) → (IgnoredTlv → RunFault) → Reading → List ℕ → RunFault → Type 0
@@ -232,6 +253,13 @@ FaultOfTables reading other_reading dump other fault =
     FaultOfTable reading dump fault
     ⊎ (((table : Routes) × IsSound reading dump table) × FaultOfOther other_reading other fault)
 
+-- the fault is that of two dumps, or, where they have none, that their differences are more than the limit
+abbrev pub FaultOfDifferences : Reading → Reading → List ℕ → List ℕ → RunFault → Type 0
+FaultOfDifferences reading other_reading dump other fault =
+    FaultOfTables reading other_reading dump other fault
+    ⊎ ((fault ≡ run_faults.Dump faults.TooManyPairs)
+    × ((differences : List Difference) × HaveDifferences reading other_reading dump other differences × (reading.limits.entries < length differences)))
+
 -- the fault is that of the text of pairs
 abbrev pub FaultOfPairs : Reading → List ℕ → RunFault → Type 0
 FaultOfPairs reading text fault =
@@ -253,6 +281,8 @@ FaultOf limits (jobs.Normalise dump body hex) octets other fault = FaultOfNormal
 FaultOf limits (jobs.Pairs dump count) octets other fault = FaultOfNormal (reading_of limits dump) octets fault
 FaultOf limits (jobs.Compare dumps) octets other fault =
     FaultOfTables (left_reading limits dumps) (right_reading limits dumps) octets other fault
+FaultOf limits (jobs.Differences dumps count) octets other fault =
+    FaultOfDifferences (left_reading limits dumps) (right_reading limits dumps) octets other fault
 
 -- each is one
 table_says_one : (reading : Reading) (dump : List ℕ) (text_of : Routes → List ℕ) (status_of : Routes → ℕ) (text text_too : List ℕ) (status status_too : ℕ)
@@ -289,6 +319,30 @@ tables_say_one reading other_reading format dump other text text_too status stat
     let same = verdict_is_one (seen_rows view two.table.rows) (seen_rows view two.other_table.rows) one.verdict two.verdict moved two.is_verdict in
     (one.text_is ∙ ap (verdict_in format view) same ∙ sym two.text_is, one.status_is ∙ ap verdict_status same ∙ sym two.status_is)
 
+-- equal rows have equal differences
+differences_same : (rows rows_too others others_too : List Pair) (differences too : List Difference) → rows ≡ rows_too → others ≡ others_too
+    → AreDifferences rows others differences → AreDifferences rows_too others_too too → differences ≡ too
+differences_same rows rows_too others others_too differences too left right one two =
+    differences_are_one rows_too others_too differences too
+    (subst (λ (r : List Pair). AreDifferences rows_too r differences) right (subst (λ (r : List Pair). AreDifferences r others differences) left one)) two
+
+-- two dumps have one list of differences
+differences_one : (reading other_reading : Reading) (dump other : List ℕ) (differences too : List Difference)
+    → HaveDifferences reading other_reading dump other differences → HaveDifferences reading other_reading dump other too → differences ≡ too
+differences_one reading other_reading dump other differences too one two =
+    let left = ap (λ (t : Routes). seen_rows reading.view t.rows) (sound_one reading dump one.table two.table one.sound two.sound) in
+    let right = ap (λ (t : Routes). seen_rows reading.view t.rows) (sound_one other_reading other one.other_table two.other_table one.other_sound two.other_sound) in
+    differences_same _ _ _ _ differences too left right one.are_differences two.are_differences
+
+differences_say_one : (reading other_reading : Reading) (count : Bool) (format : Format) (dump other text text_too : List ℕ) (status status_too : ℕ)
+    → DifferencesSay reading other_reading count format dump other text status → DifferencesSay reading other_reading count format dump other text_too status_too
+    → (text ≡ text_too) × (status ≡ status_too)
+differences_say_one reading other_reading count format dump other text text_too status status_too one two =
+    let same = differences_one reading other_reading dump other one.differences two.differences one.have two.have in (
+      one.text_is ∙ ap (differences_or_count_in format reading.view count) same ∙ sym two.text_is,
+      one.status_is ∙ ap (λ (l : List Difference). differences_status (length l)) same ∙ sym two.status_is,
+    )
+
 each_says_one : (reading : Reading) (format : Format) (dump pairs text text_too : List ℕ) (status status_too : ℕ)
     → EachSays reading format dump pairs text status → EachSays reading format dump pairs text_too status_too → (text ≡ text_too) × (status ≡ status_too)
 each_says_one reading format dump pairs text text_too status status_too one two =
@@ -308,6 +362,7 @@ says_one limits (jobs.Each given pairs) dump other text text_too status status_t
 says_one limits (jobs.Normalise given body hex) dump other text text_too status status_too one two = normal_says_one _ body hex dump text text_too status status_too one two
 says_one limits (jobs.Pairs given count) dump other text text_too status status_too one two = pairs_say_one _ count given.format dump text text_too status status_too one two
 says_one limits (jobs.Compare dumps) dump other text text_too status status_too one two = tables_say_one _ _ dumps.format dump other text text_too status status_too one two
+says_one limits (jobs.Differences dumps count) dump other text text_too status status_too one two = differences_say_one _ _ count dumps.format dump other text text_too status status_too one two
 
 -- too many pairs are not few
 not_many : (limits : Bounds) (rows others pairs : List Pair) → rows ≡ others → AreBoxes rows pairs → length pairs ≤ limits.entries → HasManyBoxes limits others → ⊥
@@ -320,6 +375,13 @@ sound_no_fault : (own : Fault → RunFault) (ignored : IgnoredTlv → RunFault) 
     → IsSound reading dump table → FaultAs own ignored reading dump fault → ⊥
 sound_no_fault own ignored reading dump table fault is (inl (of_dump, same, has)) = is.whole.accepted of_dump has
 sound_no_fault own ignored reading dump table fault is (inr (tlv, same, first)) = sound_ignores_none reading dump table tlv is first
+
+-- nor have two
+both_no_fault : (reading other_reading : Reading) (dump other : List ℕ) (table other_table : Routes) (fault : RunFault) → IsSound reading dump table
+    → IsSound other_reading other other_table → FaultOfTables reading other_reading dump other fault → ⊥
+both_no_fault reading other_reading dump other table other_table fault is other_is (inl has) = sound_no_fault _ _ reading dump table fault is has
+both_no_fault reading other_reading dump other table other_table fault is other_is (inr (first, has)) =
+    sound_no_fault _ _ other_reading other other_table fault other_is has
 
 -- a text that asks for pairs has no fault
 asked_no_fault : (reading : Reading) (text : List ℕ) (pairs : List AddrPair) (fault : RunFault) → AreAskedBy reading text pairs → FaultOfPairs reading text fault → ⊥
@@ -341,8 +403,15 @@ says_no_fault limits (jobs.Pairs given count) dump other text status fault says 
 says_no_fault limits (jobs.Pairs given count) dump other text status fault says (inr (many, (table, is, boxes))) =
     let same = sound_one (reading_of limits given) dump says.table table says.sound is in
     not_many limits (seen_rows given.view says.table.rows) (seen_rows given.view table.rows) says.pairs (ap (λ (t : Routes). seen_rows given.view t.rows) same) says.boxes says.few boxes
-says_no_fault limits (jobs.Compare dumps) dump other text status fault says (inl has) = sound_no_fault _ _ _ dump says.table fault says.sound has
-says_no_fault limits (jobs.Compare dumps) dump other text status fault says (inr (first, has)) = sound_no_fault _ _ _ other says.other_table fault says.other_sound has
+says_no_fault limits (jobs.Compare dumps) dump other text status fault says has =
+    both_no_fault _ _ dump other says.table says.other_table fault says.sound says.other_sound has
+says_no_fault limits (jobs.Differences dumps count) dump other text status fault says (inl has) =
+    both_no_fault _ _ dump other says.have.table says.have.other_table fault says.have.sound says.have.other_sound has
+says_no_fault limits (jobs.Differences dumps count) dump other text status fault says (inr (is, (more, have, many))) =
+    let few = says.few in
+    let same = ap (λ (l : List Difference). length l)
+    (differences_one (left_reading limits dumps) (right_reading limits dumps) dump other says.differences more says.have have) in
+    absurd (omega (arith, same, few, many))
 
 -- octets have one fault
 as_one : (own : Fault → RunFault) (ignored : IgnoredTlv → RunFault) (reading : Reading) (dump : List ℕ) (fault fault_too : RunFault)
@@ -369,6 +438,15 @@ tables_fault_one reading other_reading dump other fault fault_too (inl one) (inr
 tables_fault_one reading other_reading dump other fault fault_too (inr (first, one)) (inl two) = absurd (sound_no_fault _ _ reading dump first.0 fault_too first.1 two)
 tables_fault_one reading other_reading dump other fault fault_too (inr (first, one)) (inr (first_too, two)) = as_one _ _ other_reading other fault fault_too one two
 
+differences_fault_one : (reading other_reading : Reading) (dump other : List ℕ) (fault fault_too : RunFault)
+    → FaultOfDifferences reading other_reading dump other fault → FaultOfDifferences reading other_reading dump other fault_too → fault ≡ fault_too
+differences_fault_one reading other_reading dump other fault fault_too (inl one) (inl two) = tables_fault_one reading other_reading dump other fault fault_too one two
+differences_fault_one reading other_reading dump other fault fault_too (inl one) (inr (is_two, (more, have, many))) =
+    absurd (both_no_fault reading other_reading dump other have.table have.other_table fault have.sound have.other_sound one)
+differences_fault_one reading other_reading dump other fault fault_too (inr (is_one, (more, have, many))) (inl two) =
+    absurd (both_no_fault reading other_reading dump other have.table have.other_table fault_too have.sound have.other_sound two)
+differences_fault_one reading other_reading dump other fault fault_too (inr one) (inr two) = one.0 ∙ sym two.0
+
 pairs_fault_one : (reading : Reading) (text : List ℕ) (fault fault_too : RunFault) → FaultOfPairs reading text fault → FaultOfPairs reading text fault_too → fault ≡ fault_too
 pairs_fault_one reading text fault fault_too (inl (line, is, few, wrong)) (inl (line_too, is_too, few_too, wrong_too)) =
     is ∙ ap (λ (at : ℕ). run_faults.Pairs (pairs_faults.NotAPair at)) (first_wrong_one (lines_of text) line line_too wrong wrong_too) ∙ sym is_too
@@ -390,6 +468,7 @@ fault_one limits (jobs.Each given pairs) dump other fault fault_too one two = ea
 fault_one limits (jobs.Normalise given body hex) dump other fault fault_too one two = normal_fault_one _ dump fault fault_too one two
 fault_one limits (jobs.Pairs given count) dump other fault fault_too one two = normal_fault_one _ dump fault fault_too one two
 fault_one limits (jobs.Compare dumps) dump other fault fault_too one two = tables_fault_one _ _ dump other fault fault_too one two
+fault_one limits (jobs.Differences dumps count) dump other fault fault_too one two = differences_fault_one _ _ dump other fault fault_too one two
 
 -- what a run found is what its job says of the octets
 shows : (reader : Input) (format : Format) (dump text : List ℕ) (status : ℕ) → reader.old.left ≡ Some dump → Shows reader format text status
@@ -451,6 +530,27 @@ compares reader second format dump other text status has other_has says = record
   status_is = says.status_is;
 }
 
+gave_differences : (reader second : Input) (dump other : List ℕ) (differences : List Difference) → reader.old.left ≡ Some dump → second.old.left ≡ Some other
+    → GaveDifferences reader second differences → HaveDifferences reader.reading second.reading dump other differences
+gave_differences reader second dump other differences has other_has gave = record {
+  table = gave.table;
+  sound = sound reader dump gave.table has gave.gave;
+  other_table = gave.other_table;
+  other_sound = sound second other gave.other_table other_has gave.other_gave;
+  are_differences = gave.are_differences;
+}
+
+lists_differences : (reader second : Input) (count : Bool) (format : Format) (dump other text : List ℕ) (status : ℕ) → reader.old.left ≡ Some dump
+    → second.old.left ≡ Some other → ListsDifferences reader second count format text status
+    → DifferencesSay reader.reading second.reading count format dump other text status
+lists_differences reader second count format dump other text status has other_has says = record {
+  differences = says.differences;
+  have = gave_differences reader second dump other says.differences has other_has says.gave;
+  few = says.few;
+  text_is = says.text_is;
+  status_is = says.status_is;
+}
+
 -- a fault of octets that a run answers is that of its job
 of_table : (reader : Input) (dump : List ℕ) (fault : RunFault) → reader.old.left ≡ Some dump → IsOfOctets fault
     → HasCause reader None (IsFaultOfGiven reader) fault → FaultOfTable reader.reading dump fault
@@ -503,21 +603,43 @@ of_normal reader dump (run_faults.OtherIgnored tlv) has is cause = absurd cause
 of_normal reader dump (run_faults.Pairs fault) has is cause = absurd cause
 of_normal reader dump run_faults.Write has is cause = absurd is
 
-of_tables : (reader second : Input) (dump other : List ℕ) (untouched : Type 0) (fault : RunFault) → reader.old.left ≡ Some dump
+of_tables : (reader second : Input) (dump other : List ℕ) (After : Fault → Type 0) (untouched : Type 0) (fault : RunFault) → reader.old.left ≡ Some dump
     → second.old.left ≡ Some other → IsOfOctets fault → HasCause reader (Some second) (IsFaultOfGiven reader) fault
-    → InTurn reader second untouched fault → FaultOfTables reader.reading second.reading dump other fault
-of_tables reader second dump other untouched run_faults.Read has other_has is cause in_turn = absurd is
-of_tables reader second dump other untouched (run_faults.Dump fault) has other_has is cause in_turn =
+    → InTurn reader second After untouched fault → FaultOfTables reader.reading second.reading dump other fault
+of_tables reader second dump other After untouched run_faults.Read has other_has is cause in_turn = absurd is
+of_tables reader second dump other After untouched (run_faults.Dump fault) has other_has is cause in_turn =
     inl (inl (fault, refl, fault_of_all reader dump fault has (cause is)))
-of_tables reader second dump other untouched (run_faults.Ignored tlv) has other_has is cause in_turn =
+of_tables reader second dump other After untouched (run_faults.Ignored tlv) has other_has is cause in_turn =
     inl (inr (tlv, refl, is_ignored reader dump tlv has cause))
-of_tables reader second dump other untouched run_faults.OtherRead has other_has is cause in_turn = absurd is
-of_tables reader second dump other untouched (run_faults.OtherDump fault) has other_has is cause (table, gave) =
+of_tables reader second dump other After untouched run_faults.OtherRead has other_has is cause in_turn = absurd is
+of_tables reader second dump other After untouched (run_faults.OtherDump fault) has other_has is cause (table, gave) =
     inr ((table, sound reader dump table has gave), inl (fault, refl, fault_of_all second other fault other_has (cause is)))
-of_tables reader second dump other untouched (run_faults.OtherIgnored tlv) has other_has is cause (table, gave) =
+of_tables reader second dump other After untouched (run_faults.OtherIgnored tlv) has other_has is cause (table, gave) =
     inr ((table, sound reader dump table has gave), inr (tlv, refl, is_ignored second other tlv other_has cause))
-of_tables reader second dump other untouched (run_faults.Pairs fault) has other_has is cause in_turn = absurd cause
-of_tables reader second dump other untouched run_faults.Write has other_has is cause in_turn = absurd is
+of_tables reader second dump other After untouched (run_faults.Pairs fault) has other_has is cause in_turn = absurd cause
+of_tables reader second dump other After untouched run_faults.Write has other_has is cause in_turn = absurd is
+
+differences_of_all : (reader second : Input) (dump other : List ℕ) (fault : Fault) → reader.old.left ≡ Some dump → second.old.left ≡ Some other
+    → IsFaultOfDifferences reader second fault → FaultOfDifferences reader.reading second.reading dump other (run_faults.Dump fault)
+differences_of_all reader second dump other fault has other_has (inl given) = inl (inl (inl (fault, refl, fault_of_all reader dump fault has given)))
+differences_of_all reader second dump other fault has other_has (inr (is, (differences, gave, many))) =
+    inr (ap (λ (f : Fault). run_faults.Dump f) is, (differences, gave_differences reader second dump other differences has other_has gave, many))
+
+of_differences : (reader second : Input) (dump other : List ℕ) (After : Fault → Type 0) (untouched : Type 0) (fault : RunFault) → reader.old.left ≡ Some dump
+    → second.old.left ≡ Some other → IsOfOctets fault → HasCause reader (Some second) (IsFaultOfDifferences reader second) fault
+    → InTurn reader second After untouched fault → FaultOfDifferences reader.reading second.reading dump other fault
+of_differences reader second dump other After untouched run_faults.Read has other_has is cause in_turn = absurd is
+of_differences reader second dump other After untouched (run_faults.Dump fault) has other_has is cause in_turn =
+    differences_of_all reader second dump other fault has other_has (cause is)
+of_differences reader second dump other After untouched (run_faults.Ignored tlv) has other_has is cause in_turn =
+    inl (of_tables reader second dump other After untouched (run_faults.Ignored tlv) has other_has is cause in_turn)
+of_differences reader second dump other After untouched run_faults.OtherRead has other_has is cause in_turn = absurd is
+of_differences reader second dump other After untouched (run_faults.OtherDump fault) has other_has is cause in_turn =
+    inl (of_tables reader second dump other After untouched (run_faults.OtherDump fault) has other_has is cause in_turn)
+of_differences reader second dump other After untouched (run_faults.OtherIgnored tlv) has other_has is cause in_turn =
+    inl (of_tables reader second dump other After untouched (run_faults.OtherIgnored tlv) has other_has is cause in_turn)
+of_differences reader second dump other After untouched (run_faults.Pairs fault) has other_has is cause in_turn = absurd cause
+of_differences reader second dump other After untouched run_faults.Write has other_has is cause in_turn = absurd is
 
 -- what a run of a job says of the octets of its readers
 pub record Told (limits : Bounds) (job : Job) (dump other : List ℕ) (writer : Output) (result : Result ℕ RunFault) : Type 0 where
@@ -566,12 +688,20 @@ of_each P (Ok t) each = tt
 of_each P (Err e) each = each e
 
 both_of : (dump other : List ℕ) (reader second : Input) (untouched : Type 0) (r : Result ℕ RunFault)
-    → reader.old.left ≡ Some dump → second.old.left ≡ Some other → IfErr r (InTurn reader second untouched)
+    → reader.old.left ≡ Some dump → second.old.left ≡ Some other → IfErr r (InTurn reader second IsOfMemory untouched)
     → IfErr r (λ fault. IsOfOctets fault → HasCause reader (Some second) (IsFaultOfGiven reader) fault
     → FaultOfTables reader.reading second.reading dump other fault)
 both_of dump other reader second untouched (Ok status) has other_has in_turn = tt
 both_of dump other reader second untouched (Err fault) has other_has in_turn =
-    λ is cause. of_tables reader second dump other untouched fault has other_has is cause in_turn
+    λ is cause. of_tables reader second dump other IsOfMemory untouched fault has other_has is cause in_turn
+
+differences_of : (dump other : List ℕ) (reader second : Input) (untouched : Type 0) (r : Result ℕ RunFault)
+    → reader.old.left ≡ Some dump → second.old.left ≡ Some other → IfErr r (InTurn reader second IsOfMemoryOrMany untouched)
+    → IfErr r (λ fault. IsOfOctets fault → HasCause reader (Some second) (IsFaultOfDifferences reader second) fault
+    → FaultOfDifferences reader.reading second.reading dump other fault)
+differences_of dump other reader second untouched (Ok status) has other_has in_turn = tt
+differences_of dump other reader second untouched (Err fault) has other_has in_turn =
+    λ is cause. of_differences reader second dump other IsOfMemoryOrMany untouched fault has other_has is cause in_turn
 
 -- pairs are not refused for a write
 refuses_unless : (reader : Input) (fault : RunFault) (P Q : Type 0) → RefusesPairs reader fault → P → UnlessWrite fault P Q
@@ -628,9 +758,15 @@ tell limits (jobs.Compare dumps) dump other before after result run =
     told_of limits (jobs.Compare dumps) dump other reader (Some second) run.writer _ _ (run_status result) run.ran.ran.ran
     (λ text status says. compares reader second dumps.format dump other text status run.has run.other_has says)
     (both_of dump other reader second _ (run_status result) run.has run.other_has run.ran.ran.in_turn)
+tell limits (jobs.Differences dumps count) dump other before after result run =
+    let reader = read_from run.old run.new (left_reading limits dumps) in
+    let second = read_from run.other_old run.other_new (right_reading limits dumps) in
+    told_of limits (jobs.Differences dumps count) dump other reader (Some second) run.writer _ _ (run_status result) run.ran.ran.ran
+    (λ text status says. lists_differences reader second count dumps.format dump other text status run.has run.other_has says)
+    (differences_of dump other reader second _ (run_status result) run.has run.other_has run.ran.ran.in_turn)
 
 -- what a writer took, in octets
-appended : (old new : Option (List ℕ)) (before after text : List ℕ) → old ≡ Some before → new ≡ Some after → Appends old new text → after ≡ before ++ text
+pub appended : (old new : Option (List ℕ)) (before after text : List ℕ) → old ≡ Some before → new ≡ Some after → Appends old new text → after ≡ before ++ text
 appended None new before after text took takes appends = absurd cc
 appended (Some xs) None before after text took takes appends = absurd cc
 appended (Some xs) (Some ys) before after text took takes appends = cc
@@ -715,6 +851,19 @@ of_second reading other_reading dump other fault (inr (first, inl (of_other, is,
     subst (λ (f : Fault). DumpFault other_reading.limits other_reading.mode other_reading.sender other f) same has
 of_second reading other_reading dump other fault (inr (first, inr (tlv, is, has))) = absurd cc
 
+of_first_difference : (reading other_reading : Reading) (dump other : List ℕ) (fault : Fault)
+    → FaultOfDifferences reading other_reading dump other (run_faults.Dump fault) → fault ≢ faults.TooManyPairs
+    → DumpFault reading.limits reading.mode reading.sender dump fault
+of_first_difference reading other_reading dump other fault (inl has) not_pairs = of_first reading other_reading dump other fault has
+of_first_difference reading other_reading dump other fault (inr (is, more)) not_pairs =
+    let same : fault ≡ faults.TooManyPairs = cc in absurd (not_pairs same)
+
+of_second_difference : (reading other_reading : Reading) (dump other : List ℕ) (fault : Fault)
+    → FaultOfDifferences reading other_reading dump other (run_faults.OtherDump fault)
+    → DumpFault other_reading.limits other_reading.mode other_reading.sender other fault
+of_second_difference reading other_reading dump other fault (inl has) = of_second reading other_reading dump other fault has
+of_second_difference reading other_reading dump other fault (inr (is, more)) = absurd cc
+
 pub fault_is_of_all : FaultIsOfAll
 fault_is_of_all limits (jobs.Show given) dump other before after fault one not_memory not_pairs =
     of_table_fault _ dump fault ((tell limits (jobs.Show given) dump other before after _ one).cause not_memory)
@@ -728,7 +877,19 @@ fault_is_of_all limits (jobs.Pairs given count) dump other before after fault on
     of_normal_fault _ dump fault ((tell limits (jobs.Pairs given count) dump other before after _ one).cause not_memory) not_pairs
 fault_is_of_all limits (jobs.Compare dumps) dump other before after fault one not_memory not_pairs =
     of_first _ _ dump other fault ((tell limits (jobs.Compare dumps) dump other before after _ one).cause not_memory)
+fault_is_of_all limits (jobs.Differences dumps count) dump other before after fault one not_memory not_pairs =
+    of_first_difference _ _ dump other fault ((tell limits (jobs.Differences dumps count) dump other before after _ one).cause not_memory) not_pairs
+
+-- the fault of the other of two dumps
+of_other : (limits : Bounds) (job : Job) (dumps : TwoDumps) (dump other : List ℕ) (fault : Fault) → IsOverBoth job dumps
+    → FaultOf limits job dump other (run_faults.OtherDump fault) → DumpFault limits dumps.mode dumps.other_from other fault
+of_other limits job dumps dump other fault (inl is) has =
+    of_second (left_reading limits dumps) (right_reading limits dumps) dump other fault
+    (subst (λ (j : Job). FaultOf limits j dump other (run_faults.OtherDump fault)) is has)
+of_other limits job dumps dump other fault (inr (count, is)) has =
+    of_second_difference (left_reading limits dumps) (right_reading limits dumps) dump other fault
+    (subst (λ (j : Job). FaultOf limits j dump other (run_faults.OtherDump fault)) is has)
 
 pub other_fault_is_of_all : OtherFaultIsOfAll
-other_fault_is_of_all limits dumps dump other before after fault one not_memory =
-    of_second _ _ dump other fault ((tell limits (jobs.Compare dumps) dump other before after _ one).cause not_memory)
+other_fault_is_of_all limits job dumps dump other before after fault over one not_memory =
+    of_other limits job dumps dump other fault over ((tell limits job dump other before after _ one).cause not_memory)

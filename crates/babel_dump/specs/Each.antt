@@ -44,25 +44,13 @@ RefusesPairs reader (run_faults.Pairs (pairs_faults.NotAPair line)) = GaveWrong 
 RefusesPairs reader (run_faults.Pairs pairs_faults.TooLong) = GaveTooMany reader
 RefusesPairs reader (run_faults.Pairs pairs_faults.Read) = HasFailed reader
 RefusesPairs reader (run_faults.Dump fault) = fault ≡ faults.Memory
-RefusesPairs reader run_faults.Read = ⊥
-RefusesPairs reader (run_faults.Ignored tlv) = ⊥
-RefusesPairs reader run_faults.OtherRead = ⊥
-RefusesPairs reader (run_faults.OtherDump fault) = ⊥
-RefusesPairs reader (run_faults.OtherIgnored tlv) = ⊥
-RefusesPairs reader run_faults.Write = ⊥
+RefusesPairs reader fault = ⊥
 
 -- a fault of lines: the first that is wrong, or want of memory
 abbrev pub IsFaultOfLines : List (List ℕ) → RunFault → Type 0
 IsFaultOfLines lines (run_faults.Pairs (pairs_faults.NotAPair line)) = IsFirstWrong lines line
-IsFaultOfLines lines (run_faults.Pairs pairs_faults.TooLong) = ⊥
-IsFaultOfLines lines (run_faults.Pairs pairs_faults.Read) = ⊥
 IsFaultOfLines lines (run_faults.Dump fault) = fault ≡ faults.Memory
-IsFaultOfLines lines run_faults.Read = ⊥
-IsFaultOfLines lines (run_faults.Ignored tlv) = ⊥
-IsFaultOfLines lines run_faults.OtherRead = ⊥
-IsFaultOfLines lines (run_faults.OtherDump fault) = ⊥
-IsFaultOfLines lines (run_faults.OtherIgnored tlv) = ⊥
-IsFaultOfLines lines run_faults.Write = ⊥
+IsFaultOfLines lines fault = ⊥
 
 -- what reading a text for pairs promises
 pub record GatheredText {Z : Type 0} (reader : Input) (result : Result (Vec ℕ Z) RunFault) : Type 0 where

@@ -12,6 +12,7 @@ first_file (jobs.Each dump pairs) = dump.file
 first_file (jobs.Normalise dump body hex) = dump.file
 first_file (jobs.Pairs dump count) = dump.file
 first_file (jobs.Compare dumps) = dumps.file
+first_file (jobs.Differences dumps count) = dumps.file
 
 -- where the other dump of a comparison is read from, or the pairs of `--each`
 abbrev pub other_file : Job → Option DumpFile
@@ -21,3 +22,4 @@ other_file (jobs.Each dump pairs) = Some pairs
 other_file (jobs.Normalise dump body hex) = None
 other_file (jobs.Pairs dump count) = None
 other_file (jobs.Compare dumps) = Some dumps.other
+other_file (jobs.Differences dumps count) = Some dumps.other

@@ -1,5 +1,5 @@
 -- What readers gave, as dumps. No RFC speaks of readers: these are this project's own.
-use Rattle.std.specs.Prelude.{ℕ, ◌≡◌, ◌≢◌, ◌<◌, ◌⊎◌, false, true, List, Some}
+use Rattle.std.specs.Prelude.{ℕ, ◌≡◌, ◌≢◌, ◌<◌, ◌⊎◌, false, true, List, length, Some}
 use Rattle.std.specs.Io.KnownBytes.{Consumes, IsAtEnd}
 use Rattle.babel_prefix.specs.Address.{Address}
 use Rattle.babel_tlv.specs.declared.fault.Fault.{Fault}
@@ -11,10 +11,12 @@ use Rattle.babel_table.specs.DumpFault.{DumpFault, HasNoFault, IsTableOf}
 use Rattle.babel_table.specs.Rows.{Routes}
 use Rattle.babel_table.specs.Seen.{seen_rows}
 use Rattle.babel_canon.specs.Canonical.{Canonical, HasManyBoxes, IsCanonical}
+use Rattle.babel_canon.specs.Differences.{AreDifferences}
 use Rattle.babel_canon.specs.Fewest.{AreFewest, SaysFewest}
 use Rattle.babel_canon.specs.Headline.{Normalises, TellsApart, ReadsAgain}
 use Rattle.babel_canon.specs.Verdict.{IsVerdict}
 use Rattle.babel_canon.specs.Views.{NormalisesUnder, ReadsAgainUnder, SaysFewestUnder, TellsApartUnder}
+use Rattle.babel_canon.specs.declared.every_difference.Difference.{Difference}
 use Rattle.babel_canon.specs.declared.verdict.Verdict.{Verdict}
 use Rattle.babel_dump.specs.Device.{InputState}
 use Rattle.babel_dump.specs.Ignored.{IgnoresNone, first_ignored}
@@ -63,14 +65,8 @@ pub record GaveIgnored (reader : Input) (tlv : IgnoredTlv) : Type 0 where
 -- only a whole dump has the fault: octets may mend it, or it is about what all octets say
 abbrev pub IsOfWhole : Fault → Type 0
 IsOfWhole (faults.Truncated at) = Unit {0}
-IsOfWhole (faults.BadMagic at) = ⊥
-IsOfWhole (faults.BadVersion at) = ⊥
-IsOfWhole (faults.TlvPastEnd at) = ⊥
-IsOfWhole (faults.EncodingSetsRouterId at) = ⊥
-IsOfWhole (faults.TooManyRoutes at) = ⊥
-IsOfWhole faults.TooLong = ⊥
 IsOfWhole faults.TooManyPairs = Unit {0}
-IsOfWhole faults.Memory = ⊥
+IsOfWhole fault = ⊥
 
 -- The fault is that of the octets that the reader gave: of all that it had, where only a whole dump has it. That canonical
 -- pairs are too many is no fault of octets.
@@ -131,3 +127,21 @@ pub record GaveVerdict (reader other : Input) (verdict : Verdict) : Type 0 where
   pub other_gave : GaveTable other other_table
   pub is_verdict :
       IsVerdict (seen_rows reader.reading.view table.rows) (seen_rows reader.reading.view other_table.rows) verdict
+
+-- two readers gave a dump each, all that they had, and these are all that the dumps' tables answer differently, as the view
+-- of the first sees both
+pub record GaveDifferences (reader other : Input) (differences : List Difference) : Type 0 where
+  pub table : Routes
+  pub gave : GaveTable reader table
+  pub other_table : Routes
+  pub other_gave : GaveTable other other_table
+  pub are_differences :
+      AreDifferences (seen_rows reader.reading.view table.rows) (seen_rows reader.reading.view other_table.rows) differences
+
+-- the fault is that of the octets that the first reader gave; or, where neither dump has one, that their differences are
+-- more than the limit
+abbrev pub IsFaultOfDifferences : Input → Input → Fault → Type 0
+IsFaultOfDifferences reader other fault =
+    IsFaultOfGiven reader fault
+    ⊎ ((fault ≡ faults.TooManyPairs) × ((differences : List Difference) × GaveDifferences reader other differences
+    × (reader.reading.limits.entries < length differences)))

@@ -1,7 +1,7 @@
 -- What the run of a job promises: this project's own.
 use Rattle.std.specs.Prelude.{ℕ, Option, None, Some, Result, IfOk}
 use Rattle.babel_table.specs.Bounds.{Bounds}
-use Rattle.babel_dump.specs.Command.{RanCompare, RanLookup, RanNormalise, RanPairs, RanShow}
+use Rattle.babel_dump.specs.Command.{RanCompare, RanDifferences, RanLookup, RanNormalise, RanPairs, RanShow}
 use Rattle.babel_dump.specs.Each.{RanEach}
 use Rattle.babel_dump.specs.Given.{Input}
 use Rattle.babel_dump.specs.Run.{Output, Reports, run_status}
@@ -35,6 +35,7 @@ first_reading limits (jobs.Each dump pairs) = reading_of limits dump
 first_reading limits (jobs.Normalise dump body hex) = reading_of limits dump
 first_reading limits (jobs.Pairs dump count) = reading_of limits dump
 first_reading limits (jobs.Compare dumps) = left_reading limits dumps
+first_reading limits (jobs.Differences dumps count) = left_reading limits dumps
 
 -- what the other reader gave, where the job has another dump
 abbrev pub other_input : Bounds → Job → (Reading → Input) → Option Input
@@ -44,6 +45,7 @@ other_input limits (jobs.Each dump pairs) other = None
 other_input limits (jobs.Normalise dump body hex) other = None
 other_input limits (jobs.Pairs dump count) other = None
 other_input limits (jobs.Compare dumps) other = Some (other (right_reading limits dumps))
+other_input limits (jobs.Differences dumps count) other = Some (other (right_reading limits dumps))
 
 -- A job's run does what its command promises, with the job's own words. `reader` and `other` are what the two readers gave,
 -- read so; `untouched` says that the other is as it was, which it is after each command over one dump.
@@ -60,6 +62,8 @@ RanCommand limits (jobs.Pairs dump count) reader other writer untouched result =
     untouched × RanPairs (reader (reading_of limits dump)) count dump.format writer result
 RanCommand limits (jobs.Compare dumps) reader other writer untouched result =
     RanCompare (reader (left_reading limits dumps)) (other (right_reading limits dumps)) dumps.format writer untouched result
+RanCommand limits (jobs.Differences dumps count) reader other writer untouched result =
+    RanDifferences (reader (left_reading limits dumps)) (other (right_reading limits dumps)) count dumps.format writer untouched result
 
 -- it also says what was ignored of the dumps
 pub record RanJob (limits : Bounds) (job : Job) (reader other : Reading → Input) (writer : Output) (untouched : Type 0) (result : Result Outcome RunFault) : Type 0 where

@@ -15,6 +15,7 @@ use Rattle.babel_tlv.specs.Views.{keeps_all}
 use Rattle.babel_table.specs.Counts.{Counts, all_reasons, reason_place, count_at}
 use Rattle.babel_canon.specs.declared.verdict.Verdict.{Verdict}
 use Rattle.babel_canon.specs.declared.verdict.Verdict.TheVariants as verdicts
+use Rattle.babel_canon.specs.declared.every_difference.Difference.{Difference}
 use Rattle.babel_dump.specs.RunText.{hex_digits, newline, reason_name}
 
 -- `"TEXT"`
@@ -78,9 +79,29 @@ abbrev pub report_json : Counts → List ℕ
 report_json counts =
     codes "{\"tlvs\":" ++ decimal counts.tlvs ++ codes ",\"ignored\":[" ++ comma_separated (ignored_objects counts all_reasons) ++ codes "]}" ++ newline
 
--- `{"same":true}`, or `{"same":false,"destination":"DST","source":"SRC","left":ANSWER,"right":ANSWER}`
-abbrev pub verdict_json : View → Verdict → List ℕ
-verdict_json view verdicts.Same = codes "{\"same\":true}" ++ newline
-verdict_json view (verdicts.Differ dst src left right) =
-    codes "{\"same\":false," ++ addressed_json (printed dst) (printed src) ++ codes ",\"left\":" ++ answer_json view left
+-- `{"same":true}`
+abbrev pub same_json : List ℕ
+same_json = codes "{\"same\":true}" ++ newline
+
+-- `{"same":false,"destination":"DST","source":"SRC","left":ANSWER,"right":ANSWER}`, of two texts
+abbrev pub differ_json : View → (dst src : List ℕ) → (left right : Option Held) → List ℕ
+differ_json view dst src left right =
+    codes "{\"same\":false," ++ addressed_json dst src
+    ++ codes ",\"left\":" ++ answer_json view left
     ++ codes ",\"right\":" ++ answer_json view right ++ codes "}" ++ newline
+
+-- the line of a verdict, of two addresses
+abbrev pub verdict_json : View → Verdict → List ℕ
+verdict_json view verdicts.Same = same_json
+verdict_json view (verdicts.Differ dst src left right) =
+    differ_json view (printed dst) (printed src) left right
+
+-- the line of a difference, of two prefixes
+abbrev pub difference_json : View → Difference → List ℕ
+difference_json view difference =
+    differ_json view (printed_prefix difference.key.dst) (printed_prefix difference.key.src)
+    difference.left difference.right
+
+-- `{"differences":N}`
+abbrev pub difference_count_json : ℕ → List ℕ
+difference_count_json count = codes "{\"differences\":" ++ decimal count ++ codes "}" ++ newline

@@ -1,6 +1,6 @@
 -- Laws of the definitions: what a job's run answers and writes is settled by the octets of its readers. These are this
 -- project's own.
-use Rattle.std.specs.Prelude.{◌≡◌, ◌≢◌, ℕ, List, ◌++◌, take, Some, Result, Ok, Err}
+use Rattle.std.specs.Prelude.{◌≡◌, ◌≢◌, ◌⊎◌, ℕ, Bool, List, ◌++◌, take, Some, Result, Ok, Err}
 use Rattle.babel_tlv.specs.declared.fault.Fault.{Fault}
 use Rattle.babel_tlv.specs.declared.fault.Fault.TheVariants as faults
 use Rattle.babel_table.specs.Bounds.{Bounds}
@@ -73,11 +73,16 @@ FaultIsOfAll =
     → RanOver limits job dump other before after (Err (run_faults.Dump fault)) → fault ≢ faults.Memory → fault ≢ faults.TooManyPairs
     → DumpFault limits (first_reading limits job).mode (first_reading limits job).sender dump fault
 
+-- the job is over these two dumps
+abbrev pub IsOverBoth : Job → TwoDumps → Type 0
+IsOverBoth job dumps = (job ≡ jobs.Compare dumps) ⊎ ((count : Bool) × (job ≡ jobs.Differences dumps count))
+
 -- so is the other's
 abbrev pub OtherFaultIsOfAll : Type 0
 OtherFaultIsOfAll =
-    (limits : Bounds) (dumps : TwoDumps) (dump other before after : List ℕ) (fault : Fault)
-    → RanOver limits (jobs.Compare dumps) dump other before after (Err (run_faults.OtherDump fault)) → fault ≢ faults.Memory
+    (limits : Bounds) (job : Job) (dumps : TwoDumps) (dump other before after : List ℕ) (fault : Fault)
+    → IsOverBoth job dumps
+    → RanOver limits job dump other before after (Err (run_faults.OtherDump fault)) → fault ≢ faults.Memory
     → DumpFault limits dumps.mode dumps.other_from other fault
 
 -- a failed write leaves the first octets of the text that any run over the same octets writes that answers a status

@@ -1,19 +1,24 @@
 -- What the two parts of a run promise, reading and writing. These are this project's own.
-use Rattle.std.specs.Prelude.{ℕ, Bool, ◌≡◌, ◌≢◌, ◌+◌, ◌<◌, ◌≤◌, List, Option, Result, Ok, Err, IfOk, IfErr, OnOk, OnErr}
+use Rattle.std.specs.Prelude.{ℕ, Bool, ◌≡◌, ◌≢◌, ◌+◌, ◌<◌, ◌≤◌, List, length, Option, Result, Ok, Err, IfOk, IfErr, OnOk, OnErr}
 use Rattle.std.specs.Io.KnownBytes.{Appends}
 use Rattle.babel_tlv.specs.declared.fault.Fault.{Fault}
 use Rattle.babel_tlv.specs.declared.fault.Fault.TheVariants as faults
 use Rattle.babel_tlv.specs.declared.view.View.{View}
 use Rattle.babel_tlv.specs.Pair.{Pair}
 use Rattle.babel_table.specs.Bounds.{Bounds}
-use Rattle.babel_table.specs.Seen.{seen_rows}
+use Rattle.babel_table.specs.Rows.{Routes}
+use Rattle.babel_table.specs.Seen.{seen_rows, seen_table}
 use Rattle.babel_table.specs.Feeding.{Progress, HasRead}
 use Rattle.babel_canon.specs.Canonical.{Canonical, IsCanonical}
+use Rattle.babel_canon.specs.Differences.{AreDifferences}
 use Rattle.babel_canon.specs.Fewest.{AreFewest}
+use Rattle.babel_canon.specs.declared.every_difference.Difference.{Difference}
 use Rattle.babel_dump.specs.Device.{AppendsPrefix}
-use Rattle.babel_dump.specs.Given.{GaveAll, GaveIgnored, Input, IsFaultOfGiven}
-use Rattle.babel_dump.specs.InFormat.{pairs_or_counts_in}
+use Rattle.babel_dump.specs.Given.{GaveAll, GaveIgnored, GaveTable, Input, IsFaultOfGiven}
+use Rattle.babel_dump.specs.InFormat.{differences_or_count_in, pairs_or_counts_in}
 use Rattle.babel_dump.specs.Run.{FewCalls, HasCause, HasFailed, IfOther, NoFailure, Output, Reports}
+use Rattle.babel_dump.specs.RunText.{differences_status}
+use Rattle.babel_dump.specs.declared.both.SeenTables.{SeenTables}
 use Rattle.babel_dump.specs.declared.finish.Found.{Found}
 use Rattle.babel_dump.specs.declared.format.Format.{Format}
 use Rattle.babel_dump.specs.declared.outcome.Outcome.{Outcome}
@@ -52,6 +57,19 @@ pub record GatheredOther {T : Type 0} (other : Input) (Made : T → Type 0) (res
   pub cause : IfErr result (HasOtherCause other)
   pub few_calls : FewCalls other
 
+-- two readers gave a dump each, all that they had, and this is what the view of the first sees of the dumps' tables
+pub record GaveBoth (reader other : Input) (seen : SeenTables) : Type 0 where
+  pub table : Routes
+  pub gave : GaveTable reader table
+  pub other_table : Routes
+  pub other_gave : GaveTable other other_table
+  pub left_is : seen.left ≡ seen_table reader.reading.view table
+  pub right_is : seen.right ≡ seen_table reader.reading.view other_table
+
+-- what can come after both dumps where they are only read
+abbrev pub IsOfNone : Fault → Type 0
+IsOfNone fault = ⊥
+
 -- what writing a text whole promises
 pub record WroteText {T E : Type 0} (writer : Output) (text : List ℕ) (result : Result T E) : Type 0 where
   pub whole : OnOk result (Appends writer.old.taken writer.new.taken text)
@@ -68,6 +86,14 @@ pub record SaysPairs (limits : Bounds) (view : View) (count : Bool) (format : Fo
   pub is_canon : IsCanonical limits 1024 (seen_rows view rows) canon
   pub fewest : AreFewest (seen_rows view rows) canon.pairs
   pub text_is : text ≡ pairs_or_counts_in format view count rows canon.pairs
+
+-- the text and the status are those of all that rows and others answer differently, or of how many differences there are
+pub record SaysDifferences (limits : Bounds) (view : View) (count : Bool) (format : Format) (rows others : List Pair) (text : List ℕ) (status : ℕ) : Type 0 where
+  pub differences : List Difference
+  pub are_differences : AreDifferences rows others differences
+  pub few : length differences ≤ limits.entries
+  pub text_is : text ≡ differences_or_count_in format view count differences
+  pub status_is : status ≡ differences_status (length differences)
 
 -- what was found says this, and has the reports of the dumps
 abbrev pub SaysSo : Input → Option Input → (List ℕ → ℕ → Type 0) → Found → Type 0

@@ -9,12 +9,15 @@ const MOST_ROUTES: i64 = 51_746_593;
 /// command to command, and examples.
 macro_rules! after_help {
     ($($known:literal,)* examples: $($example:literal),+; $($status:literal),+) => {
+        after_help!(refused: "a dump"; $($known,)* examples: $($example),+; $($status),+)
+    };
+    (refused: $refused:literal; $($known:literal,)* examples: $($example:literal),+; $($status:literal),+) => {
         concat!(
             $($known, "\n",)*
             "Exit statuses:",
             $("\n  ", $status,)+
             "\n  2  the command line is wrong",
-            "\n  3  a dump is refused",
+            "\n  3  ", $refused, " is refused",
             "\n  4  a file can't be opened, or a read or a write failed",
             "\n  5  out of memory",
             "\n  141  nobody reads the output any more",
@@ -25,14 +28,16 @@ macro_rules! after_help {
 }
 
 const AFTER_HELP: &str = after_help!(
+    refused: "a dump or a capture";
     "IPv4 routes with an IPv6 next hop (address encoding 4, AE 4 for short, RFC 9229) are not read.",
     "babeld sends them on links without IPv4 addresses. They and their retractions are ignored and",
     "counted as unknown-encoding, so that an answer for IPv4 can be missing or stale.\n",
     examples:
     "show --from fe80::5eff:fe00:4a01 examples/captures/frr-basic.dump",
-    "lookup --from 192.0.2.1 --to 10.1.2.3 --src 0.0.0.0 examples/one-route.dump";
+    "lookup --from 192.0.2.1 --to 10.1.2.3 --src 0.0.0.0 examples/one-route.dump",
+    "senders examples/captures/babeld-basic-a.pcap";
     "0  done; a lookup has a route; the compared dumps answer the same",
-    "1  a lookup has no route: none or unreachable; the compared dumps differ"
+    "1  a lookup has no route: none or unreachable; the compared dumps differ; a capture has no packets"
 );
 
 const AFTER_SHOW: &str = after_help!(
@@ -67,16 +72,37 @@ const AFTER_PAIRS: &str = after_help!(
 
 const AFTER_COMPARE: &str = after_help!(
     examples:
-    "compare --from fe80::5eff:fe00:4a01 --other-from fe80::5eff:fe00:4b01 examples/captures/frr-basic.dump examples/captures/bird-sadr.dump";
+    "compare --from fe80::5eff:fe00:4a01 --other-from fe80::5eff:fe00:4b01 examples/captures/frr-basic.dump examples/captures/bird-sadr.dump",
+    "compare --all --ignore next-hop,metric --from fe80::ff:fe00:305 --other-from fe80::ff:fe00:405 examples/network/north-after.dump examples/network/south-after.dump";
     "0  every destination and source has the same answer",
     "1  some destination and source has not"
+);
+
+const AFTER_SENDERS: &str = after_help!(
+    refused: "a capture";
+    examples:
+    "senders examples/captures/babeld-basic-a.pcap",
+    "senders --json < examples/captures/babeld-basic-a.pcap";
+    "0  there are senders",
+    "1  there is none"
+);
+
+const AFTER_EXTRACT: &str = after_help!(
+    refused: "a capture";
+    examples:
+    "extract --from fe80::5eff:fe00:c601 --hex examples/captures/babeld-basic-a.pcap",
+    "extract --from fe80::5eff:fe00:c601 examples/captures/babeld-basic-a.pcap | babel-dump show --from fe80::5eff:fe00:c601";
+    "0  done",
+    "1  there are no packets from the sender"
 );
 
 /// The program's command line.
 pub(crate) fn command<'a>(alloc: Global) -> Result<Command<'a>, AllocError> {
     let command = Command::new(alloc, "babel-dump")
         .version("1.0.0")
-        .about("Reads dumps of Babel packets (RFC 8966, RFC 9079), each from one sender")
+        .about(
+            "Reads dumps of Babel packets (RFC 8966, RFC 9079), each from one sender, and makes them from captures",
+        )
         .after_help(AFTER_HELP)
         .no_binary_name(true)
         .bin_name("babel-dump")?
@@ -85,7 +111,9 @@ pub(crate) fn command<'a>(alloc: Global) -> Result<Command<'a>, AllocError> {
     command
         .subcommand(normalise(alloc)?)?
         .subcommand(pairs(alloc)?)?
-        .subcommand(compare(alloc)?)
+        .subcommand(compare(alloc)?)?
+        .subcommand(senders(alloc)?)?
+        .subcommand(extract(alloc)?)
 }
 
 /// The command line with the commands for the rows of a dump.
@@ -207,6 +235,8 @@ fn compare<'a>(alloc: Global) -> Result<Command<'a>, AllocError> {
         .arg(strict(alloc))?
         .arg(ignore(alloc))?
         .arg(json(alloc))?
+        .arg(all(alloc))?
+        .arg(count_of_all(alloc)?)?
         .arg(dump(alloc, "file", "FILE", "The first dump; - is standard input"))?
         .arg(dump(
             alloc,
@@ -214,6 +244,88 @@ fn compare<'a>(alloc: Global) -> Result<Command<'a>, AllocError> {
             "OTHER",
             "The other dump; - is standard input",
         ))
+}
+
+/// The option for all differences.
+fn all<'a>(alloc: Global) -> Arg<'a> {
+    let help =
+        "In place of the least pair: write each longest block of destinations and sources that the dumps answer differently";
+    flag(alloc, "all", help)
+}
+
+/// The option for the number of all differences.
+fn count_of_all<'a>(alloc: Global) -> Result<Arg<'a>, AllocError> {
+    let help = "With --all: write only how many such blocks there are";
+    flag(alloc, "count", help).requires_arg("all")
+}
+
+/// The command for the senders of a capture.
+fn senders<'a>(alloc: Global) -> Result<Command<'a>, AllocError> {
+    let about =
+        "Write who sent Babel packets in a capture (pcap, pcapng), on which interface, and how many";
+    let command = Command::new(alloc, "senders")
+        .about(about)
+        .after_help(AFTER_SENDERS);
+    of_one_capture(alloc, command)?.arg(json(alloc))
+}
+
+/// The command for the dump of one sender of a capture.
+fn extract<'a>(alloc: Global) -> Result<Command<'a>, AllocError> {
+    let about = "Write the dump of one sender of a capture (pcap, pcapng)";
+    let command = Command::new(alloc, "extract")
+        .about(about)
+        .after_help(AFTER_EXTRACT);
+    let from = address(
+        alloc,
+        "from",
+        "The address that the dump's packets were sent from",
+    );
+    let interface = Arg::new(alloc, "interface")
+        .long("interface")
+        .value_name("NUMBER")
+        .value_parser(value_parser!(u32))
+        .action(ArgAction::Set)
+        .help(
+            "The interface where they were captured, as senders names it; needed where there are several",
+        );
+    let hex = flag(
+        alloc,
+        "hex",
+        "Write the octets as lower-case hexadecimal digits on a line",
+    );
+    let command = command.arg(from)?.arg(interface)?.arg(hex)?;
+    of_one_capture(alloc, command)
+}
+
+/// The command with what each command over a capture has.
+fn of_one_capture<'a>(alloc: Global, command: Command<'a>) -> Result<Command<'a>, AllocError> {
+    let file = Arg::new(alloc, "file")
+        .value_name("CAPTURE")
+        .help("The capture; standard input if it is left out, or is -");
+    command
+        .arg(flag(
+            alloc,
+            "strict",
+            "Refuse a capture of which a datagram is left out",
+        ))?
+        .arg(flag(
+            alloc,
+            "accept-cut",
+            "Read a capture that is cut short to its last whole record",
+        ))?
+        .arg(flag(
+            alloc,
+            "quiet",
+            "Leave out the notes on standard error: how many datagrams were left out and why, and where the capture is cut short",
+        ))?
+        .arg(number(
+            alloc,
+            "max-octets",
+            "OCTETS",
+            i64::from(u32::MAX),
+            "How many octets the capture may have; 1073741824 if it is left out",
+        ))?
+        .arg(file)
 }
 
 /// A required dump.
@@ -247,7 +359,7 @@ fn with_settings<'a>(alloc: Global, command: Command<'a>) -> Result<Command<'a>,
             "max-routes",
             "ROUTES",
             MOST_ROUTES,
-            "How many routes, and how many canonical pairs, there may be; 262144 if it is left out",
+            "How many routes, and how many canonical pairs or differences, there may be; 262144 if it is left out",
         ))?
         .arg(number(
             alloc,

@@ -1,23 +1,23 @@
 ghost use Rattle.std.specs.Prelude.{◌≡◌, ◌^◌, ◌<◌, Some, IfErr, IfOk};
-ghost use Rattle.babel_dump.specs.Command.{Compares, InTurn, RanCompare};
-ghost use Rattle.babel_dump.specs.Given.{GaveTable, GaveVerdict, IsFaultOfGiven, input, read_from};
-ghost use Rattle.babel_dump.specs.Parts.{Gathered, GatheredOther, SaysSo};
+ghost use Rattle.babel_dump.specs.Command.{Compares, InTurn, IsOfMemory, RanCompare};
+ghost use Rattle.babel_dump.specs.Given.{IsFaultOfGiven, input, read_from};
+ghost use Rattle.babel_dump.specs.Parts.{Gathered, SaysSo};
 ghost use Rattle.babel_dump.specs.Run.{Reports, output, run_status};
 ghost use Rattle.babel_dump.specs.RunText.{verdict_status};
 ghost use Rattle.babel_dump.specs.declared.format.Format.TheVariants as formats;
 
+use crate::both::read_both;
 use crate::byte_in::ByteIn;
 use crate::byte_out::ByteOut;
 use crate::finish::{Found, finish};
 use crate::format::Format;
-use crate::input::read_table;
 use crate::outcome::Outcome;
 use crate::output::verdict_output;
 use crate::reading::Reading;
 use crate::run_fault::RunFault;
 use babel_canon::Verdict;
 use babel_prefix::Addr;
-use babel_table::{Limits, Table};
+use babel_table::Limits;
 use babel_tlv::{Mode, View};
 use std::alloc::Global;
 
@@ -114,36 +114,19 @@ fn read_verdict<R: ByteIn, S: ByteIn>(
     ensures gathered { let dump = read_from (R.state reader.old) (R.state reader.new) reading in
         let other_dump = read_from (S.state other.old) (S.state other.new) other_reading in
         Gathered dump (Some other_dump) (IsFaultOfGiven dump) (SaysSo dump (Some other_dump) (Compares dump other_dump format)) result }
-    ensures in_turn { IfErr result (InTurn (read_from (R.state reader.old) (R.state reader.new) reading)
-        (read_from (S.state other.old) (S.state other.new) other_reading) (other.new ≡ other.old)) }
+    ensures in_turn { let dump = read_from (R.state reader.old) (R.state reader.new) reading in
+        let other_dump = read_from (S.state other.old) (S.state other.new) other_reading in
+        IfErr result (InTurn dump other_dump IsOfMemory (other.new ≡ other.old)) }
 {
-    let table = read_table(alloc, reading, reader)?;
-    let other_table = read_other(alloc, other_reading, other)?;
-    let left = table.seen(reading.view);
-    let right = other_table.seen(reading.view);
-    let verdict = babel_canon::compare(alloc, &left, &right)?;
+    let seen = read_both(alloc, reading, other_reading, reader, other)?;
+    let verdict = babel_canon::compare(alloc, &seen.left, &seen.right)?;
     let text = verdict_output(alloc, format, reading.view, &verdict)?.into_bytes();
     let outcome = Outcome {
         status: verdict_status(&verdict),
-        report: *left.report(),
-        other: Some(*right.report()),
+        report: *seen.left.report(),
+        other: Some(*seen.right.report()),
     };
     Ok(Found { text, outcome })
-}
-
-/// Reads the other dump of a comparison to its end, or to its first fault, which is then the other's.
-fn read_other<S: ByteIn>(alloc: Global, reading: Reading, other: &mut S) -> Result<Table, RunFault>
-    requires failures { (S.state other.old).failures < 2 ^ 63 }
-    requires reads { (S.state other.old).reads < 2 ^ 63 }
-    requires ends { (S.state other.old).ends < 2 ^ 63 }
-    ensures { let dump = read_from (S.state other.old) (S.state other.new) reading in GatheredOther dump (GaveTable dump) result }
-{
-    match read_table(alloc, reading, other) {
-        Err(RunFault::Dump(fault)) => Err(RunFault::OtherDump(fault)),
-        Err(RunFault::Ignored(tlv)) => Err(RunFault::OtherIgnored(tlv)),
-        Err(RunFault::Read) => Err(RunFault::OtherRead),
-        outcome => outcome,
-    }
 }
 
 /// The status of a verdict.

@@ -18,7 +18,7 @@ pub enum Hint {
     #[error("hint: the limit is {0} octets; --max-octets raises it")]
     Octets(u32),
     /// The octets are those of a packet capture.
-    #[error("hint: this is a packet capture, and not the packets of one sender end to end")]
+    #[error("hint: this is a packet capture: senders lists who sent in it, and extract gives the dump of one sender")]
     Capture,
     /// What comes after a packet begins no packet.
     #[error("hint: the packet before may have a trailer (RFC 8967), which is not read")]

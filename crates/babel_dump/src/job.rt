@@ -55,6 +55,12 @@ pub enum Job {
     Compare {
         dumps: TwoDumps,
     },
+    /// `compare --all`: all that two dumps answer differently.
+    Differences {
+        dumps: TwoDumps,
+        /// Whether the differences are only counted: `--count`.
+        count: bool,
+    },
 }
 
 /// The dump of a command that reads one.
@@ -116,7 +122,7 @@ impl Job {
             | Job::Each { dump, .. }
             | Job::Normalise { dump, .. }
             | Job::Pairs { dump, .. } => &dump.file,
-            Job::Compare { dumps } => &dumps.file,
+            Job::Compare { dumps } | Job::Differences { dumps, .. } => &dumps.file,
         }
     }
 
@@ -125,7 +131,7 @@ impl Job {
         ensures { option_copied result ≡ other_file self.now }
     {
         match self {
-            Job::Compare { dumps } => Some(&dumps.other),
+            Job::Compare { dumps } | Job::Differences { dumps, .. } => Some(&dumps.other),
             Job::Each { pairs, .. } => Some(pairs),
             _ => None,
         }

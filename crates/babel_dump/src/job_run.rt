@@ -6,6 +6,7 @@ ghost use Rattle.babel_dump.specs.Run.{output};
 use crate::byte_in::ByteIn;
 use crate::byte_out::ByteOut;
 use crate::compare::compare;
+use crate::differences::differences;
 use crate::each::each;
 use crate::job::{Job, OneDump, TwoDumps};
 use crate::lookup::lookup;
@@ -68,6 +69,12 @@ pub fn run_job<R: ByteIn, S: ByteIn, W: ByteOut>(
         Job::Compare { dumps } => {
             let (left, right) = (left_reading(limits, dumps), right_reading(limits, dumps));
             compare(alloc, left, right, dumps.format, reader, other, writer)
+        }
+        Job::Differences { dumps, count } => {
+            let left = left_reading(limits, dumps);
+            let right = right_reading(limits, dumps);
+            let (count, format) = (*count, dumps.format);
+            differences(alloc, left, right, count, format, reader, other, writer)
         }
     }
 }

@@ -1,9 +1,10 @@
 //! The lines that the runs write as JSON: RFC 8259. No text of an address, a router-id or a reason has a
 //! character that JSON escapes.
 ghost use Rattle.std.specs.Prelude.{◌≡◌, ◌++◌, IfOk, OnOk, string_bytes};
-ghost use Rattle.babel_dump.specs.JsonText.{comma_separated, counts_json, ignored_objects, report_json, verdict_json};
+ghost use Rattle.babel_dump.specs.JsonText.{comma_separated, counts_json, difference_count_json, ignored_objects, report_json, same_json, verdict_json};
 
 use crate::addr_pair::AddrPair;
+use crate::differ::Differ;
 use crate::reason_text::{REASONS, name};
 use crate::text::RouterId;
 use babel_canon::Verdict;
@@ -93,10 +94,10 @@ impl fmt::Display for Answer {
 struct Addressed<A>(A, A);
 
 impl<A: fmt::Display> fmt::Display for Addressed<A> {
-    ghost use Rattle.std.specs.Option.{option_and_then, option_map};
     ghost use Rattle.babel_dump.specs.JsonText.{addressed_json};
+    ghost use Rattle.babel_dump.specs.RunText.{of_both};
 
-    ghost output = { λ pair. option_and_then (λ dst. option_map (addressed_json dst) (A.output pair.1)) (A.output pair.0) };
+    ghost output = { λ pair. of_both addressed_json (A.output pair.0) (A.output pair.1) };
 
     fn fmt<W: fmt::Write>(&self, f: &mut fmt::Formatter<W>) -> fmt::Result {
         let dst = &self.0;
@@ -140,6 +141,40 @@ impl fmt::Display for LookupJson {
     }
 }
 
+/// What two tables answer for a destination and a source, under a view: a line.
+#[derive(Clone, Copy)]
+pub(crate) struct DifferJson<A>(pub View, pub Differ<A>);
+
+impl<A: fmt::Display> fmt::Display for DifferJson<A> {
+    ghost use Rattle.babel_dump.specs.JsonText.{differ_json};
+    ghost use Rattle.babel_dump.specs.RunText.{of_both};
+
+    ghost output = { λ line. of_both
+        (λ dst src. differ_json line.0 dst src line.1.left line.1.right)
+        (A.output line.1.dst) (A.output line.1.src) };
+
+    fn fmt<W: fmt::Write>(&self, f: &mut fmt::Formatter<W>) -> fmt::Result {
+        let dst = &self.1.dst;
+        let src = &self.1.src;
+        let addressed = Addressed(dst, src);
+        let left = Answer(self.0, self.1.left);
+        let right = Answer(self.0, self.1.right);
+        writeln!(
+            f,
+            r#"{{"same":false,{addressed},"left":{left},"right":{right}}}"#
+        )
+    }
+}
+
+/// The line of two tables that answer the same.
+pub(crate) fn same_json(alloc: Global) -> Result<String, AllocError>
+    ensures { IfOk result (λ text. string_bytes text ≡ same_json) }
+{
+    let mut text = String::new(alloc);
+    writeln!(text, r#"{{"same":true}}"#)?;
+    Ok(text)
+}
+
 /// The line of a verdict, under a view.
 pub(crate) fn verdict_json(
     alloc: Global,
@@ -148,23 +183,32 @@ pub(crate) fn verdict_json(
 ) -> Result<String, AllocError>
     ensures { IfOk result (λ text. string_bytes text ≡ verdict_json view verdict.now) }
 {
-    let mut text = String::new(alloc);
-    match verdict {
-        Verdict::Same => writeln!(text, r#"{{"same":true}}"#)?,
+    match *verdict {
+        Verdict::Same => same_json(alloc),
         Verdict::Differ {
             dst,
             src,
             left,
             right,
         } => {
-            let addressed = Addressed(*dst, *src);
-            let (left, right) = (Answer(view, *left), Answer(view, *right));
-            writeln!(
-                text,
-                r#"{{"same":false,{addressed},"left":{left},"right":{right}}}"#
-            )?;
+            let differ = Differ {
+                dst,
+                src,
+                left,
+                right,
+            };
+            let line = DifferJson(view, differ);
+            format!(in alloc; "{line}")
         }
     }
+}
+
+/// How many differences there are: a line.
+pub(crate) fn difference_count_json(alloc: Global, count: usize) -> Result<String, AllocError>
+    ensures { IfOk result (λ text. string_bytes text ≡ difference_count_json count) }
+{
+    let mut text = String::new(alloc);
+    writeln!(text, r#"{{"differences":{count}}}"#)?;
     Ok(text)
 }
 

@@ -1,4 +1,6 @@
 //! Laws of the definitions.
+ghost use Rattle.babel_dump.specs.ExtractLaws.{ExtractedIsFramed, OtherExtractedIsFramed};
+ghost use Rattle.babel_dump.specs.OneExtract.{CaptureOutcomeIsOne, NamedIsNotSeveral};
 ghost use Rattle.babel_dump.specs.OneOutcome.{FaultIsOfAll, FaultIsOne, NothingWritten, OtherFaultIsOfAll, StatusIsOne, StatusOrFault, WrittenIsPrefix};
 
 /// What a job's run over devices that say their octets answers, failed calls and want of memory aside, is settled by the
@@ -19,4 +21,22 @@ pub fn fault_is_of_all()
 pub fn written_is_prefix()
     ensures prefix { WrittenIsPrefix }
     ensures nothing { NothingWritten }
+{}
+
+/// What a run of `extract` wrote, as it is, no job over dumps refuses as truncated, or for a wrong magic or version: not as
+/// its first dump, and not as the other of a comparison.
+pub fn extracted_is_framed()
+    ensures first { ExtractedIsFramed }
+    ensures other { OtherExtractedIsFramed }
+{}
+
+/// What the run of a capture's job over devices that say their octets answers and writes, if it answers an outcome, is
+/// settled by the octets of its reader, however they come in pieces.
+pub fn capture_outcome_is_one()
+    ensures { CaptureOutcomeIsOne }
+{}
+
+/// A run of `extract` that names an interface is never refused for several.
+pub fn named_interface_is_one()
+    ensures { NamedIsNotSeveral }
 {}

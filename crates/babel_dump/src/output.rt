@@ -1,14 +1,21 @@
 //! What the runs write, in the format that is asked for.
 ghost use Rattle.std.specs.Prelude.{◌≡◌, IfOk, string_bytes};
 ghost use Rattle.babel_tlv.specs.Views.{keeps_all};
-ghost use Rattle.babel_dump.specs.InFormat.{counts_in, lookup_in, pairs_in, show_in, verdict_in};
+ghost use Rattle.babel_dump.specs.InFormat.{counts_in, difference_count_in, difference_lines_in, differences_in, lookup_in, pairs_in, same_in, show_in, verdict_in};
 
 use crate::addr_pair::AddrPair;
+use crate::differ::Differ;
 use crate::format::Format;
-use crate::json::{LookupJson, PairJson, counts_json, push_report_json, verdict_json};
+use crate::json::{
+    DifferJson, LookupJson, PairJson, counts_json, difference_count_json, push_report_json,
+    same_json, verdict_json,
+};
 use crate::reason_text::push_report;
-use crate::text::{EachLine, PairLine, counts_text, lookup_text, verdict_text};
-use babel_canon::Verdict;
+use crate::text::{
+    DifferLines, EachLine, PairLine, counts_text, difference_count_text, lookup_text, same_text,
+    verdict_text,
+};
+use babel_canon::{Difference, Verdict};
 use babel_table::Table;
 use babel_tlv::{Held, Key, View};
 use std::alloc::{AllocError, Global};
@@ -50,12 +57,47 @@ impl fmt::Display for AnswerLine {
     }
 }
 
+/// What two tables answer for two prefixes: its lines in a format.
+#[derive(Clone, Copy)]
+struct DifferenceLines(Format, View, Difference);
+
+impl fmt::Display for DifferenceLines {
+    ghost use Rattle.std.specs.Prelude.{Some};
+    ghost use Rattle.babel_dump.specs.InFormat.{difference_in};
+
+    ghost output = { λ lines. Some (difference_in lines.0 lines.1 lines.2) };
+
+    fn fmt<W: fmt::Write>(&self, f: &mut fmt::Formatter<W>) -> fmt::Result {
+        let Difference { key, left, right } = self.2;
+        let (dst, src) = (key.dst(), key.src());
+        let differ = Differ {
+            dst,
+            src,
+            left,
+            right,
+        };
+        match self.0 {
+            Format::Text => DifferLines(self.1, differ).fmt(f),
+            Format::Json => DifferJson(self.1, differ).fmt(f),
+        }
+    }
+}
+
 impl Format {
     /// The longest line of an IPv4 route, in octets. Room for so many is taken for each row at once.
     fn line_room(self) -> usize {
         match self {
             Format::Text => 108,
             Format::Json => 167,
+        }
+    }
+
+    /// The longest lines of a difference between two IPv4 routes, in octets. Room for so many is taken for each difference
+    /// at once.
+    fn difference_room(self) -> usize {
+        match self {
+            Format::Text => 191,
+            Format::Json => 277,
         }
     }
 }
@@ -131,7 +173,7 @@ pub(crate) fn lookup_output(
     ensures { IfOk result (λ text. string_bytes text ≡ lookup_in format pair.dst pair.src answer) }
 {
     match format {
-        Format::Text => lookup_text(alloc, View::all(), answer.as_ref()),
+        Format::Text => lookup_text(alloc, View::all(), answer),
         Format::Json => {
             let line = LookupJson(pair, answer);
             format!(in alloc; "{line}")
@@ -151,5 +193,62 @@ pub(crate) fn verdict_output(
     match format {
         Format::Text => verdict_text(alloc, view, verdict),
         Format::Json => verdict_json(alloc, view, verdict),
+    }
+}
+
+/// The line of two tables that answer the same.
+fn same_output(alloc: Global, format: Format) -> Result<String, AllocError>
+    ensures { IfOk result (λ text. string_bytes text ≡ same_in format) }
+{
+    match format {
+        Format::Text => same_text(alloc),
+        Format::Json => same_json(alloc),
+    }
+}
+
+/// The lines of each of these differences.
+fn difference_lines(
+    alloc: Global,
+    format: Format,
+    view: View,
+    listed: &[Difference],
+) -> Result<String, AllocError>
+    ensures { IfOk result (λ text. string_bytes text ≡ difference_lines_in format view listed.now) }
+{
+    let room = listed.len().saturating_mul(format.difference_room());
+    let mut text = String::with_capacity(alloc, room)?;
+    for difference in listed {
+        let lines = DifferenceLines(format, view, *difference);
+        write!(text, "{lines}")?;
+    }
+    Ok(text)
+}
+
+/// The lines of all differences, or the line of two tables that answer the same.
+pub(crate) fn differences_output(
+    alloc: Global,
+    format: Format,
+    view: View,
+    differences: &[Difference],
+) -> Result<String, AllocError>
+    ensures { IfOk result (λ text. string_bytes text ≡ differences_in format view differences.now) }
+{
+    if differences.is_empty() {
+        return same_output(alloc, format);
+    }
+    difference_lines(alloc, format, view, differences)
+}
+
+/// How many differences there are.
+pub(crate) fn difference_count_output(
+    alloc: Global,
+    format: Format,
+    count: usize,
+) -> Result<String, AllocError>
+    ensures { IfOk result (λ text. string_bytes text ≡ difference_count_in format count) }
+{
+    match format {
+        Format::Text => difference_count_text(alloc, count),
+        Format::Json => difference_count_json(alloc, count),
     }
 }

@@ -1,9 +1,9 @@
 //! The lines that the runs write.
 ghost use Rattle.std.specs.Prelude.{◌≡◌, IfOk, string_bytes};
-ghost use Rattle.std.specs.Option.{option_copied};
-ghost use Rattle.babel_dump.specs.RunText.{counts_text, hex_text, lookup_text, verdict_text};
+ghost use Rattle.babel_dump.specs.RunText.{counts_text, difference_count_text, hex_text, lookup_text, same_text, verdict_text};
 
 use crate::addr_pair::AddrPair;
+use crate::differ::Differ;
 use babel_canon::Verdict;
 use babel_tlv::{Held, Key, View};
 use std::alloc::{AllocError, Global};
@@ -88,6 +88,24 @@ impl fmt::Display for PairLine {
     }
 }
 
+/// What is answered, as the runs show it under a view: what stands for a key, or `none`.
+#[derive(Clone, Copy)]
+struct Answered(View, Option<Held>);
+
+impl fmt::Display for Answered {
+    ghost use Rattle.std.specs.Prelude.{Some};
+    ghost use Rattle.babel_dump.specs.RunText.{answer_text};
+
+    ghost output = { λ answered. Some (answer_text answered.0 answered.1) };
+
+    fn fmt<W: fmt::Write>(&self, f: &mut fmt::Formatter<W>) -> fmt::Result {
+        match self.1 {
+            Some(held) => Shown(self.0, held).fmt(f),
+            None => f.write_str("none"),
+        }
+    }
+}
+
 /// What is answered for a destination and a source, as `--each` shows it.
 #[derive(Clone, Copy)]
 pub(crate) struct EachLine(pub AddrPair, pub Option<Held>);
@@ -100,10 +118,28 @@ impl fmt::Display for EachLine {
 
     fn fmt<W: fmt::Write>(&self, f: &mut fmt::Formatter<W>) -> fmt::Result {
         let AddrPair { dst, src } = self.0;
-        match self.1 {
-            Some(held) => write!(f, "{dst} from {src} {}\n", Shown(View::all(), held)),
-            None => write!(f, "{dst} from {src} none\n"),
-        }
+        let answered = Answered(View::all(), self.1);
+        write!(f, "{dst} from {src} {answered}\n")
+    }
+}
+
+/// What two tables answer for a destination and a source, under a view: three lines.
+#[derive(Clone, Copy)]
+pub(crate) struct DifferLines<A>(pub View, pub Differ<A>);
+
+impl<A: fmt::Display> fmt::Display for DifferLines<A> {
+    ghost use Rattle.babel_dump.specs.RunText.{differ_lines, of_both};
+
+    ghost output = { λ lines. of_both
+        (λ dst src. differ_lines lines.0 dst src lines.1.left lines.1.right)
+        (A.output lines.1.dst) (A.output lines.1.src) };
+
+    fn fmt<W: fmt::Write>(&self, f: &mut fmt::Formatter<W>) -> fmt::Result {
+        let dst = &self.1.dst;
+        let src = &self.1.src;
+        let left = Answered(self.0, self.1.left);
+        let right = Answered(self.0, self.1.right);
+        write!(f, "differ {dst} from {src}\nleft {left}\nright {right}\n")
     }
 }
 
@@ -111,17 +147,19 @@ impl fmt::Display for EachLine {
 pub(crate) fn lookup_text(
     alloc: Global,
     view: View,
-    answer: Option<&Held>,
+    answer: Option<Held>,
 ) -> Result<String, AllocError>
-    ensures { IfOk result (λ text. string_bytes text ≡ lookup_text view (option_copied answer.entry)) }
+    ensures { IfOk result (λ text. string_bytes text ≡ lookup_text view answer) }
 {
-    match answer {
-        Some(held) => {
-            let shown = Shown(view, *held);
-            format!(in alloc; "{shown}\n")
-        }
-        None => String::from_str(alloc, "none\n"),
-    }
+    let answered = Answered(view, answer);
+    format!(in alloc; "{answered}\n")
+}
+
+/// The line of two tables that answer the same.
+pub(crate) fn same_text(alloc: Global) -> Result<String, AllocError>
+    ensures { IfOk result (λ text. string_bytes text ≡ same_text) }
+{
+    String::from_str(alloc, "same\n")
 }
 
 /// The lines of a verdict, under a view.
@@ -132,22 +170,31 @@ pub(crate) fn verdict_text(
 ) -> Result<String, AllocError>
     ensures { IfOk result (λ text. string_bytes text ≡ verdict_text view verdict.now) }
 {
-    match verdict {
-        Verdict::Same => String::from_str(alloc, "same\n"),
+    match *verdict {
+        Verdict::Same => same_text(alloc),
         Verdict::Differ {
             dst,
             src,
             left,
             right,
         } => {
-            let mut text = format!(in alloc; "differ {dst} from {src}\n")?;
-            let left = lookup_text(alloc, view, left.as_ref())?;
-            write!(text, "left {left}")?;
-            let right = lookup_text(alloc, view, right.as_ref())?;
-            write!(text, "right {right}")?;
-            Ok(text)
+            let differ = Differ {
+                dst,
+                src,
+                left,
+                right,
+            };
+            let lines = DifferLines(view, differ);
+            format!(in alloc; "{lines}")
         }
     }
+}
+
+/// How many differences there are.
+pub(crate) fn difference_count_text(alloc: Global, count: usize) -> Result<String, AllocError>
+    ensures { IfOk result (λ text. string_bytes text ≡ difference_count_text count) }
+{
+    format!(in alloc; "differences {count}\n")
 }
 
 /// The octets as lower-case hexadecimal digits, on a line.

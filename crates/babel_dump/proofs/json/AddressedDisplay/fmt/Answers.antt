@@ -1,13 +1,14 @@
+-- The members of a destination and a source of any kind: they are those of the two texts, where there are both.
 use Rattle.std.proofs.Common.{◌≡◌, List, ℕ, Option, Some, None, refl, subst, append_assoc}
 use Rattle.std.specs.Prelude.{codes}
 use Rattle.std.specs.Fmt.{DisplaysOnOk, ◌++?◌}
-use Rattle.std.specs.Option.{option_and_then, option_map}
 use Rattle.babel_dump.specs.JsonText.{addressed_json}
+use Rattle.babel_dump.specs.RunText.{of_both}
 use Rattle.babel_dump.proofs.json.AddressedDisplay.fmt.Goals as goal
 
 -- the two texts, where there are both
 both : (dst src : Option (List ℕ)) → Some (codes "\"destination\":\"") ++? (dst ++? (Some (codes "\",\"source\":\"") ++? (src ++? Some (codes "\""))))
-    ≡ option_and_then (λ (d : List ℕ). option_map (addressed_json d) src) dst
+    ≡ of_both addressed_json dst src
 both None src = refl
 both (Some dst) None = refl
 both (Some dst) (Some src) = simp append_assoc refl

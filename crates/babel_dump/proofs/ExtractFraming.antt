@@ -1,0 +1,167 @@
+-- What `extract` writes has no fault of framing but a TLV past the end of its packet.
+use Rattle.std.proofs.Common.{◌≡◌, ◌≢◌, ℕ, Bool, true, false, List, [], ◌∷◌, ◌++◌, length, take, drop, refl, sym, ap, subst, ◌∙◌, append_assoc, inl, inr, cond, nat_le, nat_lt, ◌==◌}
+use Rattle.std.specs.Prelude.{Option, Result, Ok, Err, IfErr}
+use Rattle.std.specs.List.{AllByRecursion, flat_map}
+use Rattle.std.proofs.lemmas.List.{append_cancel_left, take-append-drop}
+use Rattle.babel_prefix.specs.Address.{Address}
+use Rattle.babel_tlv.specs.declared.event.Event.{Event}
+use Rattle.babel_tlv.specs.declared.fault.Fault.{Fault}
+use Rattle.babel_tlv.specs.declared.fault.Fault.TheVariants as faults
+use Rattle.babel_tlv.specs.declared.mode.Mode.{Mode}
+use Rattle.babel_tlv.specs.Context.{Context}
+use Rattle.babel_tlv.specs.Forming.{sets_router_id, update_encoding}
+use Rattle.babel_tlv.specs.Framing.{PacketFault, TlvAt, packet_octets}
+use Rattle.babel_tlv.specs.Says.{Saying, said, sayings, sayings_behind, update_said}
+use Rattle.babel_table.specs.Bounds.{Bounds}
+use Rattle.babel_table.specs.DumpFault.{DumpFault, IsTruncated, RefusedBy, Refuses, StreamFault}
+use Rattle.babel_table.proofs.DumpLaws.{begins-more, header-more}
+use Rattle.babel_capture.specs.Gathering.{Gathering}
+use Rattle.babel_capture.specs.Packets.{ArePackets, IsPastEnd}
+use Rattle.babel_capture.proofs.FramingLaws.{framing_fine}
+use Rattle.babel_capture.proofs.PacketLaws.{dump_packets}
+use Rattle.babel_dump.specs.CaptureGiven.{IsReadSo}
+use Rattle.babel_dump.specs.CaptureText.{dump_text}
+use Rattle.babel_dump.specs.ExtractLaws.{Extracted, ExtractedIsFramed, IsOfFraming, OtherExtractedIsFramed}
+use Rattle.babel_dump.specs.JobRun.{first_reading}
+use Rattle.babel_dump.proofs.Outcomes.{appended, fault_is_of_all, other_fault_is_of_all}
+
+-- ---- what a TLV refuses a dump for is no fault of framing
+
+pub record NoFraming (r : Result Event Fault) : Type 0 where
+  pub none : IfErr r (λ fault. ¬ IsOfFraming fault)
+
+either_none : (b : Bool) {x y : Result Event Fault} → NoFraming x → NoFraming y → NoFraming (cond b x y)
+either_none true here there = here
+either_none false here there = there
+
+event_none : {event : Event} → NoFraming (Ok event)
+event_none = record { none = tt }
+
+update_none : (context : Context) (tlv : TlvAt) → NoFraming (update_said context tlv)
+update_none context tlv =
+    either_none (nat_lt (length tlv.body) 10) event_none
+    (either_none (nat_le 3 (update_encoding tlv.body)) (either_none (sets_router_id tlv.body) (record { none = λ framing. framing }) event_none)
+    (either_none (update_encoding tlv.body == 0) event_none (either_none (update_encoding tlv.body == 1) event_none event_none)))
+
+said_none : (context : Context) (tlv : TlvAt) → NoFraming (said context tlv)
+said_none context tlv =
+    either_none (tlv.kind == 6) event_none (either_none (tlv.kind == 7) event_none
+    (either_none (tlv.kind == 8) (update_none context tlv) event_none))
+
+abbrev SaysNone : Saying → Type 0
+SaysNone saying = IfErr saying.what (λ fault. ¬ IsOfFraming fault)
+
+all_append : (xs ys : List Saying) → AllByRecursion SaysNone xs → AllByRecursion SaysNone ys → AllByRecursion SaysNone (xs ++ ys)
+all_append [] ys left right = right
+all_append (x ∷ xs) ys left right = (left.0, all_append xs ys left.1 right)
+
+all_middle : (xs : List Saying) (x : Saying) (ys : List Saying) → AllByRecursion SaysNone (xs ++ x ∷ ys) → SaysNone x
+all_middle [] x ys all = all.0
+all_middle (z ∷ xs) x ys all = all_middle xs x ys all.1
+
+packet_none : (sender : Address) (earlier tlvs : List TlvAt) → AllByRecursion SaysNone (sayings_behind sender earlier tlvs)
+packet_none sender earlier [] = tt
+packet_none sender earlier (tlv ∷ tlvs) = ((said_none _ tlv).none, packet_none sender (tlv ∷ earlier) tlvs)
+
+packets_none : (sender : Address) (packets : List (List TlvAt)) → AllByRecursion SaysNone (sayings sender packets)
+packets_none sender [] = tt
+packets_none sender (packet ∷ packets) =
+    all_append (sayings_behind sender [] packet) (sayings sender packets) (packet_none sender [] packet) (packets_none sender packets)
+
+refuses_none : (mode : Mode) (entries : ℕ) (before : List Event) (at : ℕ) (what : Result Event Fault) (fault : Fault)
+    → IfErr what (λ refused. ¬ IsOfFraming refused) → Refuses mode entries before at what fault → ¬ IsOfFraming fault
+refuses_none mode entries before at (Ok event) fault none why framing = subst IsOfFraming why.0 framing
+refuses_none mode entries before at (Err refused) fault none why framing = none (subst IsOfFraming why framing)
+
+refused_none : (mode : Mode) (entries : ℕ) (sender : Address) (packets : List (List TlvAt)) (fault : Fault)
+    → RefusedBy mode entries (sayings sender packets) fault → ¬ IsOfFraming fault
+refused_none mode entries sender packets fault (front, saying, later, before, is, fine, why) =
+    refuses_none mode entries before saying.at saying.what fault
+    (all_middle front saying later (subst (λ (s : List Saying). AllByRecursion SaysNone s) is (packets_none sender packets))) why
+
+-- ---- whole packets have no such fault
+
+past_end_alone : (fault : Fault) → IsPastEnd fault → ¬ IsOfFraming fault
+past_end_alone (faults.TlvPastEnd at) past framing = framing
+past_end_alone (faults.Truncated at) past framing = past
+past_end_alone (faults.BadMagic at) past framing = past
+past_end_alone (faults.BadVersion at) past framing = past
+past_end_alone (faults.EncodingSetsRouterId at) past framing = past
+past_end_alone (faults.TooManyRoutes at) past framing = past
+past_end_alone faults.TooLong past framing = past
+past_end_alone faults.TooManyPairs past framing = past
+past_end_alone faults.Memory past framing = past
+
+-- the fault of octets that begin with no packet stays, if these don't just end too soon
+packet_more : (at : ℕ) (octets more : List ℕ) (fault : Fault) → PacketFault at octets fault → ¬ IsTruncated fault → PacketFault at (octets ++ more) fault
+packet_more at octets more fault (inl cut) whole = absurd (whole (subst IsTruncated (sym cut.0) tt))
+packet_more at octets more fault (inr (inl header)) whole = inr (inl (header-more at octets more fault header))
+packet_more at octets more fault (inr (inr (body, begins, past))) whole = inr (inr (body, begins-more octets more body begins, past))
+
+some_more : (octets more : List ℕ) → octets ≢ [] → (octets ++ more) ≢ []
+some_more [] more some = absurd (some refl)
+some_more (octet ∷ octets) more some = λ none. absurd cc
+
+module _ (mode : Mode) (entries : ℕ) (sender : Address) (dump : List ℕ) (are : ArePackets dump) where
+  stream_framed : (fault : Fault) → StreamFault mode entries sender dump fault → ¬ IsOfFraming fault
+  stream_framed fault (packets, rest, reads, inl (said, fine, some, why)) =
+      past_end_alone fault (framing_fine dump are fault (packets, rest, reads, some, why))
+  stream_framed fault (packets, rest, reads, inr refused) = refused_none mode entries sender packets fault refused
+
+  -- the first octets of the dump
+  front_framed : (front more : List ℕ) → front ++ more ≡ dump → (fault : Fault) → StreamFault mode entries sender front fault → ¬ IsTruncated fault → ¬ IsOfFraming fault
+  front_framed front more is fault (packets, rest, reads, inl (said, fine, some, why)) whole =
+      past_end_alone fault (framing_fine dump are fault (
+        packets,
+        rest ++ more,
+        record {
+          whole = sym is ∙ ap (λ (t : List ℕ). t ++ more) reads.whole ∙ append_assoc (flat_map packet_octets packets) rest more;
+          placed = reads.placed;
+        },
+        some_more rest more some,
+        packet_more (length (flat_map packet_octets packets)) rest more fault why whole,
+      ))
+  front_framed front more is fault (packets, rest, reads, inr refused) whole = refused_none mode entries sender packets fault refused
+
+too_long_alone : (fault : Fault) → fault ≡ faults.TooLong → ¬ IsOfFraming fault
+too_long_alone fault is framing = subst IsOfFraming is framing
+
+dump_framed : (limits : Bounds) (mode : Mode) (sender : Address) (dump : List ℕ) → ArePackets dump → (fault : Fault) → DumpFault limits mode sender dump fault → ¬ IsOfFraming fault
+dump_framed limits mode sender dump are fault (inl (within, stream)) = stream_framed mode limits.entries sender dump are fault stream
+dump_framed limits mode sender dump are fault (inr (inl (past, stream, whole))) =
+    front_framed mode limits.entries sender dump are (take limits.bytes dump) (drop limits.bytes dump) (take-append-drop limits.bytes dump) fault stream whole
+dump_framed limits mode sender dump are fault (inr (inr (past, is, cut))) = too_long_alone fault is
+
+-- ---- what `extract` writes
+
+gathered_packets : (accept_cut : Bool) (limit : ℕ) (octets : List ℕ) (gathering : Gathering) (cut : Option ℕ) → IsReadSo accept_cut limit octets gathering cut → ArePackets gathering.dump
+gathered_packets false limit octets gathering cut read = dump_packets limit octets gathering read.0
+gathered_packets true limit octets gathering cut read = dump_packets limit read.read gathering read.is_read
+
+as_it_is : (dump : List ℕ) → dump_text false dump ≡ dump
+as_it_is [] = refl
+as_it_is (octet ∷ octets) = refl
+
+extracted_packets : (octets : List ℕ) → Extracted octets → ArePackets octets
+extracted_packets octets done =
+    let (text, says, wrote) = done.ran.wrote in
+    let dump : text ≡ says.gathering.dump = says.text_is ∙ as_it_is says.gathering.dump in
+    let same : text ≡ octets = append_cancel_left done.before text octets (sym (appended _ _ done.before (done.before ++ octets) text done.took done.takes wrote)) in
+    subst ArePackets (sym dump ∙ same)
+    (gathered_packets done.reader.reading.accept_cut done.reader.reading.limit says.gave.given.octets says.gathering done.outcome.cut says.gave.given.is_read)
+
+not_memory : (fault : Fault) → IsOfFraming fault → fault ≢ faults.Memory
+not_memory fault framing is = subst IsOfFraming is framing
+
+not_pairs : (fault : Fault) → IsOfFraming fault → fault ≢ faults.TooManyPairs
+not_pairs fault framing is = subst IsOfFraming is framing
+
+pub extracted_is_framed : ExtractedIsFramed
+extracted_is_framed octets done limits job other before after fault ran framing =
+    dump_framed limits (first_reading limits job).mode (first_reading limits job).sender octets (extracted_packets octets done) fault
+    (fault_is_of_all limits job octets other before after fault ran (not_memory fault framing) (not_pairs fault framing)) framing
+
+pub other_extracted_is_framed : OtherExtractedIsFramed
+other_extracted_is_framed octets done limits job dumps dump before after fault over ran framing =
+    dump_framed limits dumps.mode dumps.other_from octets (extracted_packets octets done) fault
+    (other_fault_is_of_all limits job dumps dump octets before after fault over ran (not_memory fault framing)) framing

@@ -1,0 +1,30 @@
+-- Where there is no first datagram left out none was left out.
+use Rattle.std.proofs.Common.{◌≡◌, refl, ℕ, List, [], ◌∷◌, Bool, true, false, Option, None, Some, if◌then◌else◌, nat_lt}
+use Rattle.std.specs.List.{AllByRecursion}
+use Rattle.babel_capture.specs.declared.reason.Reason.{Reason}
+use Rattle.babel_capture.specs.Counts.{Counts, all_reasons, count_at, reason_place}
+use Rattle.babel_dump.specs.LeftOut.{LeavesNoneOut, first_among, first_counted, first_left_out, left_out_for, sooner}
+use Rattle.babel_dump.specs.declared.left_out.LeftOutDatagram.{LeftOutDatagram}
+
+-- where one of two datagrams is none both are
+chosen : (b : Bool) (datagram other : LeftOutDatagram) → (if b then Some other else Some datagram) ≡ None → ⊥
+chosen true datagram other is = absurd cc
+chosen false datagram other is = absurd cc
+
+both_none : (datagram other : Option LeftOutDatagram) → sooner datagram other ≡ None → (datagram ≡ None) × (other ≡ None)
+both_none None other is = (refl, is)
+both_none (Some datagram) None is = absurd cc
+both_none (Some datagram) (Some other) is = absurd (chosen (nat_lt other.packet datagram.packet) datagram other is)
+
+uncounted : (reason : Reason) (counted : Option (ℕ × ℕ)) → first_counted reason counted ≡ None → counted ≡ None
+uncounted reason None is = refl
+uncounted reason (Some counted) is = absurd cc
+
+none_among : (counts : Counts) (reasons : List Reason) → first_among counts reasons ≡ None → AllByRecursion (λ reason. count_at counts.left_out (reason_place reason) ≡ None) reasons
+none_among counts [] is = tt
+none_among counts (reason ∷ rest) is =
+    let both = both_none (left_out_for counts reason) (first_among counts rest) is in
+    (uncounted reason (count_at counts.left_out (reason_place reason)) both.0, none_among counts rest both.1)
+
+pub leaves_none : (counts : Counts) → first_left_out counts ≡ None → LeavesNoneOut counts
+leaves_none counts is = none_among counts all_reasons is

@@ -1,0 +1,129 @@
+//! What a reader gives, as a capture.
+ghost use Rattle.std.specs.Prelude.{◌≡◌, ◌≢◌, ℕ, ◌^◌, ◌<◌, true, List, [], None, IfOk, IfErr, OnOk};
+ghost use Rattle.babel_capture.specs.Capture.{CaptureFault, HasRead};
+ghost use Rattle.babel_dump.specs.CaptureGiven.{GaveCapture, GaveSound, IsFedWhole, IsReadSo, capture_from};
+ghost use Rattle.babel_dump.specs.CaptureRun.{GatheredCapture, IsNoFault};
+
+use crate::byte_in::ByteIn;
+use crate::capture_fault::CaptureRunFault;
+use crate::capture_reading::CaptureReading;
+use crate::left_out::first_left_out;
+use babel_capture::{Capture, Fault, Gathered};
+use std::alloc::Global;
+
+/// How many octets one read asks for.
+const PIECE: usize = 65_536;
+
+/// How many octets a block has at most before its length is known.
+const LONGEST_HEADER: u64 = 24;
+
+/// What was read of a capture: what its packets give, and where it is cut short.
+#[derive(Drop)]
+pub(crate) struct CaptureRead {
+    pub gathered: Gathered,
+    pub cut: Option<u64>,
+}
+
+/// Reads a capture to its end, or to its first fault. One that is read strictly is refused where a wanted datagram was left out.
+pub(crate) fn read_capture<R: ByteIn>(
+    alloc: Global,
+    reading: CaptureReading,
+    reader: &mut R,
+) -> Result<CaptureRead, CaptureRunFault>
+    requires failures { (R.state reader.old).failures < 2 ^ 63 }
+    requires reads { (R.state reader.old).reads < 2 ^ 63 }
+    requires ends { (R.state reader.old).ends < 2 ^ 63 }
+    ensures { let input = capture_from (R.state reader.old) (R.state reader.new) reading in
+        GatheredCapture input IsNoFault (λ read. GaveSound input read.gathered read.cut) result }
+{
+    let read = read_whole(alloc, &reading, reader)?;
+    if reading.strict {
+        if let Some(datagram) = first_left_out(&read.gathered.report()) {
+            return Err(CaptureRunFault::LeftOut(datagram));
+        }
+    }
+    Ok(read)
+}
+
+/// Reads a capture to its end, or to its first fault.
+fn read_whole<R: ByteIn>(
+    alloc: Global,
+    reading: &CaptureReading,
+    reader: &mut R,
+) -> Result<CaptureRead, CaptureRunFault>
+    requires failures { (R.state reader.old).failures < 2 ^ 63 }
+    requires reads { (R.state reader.old).reads < 2 ^ 63 }
+    requires ends { (R.state reader.old).ends < 2 ^ 63 }
+    ensures { let input = capture_from (R.state reader.old) (R.state reader.new) reading.now in
+        GatheredCapture input IsNoFault (λ read. GaveCapture input read.gathered read.cut) result }
+{
+    let mut capture = unread(alloc, reading);
+    feed_all(&mut capture, reading, reader)?;
+    let read = finished(capture, reading.accept_cut)?;
+    Ok(read)
+}
+
+/// A capture that is read so, of which nothing was read.
+fn unread(alloc: Global, reading: &CaptureReading) -> Capture
+    ensures read { HasRead result [] }
+    ensures limit { result.limit ≡ reading.now.limit }
+    ensures wanted { result.progress.gathering.wanted ≡ reading.now.wanted }
+    ensures no_fault { result.fault ≡ None }
+{
+    Capture::new(alloc, u64::from(reading.limit), reading.wanted)
+}
+
+/// What was read of a capture that was fed whole, and may be cut short where that is accepted.
+fn finished(capture: Capture, accept_cut: bool) -> Result<CaptureRead, Fault>
+    ensures read { IfOk result (λ read. (fed : List ℕ) → HasRead capture fed
+        → IsReadSo accept_cut capture.limit fed read.gathered read.cut) }
+    ensures wanted { IfOk result (λ read. read.gathered.wanted
+        ≡ capture.progress.gathering.wanted) }
+    ensures fault { IfErr result (λ fault. fault ≢ Fault.Memory → (fed : List ℕ) → HasRead capture fed
+        → CaptureFault capture.limit capture.progress.gathering.wanted fed fault) }
+    ensures accepted { capture.fault ≡ None → accept_cut ≡ true
+        → IfErr result (λ fault. fault ≡ Fault.NotCapture) }
+{
+    if accept_cut {
+        let (gathered, cut) = capture.finish_at_cut()?;
+        return Ok(CaptureRead { gathered, cut });
+    }
+    let gathered = capture.finish()?;
+    Ok(CaptureRead {
+        gathered,
+        cut: None,
+    })
+}
+
+/// Feeds what the reader gives, piece by piece, to its end or to the first fault.
+#[tactic(auto, using(crate::proofs::Devices::gave_none, crate::proofs::CaptureFeeding::fed_more, crate::proofs::CaptureFeeding::fed_whole, crate::proofs::CaptureFeeding::fed_within))]
+fn feed_all<R: ByteIn>(
+    capture: &mut Capture,
+    reading: &CaptureReading,
+    reader: &mut R,
+) -> Result<(), CaptureRunFault>
+    requires failures { (R.state reader.old).failures < 2 ^ 63 }
+    requires reads { (R.state reader.old).reads < 2 ^ 63 }
+    requires ends { (R.state reader.old).ends < 2 ^ 63 }
+    requires limit { capture.old.limit ≡ reading.now.limit }
+    requires wanted { capture.old.progress.gathering.wanted ≡ reading.now.wanted }
+    requires fresh { HasRead capture.old [] }
+    requires no_fault { capture.old.fault ≡ None }
+
+    ensures limit { capture.new.limit ≡ reading.now.limit }
+    ensures wanted { capture.new.progress.gathering.wanted ≡ reading.now.wanted }
+    ensures sound { OnOk result (capture.new.fault ≡ None) }
+    ensures gathered { let input = capture_from (R.state reader.old) (R.state reader.new) reading.now in
+        GatheredCapture input IsNoFault (λ _. IsFedWhole capture.new input) result }
+{
+    let mut piece = [0; PIECE];
+    // Each read gives an octet at least, but for the last, and the capture refuses the first block past the limit.
+    'reads: for _ in 0..u64::from(reading.limit) + LONGEST_HEADER {
+        match reader.read(&mut piece) {
+            Ok(0) => return Ok(()),
+            Ok(n) => capture.feed(&piece[..n])?,
+            Err(_) => return Err(CaptureRunFault::Read),
+        }
+    }
+    unreachable!()
+}

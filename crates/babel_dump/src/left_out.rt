@@ -1,0 +1,127 @@
+//! Datagrams of a capture that were left out.
+ghost use Rattle.std.specs.Prelude.{◌≡◌, IfSome};
+ghost use Rattle.std.specs.Option.{IfNone};
+ghost use Rattle.babel_dump.specs.LeftOut.{LeavesNoneOut, first_among, first_counted, first_left_out, sooner};
+
+use babel_capture::{Reason, Report};
+use std::fmt;
+
+/// A datagram of a capture that was left out.
+#[derive(Clone, Copy, Debug, PartialEq, Eq)]
+pub struct LeftOutDatagram {
+    /// The number of its packet in the capture, from 1.
+    pub packet: u64,
+    /// Why it was left out.
+    pub reason: Reason,
+}
+
+impl fmt::Display for LeftOutDatagram {
+    fn fmt<W: fmt::Write>(&self, f: &mut fmt::Formatter<W>) -> fmt::Result {
+        write!(
+            f,
+            "datagram left out at packet {}: {}",
+            self.packet,
+            name(self.reason)
+        )
+    }
+}
+
+/// How many datagrams of a capture were left out, and why: what a note after the output says.
+#[derive(Clone, Copy)]
+pub struct LeftOutNote {
+    report: Report,
+    left_out: u64,
+}
+
+impl LeftOutNote {
+    /// The note about a capture with this report; `None` if no wanted datagram was left out.
+    pub fn of(report: Report) -> Option<LeftOutNote> {
+        let mut left_out: u64 = 0;
+        for reason in &REASONS {
+            if let Some((count, _first)) = report.left_out(*reason) {
+                left_out = left_out.saturating_add(count);
+            }
+        }
+        if left_out == 0 {
+            None
+        } else {
+            Some(LeftOutNote { report, left_out })
+        }
+    }
+}
+
+impl fmt::Display for LeftOutNote {
+    fn fmt<W: fmt::Write>(&self, f: &mut fmt::Formatter<W>) -> fmt::Result {
+        write!(f, "{} datagrams left out", self.left_out)?;
+        let mut mark = ": ";
+        for reason in &REASONS {
+            if let Some((count, first)) = self.report.left_out(*reason) {
+                write!(f, "{mark}{} {count} first {first}", name(*reason))?;
+                mark = ", ";
+            }
+        }
+        Ok(())
+    }
+}
+
+/// The first datagram of a capture that was left out, by the number of its packet.
+#[tactic(auto, using(crate::proofs::LeftOutLaws::leaves_none))]
+pub(crate) fn first_left_out(report: &Report) -> Option<LeftOutDatagram>
+    ensures first { result ≡ first_left_out report.now }
+    ensures none { IfNone result (LeavesNoneOut report.now) }
+{
+    first_among(report, &REASONS)
+}
+
+/// The first datagram that was left out for one of these reasons.
+fn first_among(report: &Report, reasons: &[Reason]) -> Option<LeftOutDatagram>
+    ensures { result ≡ first_among report.now reasons.now }
+{
+    let (reason, rest) = reasons.split_first()?;
+    let first = first_counted(*reason, report.left_out(*reason));
+    sooner(first, first_among(report, rest))
+}
+
+/// The first datagram that was left out for a reason.
+fn first_counted(reason: Reason, counted: Option<(u64, u64)>) -> Option<LeftOutDatagram>
+    ensures { result ≡ first_counted reason counted }
+{
+    match counted {
+        Some((_count, packet)) => Some(LeftOutDatagram { packet, reason }),
+        None => None,
+    }
+}
+
+/// The one in the earlier packet, if there are two.
+fn sooner(
+    datagram: Option<LeftOutDatagram>,
+    other: Option<LeftOutDatagram>,
+) -> Option<LeftOutDatagram>
+    ensures { result ≡ sooner datagram other }
+{
+    match (datagram, other) {
+        (Some(datagram), Some(other)) if other.packet < datagram.packet => Some(other),
+        (Some(datagram), _) => Some(datagram),
+        (None, other) => other,
+    }
+}
+
+/// The reasons, in their order.
+const REASONS: [Reason; 5] = [
+    Reason::Truncated,
+    Reason::BadMagic,
+    Reason::BadVersion,
+    Reason::Fragment,
+    Reason::Snapped,
+];
+
+/// The name of a reason.
+fn name(reason: Reason) -> &'static str {
+    match reason {
+        Reason::Truncated => "truncated",
+        Reason::BadMagic => "bad-magic",
+        Reason::BadVersion => "bad-version",
+        Reason::Fragment => "fragment",
+        Reason::Snapped => "snapped",
+    }
+}
