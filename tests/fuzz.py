@@ -1,14 +1,15 @@
-"""The plain program of bench/ beside the proved one: over captures changed at random, and over the golden files."""
+"""The plain programs of bench/ beside the proved one: over dumps changed at random and the golden files; of captures, over those of extract.py."""
 
 import pathlib
 import tempfile
 
+import extract
 import golden
 import transcript
 from checks import built_program, need
 
 from changed import compared
-from run import PLAIN, build
+from run import PLAIN, PLAIN_OF_CAPTURES, build
 
 SEED = 1
 DUMPS = 600
@@ -25,3 +26,4 @@ def check(tally, long):
         golden.play(folder, tally)
         for command, _, difference in compared(program, plain, folder, DUMPS_LONG if long else DUMPS, SEED):
             tally.check(f"the plain program beside {command}", difference)
+        extract.check_cases(build(PLAIN_OF_CAPTURES, folder), extract.cases_of(tally), tally, extract.without_notes)

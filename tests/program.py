@@ -23,7 +23,7 @@ IN_A_PACKET = 2_048
 # Room for the program and its libraries, and not for the rows of most-routes.dump.
 LITTLE_MEMORY = 8 << 20
 SHOW = ["show", "--from", "192.0.2.1"]
-COMMANDS = "show", "lookup", "pairs", "normalise", "compare"
+COMMANDS = "show", "lookup", "pairs", "normalise", "compare", "senders", "extract"
 ONE_ROUTE = TOP / "examples/one-route.dump"
 
 
@@ -115,6 +115,7 @@ def check_little_memory(program, folder, tally):
         (["pairs", *sent, "--count", dump], b""),
         (["compare", *sent, "--other-from", "192.0.2.1", dump, ONE_ROUTE], b""),
         (["compare", *sent, "--other-from", "192.0.2.1", ONE_ROUTE, dump], b"other: "),
+        (["compare", *sent, "--other-from", "192.0.2.1", "--all", dump, ONE_ROUTE], b""),
     ):
         with tempfile.TemporaryFile() as output:
             found = run(program, words, stdout=output, preexec_fn=ready)
@@ -192,6 +193,7 @@ def check(tally, _long):
     with tempfile.TemporaryDirectory() as folder:
         folder = pathlib.Path(folder)
         transcript.link(program, folder)
+        (folder / "examples").symlink_to(TOP / "examples")
         transcript.play(TOP / "tests/program.txt", folder, tally)
         transcript.put(dict(large_dumps()), folder)
         transcript.play(TOP / "tests/limits.txt", folder, tally)

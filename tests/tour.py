@@ -2,17 +2,13 @@
 
 import pathlib
 import re
-import shutil
 import subprocess
 import tempfile
 
 import transcript
-from checks import CAPTURES, TOP, built_program
+from checks import TOP, built_program
 
 DOCUMENTS = ["README.md", "examples/README.md"]
-# What cuts a dump from a packet capture, and the dump that it cuts.
-CUTTERS = ["tshark", "xxd"]
-CUT = CAPTURES / "babeld-basic-a.dump"
 
 
 def steps(file):
@@ -35,18 +31,6 @@ def check_step(each, folder, tally):
     tally.check(f"{each.place}: {each.command}", transcript.difference(each.expected, run.stdout.decode()))
 
 
-def check_cut(each, folder, tally):
-    """A dump is cut from a packet capture. Without the commands for it, the dump that they cut stands in."""
-    cut = folder / re.search(r"> (\S+)$", each.command)[1]
-    missing = [command for command in CUTTERS if shutil.which(command) is None]
-    if missing:
-        print(f"skipped, for want of {' and '.join(missing)} on the PATH: {each.command}")
-        shutil.copyfile(CUT, cut)
-        return
-    check_step(each, folder, tally)
-    tally.check(f"what it cuts: {each.command}", "" if cut.read_bytes() == CUT.read_bytes() else f"it is not {CUT.name}")
-
-
 def check(tally, _long):
     built_program()
     for name in DOCUMENTS:
@@ -55,5 +39,4 @@ def check(tally, _long):
             for part in "babel-dump", "examples":
                 (folder / part).symlink_to(TOP / part)
             for each in steps(TOP / name):
-                check_one = check_cut if each.command.startswith(CUTTERS[0]) else check_step
-                check_one(each, folder, tally)
+                check_step(each, folder, tally)

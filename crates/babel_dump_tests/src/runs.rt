@@ -1,3 +1,4 @@
+mod captures;
 mod comparisons;
 mod devices;
 mod failures;

@@ -3,9 +3,13 @@
 ghost use Rattle.std.specs.Prelude.{None};
 
 use super::address;
+use super::captures::{CAPTURE, SENDERS};
 use super::devices::ScriptedIn;
 use babel_canon::Body;
-use babel_dump::{AddrPair, ByteOut, DumpFile, Format, Job, OneDump, RunFault, TwoDumps, run_job};
+use babel_dump::{
+    AddrPair, ByteOut, CaptureJob, DumpFile, Format, Job, OneCapture, OneDump, RunFault, TwoDumps,
+    run_capture_job, run_job,
+};
 use babel_library_tests::dumps::{NESTED_SOURCES, ONE_FAMILY, TWO_FAMILIES, V4, V6};
 use babel_table::Limits;
 use babel_tlv::{Fault, Mode, View};
@@ -33,6 +37,9 @@ const DIGITS: &str =
 
 const DIFFERENCE: &str =
     "differ 255.255.255.255 from 0.0.0.1\nleft via 192.0.2.1 id 0200000000000001 seqno 1 metric 256\nright none\n";
+
+const DIFFERENCES: &str =
+    "differ 255.255.255.255/32 from 0.0.0.1/32\nleft via 192.0.2.1 id 0200000000000001 seqno 1 metric 256\nright none\n";
 
 /// Takes this text alone, and needs no memory.
 #[derive(Drop)]
@@ -160,10 +167,10 @@ fn refused_memory_of_count(rt: HostRuntime) -> Result<(), Fail> {
     outcome(rt.alloc(), &job, NESTED_SOURCES, "", 0, COUNTS)
 }
 
-#[test]
-fn refused_memory_of_compare(rt: HostRuntime) -> Result<(), Fail> {
-    let from = address(V6)?;
-    let dumps = TwoDumps {
+/// Two dumps that this sender sent, in mode plain.
+fn dumps_from(sender: &str) -> Result<TwoDumps, Fail> {
+    let from = address(sender)?;
+    Ok(TwoDumps {
         from,
         other_from: from,
         mode: Mode::Plain,
@@ -172,7 +179,85 @@ fn refused_memory_of_compare(rt: HostRuntime) -> Result<(), Fail> {
         view: View::all(),
         file: DumpFile::StandardInput,
         other: DumpFile::StandardInput,
-    };
+    })
+}
+
+#[test]
+fn refused_memory_of_compare(rt: HostRuntime) -> Result<(), Fail> {
+    let dumps = dumps_from(V6)?;
     let job = Job::Compare { dumps };
     outcome(rt.alloc(), &job, TWO_FAMILIES, ONE_FAMILY, 1, DIFFERENCE)
+}
+
+#[test]
+fn refused_memory_of_differences(rt: HostRuntime) -> Result<(), Fail> {
+    let dumps = dumps_from(V6)?;
+    let job = Job::Differences {
+        dumps,
+        count: false,
+    };
+    outcome(rt.alloc(), &job, TWO_FAMILIES, ONE_FAMILY, 1, DIFFERENCES)
+}
+
+#[test]
+fn refused_memory_of_their_count(rt: HostRuntime) -> Result<(), Fail> {
+    let dumps = dumps_from(V6)?;
+    let job = Job::Differences { dumps, count: true };
+    outcome(
+        rt.alloc(),
+        &job,
+        TWO_FAMILIES,
+        ONE_FAMILY,
+        1,
+        "differences 1\n",
+    )
+}
+
+/// The run of a capture's job, in pieces of seven octets, with status 0. At `Memory` nothing was written.
+fn capture_outcome(alloc: Global, job: &CaptureJob, text: &str) -> Result<(), Fail> {
+    let mut reader = ScriptedIn::new(&CAPTURE, 7, 0);
+    let mut writer = ExpectingOut {
+        rest: text.as_bytes(),
+        failures: 0,
+        flushes: 0,
+    };
+    let status = match run_capture_job(alloc, 1_024, job, &mut reader, &mut writer) {
+        Ok(given) => given.status,
+        Err(fault) => fault.status(),
+    };
+    let is_written = writer.rest.is_empty() && writer.flushes == 1;
+    let is_unwritten = writer.rest == text.as_bytes() && writer.flushes == 0;
+    match status {
+        0 if is_written => Ok(()),
+        // The status of want of memory alone.
+        5 if is_unwritten => Err(Fail::from(REFUSED)),
+        _ => Err(Fail::from(OTHER)),
+    }
+}
+
+/// A capture on standard input.
+const ON_INPUT: OneCapture = OneCapture {
+    strict: false,
+    accept_cut: false,
+    file: DumpFile::StandardInput,
+};
+
+#[test]
+fn refused_memory_of_senders(rt: HostRuntime) -> Result<(), Fail> {
+    let job = CaptureJob::Senders {
+        capture: ON_INPUT,
+        format: Format::Text,
+    };
+    capture_outcome(rt.alloc(), &job, SENDERS)
+}
+
+#[test]
+fn refused_memory_of_extract(rt: HostRuntime) -> Result<(), Fail> {
+    let job = CaptureJob::Extract {
+        capture: ON_INPUT,
+        from: address("192.0.2.2")?,
+        interface: Some(0),
+        hex: true,
+    };
+    capture_outcome(rt.alloc(), &job, "2a020000\n")
 }

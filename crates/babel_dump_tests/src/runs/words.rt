@@ -1,6 +1,6 @@
 //! The program's words: jobs, refusals and help.
 use super::{address, split};
-use babel_dump::{DumpFile, Format, Job, OneDump, Refusal, read_order, read_words};
+use babel_dump::{DumpFile, Format, Job, OneDump, Refusal, TwoDumps, read_order, read_words};
 use babel_prefix::Addr;
 use babel_tlv::Mode;
 use std::alloc::Global;
@@ -20,6 +20,7 @@ struct Wanted<'a> {
     format: Format,
     hex: bool,
     body: Option<u16>,
+    all: bool,
     count: bool,
     file: Option<&'a str>,
     other: Option<&'a str>,
@@ -37,6 +38,7 @@ const SHOW: Wanted<'static> = Wanted {
     format: Format::Text,
     hex: false,
     body: None,
+    all: false,
     count: false,
     file: None,
     other: None,
@@ -70,7 +72,7 @@ const COMPARE: Wanted<'static> = Wanted {
 
 /// Words, and the job that they ask for.
 #[rattlefmt::skip]
-static JOBS: [(&str, Wanted<'static>); 29] = [
+static JOBS: [(&str, Wanted<'static>); 33] = [
     (
         "lookup --from fe80::1 --to 10.1.2.3 --src=0.0.0.0 --hold x",
         Wanted {
@@ -117,6 +119,12 @@ static JOBS: [(&str, Wanted<'static>); 29] = [
     ("show --from :: -", SHOW),
     ("compare --from :: --other-from :: - b", Wanted { file: None, ..COMPARE }),
     ("compare --from :: --other-from :: a -", Wanted { other: None, ..COMPARE }),
+    ("compare --all --from :: --other-from ::1 a b", Wanted { all: true, other_from: Some("::1"), ..COMPARE }),
+    ("compare --count --from :: --other-from :: --all a b", Wanted { all: true, count: true, ..COMPARE }),
+    ("compare --from ::1 --other-from :: --all --hold --json - b", Wanted {
+        all: true, from: "::1", mode: Mode::Hold, format: Format::Json, file: None, ..COMPARE
+    }),
+    ("compare --from :: --other-from :: --all --strict a -", Wanted { all: true, strict: true, other: None, ..COMPARE }),
 ];
 
 #[test]
@@ -153,17 +161,33 @@ fn expect_job(rt: &impl Abort, line: &str, job: &Job, wanted: &Wanted<'_>) -> Re
             expect_dump(rt, line, "pairs", dump, wanted)
         }
         Job::Compare { dumps } => {
-            assert_eq!(rt; "compare", wanted.command, "of {line}");
-            assert_eq!(rt; dumps.mode, wanted.mode, "of {line}");
-            assert_eq!(rt; dumps.strict, wanted.strict, "of {line}");
-            assert_eq!(rt; dumps.format, wanted.format, "of {line}");
-            expect_address(rt, line, dumps.from, Some(wanted.from))?;
-            expect_address(rt, line, dumps.other_from, wanted.other_from)?;
-            expect_file(rt, line, &dumps.file, wanted.file);
-            expect_file(rt, line, &dumps.other, wanted.other);
-            Ok(())
+            assert!(rt; !wanted.all, "of {line}");
+            expect_dumps(rt, line, dumps, wanted)
+        }
+        Job::Differences { dumps, count } => {
+            assert!(rt; wanted.all, "of {line}");
+            assert_eq!(rt; *count, wanted.count, "of {line}");
+            expect_dumps(rt, line, dumps, wanted)
         }
     }
+}
+
+/// The dumps of a comparison are those that are wanted.
+fn expect_dumps(
+    rt: &impl Abort,
+    line: &str,
+    dumps: &TwoDumps,
+    wanted: &Wanted<'_>,
+) -> Result<(), Fail> {
+    assert_eq!(rt; "compare", wanted.command, "of {line}");
+    assert_eq!(rt; dumps.mode, wanted.mode, "of {line}");
+    assert_eq!(rt; dumps.strict, wanted.strict, "of {line}");
+    assert_eq!(rt; dumps.format, wanted.format, "of {line}");
+    expect_address(rt, line, dumps.from, Some(wanted.from))?;
+    expect_address(rt, line, dumps.other_from, wanted.other_from)?;
+    expect_file(rt, line, &dumps.file, wanted.file);
+    expect_file(rt, line, &dumps.other, wanted.other);
+    Ok(())
 }
 
 /// The command over one dump, and its dump, are those that are wanted.
@@ -249,7 +273,7 @@ const USAGE: &str = "Usage: babel-dump";
 const BODY: &str = "'--body <OCTETS>'";
 
 /// Words that are refused, and a part of the text.
-static REFUSED: [(&str, &str); 25] = [
+static REFUSED: [(&str, &str); 27] = [
     ("", USAGE),
     ("shows", USAGE),
     ("show x", USAGE),
@@ -261,6 +285,11 @@ static REFUSED: [(&str, &str); 25] = [
     ("pairs x", USAGE),
     ("compare --from :: a b", USAGE),
     ("compare --from :: --other-from :: a", USAGE),
+    (
+        "compare --from :: --other-from :: --count a b",
+        "not provided:\n  --all\n",
+    ),
+    ("pairs --from :: --all", USAGE),
     ("show --from :: x y", USAGE),
     ("show --from :: --to ::", USAGE),
     ("show --from :: --hex", USAGE),
@@ -352,7 +381,7 @@ const OF_ONE_DUMP: [&str; 6] = [
     "--from <ADDRESS>       The address that the dump's packets were sent from",
     "--hold                 Keep a retracted route as unreachable, so",
     "--quiet                Leave out the note on standard error",
-    "--max-routes <ROUTES>  How many routes, and how many canonical pairs, there may be",
+    "--max-routes <ROUTES>  How many routes, and how many canonical pairs or differences, there may be",
     "--max-octets <OCTETS>  How many octets a dump may have",
     "[FILE]  The dump; standard input if it is left out, or is -",
 ];
@@ -390,12 +419,14 @@ const OF_PAIRS: [&str; 4] = [
     "babel-dump pairs --from",
 ];
 
-const OF_COMPARE: [&str; 9] = [
+const OF_COMPARE: [&str; 11] = [
     "--json                  Write one JSON object a line",
     "--strict                Refuse a dump of which a TLV is ignored",
     "--from <ADDRESS>        The address that the packets of FILE were sent from",
     "--other-from <ADDRESS>  The address that the packets of OTHER were sent from",
     "--hold                  Keep a retracted route as unreachable, so",
+    "--all                   In place of the least pair: write each longest block of destinations and sources",
+    "--count                 With --all: write only how many such blocks there are",
     "<FILE>   The first dump; - is standard input",
     "<OTHER>  The other dump; - is standard input",
     "babel-dump compare --from",

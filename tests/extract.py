@@ -1,0 +1,438 @@
+"""`senders` and `extract`: over captures made of the dumps of examples/captures, beside a plain reader of captures."""
+
+import concurrent.futures
+import os
+import random
+import resource
+import signal
+import subprocess
+import tempfile
+import time
+from dataclasses import dataclass
+
+import capture_files as made
+import capture_reader as reader
+from checks import CAPTURES, built_program
+
+from agree import SENDERS
+
+PCAP = CAPTURES / "babeld-basic-a.pcap"
+NAME = "babeld-basic-a"
+SENDER = SENDERS[NAME]
+OTHER = "fe80::5eff:fe00:c602"
+OVER_IPV4 = "192.0.2.1"
+ORDERS = "little", "big"
+SECONDS = 120
+# What the octets of a small capture are changed to: two values, and two of their bits turned over.
+VALUES = (lambda _: 0, lambda _: 0xFF, lambda octet: octet ^ 1, lambda octet: octet ^ 0x80)
+FRAMING = "truncated packet", "bad magic", "bad version"
+LITTLE_MEMORY = 8 << 20
+
+
+@dataclass
+class Case:
+    """A command over a capture, and what it has to answer."""
+
+    what: str
+    words: list
+    capture: bytes
+    answer: reader.Answer
+
+
+def words_of(options):
+    """The options of a command, by the names that the plain reader has for them."""
+    words = []
+    for name, value in options.items():
+        word = {"as_hex": "--hex", "as_json": "--json", "limit": "--max-octets"}.get(name, "--" + name.replace("_", "-"))
+        words += [word] if value is True else [word, str(value)]
+    return words
+
+
+def senders_of(what, capture, **options):
+    return Case(what, ["senders", *words_of(options)], capture, reader.senders(capture, **options))
+
+
+def extract_of(what, capture, sender=SENDER, **options):
+    words = ["extract", "--from", sender, *words_of(options)]
+    return Case(what, words, capture, reader.extract(capture, sender, **options))
+
+
+def both_of(what, capture, sender=SENDER):
+    return [senders_of(what, capture), extract_of(what, capture, sender)]
+
+
+def dump_of(name=NAME):
+    return (CAPTURES / f"{name}.dump").read_bytes()
+
+
+# ---- captures of the dumps
+
+
+def records_of(dump, sender=SENDER, frame_of=made.ethernet, interface=0, **how):
+    """A frame for each packet of a dump."""
+    return [made.Record(frame_of(made.ip(sender, made.udp(packet), **how)), interface) for packet in made.packets_of(dump)]
+
+
+def containers(dump, sender):
+    """Captures of a dump alone, in each way to write one."""
+    records = records_of(dump, sender)
+    for order in ORDERS:
+        for nanoseconds in False, True:
+            yield f"pcap, {order}, {'nano' if nanoseconds else 'micro'}seconds", made.pcap(records, 1, order, nanoseconds)
+        yield f"pcapng, {order}", made.pcapng(records, (1,), order)
+        simple = b"".join(made.simple(each, order) for each in records)
+        yield f"pcapng of simple packets, {order}", made.section(order) + made.interface(1, order) + simple
+        other = [made.Record(made.ethernet(made.ip(OTHER, made.udp(b"\x2a\2\0\0"))))]
+        before = made.pcapng(other, (1, 147), {"little": "big", "big": "little"}[order])
+        yield f"pcapng of two sections, {order}", before + made.pcapng(records_of(dump, sender, interface=1), (147, 1), order)
+
+
+TAGS = {"no tag": (), "a tag": (0x8100,), "two tags": (0x88A8, 0x8100), "four tags": (0x88A8, 0x8100, 0x8100, 0x8100), "five tags": (0x8100,) * 5}
+
+
+def frames():
+    """Each link type, as its number and how a frame of it is made of a packet."""
+    for name, tags in TAGS.items():
+        yield f"Ethernet with {name}", 1, lambda packet, tags=tags: made.ethernet(packet, tags)
+        yield f"cooked with {name}", 113, lambda packet, tags=tags: made.cooked(packet, tags)
+        yield f"cooked, version 2, with {name}", 276, lambda packet, tags=tags: made.cooked2(packet, 7, tags)
+    yield "Ethernet with padding", 1, lambda packet: made.ethernet(packet, padding=b"\x2a\2\0\0" * 5)
+    for order in ORDERS:
+        for family in 10, 24, 28, 30, 11:
+            yield f"null, {order}, family {family}", 0, lambda packet, order=order, family=family: made.after_family(packet, order, family)
+    yield "loop", 108, lambda packet: made.after_family(packet, "big", 24)
+    for link in 12, 14, 101, 228, 229, 147:
+        yield f"link type {link}", link, lambda packet: packet
+
+
+HEADERS = {
+    "hop-by-hop options": [made.HOP_BY_HOP],
+    "a routing header": [made.ROUTING],
+    "destination options": [made.DESTINATION],
+    "three headers": [made.HOP_BY_HOP, made.ROUTING, made.DESTINATION],
+    "eight headers": [made.HOP_BY_HOP, made.DESTINATION] * 4,
+    "nine headers": [made.HOP_BY_HOP, made.DESTINATION] * 4 + [made.ROUTING],
+    "an atomic fragment": [made.DESTINATION, made.fragment_header(0, False)],
+    "a first fragment": [made.fragment_header(0, True)],
+    "a later fragment": [made.fragment_header(185, False)],
+    "a header that is not known": [made.extension(139, 0, b"")],
+}
+OPTIONS = {"options of IPv4": b"\x94\4\0\0", "the most options of IPv4": b"\1" * 40}
+FRAGMENTS = {"a first fragment over IPv4": 0x2000, "a later fragment over IPv4": 0x20B9, "a last fragment over IPv4": 0x00B9, "not to be fragmented": 0x4000}
+DATAGRAMS = {
+    "trailers behind the bodies": lambda packet: made.udp(packet + b"\x10\x22" + b"\x2a\2" * 17),
+    "octets behind the datagrams": lambda packet: made.udp(packet) + b"\x2a\2\0\0",
+    "sent from the port alone": lambda packet: made.udp(packet, destination=50_000),
+    "sent to the port alone": lambda packet: made.udp(packet, source=50_000),
+    "other ports": lambda packet: made.udp(packet, 6_697, 6_695),
+    "no length of UDP": lambda packet: made.udp(packet, length=0),
+    "a length of UDP that is too long": lambda packet: made.udp(packet, length=9 + len(packet)),
+    "a length of UDP that is too short": lambda packet: made.udp(packet, length=7 + len(packet)),
+    "a wrong magic": lambda packet: made.udp(b"\x2b" + packet[1:]),
+    "a wrong version": lambda packet: made.udp(packet[:1] + b"\3" + packet[2:]),
+    "a part of the header": lambda packet: made.udp(packet[:3]),
+    "a part of the body": lambda packet: made.udp(packet[:-1]),
+    "no payload": lambda packet: made.udp(b""),
+}
+
+
+def variants(dump, sender):
+    """Captures of a dump with something round each of its packets: the name, the records, the sender."""
+    for name, headers in HEADERS.items():
+        yield name, records_of(dump, "2001:db8::1", headers=headers), "2001:db8::1"
+    for name, options in OPTIONS.items():
+        yield name, records_of(dump, OVER_IPV4, options=options), OVER_IPV4
+    for name, fragment in FRAGMENTS.items():
+        yield name, records_of(dump, OVER_IPV4, fragment=fragment), OVER_IPV4
+    for name, datagram in DATAGRAMS.items():
+        yield name, [made.Record(made.ethernet(made.ip(sender, datagram(packet)))) for packet in made.packets_of(dump)], sender
+    yield "another protocol", records_of(dump, sender, protocol=6), sender
+    for what, length in ("too long", 1_500), ("too short", 20), ("shorter than a header", 7):
+        yield f"a length of IPv6 that is {what}", records_of(dump, sender, length=length), sender
+        yield f"a length of IPv4 that is {what}", records_of(dump, OVER_IPV4, total=20 + length), OVER_IPV4
+
+
+NOISE = [
+    made.ethernet(made.ip(OTHER, made.udp(b"\x2a\2\0\2\1\0"))),
+    made.ethernet(made.ip(SENDER, made.udp(b"\x2a\2\0\2\1\0", 53, 53))),
+    made.ethernet(made.ip(OVER_IPV4, made.udp(b"\x2a\2\0\0"))),
+    made.ethernet(made.ip(SENDER, made.udp(b"\x2a\2\0\7\1\0"))),
+    made.ethernet(made.ip(SENDER, made.udp(b"GET /"))),
+    made.ethernet(made.ip(SENDER, made.udp(b"\x2a\1\0\0"))),
+    made.ethernet(made.ip(SENDER, made.udp(b"\x2a\2\0\0"), headers=[made.fragment_header(0, True)])),
+    made.ethernet(made.ip(SENDER, b"\x80\0\0\0", protocol=58)),
+    made.MACS + b"\x08\x06" + bytes(28),
+    b"",
+]
+
+
+def among_others(dump, interface=0):
+    """The records of a dump, each behind two that are not of it."""
+    rng = random.Random(1)
+    for record in records_of(dump, interface=interface):
+        yield from (made.Record(frame, interface) for frame in rng.choices(NOISE, k=2))
+        yield record
+
+
+def dump_cases(tally):
+    """Each dump in many captures. Where a capture has nothing else of its sender, the plain reader finds the dump."""
+    for name, sender in SENDERS.items():
+        dump = dump_of(name)
+        for what, capture in containers(dump, sender):
+            whole = extract_of(f"{name}, {what}", capture, sender)
+            expect(tally, f"the plain reader, {whole.what}", whole.answer, reader.Answer(0, dump))
+            yield from (whole, senders_of(whole.what, capture))
+        for what, link, frame_of in frames():
+            of = OVER_IPV4 if link == 228 else sender
+            yield from both_of(f"{name}, {what}", made.pcap(records_of(dump, of, frame_of), link), of)
+        for place, (what, records, of) in enumerate(variants(dump, sender)):
+            capture = made.pcapng(records) if place % 2 else made.pcap(records)
+            yield from both_of(f"{name}, {what}", capture, of)
+    whole = extract_of("the capture of the repository", PCAP.read_bytes())
+    expect(tally, "the plain reader, the capture of the repository", whole.answer, reader.Answer(0, dump_of()))
+    yield from (whole, senders_of(whole.what, whole.capture))
+
+
+def option_cases():
+    """Each option, over captures of several senders and interfaces."""
+    records = list(among_others(dump_of()))
+    elsewhere = list(among_others(dump_of("babeld-retract"), 1))[:30]
+    # Over version 2 of Linux cooked, the frames name their interfaces.
+    named = [frame for number in (2**32 - 1, 3) for frame in records_of(dump_of(), SENDER, lambda packet: made.cooked2(packet, number))]
+    for what, capture in (
+        ("one interface", made.pcap(records)),
+        ("two interfaces", made.pcapng([each for pair in zip(records, elsewhere) for each in pair], (1, 1))),
+        ("named interfaces", made.pcap(named, 276)),
+        ("no packets", made.pcap([])),
+        ("no interfaces", made.section()),
+    ):
+        yield senders_of(what, capture)
+        yield senders_of(what, capture, as_json=True)
+        yield senders_of(what, capture, strict=True)
+        yield from (extract_of(what, capture, sender) for sender in (SENDER, OTHER, OVER_IPV4, "::1"))
+        yield from (extract_of(what, capture, interface=number) for number in (0, 1, 3, 2**32 - 1))
+        yield extract_of(what, capture, as_hex=True)
+        yield extract_of(what, capture, interface=0, as_hex=True)
+        yield from (extract_of(what, capture, sender, strict=True) for sender in (SENDER, OTHER))
+        yield extract_of(what, capture, interface=0, strict=True)
+
+
+def snapped_cases():
+    """A record of which the recorder kept each number of octets; and the same of another sender."""
+    for what, frame_of, sender, how in (
+        ("Ethernet", made.ethernet, SENDER, {"headers": [made.DESTINATION]}),
+        ("Ethernet", made.ethernet, OVER_IPV4, {"options": b"\1\1\1\1"}),
+    ):
+        first, second, *_ = records_of(dump_of(), sender, frame_of, **how)
+        for kept in range(len(first.frame)):
+            capture = made.pcap([second, made.snapped(first, kept)])
+            yield from both_of(f"{what}, {sender}, {kept} octets kept", capture, sender)
+            yield extract_of(f"{what}, {sender}, {kept} octets of another kept", capture, OTHER)
+    # A simple packet has as many octets as its interface keeps.
+    first, *_ = records_of(dump_of())
+    for snap in range(0, len(first.frame) + 2, 7):
+        kept = first.frame[:snap] if snap else first.frame
+        simple = made.simple(made.Record(kept, 0, len(first.frame)))
+        yield from both_of(f"a simple packet of an interface that keeps {snap}", made.section() + made.interface(snap=snap) + simple)
+    # Padding that was not kept cuts nothing of the datagram.
+    padded = made.Record(first.frame + bytes(20))
+    yield from both_of("padding that was not kept", made.pcap([made.snapped(padded, len(first.frame))]))
+
+
+def broken_cases():
+    """Octets that are no capture, and blocks that can't be."""
+    record, *_ = records_of(dump_of())
+    for order in ORDERS:
+        number = lambda value, count=4: made.number(value, count, order)
+        head = made.section(order)
+        described = head + made.interface(1, order)
+        packet = made.enhanced(record, order)
+        for what, capture in (
+            ("nothing", b""),
+            ("a dump", dump_of()),
+            ("the start of a header", made.pcap([], order=order)[:23]),
+            ("a record that is too long", made.pcap([], order=order) + number(0) * 2 + number(262_145) * 2 + bytes(262_145)),
+            ("a section header of neither order", head[:8] + b"\x1a\x2b\x3c\x4e" + head[12:]),
+            ("a section header that is too short", number(0x0A0D0D0A) + number(24) + head[8:20] + number(24)),
+            ("a section header with another length at its end", head[:-4] + number(32)),
+            ("a section header that is not whole", made.section(order, bytes(400))[:100]),
+            ("no interface", head + packet),
+            ("no interface for a simple packet", head + made.simple(record, order)),
+            ("an interface of the section before", described + head + packet),
+            ("another interface", described + made.enhanced(made.Record(record.frame, 1), order)),
+            ("a description that is too short", head + made.block(1, number(1), order)),
+            ("a packet that is too short", described + made.block(6, bytes(16), order)),
+            ("a simple packet that is too short", described + made.block(3, b"", order)),
+            ("a packet that is longer than its block", described + made.block(6, bytes(12) + number(5) + number(5) + b"abcd", order)),
+            ("a simple packet that is longer than its block", described + made.block(3, number(5) + b"abcd", order)),
+            ("a length that is no multiple of 4", described + number(5) + number(14) + bytes(10)),
+            ("a length below 12", described + number(5) + number(8) + number(8)),
+            ("a length over 16 MiB", described + number(5) + number((1 << 24) + 4) + bytes(8)),
+            ("two lengths", described + packet[:-4] + number(len(packet) + 4)),
+            ("an unread link type", head + made.interface(147, order) + packet),
+            ("an unread link type without packets", head + made.interface(147, order) + made.interface(1, order) + made.enhanced(made.Record(record.frame, 1), order)),
+            ("a link type above 16 bits", made.pcap([record], 1 << 28 | 1, order)),
+        ):
+            yield from both_of(f"{what}, {order}", capture)
+
+
+def limit_cases():
+    """At the limits of captures, and past them."""
+    record, *others = records_of(dump_of())
+    capture = made.pcap([record, *others[:2]])
+    for limit in 1, 23, 24, 25, len(capture) - 1, len(capture), len(capture) + 1:
+        yield extract_of(f"at most {limit} octets", capture, limit=limit)
+        yield senders_of(f"at most {limit} octets", capture, limit=limit)
+    longest = made.block(5, bytes((1 << 24) - 12))
+    yield from both_of("a block of 16 MiB", made.section() + made.interface() + longest + made.enhanced(record) + longest)
+    yield from both_of("a record of 262,144 octets", made.pcap([record, made.Record(bytes(262_144)), record]))
+    sent = made.udp(b"\x2a\2\0\0")
+    for count in 65_536, 65_537:
+        packets = [made.Record(made.ip(f"10.{place >> 16}.{place >> 8 & 255}.{place & 255}", sent)) for place in range(count)]
+        packets.append(packets[0])
+        yield from both_of(f"{count} senders", made.pcap(packets, 101), "10.0.0.7")
+        described = made.section() + made.interface() * count
+        yield from both_of(f"{count} interfaces", described + made.enhanced(made.Record(record.frame, 65_535)))
+
+
+def small_captures():
+    """A pcap file and a pcapng file of few octets, each with two packets of the sender, one of them with a trailer, and one of another."""
+    packet = b"\x2a\2\0\6\4\4\0\0\x40\0"
+    frames = [
+        made.ethernet(made.ip(SENDER, made.udp(packet))),
+        made.ethernet(made.ip(OTHER, made.udp(packet))),
+        made.ethernet(made.ip(SENDER, made.udp(packet + b"\x2a"), headers=[made.HOP_BY_HOP]), (0x8100,)),
+    ]
+    records = [made.Record(frame) for frame in frames]
+    yield "a small pcap", made.pcap(records, order="big")
+    yield "a small pcapng", made.pcapng(records[:2]) + made.simple(records[2])
+
+
+def cut_cases():
+    """Every cut of a small capture."""
+    for what, capture in small_captures():
+        for end in range(len(capture)):
+            cut = capture[:end]
+            yield from both_of(f"{what}, the first {end} octets", cut)
+            yield extract_of(f"{what}, the first {end} octets", cut, accept_cut=True)
+        yield senders_of(f"{what} without its last octet", capture[:-1], accept_cut=True)
+        yield extract_of(f"{what}, not cut", capture, accept_cut=True)
+
+
+def changed_cases():
+    """Each octet of a small capture, changed."""
+    for what, capture in small_captures():
+        for place, octet in enumerate(capture):
+            for value in sorted({value(octet) for value in VALUES} - {octet}):
+                changed = capture[:place] + bytes((value,)) + capture[place + 1 :]
+                yield from both_of(f"{what}, {value:#04x} at {place}", changed)
+
+
+# ---- runs
+
+
+def expect(tally, what, found, wanted):
+    tally.check(what, "" if found == wanted else f"expected {wanted}\nfound {found}")
+
+
+def run(program, words, capture=b"", **how):
+    """What a run answers, but for its hints."""
+    done = subprocess.run([program, *words], input=capture, stdout=subprocess.PIPE, stderr=subprocess.PIPE, timeout=SECONDS, **how)
+    lines = done.stderr.decode().splitlines()
+    return reader.Answer(done.returncode, done.stdout, tuple(line for line in lines if not line.startswith("hint: ")))
+
+
+def without_notes(answer):
+    return reader.Answer(answer.status, answer.output, tuple(line for line in answer.errors if not line.startswith("note: ")))
+
+
+def check_cases(program, cases, tally, of_answer=lambda answer: answer):
+    """The program answers as the plain reader does; the dumps that it gave."""
+    dumps = set()
+    with concurrent.futures.ThreadPoolExecutor(os.cpu_count()) as pool:
+        found = lambda case: (case, run(program, case.words, case.capture))
+        for case, answer in pool.map(found, cases):
+            expect(tally, f"{' '.join(case.words)}: {case.what}", of_answer(answer), of_answer(case.answer))
+            if case.words[0] == "extract" and answer.status == 0 and "--hex" not in case.words:
+                dumps.add(answer.output)
+    return dumps
+
+
+def check_framing(program, dumps, tally):
+    """No dump that `extract` gave has a fault of framing."""
+    with concurrent.futures.ThreadPoolExecutor(os.cpu_count()) as pool:
+        for answer in pool.map(lambda dump: run(program, ["show", "--quiet", "--from", "::1"], dump), sorted(dumps)):
+            faults = [line for line in answer.errors if line.startswith(FRAMING)]
+            expect(tally, "the framing of a dump", faults, [])
+
+
+def check_pieces(program, tally):
+    """A capture that comes in small pieces, one after the other."""
+    capture = PCAP.read_bytes()
+    for size in 61, 1_500:
+        reading = subprocess.Popen([program, "extract", "--from", SENDER, "-"], stdin=subprocess.PIPE, stdout=subprocess.PIPE)
+        for at in range(0, len(capture), size):
+            reading.stdin.write(capture[at : at + size])
+            reading.stdin.flush()
+            time.sleep(0.001)
+        output, _ = reading.communicate(timeout=SECONDS)
+        expect(tally, f"a capture in pieces of {size} octets", (reading.returncode, output), (0, dump_of()))
+
+
+def check_files(program, folder, tally):
+    """A capture is a file, or standard input where it is left out or is -; what is no file is not read."""
+    wanted = reader.extract(PCAP.read_bytes(), SENDER)
+    words = ["extract", "--from", SENDER]
+    expect(tally, "a file", run(program, [*words, PCAP]), wanted)
+    expect(tally, "-", run(program, [*words, "-"], PCAP.read_bytes()), wanted)
+    for file, text in (("nowhere.pcap", "cannot open"), (".", "read failed")):
+        for command in words, ["senders"]:
+            found = run(program, [*command, file], cwd=folder)
+            begins = [line.startswith(text) for line in found.errors]
+            expect(tally, f"{command[0]} {file}", (found.status, found.output, begins), (4, b"", [True]))
+
+
+def check_streams(program, tally):
+    """Nobody reads what is written: the status is 141. Memory is wanting: the status is 5, and nothing is written."""
+    for words in ["senders", PCAP], ["extract", "--from", SENDER, PCAP], ["extract", "--hex", "--from", SENDER, PCAP]:
+        reader_end, writer_end = os.pipe()
+        os.close(reader_end)
+        ready = lambda: signal.signal(signal.SIGPIPE, signal.SIG_IGN)
+        done = subprocess.run([program, *words], stdout=writer_end, stderr=subprocess.PIPE, preexec_fn=ready, restore_signals=False)
+        os.close(writer_end)
+        expect(tally, f"{words[0]}, a closed pipe", (done.returncode, done.stderr), (141, b""))
+    packets = made.packets_of(dump_of("frr-basic")) * 1_000
+    records = [made.Record(made.ip(SENDER, made.udp(packet))) for packet in packets]
+    ready = lambda: resource.setrlimit(resource.RLIMIT_AS, (LITTLE_MEMORY, LITTLE_MEMORY))
+    found = run(program, ["extract", "--from", SENDER], made.pcap(records, 101), preexec_fn=ready)
+    expect(tally, "extract in little memory", found, reader.Answer(5, errors=("out of memory",)))
+
+
+def check_way(program, tally):
+    """From a capture to an answer: what the dump beside the capture says."""
+    words = ["lookup", "--from", SENDER, "--to", "10.1.2.3", "--src", "192.0.2.9"]
+    way = f'"$0" extract --from {SENDER} "$1" | "$0" {" ".join(words)}'
+    found = subprocess.run(["sh", "-c", way, program, PCAP], capture_output=True, timeout=SECONDS)
+    wanted = subprocess.run([program, *words, CAPTURES / f"{NAME}.dump"], capture_output=True, timeout=SECONDS)
+    expect(tally, "from a capture to an answer", (found.returncode, found.stdout), (wanted.returncode, wanted.stdout))
+
+
+def cases_of(tally):
+    yield from dump_cases(tally)
+    yield from option_cases()
+    yield from snapped_cases()
+    yield from broken_cases()
+    yield from limit_cases()
+    yield from cut_cases()
+    yield from changed_cases()
+
+
+def check(tally, _long):
+    program = built_program()
+    dumps = check_cases(program, cases_of(tally), tally)
+    check_framing(program, dumps, tally)
+    check_pieces(program, tally)
+    check_way(program, tally)
+    check_streams(program, tally)
+    with tempfile.TemporaryDirectory() as folder:
+        check_files(program, folder, tally)
