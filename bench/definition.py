@@ -1,18 +1,20 @@
 #!/usr/bin/env python3
 """Runs a program over small random tables, and compares what it writes with what a slow program has from the definitions.
 
-    definition.py PROGRAM [--plain] [--tables N] [--seed N]
+    definition.py PROGRAM [--plain] [--all] [--tables N] [--seed N]
 
 Each table has a few routes of both families, with and without source prefixes, some retracted, in any order; half of them
 have prefixes within the first four bits alone, the others prefixes of any length that share long beginnings. `pairs`, with
-and without `--count` and `--hold`, `lookup`, and `compare` with a table that differs in a few Updates must write what the
-definitions say; and, unless it is the plain program, `pairs` and `compare` with `--ignore metric`. Exits 1 where they do not.
-The same seed makes the same tables.
+and without `--count` and `--hold`, `lookup`, and `compare` with another table, which mostly differs in a few Updates, must
+write what the definitions say and end with the status of that; and, unless it is the plain program, `pairs` and `compare`
+with `--ignore metric`. With `--all` so must `compare --all`, with and without `--count`, `--json`, `--hold` and
+`--ignore metric`. Exits 1 where they do not. The same seed makes the same tables.
 """
 
 import argparse
 import functools
 import ipaddress
+import json
 import pathlib
 import random
 import struct
@@ -153,12 +155,15 @@ def longest_blocks(width, places, answer_at):
     return blocks
 
 
-def canonical_pairs(table):
-    """For each destination block with one function of the source, the source blocks with one answer."""
+def boxes(keys, answer_at):
+    """For each destination block with one function of the source, the source blocks with one answer, if they have one.
+
+    The answer may be another one only where a prefix of the keys begins or has ended.
+    """
     for family, width in WIDTH.items():
-        rows = [key for key in table if key[0] == family]
-        destinations, sources = (places([key[part] for key in rows], width) for part in (1, 2))
-        at = functools.lru_cache(None)(lambda dst, src: answer(table, family, dst, src))
+        own = [key for key in keys if key[0] == family]
+        destinations, sources = (places([key[part] for key in own], width) for part in (1, 2))
+        at = functools.lru_cache(None)(functools.partial(answer_at, family))
         function = functools.lru_cache(None)(lambda dst: tuple(at(dst, src) for src in sources))
         for dst, _ in longest_blocks(width, destinations, function):
             for src, value in longest_blocks(width, sources, lambda place: at(dst[0], place)):
@@ -166,8 +171,22 @@ def canonical_pairs(table):
                     yield family, dst, src, value
 
 
+def canonical_pairs(table):
+    return boxes(table, functools.partial(answer, table))
+
+
 def without_metrics(table):
     return {key: value if value == "unreachable" else "-" for key, value in table.items()}
+
+
+def differences(left, right):
+    """The boxes of the function that is none where both answer the same, and else the two answers."""
+
+    def told_apart(*place):
+        answers = answer(left, *place), answer(right, *place)
+        return None if answers[0] == answers[1] else answers
+
+    return boxes([*left, *right], told_apart)
 
 
 def difference(left, right):
@@ -190,74 +209,132 @@ def text_of_address(family, bits):
     return ":".join(f"{bits >> 16 * group & 0xFFFF:x}" for group in reversed(range(8)))
 
 
+def text_of_prefix(family, prefix):
+    return f"{text_of_address(family, prefix[0])}/{prefix[1]}"
+
+
 def text_of(family, value):
     if value is None or value == "unreachable":
         return value or "none"
     return f"via {VIA[family]} id {ROUTER_ID[4:].hex()} seqno 1 metric {value}"
 
 
+def json_of(family, value):
+    if value is None or value == "unreachable":
+        return value
+    metric = None if value == "-" else value
+    return {"next_hop": VIA[family], "router_id": ROUTER_ID[4:].hex(), "seqno": 1, "metric": metric}
+
+
 def text_of_pairs(table):
-    prefix = lambda family, prefix: f"{text_of_address(family, prefix[0])}/{prefix[1]}"
     return [
-        f"{prefix(family, dst)} from {prefix(family, src)} {text_of(family, value)}"
+        f"{text_of_prefix(family, dst)} from {text_of_prefix(family, src)} {text_of(family, value)}"
         for family, dst, src, value in canonical_pairs(table)
     ]
+
+
+def three_lines(family, dst, src, left, right):
+    return [f"differ {dst} from {src}", f"left {text_of(family, left)}", f"right {text_of(family, right)}"]
 
 
 def text_of_difference(found):
     if found is None:
         return ["same"]
     family, dst, src, left, right = found
-    addresses = (text_of_address(family, bits) for bits in (dst, src))
-    return ["differ " + " from ".join(addresses), f"left {text_of(family, left)}", f"right {text_of(family, right)}"]
+    return three_lines(family, text_of_address(family, dst), text_of_address(family, src), left, right)
 
 
-def expected_runs(rng, updates, others, dump, other, plain):
-    """Words, and the lines that they must give."""
+def text_of_differences(found):
+    lines = [
+        three_lines(family, text_of_prefix(family, dst), text_of_prefix(family, src), *answers)
+        for family, dst, src, answers in found
+    ]
+    return sum(lines, []) or ["same"]
+
+
+def json_of_differences(found):
+    objects = [
+        {
+            "same": False,
+            "destination": text_of_prefix(family, dst),
+            "source": text_of_prefix(family, src),
+            "left": json_of(family, left),
+            "right": json_of(family, right),
+        }
+        for family, dst, src, (left, right) in found
+    ]
+    return [json.dumps(each, separators=(",", ":")) for each in objects or [{"same": True}]]
+
+
+# ---- runs: words, the lines that they must give, and the status
+
+
+def pair_runs(table, words, dump):
+    pairs = text_of_pairs(table)
+    yield ["pairs", *words, dump], pairs, 0
+    yield ["pairs", "--count", *words, dump], [f"rows {len(table)}", f"pairs {len(pairs)}"], 0
+
+
+def lookup_run(rng, table, words, dump):
+    family = rng.choice((4, 6))
+    dst, src = (rng.choice([key[part][0] for key in table if key[0] == family] or [0]) for part in (1, 2))
+    asked = ["--to", text_of_address(family, dst), "--src", text_of_address(family, src)]
+    found = answer(table, family, dst, src)
+    yield ["lookup", *words, *asked, dump], [text_of(family, found)], 1 if found in (None, "unreachable") else 0
+
+
+def compare_runs(left, right, words, dumps, every):
+    words = [*words, "--other-from", "192.0.2.1", *dumps]
+    least = difference(left, right)
+    status = 0 if least is None else 1
+    yield ["compare", *words], text_of_difference(least), status
+    if every:
+        found = list(differences(left, right))
+        yield ["compare", "--all", *words], text_of_differences(found), status
+        yield ["compare", "--all", "--json", *words], json_of_differences(found), status
+        yield ["compare", "--all", "--count", *words], [f"differences {len(found)}"], status
+        yield ["compare", "--all", "--count", "--json", *words], [f'{{"differences":{len(found)}}}'], status
+
+
+def expected_runs(rng, updates, others, dumps, options):
     for hold in ([], ["--hold"]):
-        sent = [*hold, *FROM]
-        table = table_of(updates, bool(hold))
-        pairs = text_of_pairs(table)
-        yield ["pairs", *sent, dump], pairs
-        yield ["pairs", "--count", *sent, dump], [f"rows {len(table)}", f"pairs {len(pairs)}"]
-        family = rng.choice((4, 6))
-        dst, src = (rng.choice([key[part][0] for key in table if key[0] == family] or [0]) for part in (1, 2))
-        asked = ["--to", text_of_address(family, dst), "--src", text_of_address(family, src)]
-        yield ["lookup", *sent, *asked, dump], [text_of(family, answer(table, family, dst, src))]
-        other_table = table_of(others, bool(hold))
-        both = ["--other-from", "192.0.2.1", dump, other]
-        yield ["compare", *sent, *both], text_of_difference(difference(table, other_table))
-        if plain:
-            continue
-        table, other_table = without_metrics(table), without_metrics(other_table)
-        ignored = ["--ignore", "metric", *sent]
-        yield ["pairs", *ignored, dump], text_of_pairs(table)
-        yield ["compare", *ignored, *both], text_of_difference(difference(table, other_table))
+        words = [*hold, *FROM]
+        left, right = (table_of(each, bool(hold)) for each in (updates, others))
+        yield from pair_runs(left, words, dumps[0])
+        yield from lookup_run(rng, left, words, dumps[0])
+        yield from compare_runs(left, right, words, dumps, options.all)
+        if not options.plain:
+            words = ["--ignore", "metric", *words]
+            left, right = (without_metrics(table) for table in (left, right))
+            yield from pair_runs(left, words, dumps[0])
+            yield from compare_runs(left, right, words, dumps, options.all)
 
 
 def main():
     parser = argparse.ArgumentParser(description=__doc__, formatter_class=argparse.RawDescriptionHelpFormatter)
     parser.add_argument("program", type=pathlib.Path)
     parser.add_argument("--plain", action="store_true", help="the program is the plain one, which lacks some options")
+    parser.add_argument("--all", action="store_true", help="run compare --all, too")
     parser.add_argument("--tables", type=int, default=1_000)
     parser.add_argument("--seed", type=int, default=1)
     options = parser.parse_args()
     program, rng = options.program.resolve(), random.Random(options.seed)
     runs, wrong, most = 0, 0, 0
     with tempfile.TemporaryDirectory() as folder:
-        dump, other = (pathlib.Path(folder) / name for name in ("one.dump", "other.dump"))
+        dumps = [pathlib.Path(folder) / name for name in ("one.dump", "other.dump")]
         for turn in range(options.tables):
             updates = random_updates(rng)
-            others = changed(rng, updates)
-            dump.write_bytes(dump_of(updates))
-            other.write_bytes(dump_of(others))
-            for words, lines in expected_runs(rng, updates, others, dump, other, options.plain):
+            others = changed(rng, updates) if rng.randrange(8) else random_updates(rng)
+            for dump, sent in zip(dumps, (updates, others)):
+                dump.write_bytes(dump_of(sent))
+            for words, lines, status in expected_runs(rng, updates, others, dumps, options):
                 run = subprocess.run([program, *words], capture_output=True, text=True)
                 runs += 1
                 most = max(most, len(lines))
-                if run.stdout.splitlines() != lines or run.stderr:
+                if run.stdout.splitlines() != lines or run.stderr or run.returncode != status:
                     wrong += 1
-                    print(f"table {turn}, {words[:-1]}: {run.stdout!r} and {run.stderr!r} in place of {lines!r}: {updates}")
+                    given = f"{run.stdout!r}, {run.stderr!r} and status {run.returncode}"
+                    print(f"table {turn}, {words}: {given} in place of {lines!r} and status {status}: {updates}, {others}")
     print(f"{wrong} of {runs} runs differ from the definitions; the longest text had {most} lines")
     return 1 if wrong else 0
 
