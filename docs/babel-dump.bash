@@ -8,13 +8,15 @@ _babel_dump() {
         lookup) options="$options --to --src --each" ;;
         pairs) options="$options --count --ignore" ;;
         normalise) options="${options/ --json/} --hex --body --ignore" ;;
-        compare) options="$options --other-from --ignore" ;;
-        *) options="show lookup pairs normalise compare help --help --version" ;;
+        compare) options="$options --other-from --ignore --all --count" ;;
+        senders) options="--accept-cut --strict --quiet --json --max-octets --help" ;;
+        extract) options="--from --interface --hex --accept-cut --strict --quiet --max-octets --help" ;;
+        *) options="show lookup pairs normalise compare senders extract help --help --version" ;;
     esac
     if [[ $COMP_CWORD -gt 1 && $word != -* ]]; then
         mapfile -t COMPREPLY < <(compgen -f -- "$word")
     else
-        [[ $COMP_CWORD -eq 1 ]] && options="show lookup pairs normalise compare help --help --version"
+        [[ $COMP_CWORD -eq 1 ]] && options="show lookup pairs normalise compare senders extract help --help --version"
         mapfile -t COMPREPLY < <(compgen -W "$options" -- "$word")
     fi
 }
