@@ -1,14 +1,21 @@
-"""The kit's gate, `rt ci`: every proof from nothing, the bodies that must be refused, the crates' tests, a run of the program."""
+"""The kit's gate, `rt ci`: every proof from nothing, the bodies that must be refused, the crates' tests, a run of the program.
+
+A wrong body in must-fail/NAME.edit is tried by each gate, one in must-fail/NAME.md by its long form alone.
+"""
 
 import os
+import pathlib
 import re
 import shutil
 import subprocess
+import tempfile
 import time
 
 from checks import PROGRAM, TOP, need
 
 VERDICT = re.compile(r"(\d+) passed, (\d+) failed\n")
+TRIED = re.compile(r"rt: must-fail (\S+): (.*)")
+REFUSED = "refused, as it must be"
 BUILT = TOP / "crates/babel_dump_program/out/babel_dump_program"
 
 
@@ -31,7 +38,31 @@ def keep_program(begun):
         fresh.replace(PROGRAM)
 
 
-def check(tally, _long):
+def only_long_bodies(top):
+    """Leaves in a copy of the sources those wrong bodies that only the long form tries, to be tried; returns how many they are."""
+    for body in top.glob("crates/*/must-fail/*.edit"):
+        body.unlink()
+    bodies = list(top.glob("crates/*/must-fail/*.md"))
+    for body in bodies:
+        body.rename(body.with_suffix(".edit"))
+    return len(bodies)
+
+
+def try_long_bodies(tally):
+    """Tries these bodies over a copy of the sources."""
+    with tempfile.TemporaryDirectory() as folder:
+        top = pathlib.Path(folder, "sources")
+        shutil.copytree(TOP, top, ignore=shutil.ignore_patterns("out", "build", ".git", "__pycache__"))
+        bodies = only_long_bodies(top)
+        run = subprocess.run(["rt", "must-fail"], cwd=top, stdout=subprocess.PIPE, text=True, errors="replace")
+    tried = TRIED.findall(run.stdout)
+    for name, said in tried:
+        tally.check(name, "" if said.startswith(REFUSED) else said)
+    if len(tried) != bodies:
+        tally.check("rt must-fail", f"it tried {len(tried)} of {bodies} bodies, and ended with status {run.returncode}")
+
+
+def check(tally, long):
     need("rt", "it is the Rattle kit's")
     begun = time.time()
     last, status = run_gate()
@@ -41,3 +72,5 @@ def check(tally, _long):
     else:
         tally.add(int(verdict[1]), int(verdict[2]))
     keep_program(begun)
+    if long:
+        try_long_bodies(tally)

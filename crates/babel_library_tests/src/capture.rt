@@ -1,7 +1,6 @@
 //! Captures, by the public calls. The packets are of examples/captures/babeld-basic-a.pcap, and
 //! what they give is of the dump beside it; the blocks round them are worked by hand from
 //! draft-ietf-opsawg-pcap and draft-ietf-opsawg-pcapng.
-mod frames;
 
 ghost use Rattle.std.specs.Prelude.{◌≤◌};
 

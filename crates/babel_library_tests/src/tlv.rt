@@ -1,5 +1,4 @@
 //! Worked dumps, by the public calls: what each of their TLVs says, and where a dump is refused.
-mod captured;
 
 use crate::dumps::{
     ALL_RETRACTED, FAULTY_SUB_TLVS, LINK_LOCAL, MORE_OMITTED, ONE_IGNORED, ONE_ROUTE, ONE_V6_ROUTE,
