@@ -86,6 +86,7 @@ def program_cases(program, folder):
     """The commands of program.txt that are words of the program alone."""
     dumps, steps = transcript.read(TOP / "tests/program.txt")
     transcript.put(dumps, folder)
+    transcript.link_examples(folder)
     for each in steps:
         if not OF_SHELL.search(each.command):
             words = [program, *shlex.split(each.command)[1:]]

@@ -193,7 +193,7 @@ def check(tally, _long):
     with tempfile.TemporaryDirectory() as folder:
         folder = pathlib.Path(folder)
         transcript.link(program, folder)
-        (folder / "examples").symlink_to(TOP / "examples")
+        transcript.link_examples(folder)
         transcript.play(TOP / "tests/program.txt", folder, tally)
         transcript.put(dict(large_dumps()), folder)
         transcript.play(TOP / "tests/limits.txt", folder, tally)

@@ -17,6 +17,8 @@ import re
 import subprocess
 from dataclasses import dataclass
 
+from checks import TOP
+
 SECONDS = 120
 
 
@@ -94,6 +96,11 @@ def link(program, folder):
     """Makes a program the babel-dump of the commands in a folder."""
     (folder / "tools").mkdir()
     (folder / "tools" / "babel-dump").symlink_to(program)
+
+
+def link_examples(folder):
+    """Puts the examples of the repository into reach of the commands in a folder."""
+    (folder / "examples").symlink_to(TOP / "examples")
 
 
 def put(dumps, folder):
