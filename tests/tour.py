@@ -12,7 +12,7 @@ DOCUMENTS = ["README.md", "examples/README.md"]
 
 
 def steps(file):
-    """The commands of a document's blocks of code, each with the lines below it."""
+    """The commands of a document's blocks of code, each with the lines below it. A \\ joins two lines."""
     found, lines = [], None
     for number, line in enumerate(file.read_text().splitlines(), 1):
         code = re.fullmatch(r" {4}(.*)", line)
@@ -20,7 +20,9 @@ def steps(file):
             lines = None
         elif code[1].startswith("$ "):
             lines = []
-            found.append((f"{file.relative_to(TOP)}:{number}", code[1][2:], lines))
+            found.append([f"{file.relative_to(TOP)}:{number}", code[1][2:], lines])
+        elif lines == [] and found[-1][1].endswith("\\"):
+            found[-1][1] = found[-1][1][:-1] + code[1].lstrip()
         elif lines is not None:
             lines.append(code[1])
     return [transcript.step(*each) for each in found]
