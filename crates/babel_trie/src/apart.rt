@@ -58,7 +58,8 @@ pub fn nearer(end: u128, other: u128) -> u128
 }
 
 impl<V: LawfulOrd> Table<Option<V>> {
-    /// The first destination that two lists of changes answer differently, and for it the first source.
+    /// The first destination that two lists of changes answer differently, and for it the first
+    /// source.
     fn first_pair(
         &self,
         left: &[Change<Sources<Option<V>>>],
@@ -71,7 +72,9 @@ impl<V: LawfulOrd> Table<Option<V>> {
         requires right { (g : Answers V) × HasRuns width other.now.nodes.items right.now g }
         requires one { tables ≡ One → self.now.nodes.items ≡ other.now.nodes.items }
         requires width { width ≤ 128 }
-        ensures { (f g : Answers V) → HasRuns width self.now.nodes.items left.now f → HasRuns width other.now.nodes.items right.now g → IsFirstPair (2 ^ width) (2 ^ width) f g result }
+        ensures { (f g : Answers V) → HasRuns width self.now.nodes.items left.now f
+            → HasRuns width other.now.nodes.items right.now g
+            → IsFirstPair (2 ^ width) (2 ^ width) f g result }
     {
         let last = last_address(0, width);
         let (mut lefts, mut rights) = (left, right);
@@ -93,8 +96,8 @@ impl<V: LawfulOrd> Table<Option<V>> {
         }
     }
 
-    /// The least pair of a destination and a source of the family, by destination, then source, that two lists of
-    /// changes answer differently; `None` if there is none.
+    /// The least pair of a destination and a source of the family, by destination, then source,
+    /// that two lists of changes answer differently; `None` if there is none.
     pub fn least_difference(
         &self,
         left: &[Change<Sources<Option<V>>>],
@@ -103,11 +106,17 @@ impl<V: LawfulOrd> Table<Option<V>> {
         tables: Tables,
         family: Family,
     ) -> Option<(Addr, Addr)>
-        requires left { (f : Answers V) × HasRuns (width_of family) self.now.nodes.items left.now f }
-        requires right { (g : Answers V) × HasRuns (width_of family) other.now.nodes.items right.now g }
+        requires left { (f : Answers V)
+            × HasRuns (width_of family) self.now.nodes.items left.now f }
+        requires right { (g : Answers V)
+            × HasRuns (width_of family) other.now.nodes.items right.now g }
         requires one { tables ≡ One → self.now.nodes.items ≡ other.now.nodes.items }
         ensures family { IfSome result (λ p. (p.0.family ≡ family) × (p.1.family ≡ family)) }
-        ensures least { (f g : Answers V) → HasRuns (width_of family) self.now.nodes.items left.now f → HasRuns (width_of family) other.now.nodes.items right.now g → MatchOption result (SameAnswers (width_of family) f g) (λ p. IsLeastDifference (width_of family) f g p.0.bits p.1.bits) }
+        ensures least { (f g : Answers V)
+            → HasRuns (width_of family) self.now.nodes.items left.now f
+            → HasRuns (width_of family) other.now.nodes.items right.now g
+            → MatchOption result (SameAnswers (width_of family) f g)
+            (λ p. IsLeastDifference (width_of family) f g p.0.bits p.1.bits) }
     {
         let (dst, src) = self.first_pair(left, other, right, tables, family.width())?;
         let dst = Addr::new(family, dst).unwrap();

@@ -18,7 +18,8 @@ use crate::runs::Change;
 use crate::table::{Loose, Node, Sources, Table};
 use std::alloc::{AllocError, Global};
 
-/// What tries of one table tell apart, as tries of another table, and what is known of two that have been compared.
+/// What tries of one table tell apart, as tries of another table, and what is known of two that
+/// have been compared.
 #[derive(Drop)]
 pub struct Comparison<V: Ord> {
     differences: Table<Option<Differing<V>>>,
@@ -27,8 +28,11 @@ pub struct Comparison<V: Ord> {
 
 impl<V: LawfulOrd> Comparison<V> {
     pub fn new(alloc: Global) -> Comparison<V>
-        ensures sound { IsSound ⟦<Sources<Option<Differing<V>>> as Ord>⟧.cmp ⟦<Sources<Option<Differing<V>>> as LawfulOrd>⟧.mark result.differences.nodes.items result.differences.numbers }
-        ensures known { (nodes : List (Node (Option V))) → KnowsTold nodes result.differences.nodes.items result.known.found }
+        ensures sound { IsSound ⟦<Sources<Option<Differing<V>>> as Ord>⟧.cmp
+            ⟦<Sources<Option<Differing<V>>> as LawfulOrd>⟧.mark
+            result.differences.nodes.items result.differences.numbers }
+        ensures known { (nodes : List (Node (Option V)))
+            → KnowsTold nodes result.differences.nodes.items result.known.found }
     {
         Comparison {
             differences: Table::new(alloc),
@@ -43,24 +47,32 @@ impl<V: LawfulOrd> Comparison<V> {
         self.differences
     }
 
-    /// The trie of what two tries of a table tell apart. Two that have been compared at their blocks are not compared
-    /// again.
+    /// The trie of what two tries of a table tell apart. Two that have been compared at their
+    /// blocks are not compared again.
     fn told(
         &mut self,
         table: &Table<Option<V>>,
         both: Both<Loose<Option<V>>>,
         bits: u8,
     ) -> Result<Loose<Option<Differing<V>>>, AllocError>
-        requires sound { IsSound ⟦<Sources<Option<Differing<V>>> as Ord>⟧.cmp ⟦<Sources<Option<Differing<V>>> as LawfulOrd>⟧.mark self.old.differences.nodes.items self.old.differences.numbers }
-        requires known { KnowsTold table.now.nodes.items self.old.differences.nodes.items self.old.known.found }
+        requires sound { IsSound ⟦<Sources<Option<Differing<V>>> as Ord>⟧.cmp
+            ⟦<Sources<Option<Differing<V>>> as LawfulOrd>⟧.mark
+            self.old.differences.nodes.items self.old.differences.numbers }
+        requires known { KnowsTold table.now.nodes.items self.old.differences.nodes.items
+            self.old.known.found }
         requires left { IsTrie bits table.now.nodes.items both.left }
         requires right { IsTrie bits table.now.nodes.items both.right }
         requires width { bits ≤ 128 }
-        ensures sound { OnOk result (IsSound ⟦<Sources<Option<Differing<V>>> as Ord>⟧.cmp ⟦<Sources<Option<Differing<V>>> as LawfulOrd>⟧.mark self.new.differences.nodes.items self.new.differences.numbers) }
-        ensures known { OnOk result (KnowsTold table.now.nodes.items self.new.differences.nodes.items self.new.known.found) }
-        ensures keeps { OnOk result (KeepsNodes self.old.differences.nodes.items self.new.differences.nodes.items) }
+        ensures sound { OnOk result (IsSound ⟦<Sources<Option<Differing<V>>> as Ord>⟧.cmp
+            ⟦<Sources<Option<Differing<V>>> as LawfulOrd>⟧.mark
+            self.new.differences.nodes.items self.new.differences.numbers) }
+        ensures known { OnOk result (KnowsTold table.now.nodes.items
+            self.new.differences.nodes.items self.new.known.found) }
+        ensures keeps { OnOk result (KeepsNodes self.old.differences.nodes.items
+            self.new.differences.nodes.items) }
         ensures normal { IfOk result (IsNormalLoose self.new.differences.nodes.items) }
-        ensures told { IfOk result (IsTold table.now.nodes.items both.left both.right self.new.differences.nodes.items) }
+        ensures told { IfOk result (IsTold table.now.nodes.items both.left both.right
+            self.new.differences.nodes.items) }
     {
         if are_one(both.left, both.right) {
             return Ok(Loose::Same(None));
@@ -98,15 +110,23 @@ impl<V: LawfulOrd> Comparison<V> {
         right: Sources<Option<V>>,
         bits: u8,
     ) -> Result<Sources<Option<Differing<V>>>, AllocError>
-        requires sound { IsSound ⟦<Sources<Option<Differing<V>>> as Ord>⟧.cmp ⟦<Sources<Option<Differing<V>>> as LawfulOrd>⟧.mark self.old.differences.nodes.items self.old.differences.numbers }
-        requires known { KnowsTold table.now.nodes.items self.old.differences.nodes.items self.old.known.found }
+        requires sound { IsSound ⟦<Sources<Option<Differing<V>>> as Ord>⟧.cmp
+            ⟦<Sources<Option<Differing<V>>> as LawfulOrd>⟧.mark
+            self.old.differences.nodes.items self.old.differences.numbers }
+        requires known { KnowsTold table.now.nodes.items self.old.differences.nodes.items
+            self.old.known.found }
         requires left { HasTrie bits table.now.nodes.items left }
         requires right { HasTrie bits table.now.nodes.items right }
         requires width { bits ≤ 128 }
-        ensures sound { OnOk result (IsSound ⟦<Sources<Option<Differing<V>>> as Ord>⟧.cmp ⟦<Sources<Option<Differing<V>>> as LawfulOrd>⟧.mark self.new.differences.nodes.items self.new.differences.numbers) }
-        ensures known { OnOk result (KnowsTold table.now.nodes.items self.new.differences.nodes.items self.new.known.found) }
-        ensures keeps { OnOk result (KeepsNodes self.old.differences.nodes.items self.new.differences.nodes.items) }
-        ensures told { IfOk result (AreTold table.now.nodes.items left right self.new.differences.nodes.items) }
+        ensures sound { OnOk result (IsSound ⟦<Sources<Option<Differing<V>>> as Ord>⟧.cmp
+            ⟦<Sources<Option<Differing<V>>> as LawfulOrd>⟧.mark
+            self.new.differences.nodes.items self.new.differences.numbers) }
+        ensures known { OnOk result (KnowsTold table.now.nodes.items
+            self.new.differences.nodes.items self.new.known.found) }
+        ensures keeps { OnOk result (KeepsNodes self.old.differences.nodes.items
+            self.new.differences.nodes.items) }
+        ensures told { IfOk result (AreTold table.now.nodes.items left right
+            self.new.differences.nodes.items) }
     {
         let both = Both {
             left: table.opened(left),
@@ -126,13 +146,21 @@ impl<V: LawfulOrd> Comparison<V> {
         right: &[Change<Sources<Option<V>>>],
         width: u8,
     ) -> Result<Vec<Change<Sources<Option<Differing<V>>>>>, AllocError>
-        requires sound { IsSound ⟦<Sources<Option<Differing<V>>> as Ord>⟧.cmp ⟦<Sources<Option<Differing<V>>> as LawfulOrd>⟧.mark self.old.differences.nodes.items self.old.differences.numbers }
-        requires known { KnowsTold table.now.nodes.items self.old.differences.nodes.items self.old.known.found }
+        requires sound { IsSound ⟦<Sources<Option<Differing<V>>> as Ord>⟧.cmp
+            ⟦<Sources<Option<Differing<V>>> as LawfulOrd>⟧.mark
+            self.old.differences.nodes.items self.old.differences.numbers }
+        requires known { KnowsTold table.now.nodes.items self.old.differences.nodes.items
+            self.old.known.found }
         requires left { (f : Answers V) × HasRuns width table.now.nodes.items left.now f }
         requires right { (g : Answers V) × HasRuns width table.now.nodes.items right.now g }
         requires width { width ≤ 128 }
-        ensures sound { OnOk result (IsSound ⟦<Sources<Option<Differing<V>>> as Ord>⟧.cmp ⟦<Sources<Option<Differing<V>>> as LawfulOrd>⟧.mark self.new.differences.nodes.items self.new.differences.numbers) }
-        ensures difference { IfOk result (λ list. (f g : Answers V) → HasRuns width table.now.nodes.items left.now f → HasRuns width table.now.nodes.items right.now g → HasDifference width f g self.new.differences.nodes.items list.items) }
+        ensures sound { OnOk result (IsSound ⟦<Sources<Option<Differing<V>>> as Ord>⟧.cmp
+            ⟦<Sources<Option<Differing<V>>> as LawfulOrd>⟧.mark
+            self.new.differences.nodes.items self.new.differences.numbers) }
+        ensures difference { IfOk result (λ list. (f g : Answers V)
+            → HasRuns width table.now.nodes.items left.now f
+            → HasRuns width table.now.nodes.items right.now g
+            → HasDifference width f g self.new.differences.nodes.items list.items) }
     {
         let last = last_address(0, width);
         let mut list = Vec::new(alloc);

@@ -26,11 +26,13 @@ pub fn split(from: u128, last: u128) -> u32
     127 - (from ^ last).leading_zeros()
 }
 
-/// How many largest blocks there are among the addresses from this one to the last (whatever the width):
-/// the ones of the parts below and above the middle, the highest bit's multiple between them.
+/// How many largest blocks there are among the addresses from this one to the last (whatever the
+/// width): the ones of the parts below and above the middle, the highest bit's multiple between
+/// them.
 pub fn block_count(from: u128, last: u128) -> u32
     requires { from ≤ last }
-    ensures { (width : ℕ) → last < 2 ^ width → (blocks : List Block) × AreLargestIn width from last blocks × (result ≡ length blocks) }
+    ensures { (width : ℕ) → last < 2 ^ width
+        → (blocks : List Block) × AreLargestIn width from last blocks × (result ≡ length blocks) }
 {
     if from == last {
         return 1;

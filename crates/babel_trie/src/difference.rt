@@ -10,7 +10,8 @@ ghost use Rattle.babel_trie.specs.declared.table.Loose.TheVariants.{Same};
 use crate::lawful::{LawfulOrd, are_same};
 use crate::table::{Loose, Node, Sources, Table};
 
-/// Whether two tries that are compared have their nodes in one table, in which equal tries have equal sources.
+/// Whether two tries that are compared have their nodes in one table, in which equal tries have
+/// equal sources.
 #[derive(Clone, Copy)]
 pub enum Tables {
     One,
@@ -54,7 +55,8 @@ pub fn are_one<V: LawfulOrd>(whole: Loose<V>, other: Loose<V>) -> bool
 /// The two values, where both are one value for all sources.
 pub fn both_same<V: Copy>(whole: Loose<V>, other: Loose<V>) -> Option<(V, V)>
     ensures constants { IfSome result (λ p. (whole ≡ Same p.0) × (other ≡ Same p.1)) }
-    ensures fork { IfNone result ((bits : ℕ) (nodes others : List (Node V)) → IsTrie bits nodes whole → IsTrie bits others other → 0 < bits) }
+    ensures fork { IfNone result ((bits : ℕ) (nodes others : List (Node V))
+        → IsTrie bits nodes whole → IsTrie bits others other → 0 < bits) }
 {
     match (whole, other) {
         (Loose::Same(left), Loose::Same(right)) => Some((left, right)),
@@ -77,7 +79,9 @@ impl<V: LawfulOrd> Table<V> {
         requires other_trie { IsTrie bits other.now.nodes.items other_whole }
         requires one { tables ≡ One → self.now.nodes.items ≡ other.now.nodes.items }
         requires width { bits ≤ 128 }
-        ensures { (t u : Shape V) → Stands self.now.nodes.items whole t → Stands other.now.nodes.items other_whole u → IsFirstDifference (2 ^ bits) (value_at t bits) (value_at u bits) result }
+        ensures { (t u : Shape V) → Stands self.now.nodes.items whole t
+            → Stands other.now.nodes.items other_whole u
+            → IsFirstDifference (2 ^ bits) (value_at t bits) (value_at u bits) result }
     {
         if tables.are_one_trie(whole, other_whole) {
             return None;
@@ -107,7 +111,9 @@ impl<V: LawfulOrd> Table<V> {
         requires other_trie { HasTrie bits other.now.nodes.items other_sources }
         requires one { tables ≡ One → self.now.nodes.items ≡ other.now.nodes.items }
         requires width { bits ≤ 128 }
-        ensures { (t u : Shape V) → Represents self.now.nodes.items sources t → Represents other.now.nodes.items other_sources u → IsFirstDifference (2 ^ bits) (value_at t bits) (value_at u bits) result }
+        ensures { (t u : Shape V) → Represents self.now.nodes.items sources t
+            → Represents other.now.nodes.items other_sources u
+            → IsFirstDifference (2 ^ bits) (value_at t bits) (value_at u bits) result }
     {
         self.first_apart(
             self.opened(sources),

@@ -3,8 +3,8 @@ ghost use Rattle.babel_trie.specs.Differences.{TellsApart};
 
 use crate::lawful::{LawfulOrd, are_same, stirred};
 
-/// The two answers for a destination and a source that two tables answer differently. `None` where a
-/// table has no row with both addresses.
+/// The two answers for a destination and a source that two tables answer differently. `None` where
+/// a table has no row with both addresses.
 #[derive(Clone, Copy, PartialEq, Eq, PartialOrd, Ord)]
 pub struct Differing<V> {
     pub left: Option<V>,

@@ -12,11 +12,12 @@ use crate::table::Table;
 use babel_prefix::Family;
 use std::alloc::{AllocError, Global};
 
-/// What two lists of rows answer differently: the boxes of the two answers, where they differ, and their number. All
-/// prefixes are of the family, and no two rows of a list have the same two. `Err` for want of memory.
+/// What two lists of rows answer differently: the boxes of the two answers, where they differ, and
+/// their number. All prefixes are of the family, and no two rows of a list have the same two. `Err`
+/// for want of memory.
 ///
-/// The tries of sources of both lists stand in one table of nodes. The lists are read side by side, and each two tries
-/// are compared once.
+/// The tries of sources of both lists stand in one table of nodes. The lists are read side by side,
+/// and each two tries are compared once.
 pub fn differences<V: LawfulOrd>(
     alloc: Global,
     family: Family,
@@ -28,7 +29,8 @@ pub fn differences<V: LawfulOrd>(
     requires right_family { All (AreOfFamily family) right.now }
     requires right_prefixes { HasDistinctPrefixes right.now }
     ensures family { IfOk result (λ grid. grid.family ≡ family) }
-    ensures boxes { IfOk result (λ grid. AreDifferences (width_of family) (answers_in family left.now) (answers_in family right.now) grid.boxes) }
+    ensures boxes { IfOk result (λ grid. AreDifferences (width_of family)
+        (answers_in family left.now) (answers_in family right.now) grid.boxes) }
 {
     let mut sources = Table::new(alloc);
     let left = sources.runs(alloc, family, left)?;

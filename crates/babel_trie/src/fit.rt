@@ -14,8 +14,8 @@ fn room_bits(above: u128) -> u32
     }
 }
 
-/// In how many bits the addresses differ of the largest block that starts at this address and ends at the last or
-/// before.
+/// In how many bits the addresses differ of the largest block that starts at this address and ends
+/// at the last or before.
 pub fn first_bits(at: u128, last: u128) -> u8
     requires { at ≤ last }
     ensures fit { IsLargestFit at last result }

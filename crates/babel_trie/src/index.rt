@@ -11,9 +11,9 @@ use std::collections::BTreeMap;
 /// In how many slots an element can stand.
 const WINDOW: u8 = 16;
 
-/// Where the elements of a list are found again, in which none stands twice. Each has one of a few slots, from the one
-/// that its mark leads to on, or, where all of these are taken, a place in a map. So no choice of elements makes a
-/// search longer than one in that map.
+/// Where the elements of a list are found again, in which none stands twice. Each has one of a few
+/// slots, from the one that its mark leads to on, or, where all of these are taken, a place in a
+/// map. So no choice of elements makes a search longer than one in that map.
 #[derive(Drop)]
 pub struct Index<K: Ord> {
     /// One more than an element's number, or 0 where the slot is free.
@@ -21,7 +21,8 @@ pub struct Index<K: Ord> {
     crowded: BTreeMap<K, NodeNumber>,
 }
 
-/// The number of an element that one of so many slots from this one on has, if none before it is free.
+/// The number of an element that one of so many slots from this one on has, if none before it is
+/// free.
 fn number_among<K: LawfulOrd>(
     slots: &[u32],
     list: &[K],
@@ -108,7 +109,8 @@ impl<K: LawfulOrd> Index<K> {
         Ok(())
     }
 
-    /// Makes more slots where half of them are taken, and finds each element of the list its place among them.
+    /// Makes more slots where half of them are taken, and finds each element of the list its place
+    /// among them.
     fn make_room(&mut self, list: &[K]) -> Result<(), AllocError>
         requires indexed { IsIndexed K.cmp K.mark list.now self.old }
         requires distinct { HasDistinct list.now }

@@ -1,5 +1,6 @@
-//! What was found for two tries that were compared, so that it is not looked for again. Of two tries of which one still
-//! has bits that lead to its block nothing is remembered: they soon come to two that have none.
+//! What was found for two tries that were compared, so that it is not looked for again. Of two
+//! tries of which one still has bits that lead to its block nothing is remembered: they soon come
+//! to two that have none.
 ghost use Rattle.std.specs.Prelude.{◌≡◌, ◌⊎◌, IfSome, OnOk};
 ghost use Rattle.std.specs.BTreeMap.{IsEmpty};
 ghost use Rattle.babel_prefix.specs.Members.{Listed};
@@ -54,7 +55,8 @@ impl<T: LawfulOrd, R: Copy> Known<T, R> {
 
     /// Keeps what was found for these two.
     fn keep(&mut self, both: Both<T>, found: R) -> Result<(), AllocError>
-        ensures { OnOk result ((k : Both T) (r : R) → Listed self.new.found.entries (k, r) → ((k ≡ both) × (r ≡ found)) ⊎ Listed self.old.found.entries (k, r)) }
+        ensures { OnOk result ((k : Both T) (r : R) → Listed self.new.found.entries (k, r)
+            → ((k ≡ both) × (r ≡ found)) ⊎ Listed self.old.found.entries (k, r)) }
     {
         self.found.insert(both, found)?;
         Ok(())
@@ -88,7 +90,8 @@ impl<V: LawfulOrd, R: Copy> Known<Loose<V>, R> {
 
     /// Remembers what was found for two tries, where no bits lead to their blocks.
     pub fn remember(&mut self, both: Both<Loose<V>>, found: R) -> Result<(), AllocError>
-        ensures { OnOk result ((k : Both (Loose V)) (r : R) → Listed self.new.found.entries (k, r) → ((k ≡ both) × (r ≡ found)) ⊎ Listed self.old.found.entries (k, r)) }
+        ensures { OnOk result ((k : Both (Loose V)) (r : R) → Listed self.new.found.entries (k, r)
+            → ((k ≡ both) × (r ≡ found)) ⊎ Listed self.old.found.entries (k, r)) }
     {
         if are_at_blocks(both) {
             self.keep(both, found)?;

@@ -10,8 +10,8 @@ pub trait LawfulOrd: Ord + Copy {
     // The number that goes with a value.
     ghost mark: { Self → ℕ };
 
-    /// A number that goes with the value, and mostly differs where values do: what a grid makes of values is found again
-    /// by it.
+    /// A number that goes with the value, and mostly differs where values do: what a grid makes of
+    /// values is found again by it.
     fn mark(&self) -> u64
         ensures { result ≡ mark self.now };
 

@@ -10,12 +10,12 @@ use crate::table::Table;
 use babel_prefix::{Addr, Family};
 use std::alloc::{AllocError, Global};
 
-/// The least pair of a destination and a source, by destination, then source, that two lists of rows
-/// answer differently; `None` if there is none. All prefixes are of the family, and no two rows of a
-/// list have the same two. `Err` for want of memory.
+/// The least pair of a destination and a source, by destination, then source, that two lists of
+/// rows answer differently; `None` if there is none. All prefixes are of the family, and no two
+/// rows of a list have the same two. `Err` for want of memory.
 ///
-/// The tries of sources of both lists stand in one table of nodes, in which equal tries have one number: the lists are
-/// read side by side up to the first destination for which they have two.
+/// The tries of sources of both lists stand in one table of nodes, in which equal tries have one
+/// number: the lists are read side by side up to the first destination for which they have two.
 pub fn least_difference<V: LawfulOrd>(
     alloc: Global,
     family: Family,
@@ -26,8 +26,13 @@ pub fn least_difference<V: LawfulOrd>(
     requires left_prefixes { HasDistinctPrefixes left.now }
     requires right_family { All (AreOfFamily family) right.now }
     requires right_prefixes { HasDistinctPrefixes right.now }
-    ensures family { IfOk result (λ found. IfSome found (λ p. (p.0.family ≡ family) × (p.1.family ≡ family))) }
-    ensures least { IfOk result (λ found. MatchOption found (SameAnswers (width_of family) (answers_in family left.now) (answers_in family right.now)) (λ p. IsLeastDifference (width_of family) (answers_in family left.now) (answers_in family right.now) p.0.bits p.1.bits)) }
+    ensures family { IfOk result (λ found. IfSome found (λ p. (p.0.family ≡ family)
+        × (p.1.family ≡ family))) }
+    ensures least { let width = width_of family in
+        let f = answers_in family left.now in
+        let g = answers_in family right.now in
+        IfOk result (λ found. MatchOption found (SameAnswers width f g)
+        (λ p. IsLeastDifference width f g p.0.bits p.1.bits)) }
 {
     let mut sources = Table::new(alloc);
     let left = sources.runs(alloc, family, left)?;

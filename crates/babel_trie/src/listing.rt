@@ -87,8 +87,8 @@ fn answers_nothing<V: Copy>(sources: Sources<Option<V>>) -> bool
     }
 }
 
-/// A block that has all rows of this one, with its bits and its place: where nothing is answered beside a path, the
-/// block that the path leads to.
+/// A block that has all rows of this one, with its bits and its place: where nothing is answered
+/// beside a path, the block that the path leads to.
 fn block_with_rows<V: LawfulOrd>(
     whole: Loose<Option<V>>,
     family: Family,
@@ -100,7 +100,8 @@ fn block_with_rows<V: LawfulOrd>(
     requires place { place < 2 ^ (width_of family - bits) }
     ensures bits { result.1 ≤ bits }
     ensures place { result.2 < 2 ^ (width_of family - result.1) }
-    ensures rows { (nodes : List (Node (Option V))) (t : Shape (Option V)) → Stands nodes whole t → HasRowsOf (width_of family) bits place t nodes result.0 result.1 result.2 }
+    ensures rows { (nodes : List (Node (Option V))) (t : Shape (Option V)) → Stands nodes whole t
+        → HasRowsOf (width_of family) bits place t nodes result.0 result.1 result.2 }
 {
     let Loose::Split(node) = whole else {
         return (whole, bits, place);
@@ -129,7 +130,10 @@ impl<V: LawfulOrd> Table<Option<V>> {
         requires dst_family { dst.address.family ≡ family }
         requires bits { bits ≤ width_of family }
         requires place { place < 2 ^ (width_of family - bits) }
-        ensures { OnOk result ((t : Shape (Option V)) (rows : List (Entry V)) → Stands self.now.nodes.items whole t → S.has out.old rows → S.has out.new (rows ++ map (entry_at family) (rows_at (block_of dst) (leaves (width_of family) bits place t)))) }
+        ensures { OnOk result ((t : Shape (Option V)) (rows : List (Entry V))
+            → Stands self.now.nodes.items whole t → S.has out.old rows
+            → S.has out.new (rows ++ map (entry_at family)
+            (rows_at (block_of dst) (leaves (width_of family) bits place t)))) }
     {
         let (block, bits, place) = block_with_rows(whole, family, bits, place);
         let Loose::Same(constant) = block else {
@@ -145,7 +149,8 @@ impl<V: LawfulOrd> Table<Option<V>> {
         Ok(())
     }
 
-    /// Puts out the rows of the largest blocks from one destination to another, in order, all with the same sources.
+    /// Puts out the rows of the largest blocks from one destination to another, in order, all with
+    /// the same sources.
     fn push_blocks<S: Sink<V>>(
         &self,
         sources: Sources<Option<V>>,
@@ -157,7 +162,10 @@ impl<V: LawfulOrd> Table<Option<V>> {
         requires trie { HasTrie (width_of family) self.now.nodes.items sources }
         requires some { from ≤ last }
         requires fits { last < 2 ^ width_of family }
-        ensures { OnOk result ((rows : List (Entry V)) → S.has out.old rows → S.has out.new (rows ++ map (entry_at family) (rows_of (width_of family) (each_with (sources_at (width_of family) self.now.nodes.items sources) (largest_in (width_of family) from last))))) }
+        ensures { OnOk result ((rows : List (Entry V)) → S.has out.old rows
+            → S.has out.new (rows ++ map (entry_at family) (rows_of (width_of family) (each_with
+            (sources_at (width_of family) self.now.nodes.items sources)
+            (largest_in (width_of family) from last))))) }
     {
         let width = family.width();
         let whole = self.opened(sources);
@@ -183,8 +191,11 @@ impl<V: LawfulOrd> Table<Option<V>> {
     ) -> Result<(), AllocError>
         requires runs { AreRuns runs.now }
         requires below { StartBelow (2 ^ width_of family) runs.now }
-        requires each { (x : Change (Sources (Option V))) → Listed runs.now x → HasTrie (width_of family) self.now.nodes.items x.sources }
-        ensures { OnOk result ((rows : List (Entry V)) → S.has out.old rows → S.has out.new (rows ++ map (entry_at family) (run_rows (width_of family) self.now.nodes.items runs.now))) }
+        requires each { (x : Change (Sources (Option V))) → Listed runs.now x
+            → HasTrie (width_of family) self.now.nodes.items x.sources }
+        ensures { OnOk result ((rows : List (Entry V)) → S.has out.old rows
+            → S.has out.new (rows ++ map (entry_at family)
+            (run_rows (width_of family) self.now.nodes.items runs.now))) }
     {
         let top = last_address(0, family.width());
         let mut rest = runs;
