@@ -1,5 +1,6 @@
 -- How many leaves with a value the tries of a table have: this project's own.
-use Rattle.std.specs.Prelude.{◌≡◌, ℕ, ◌+◌, ◌*◌, ◌-◌, ◌^◌, min, List, length, get_or, Option, Some, None}
+use Rattle.std.specs.Prelude.{◌≡◌, ℕ, ◌+◌, ◌*◌, ◌-◌, ◌^◌, min, List, length, get_or, Option, Some}
+use Rattle.std.specs.Prelude.{None}
 use Rattle.babel_trie.specs.Shape.{Shape, leaf, fork}
 use Rattle.babel_trie.specs.Interned.{Represents}
 use Rattle.babel_trie.specs.Sound.{IsBelow}
@@ -27,10 +28,12 @@ module _ {V : Type 0} where
   -- the same of a node, from the counts of those before it
   abbrev pub node_count : List ℕ → Node (Option V) → ℕ
   node_count counts node =
-      capped (node.skip * sources_count counts node.outside + (sources_count counts node.low + sources_count counts node.high))
+      capped (node.skip * sources_count counts node.outside
+      + (sources_count counts node.low + sources_count counts node.high))
 
   -- the counts of the nodes up to a number
   pub record AreCounted (nodes : List (Node (Option V))) (n : ℕ) (counts : List ℕ) : Type 0 where
     pub len : length counts ≡ n
-    pub each : (s : Sources (Option V)) (t : Shape (Option V)) → IsBelow n s → Represents nodes s t →
+    pub each : (s : Sources (Option V)) (t : Shape (Option V)) → IsBelow n s →
+        Represents nodes s t →
         sources_count counts s ≡ capped (value_count t)

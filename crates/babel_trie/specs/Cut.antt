@@ -1,5 +1,6 @@
 -- The largest blocks in a range of addresses: this project's own.
-use Rattle.std.specs.Prelude.{◌≡◌, ◌↔◌, ℕ, zero, suc, ◌+◌, ◌-◌, ◌*◌, ◌/◌, ◌%◌, ◌^◌, ◌<◌, ◌≤◌, ◌&&◌, nat_le, cond, List}
+use Rattle.std.specs.Prelude.{◌≡◌, ◌↔◌, ℕ, zero, suc, ◌+◌, ◌-◌, ◌*◌, ◌/◌, ◌%◌, ◌^◌, ◌<◌, ◌≤◌, ◌&&◌}
+use Rattle.std.specs.Prelude.{nat_le, cond, List}
 use Rattle.std.specs.Prelude.{[], ◌∷◌, ◌++◌, Contains, AllPairs}
 use Rattle.babel_prefix.specs.Block.{Block, BlockCovers, IsBlock, parent}
 
@@ -30,19 +31,22 @@ block_from w start bits = record { start = start; len = w - bits }
 -- it, if it lies in the range, or else these
 abbrev pub block_or : ℕ → ℕ → ℕ → ℕ → ℕ → List Block → List Block
 block_or w from last bits start others =
-    cond (nat_le from start && nat_le (start + 2 ^ bits) (last + 1)) (block_from w start bits ∷ []) others
+    cond (nat_le from start && nat_le (start + 2 ^ bits) (last + 1)) (block_from w start bits ∷ [])
+    others
 
 -- the largest blocks inside, of those that lie in the block of this many bits
 abbrev pub blocks_in : ℕ → ℕ → ℕ → ℕ → ℕ → List Block
 blocks_in w from last zero start = block_or w from last zero start []
 blocks_in w from last (suc bits) start =
-    block_or w from last (suc bits) start (blocks_in w from last bits start ++ blocks_in w from last bits (start + 2 ^ bits))
+    block_or w from last (suc bits) start
+    (blocks_in w from last bits start ++ blocks_in w from last bits (start + 2 ^ bits))
 
 -- the largest blocks in a range
 abbrev pub largest_in : ℕ → ℕ → ℕ → List Block
 largest_in w from last = blocks_in w from last w 0
 
--- a block of 2 ^ bits addresses can start at `at` and end at `last` or before; of no more bits can one
+-- a block of 2 ^ bits addresses can start at `at` and end at `last` or before; of no more bits can
+-- one
 pub record IsLargestFit (at last bits : ℕ) : Type 0 where
   pub aligned : at % 2 ^ bits ≡ 0
   pub room : at + 2 ^ bits ≤ last + 1

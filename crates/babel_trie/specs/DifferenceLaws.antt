@@ -1,4 +1,5 @@
--- What follows of the boxes of a difference: when there are none, what the first one has, and that there are no fewer.
+-- What follows of the boxes of a difference: when there are none, what the first one has, and that
+-- there are no fewer.
 use Rattle.std.specs.Prelude.{◌≡◌, ◌↔◌, ℕ, ◌≤◌, List, [], ◌∷◌, length}
 use Rattle.babel_prefix.specs.Block.{BlockCovers}
 use Rattle.babel_prefix.specs.Best.{Row}
@@ -16,13 +17,17 @@ NoneWhereSame V =
 -- the first one has the least pair of addresses at which the functions differ
 abbrev pub FirstHasLeast : Type 0 → Type 0
 FirstHasLeast V =
-    HasEqualityTest V → (width : ℕ) (f g : Answers V) (first : Row (Differing V)) (rest : List (Row (Differing V))) →
+    HasEqualityTest V →
+    (width : ℕ) (f g : Answers V) (first : Row (Differing V))
+    (rest : List (Row (Differing V))) →
     AreDifferences width f g (first ∷ rest) → (dst src : ℕ) → IsLeastDifference width f g dst src →
     BlockCovers width first.dst dst × BlockCovers width first.src src
 
 -- no disjoint list with the difference of the functions is shorter
 abbrev pub DifferencesAreFewest : Type 0 → Type 0
 DifferencesAreFewest V =
-    (width : ℕ) (f g : Answers V) (boxes rows : List (Row (Differing V))) (difference : Answers (Differing V)) →
-    AreDifferences width f g boxes → IsDifference width f g difference → IsDisjointTable width difference rows →
+    (width : ℕ) (f g : Answers V) (boxes rows : List (Row (Differing V)))
+    (difference : Answers (Differing V)) →
+    AreDifferences width f g boxes → IsDifference width f g difference →
+    IsDisjointTable width difference rows →
     length boxes ≤ length rows

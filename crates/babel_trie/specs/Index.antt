@@ -1,5 +1,6 @@
 -- Where the elements of a list are found again: this project's own.
-use Rattle.std.specs.Prelude.{◌≡◌, ◌⊎◌, ℕ, zero, suc, ◌+◌, ◌/◌, ◌%◌, ◌^◌, ◌<◌, max, List, length, get_or, Some, slice_get}
+use Rattle.std.specs.Prelude.{◌≡◌, ◌⊎◌, ℕ, zero, suc, ◌+◌, ◌/◌, ◌%◌, ◌^◌, ◌<◌, max, List, length}
+use Rattle.std.specs.Prelude.{get_or, Some, slice_get}
 use Rattle.std.specs.BTreeMap.{get}
 use Rattle.std.specs.declared.cmp.Ordering.{Ordering}
 use Rattle.babel_trie.specs.declared.index.Index.{Index}
@@ -9,7 +10,8 @@ use Rattle.babel_trie.specs.declared.table.NodeNumber.{NodeNumber}
 abbrev pub IsAmong : List ℕ → ℕ → ℕ → ℕ → Type 0
 IsAmong slots zero at number = ⊥
 IsAmong slots (suc left) at number =
-    (0 < get_or slots at 0) × ((get_or slots at 0 ≡ number + 1) ⊎ IsAmong slots left (at + 1) number)
+    (0 < get_or slots at 0)
+    × ((get_or slots at 0 ≡ number + 1) ⊎ IsAmong slots left (at + 1) number)
 
 -- the first of so many slots from this one on that is free
 abbrev pub IsFreeAmong : List ℕ → ℕ → ℕ → ℕ → Type 0
@@ -54,7 +56,8 @@ module _ {K : Type 0} (cmp : K → K → Ordering) (mark : K → ℕ) where
 
   -- a search for each of so many elements comes to its number, and what the map has is right
   pub record IsIndexedTo (count : ℕ) (list : List K) (index : Index K) : Type 0 where
-    pub found : (x : K) (number : NodeNumber) → number.0 < count → slice_get list number.0 ≡ Some x → IsFound index x number
+    pub found : (x : K) (number : NodeNumber) → number.0 < count →
+        slice_get list number.0 ≡ Some x → IsFound index x number
     pub right : IsRight list index
 
   -- a search for each element comes to its number, and what the map has is right

@@ -1,5 +1,6 @@
 -- Tries as constants and numbers of a table of nodes: this project's own.
-use Rattle.std.specs.Prelude.{◌≡◌, ◌↔◌, ◌⊎◌, ℕ, zero, suc, ◌+◌, ◌-◌, ◌%◌, ◌^◌, ◌<◌, ◌≤◌, ◌==◌, cond, true, false, max, List, Some}
+use Rattle.std.specs.Prelude.{◌≡◌, ◌↔◌, ◌⊎◌, ℕ, zero, suc, ◌+◌, ◌-◌, ◌%◌, ◌^◌, ◌<◌, ◌≤◌, ◌==◌, cond}
+use Rattle.std.specs.Prelude.{true, false, max, List, Some}
 use Rattle.std.specs.Prelude.{slice_get}
 use Rattle.babel_trie.specs.Shape.{Shape, leaf, fork, is_low, height, HasHalves, IsReduced}
 use Rattle.babel_trie.specs.declared.table.Loose.{Loose}
@@ -13,7 +14,8 @@ module _ {V : Type 0} where
   -- what the sources are, without the table
   abbrev pub Opens : List (Node V) → Sources V → Loose V → Type 0
   Opens nodes (Constant v) x = x ≡ Same v
-  Opens nodes (Stored number) x = (node : Node V) × (slice_get nodes number.0 ≡ Some node) × (x ≡ Split node)
+  Opens nodes (Stored number) x =
+      (node : Node V) × (slice_get nodes number.0 ≡ Some node) × (x ≡ Split node)
 
   -- the node from one bit further on its path, which is at its block once no bit is left
   abbrev pub inner : Node V → Node V
@@ -25,13 +27,15 @@ module _ {V : Type 0} where
     high = node.high;
   }
 
-  -- the halves of a node: at its block those that it names, and on its path to the block the rest of the path, and what
-  -- is beside it
+  -- the halves of a node: at its block those that it names, and on its path to the block the rest
+  -- of the path, and what is beside it
   abbrev pub HaveHalves : List (Node V) → Node V → Loose V → Loose V → Type 0
   HaveHalves nodes node low high =
       ((node.skip ≡ 0) × Opens nodes node.low low × Opens nodes node.high high)
-      ⊎ ((0 < node.skip) × (is_low node.skip node.path ≡ true) × (low ≡ Split (inner node)) × Opens nodes node.outside high)
-      ⊎ ((0 < node.skip) × (is_low node.skip node.path ≡ false) × Opens nodes node.outside low × (high ≡ Split (inner node)))
+      ⊎ ((0 < node.skip) × (is_low node.skip node.path ≡ true) × (low ≡ Split (inner node))
+      × Opens nodes node.outside high)
+      ⊎ ((0 < node.skip) × (is_low node.skip node.path ≡ false) × Opens nodes node.outside low
+      × (high ≡ Split (inner node)))
 
   abbrev pub HalvesAt : List (Node V) → Loose V → Loose V → Loose V → Type 0
   HalvesAt nodes (Same v) low high = ⊥
@@ -41,7 +45,8 @@ module _ {V : Type 0} where
   abbrev pub Stands : List (Node V) → Loose V → Shape V → Type 0
   Stands nodes x (leaf v) = x ≡ Same v
   Stands nodes x (fork low high) =
-      (l : Loose V) × (h : Loose V) × HalvesAt nodes x l h × Stands nodes l low × Stands nodes h high
+      (l : Loose V) × (h : Loose V) × HalvesAt nodes x l h × Stands nodes l low
+      × Stands nodes h high
 
   -- they stand for the trie
   abbrev pub Represents : List (Node V) → Sources V → Shape V → Type 0
@@ -55,7 +60,8 @@ module _ {V : Type 0} where
   abbrev pub OpensFrom : List (Node V) → Sources V → ℕ → Loose V → Type 0
   OpensFrom nodes (Constant v) passed x = x ≡ Same v
   OpensFrom nodes (Stored number) passed x =
-      (node : Node V) × (slice_get nodes number.0 ≡ Some node) × (passed ≤ node.skip) × (x ≡ Split (further passed node))
+      (node : Node V) × (slice_get nodes number.0 ≡ Some node) × (passed ≤ node.skip)
+      × (x ≡ Split (further passed node))
 
   -- a bit more fits on its path
   abbrev pub FitsPath : Loose V → Type 0
@@ -64,8 +70,10 @@ module _ {V : Type 0} where
 
   -- beside one value the other half has a path of its own, on which another value is beside it
   abbrev pub IsNoLonger : List (Node V) → Sources V → Sources V → Type 0
-  IsNoLonger nodes s other = (v : V) (number : NodeNumber) → s ≡ Constant v → other ≡ Stored number →
-      (node : Node V) × (slice_get nodes number.0 ≡ Some node) × (0 < node.skip) × (node.outside ≡ Constant v → ⊥)
+  IsNoLonger nodes s other =
+      (v : V) (number : NodeNumber) → s ≡ Constant v → other ≡ Stored number →
+      (node : Node V) × (slice_get nodes number.0 ≡ Some node) × (0 < node.skip)
+      × (node.outside ≡ Constant v → ⊥)
 
   -- the one form of a node: the path is as long as it can be, and says nothing twice
   pub record IsNormal (nodes : List (Node V)) (node : Node V) : Type 0 where
@@ -83,7 +91,8 @@ module _ {V : Type 0} where
   -- it has these halves and its one form, or is the one value that both are
   abbrev pub AreUnited : List (Node V) → Loose V → Loose V → Loose V → Type 0
   AreUnited nodes low high x =
-      ((v : V) × (low ≡ Same v) × (high ≡ Same v) × (x ≡ Same v)) ⊎ (HalvesAt nodes x low high × IsNormalLoose nodes x)
+      ((v : V) × (low ≡ Same v) × (high ≡ Same v) × (x ≡ Same v))
+      ⊎ (HalvesAt nodes x low high × IsNormalLoose nodes x)
 
   -- no value is beside a path that it would make longer, and not both are one value
   abbrev pub IsBesidePath : Loose V → Loose V → Type 0
@@ -97,7 +106,8 @@ module _ {V : Type 0} where
   -- no node stands twice
   abbrev pub HasDistinctNodes : List (Node V) → Type 0
   HasDistinctNodes nodes =
-      (i j : ℕ) (node : Node V) → slice_get nodes i ≡ Some node → slice_get nodes j ≡ Some node → i ≡ j
+      (i j : ℕ) (node : Node V) → slice_get nodes i ≡ Some node → slice_get nodes j ≡ Some node →
+      i ≡ j
 
   -- no node stands twice, and each has its one form
   pub record HasOneForm (nodes : List (Node V)) : Type 0 where
@@ -107,7 +117,8 @@ module _ {V : Type 0} where
   -- equal tries have equal sources, and equal sources stand for equal tries
   abbrev pub SourcesAreExact : List (Node V) → Type 0
   SourcesAreExact nodes =
-      (r s : Sources V) (t u : Shape V) → Represents nodes r t → Represents nodes s u → (r ≡ s) ↔ (t ≡ u)
+      (r s : Sources V) (t u : Shape V) → Represents nodes r t → Represents nodes s u →
+      (r ≡ s) ↔ (t ≡ u)
 
   -- it stands for the trie that has these halves
   pub record IsJoined (nodes : List (Node V)) (x : Loose V) (low high : Shape V) : Type 0 where
@@ -119,7 +130,8 @@ module _ {V : Type 0} where
 
   -- it stands for the joined trie, whatever tries the two stand for
   abbrev pub Joins : List (Node V) → Loose V → Loose V → List (Node V) → Loose V → Type 0
-  Joins old low high new x = (l h : Shape V) → Stands old low l → Stands old high h → IsJoined new x l h
+  Joins old low high new x =
+      (l h : Shape V) → Stands old low l → Stands old high h → IsJoined new x l h
 
   -- it stands for a reduced trie that looks at no more than this many bits
   pub record IsTrie (bits : ℕ) (nodes : List (Node V)) (x : Loose V) : Type 0 where
@@ -146,6 +158,7 @@ module _ {V : Type 0} where
     pub high_lower : height high_half ≤ height t - 1
     pub reduced : IsReduced t → IsReduced low_half × IsReduced high_half
 
--- in a table with one form of each node, equal tries have equal sources, and equal sources stand for equal tries
+-- in a table with one form of each node, equal tries have equal sources, and equal sources stand
+-- for equal tries
 abbrev pub EqualTriesHaveEqualSources : Type 0 → Type 0
 EqualTriesHaveEqualSources V = (nodes : List (Node V)) → HasOneForm nodes → SourcesAreExact nodes

@@ -1,5 +1,6 @@
 -- What laying rows over a trie gives: the best match of RFC 9079, 4, block by block.
-use Rattle.std.specs.Prelude.{◌≡◌, ◌⊎◌, ℕ, ◌+◌, ◌^◌, ◌<◌, ◌≤◌, Bool, true, false, List, [], Option, Some}
+use Rattle.std.specs.Prelude.{◌≡◌, ◌⊎◌, ℕ, ◌+◌, ◌^◌, ◌<◌, ◌≤◌, Bool, true, false, List, [], Option}
+use Rattle.std.specs.Prelude.{Some}
 use Rattle.babel_prefix.specs.Entries.{Entry}
 use Rattle.babel_prefix.specs.Block.{BlockCovers}
 use Rattle.babel_prefix.specs.Address.{block_of}
@@ -20,23 +21,28 @@ module _ {V : Type 0} where
   AreHalvesBy false inside beside low high = (low ≡ beside) × (high ≡ inside)
 
   -- it stands for the trie in a block that these bits lead to, with this value beside it
-  pub record IsAlong (nodes : List (Node V)) (x : Loose V) (skip path : ℕ) (v : V) (inside : Shape V) : Type 0 where
+  pub record IsAlong (nodes : List (Node V)) (x : Loose V) (skip path : ℕ) (v : V)
+      (inside : Shape V) : Type 0 where
     pub whole : Shape V
     pub stands : Stands nodes x whole
-    pub values : (bits a : ℕ) → value_at whole bits a ≡ value_at (along skip path (leaf v) inside) bits a
+    pub values : (bits a : ℕ) →
+        value_at whole bits a ≡ value_at (along skip path (leaf v) inside) bits a
     pub lower : height whole ≤ height inside + skip
     pub reduced : IsReduced inside → IsReduced whole
 
   -- the rows have one destination prefix
   abbrev pub HasOneDestination : List (Entry V) → Type 0
-  HasOneDestination rows = (x y : Entry V) → Listed rows x → Listed rows y → (block_of x.0) ≡ (block_of y.0)
+  HasOneDestination rows =
+      (x y : Entry V) → Listed rows x → Listed rows y → (block_of x.0) ≡ (block_of y.0)
 
-  -- it stands for a leaf with the value of one of the rows, or for the old trie where there are none
+  -- it stands for a leaf with the value of one of the rows, or for the old trie where there are
+  -- none
   pub record IsSet (rows : List (Entry V)) (nodes : List (Node (Option V))) (x : Loose (Option V))
       (old : Shape (Option V)) : Type 0 where
     pub new : Shape (Option V)
     pub stands : Stands nodes x new
-    pub is : ((rows ≡ []) × (new ≡ old)) ⊎ ((row : Entry V) × Listed rows row × (new ≡ leaf (Some row.2)))
+    pub is : ((rows ≡ []) × (new ≡ old))
+        ⊎ ((row : Entry V) × Listed rows row × (new ≡ leaf (Some row.2)))
 
   -- it stands for the old trie with rows laid over it, for destinations that all rows cover
   pub record IsLaid (w bits start : ℕ) (rows : List (Row V)) (nodes : List (Node (Option V)))
@@ -45,7 +51,8 @@ module _ {V : Type 0} where
     pub stands : Stands nodes x new
     pub fits : height old ≤ bits → height new ≤ bits
     pub reduced : IsReduced old → IsReduced new
-    pub values : (d a : ℕ) → ((row : Row V) → Listed rows row → BlockCovers w row.dst d) → a < 2 ^ bits →
+    pub values : (d a : ℕ) → ((row : Row V) → Listed rows row → BlockCovers w row.dst d) →
+        a < 2 ^ bits →
         Overlays w rows d (start + a) (value_at old bits a) (value_at new bits a)
 
   -- they stand for the old trie with rows laid over it, for destinations that all rows cover
@@ -55,5 +62,6 @@ module _ {V : Type 0} where
     pub stands : Represents nodes s new
     pub fits : height old ≤ bits → height new ≤ bits
     pub reduced : IsReduced old → IsReduced new
-    pub values : (d a : ℕ) → ((row : Row V) → Listed rows row → BlockCovers w row.dst d) → a < 2 ^ bits →
+    pub values : (d a : ℕ) → ((row : Row V) → Listed rows row → BlockCovers w row.dst d) →
+        a < 2 ^ bits →
         Overlays w rows d (start + a) (value_at old bits a) (value_at new bits a)

@@ -1,4 +1,5 @@
--- Numbers that go with values, by which they are found again, and that mostly differ where values do: this project's own.
+-- Numbers that go with values, by which they are found again, and that mostly differ where values
+-- do: this project's own.
 use Rattle.std.specs.Prelude.{ℕ, ◌+◌, ◌*◌, ◌/◌, ◌%◌, ◌^◌, Option, Some, None}
 use Rattle.babel_trie.specs.declared.differing.Differing.{Differing}
 use Rattle.babel_trie.specs.declared.known.Both.{Both}
@@ -26,7 +27,8 @@ module _ {V : Type 0} where
 
   abbrev pub node_mark : (Sources V → ℕ) → Node V → ℕ
   node_mark mark node =
-      stirred (stirred (stirred (stirred (stirred (stirred 0 node.skip) (node.path % 2 ^ 64)) (node.path / 2 ^ 64))
+      stirred (stirred (stirred
+      (stirred (stirred (stirred 0 node.skip) (node.path % 2 ^ 64)) (node.path / 2 ^ 64))
       (mark node.outside)) (mark node.low)) (mark node.high)
 
   abbrev pub loose_mark : (V → ℕ) → (Node V → ℕ) → Loose V → ℕ

@@ -1,5 +1,5 @@
--- Sources, and options of values, that compare as equal are one: what the order of a grid's values must show. This
--- project's own.
+-- Sources, and options of values, that compare as equal are one: what the order of a grid's values
+-- must show. This project's own.
 use Rattle.std.specs.Prelude.{◌≡◌, ℕ, Option, Some, None, refl}
 use Rattle.std.specs.Ordering.{nat_cmp, ordering_then}
 use Rattle.std.specs.Option.{option_cmp}
@@ -18,7 +18,8 @@ use Rattle.babel_trie.specs.declared.table.Sources.{Sources}
 use Rattle.babel_trie.specs.declared.table.Sources.TheVariants.{Constant, Stored}
 
 -- options of values that compare as equal only where they are one
-pub options_exact : {V : Type 0} (cmp : V → V → Ordering) → ((a b : V) → cmp a b ≡ Equal → a ≡ b) → (a b : Option V) →
+pub options_exact : {V : Type 0} (cmp : V → V → Ordering) → ((a b : V) → cmp a b ≡ Equal → a ≡ b) →
+    (a b : Option V) →
     option_cmp cmp a b ≡ Equal → a ≡ b
 options_exact cmp exact None None e = refl
 options_exact cmp exact None (Some w) e = cc
@@ -27,14 +28,16 @@ options_exact cmp exact (Some v) (Some w) e = ap Some (exact v w e)
 
 module _ {V : Type 0} where
   -- constants of values that compare as equal only where they are one
-  pub constants_exact : (cmp : V → V → Ordering) → ((a b : V) → cmp a b ≡ Equal → a ≡ b) → (v w : V) → cmp v w ≡ Equal →
+  pub constants_exact : (cmp : V → V → Ordering) → ((a b : V) → cmp a b ≡ Equal → a ≡ b) →
+      (v w : V) → cmp v w ≡ Equal →
       let a : Sources V = Constant v in let b : Sources V = Constant w in a ≡ b
   constants_exact cmp exact v w e = ap Constant (exact v w e)
 
   -- numbers that compare as equal are one
   pub stored_exact : (k m : NodeNumber) → nat_cmp k.0 m.0 ≡ Equal →
       let a : Sources V = Stored k in let b : Sources V = Stored m in a ≡ b
-  stored_exact k m e = ap (λ (n : ℕ). let s : Sources V = Stored (record { 0 = n }) in s) (exact_unsigned k.0 m.0 e)
+  stored_exact k m e =
+      ap (λ (n : ℕ). let s : Sources V = Stored (record { 0 = n }) in s) (exact_unsigned k.0 m.0 e)
 
 pub less_is_not_equal : let o : Ordering = Less in o ≡ Equal → ⊥
 less_is_not_equal e = cc
@@ -43,35 +46,48 @@ pub greater_is_not_equal : let o : Ordering = Greater in o ≡ Equal → ⊥
 greater_is_not_equal e = cc
 
 -- nodes whose fields compare as equal are one
-pub nodes_exact : {V : Type 0} (cmp : Sources V → Sources V → Ordering) → ((r s : Sources V) → cmp r s ≡ Equal → r ≡ s) →
+pub nodes_exact : {V : Type 0} (cmp : Sources V → Sources V → Ordering) →
+    ((r s : Sources V) → cmp r s ≡ Equal → r ≡ s) →
     (a b : Node V) → node_cmp cmp a b ≡ Equal → a ≡ b
 nodes_exact {V} cmp exact a b e =
-    let all = exact_pairs nat_cmp _ exact_unsigned
-    (exact_pairs nat_cmp _ exact_unsigned (exact_pairs cmp _ exact (exact_pairs cmp cmp exact exact)))
-    (a.skip, (a.path, (a.outside, (a.low, a.high)))) (b.skip, (b.path, (b.outside, (b.low, b.high)))) e in
+    let all = exact_pairs nat_cmp _ exact_unsigned (exact_pairs nat_cmp _ exact_unsigned
+    (exact_pairs cmp _ exact (exact_pairs cmp cmp exact exact)))
+    (a.skip, (a.path, (a.outside, (a.low, a.high))))
+    (b.skip, (b.path, (b.outside, (b.low, b.high)))) e in
     ap (λ (p : ℕ × (ℕ × (Sources V × (Sources V × Sources V)))).
-    let n : Node V = record { skip = p.0; path = p.1.0; outside = p.1.1.0; low = p.1.1.1.0; high = p.1.1.1.1 } in n) all
+    let n : Node V = record {
+      skip = p.0;
+      path = p.1.0;
+      outside = p.1.1.0;
+      low = p.1.1.1.0;
+      high = p.1.1.1.1;
+    } in n) all
 
 module _ {V : Type 0} where
   -- tries of one value each, whose values compare as equal only where they are one
-  pub same_exact : (cmp : V → V → Ordering) → ((a b : V) → cmp a b ≡ Equal → a ≡ b) → (v w : V) → cmp v w ≡ Equal →
+  pub same_exact : (cmp : V → V → Ordering) → ((a b : V) → cmp a b ≡ Equal → a ≡ b) → (v w : V) →
+      cmp v w ≡ Equal →
       let a : Loose V = Same v in let b : Loose V = Same w in a ≡ b
   same_exact cmp exact v w e = ap Same (exact v w e)
 
   -- tries that are nodes, which compare as equal only where they are one
-  pub split_exact : (cmp : Node V → Node V → Ordering) → ((a b : Node V) → cmp a b ≡ Equal → a ≡ b) → (k m : Node V) →
+  pub split_exact : (cmp : Node V → Node V → Ordering) →
+      ((a b : Node V) → cmp a b ≡ Equal → a ≡ b) → (k m : Node V) →
       cmp k m ≡ Equal → let a : Loose V = Split k in let b : Loose V = Split m in a ≡ b
   split_exact cmp exact k m e = ap Split (exact k m e)
 
   -- two answers each
-  pub differing_exact : (cmp : Option V → Option V → Ordering) → ((a b : Option V) → cmp a b ≡ Equal → a ≡ b) →
+  pub differing_exact : (cmp : Option V → Option V → Ordering) →
+      ((a b : Option V) → cmp a b ≡ Equal → a ≡ b) →
       (a b : Differing V) → ordering_then (cmp a.left b.left) (cmp a.right b.right) ≡ Equal → a ≡ b
   differing_exact cmp exact a b e =
-      ap (λ (p : Option V × Option V). let d : Differing V = record { left = p.0; right = p.1 } in d)
+      ap (λ (p : Option V × Option V).
+      let d : Differing V = record { left = p.0; right = p.1 } in d)
       (exact_pairs cmp cmp exact exact (a.left, a.right) (b.left, b.right) e)
 
 -- two that are compared each
-pub both_exact : {T : Type 0} (cmp : T → T → Ordering) → ((a b : T) → cmp a b ≡ Equal → a ≡ b) → (a b : Both T) →
+pub both_exact : {T : Type 0} (cmp : T → T → Ordering) → ((a b : T) → cmp a b ≡ Equal → a ≡ b) →
+    (a b : Both T) →
     ordering_then (cmp a.left b.left) (cmp a.right b.right) ≡ Equal → a ≡ b
 both_exact {T} cmp exact a b e =
     ap (λ (p : T × T). let c : Both T = record { left = p.0; right = p.1 } in c)

@@ -13,8 +13,10 @@ module _ {F : Type 0} where
     pub kept : (none : F) (d : ℕ) → d < from → said_at none after d ≡ said_at none before d
     pub said : (none : F) (d : ℕ) → from ≤ d → d < to → said_at none after d ≡ f
 
-  -- changes said, which start below the one come to, and the changes ahead, of which none starts below one before it
-  pub record AreOpen (list : List (Change F)) (now : Change F) (ahead : List (Change F)) : Type 0 where
+  -- changes said, which start below the one come to, and the changes ahead, of which none starts
+  -- below one before it
+  pub record AreOpen (list : List (Change F)) (now : Change F)
+      (ahead : List (Change F)) : Type 0 where
     pub runs : AreRuns list
     pub below : StartBelow now.start list
     pub in_order : InOrder (λ x y. x.start ≤ y.start) (now ∷ ahead)

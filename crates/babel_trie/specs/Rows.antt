@@ -1,5 +1,6 @@
 -- Sorted rows inside a block, and what they make of an answer by the best match of RFC 9079, 4.
-use Rattle.std.specs.Prelude.{◌≡◌, ◌⊎◌, ℕ, ◌+◌, ◌-◌, ◌*◌, ◌^◌, ◌<◌, ◌≤◌, List, [], ◌∷◌, ◌++◌, Option, Some}
+use Rattle.std.specs.Prelude.{◌≡◌, ◌⊎◌, ℕ, ◌+◌, ◌-◌, ◌*◌, ◌^◌, ◌<◌, ◌≤◌, List, [], ◌∷◌, ◌++◌}
+use Rattle.std.specs.Prelude.{Option, Some}
 use Rattle.babel_prefix.specs.Entries.{Entry}
 use Rattle.babel_prefix.specs.Block.{Block, IsBlock}
 use Rattle.babel_prefix.specs.Address.{block_of}
@@ -31,8 +32,10 @@ pub record InBlock {X : Type 0} (key : X → Block) (w bits start : ℕ) (rows :
   pub no_shorter : (x : X) → Listed rows x → w - bits ≤ (key x).len
   pub in_order : InOrder (λ x y. IsNoLater (key x) (key y)) rows
 
--- rows of a block: those of the whole block come first, then those of its lower and then those of its upper half
-pub record AreParted {X : Type 0} (key : X → Block) (w bits start : ℕ) (rows own low high : List X) : Type 0 where
+-- rows of a block: those of the whole block come first, then those of its lower and then those of
+-- its upper half
+pub record AreParted {X : Type 0} (key : X → Block) (w bits start : ℕ)
+    (rows own low high : List X) : Type 0 where
   pub some : 0 < bits
   pub place : IsPlace w bits start
   pub rows_in : InBlock key w bits start rows
@@ -54,4 +57,5 @@ module _ {V : Type 0} where
   -- the new answer is the value of the best row, or the old one where none matches
   abbrev pub Overlays : ℕ → List (Row V) → ℕ → ℕ → Option V → Option V → Type 0
   Overlays w rows d s old new =
-      ((row : Row V) × IsBest w rows d s row × (new ≡ Some row.value)) ⊎ (NoneMatches w rows d s × (new ≡ old))
+      ((row : Row V) × IsBest w rows d s row × (new ≡ Some row.value))
+      ⊎ (NoneMatches w rows d s × (new ≡ old))

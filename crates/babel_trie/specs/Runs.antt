@@ -1,5 +1,5 @@
--- What is answered from an address on, as a list of the addresses at which that changes: this project's own, over the best
--- match of RFC 9079, 4.
+-- What is answered from an address on, as a list of the addresses at which that changes: this
+-- project's own, over the best match of RFC 9079, 4.
 use Rattle.std.specs.Prelude.{◌≡◌, ◌≢◌, ℕ, ◌^◌, ◌<◌, ◌≤◌, cond, nat_le, List, [], ◌∷◌, Option}
 use Rattle.babel_prefix.specs.Members.{Listed}
 use Rattle.babel_trie.specs.Boxes.{Answers, SameAnswers}
@@ -35,7 +35,8 @@ module _ {F : Type 0} where
   StartFrom at list = (x : Change F) → Listed list x → at ≤ x.start
 
   -- the lists say these two different things at this address, and the same below it
-  pub record AreFirstApart (none : F) (left right : List (Change F)) (last at : ℕ) (here there : F) : Type 0 where
+  pub record AreFirstApart (none : F) (left right : List (Change F)) (last at : ℕ)
+      (here there : F) : Type 0 where
     pub in_range : at ≤ last
     pub here_is : here ≡ said_at none left at
     pub there_is : there ≡ said_at none right at
@@ -44,13 +45,17 @@ module _ {F : Type 0} where
 
 module _ {V : Type 0} where
   -- the answers of a list of changes
-  abbrev pub run_answers : ℕ → List (Node (Option V)) → Sources (Option V) → List (Change (Sources (Option V))) → Answers V
+  abbrev pub run_answers : ℕ → List (Node (Option V)) → Sources (Option V) →
+      List (Change (Sources (Option V))) → Answers V
   run_answers w nodes none list d = value_at (sources_at w nodes (said_at none list d)) w
 
-  -- the list says at each address sources that stand for a trie, and all together have these answers
-  pub record HasRuns (w : ℕ) (nodes : List (Node (Option V))) (list : List (Change (Sources (Option V))))
+  -- the list says at each address sources that stand for a trie, and all together have these
+  -- answers
+  pub record HasRuns (w : ℕ) (nodes : List (Node (Option V)))
+      (list : List (Change (Sources (Option V))))
       (f : Answers V) : Type 0 where
     pub runs : AreRuns list
     pub below : StartBelow (2 ^ w) list
-    pub each : (none : Sources (Option V)) (d : ℕ) → d < 2 ^ w → HasTrie w nodes (said_at none list d)
+    pub each : (none : Sources (Option V)) (d : ℕ) → d < 2 ^ w →
+        HasTrie w nodes (said_at none list d)
     pub answers : (none : Sources (Option V)) → SameAnswers w (run_answers w nodes none list) f

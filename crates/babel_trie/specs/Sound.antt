@@ -30,10 +30,13 @@ module _ {V : Type 0} where
   abbrev pub node_cmp : (Sources V → Sources V → Ordering) → Node V → Node V → Ordering
   node_cmp cmp a b =
       ordering_then (nat_cmp a.skip b.skip) (ordering_then (nat_cmp a.path b.path)
-      (ordering_then (cmp a.outside b.outside) (ordering_then (cmp a.low b.low) (cmp a.high b.high))))
+      (ordering_then (cmp a.outside b.outside)
+      (ordering_then (cmp a.low b.low) (cmp a.high b.high))))
 
-  -- no node stands twice, a search for a node finds its number, each node has its one form, and the halves of a node are constants or have lower numbers
-  pub record IsSound (cmp : Sources V → Sources V → Ordering) (mark : Sources V → ℕ) (nodes : List (Node V))
+  -- no node stands twice, a search for a node finds its number, each node has its one form, and the
+  -- halves of a node are constants or have lower numbers
+  pub record IsSound (cmp : Sources V → Sources V → Ordering) (mark : Sources V → ℕ)
+      (nodes : List (Node V))
       (numbers : Index (Node V)) : Type 0 where
     pub lower : (i : ℕ) (node : Node V) → slice_get nodes i ≡ Some node → HasHalvesBelow i node
     pub normal : (i : ℕ) (node : Node V) → slice_get nodes i ≡ Some node → IsNormal nodes node
@@ -42,4 +45,5 @@ module _ {V : Type 0} where
 
   -- each number keeps its node
   abbrev pub KeepsNodes : List (Node V) → List (Node V) → Type 0
-  KeepsNodes old new = (i : ℕ) (node : Node V) → slice_get old i ≡ Some node → slice_get new i ≡ Some node
+  KeepsNodes old new =
+      (i : ℕ) (node : Node V) → slice_get old i ≡ Some node → slice_get new i ≡ Some node
