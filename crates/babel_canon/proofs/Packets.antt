@@ -5,7 +5,9 @@ use Rattle.byteorder.specs.Endian.{big_bytes}
 use borrow.Rule.Slice.PartMut.{mid_of, put_mid}
 use Rattle.babel_tlv.specs.Framing.{framed}
 use Rattle.babel_tlv.specs.Pair.{Pair}
-use Rattle.babel_tlv.specs.Group.{group, group_in, groups_behind, body_of, route_tlvs, update_tlv, pair_family, shared_octets, dst_in, held_seqno, held_metric, written_after, Written, ArePacked, IsCanonicalText}
+use Rattle.babel_tlv.specs.Group.{group, groups_behind, body_of, route_tlvs, written_id, written_hop, written_dst, update_tlv, pair_family, shared_octets, held_seqno, held_metric, ArePacked, IsCanonicalText}
+use Rattle.babel_tlv.specs.Writing.{group_in, written_after, Written}
+use Rattle.babel_tlv.proofs.WrittenLaws.{group_in-written_after}
 use Rattle.babel_tlv.proofs.TextTold.{packed}
 use Rattle.babel_canon.specs.Packing.{headed}
 use Rattle.babel_canon.specs.Sizes.{IsBodySize}
@@ -18,14 +20,15 @@ use Rattle.babel_canon.proofs.Groups.{latest_first-snoc, body-snoc}
 some_octets : (last : List Pair) → length (body_of last) ≡ 0 → last ≡ []
 some_octets [] none = refl
 some_octets (pair ∷ pairs) none =
-    let so_far = written_after [] in
-    let route = route_tlvs (pair_family pair) so_far pair.1 in
-    let update = update_tlv (shared_octets (dst_in (pair_family pair) so_far) pair.0.dst) pair.0 (held_seqno pair.1) (held_metric pair.1) in
+    let family = pair_family pair in
+    let route = route_tlvs (written_id []) (written_hop family []) pair.1 in
+    let update = update_tlv (shared_octets (written_dst family []) pair.0.dst) pair.0 (held_seqno pair.1) (held_metric pair.1) in
     absurd (omega (arith, none, length-append (group [] pair) (groups_behind (pair ∷ []) pairs), length-append route update))
 
 -- the body with one pair more
 body_more : (last : List Pair) (pair : Pair) (so_far : Written) → so_far ≡ written_after (latest_first [] last) → body_of last ++ group_in so_far pair ≡ body_of (last ++ pair ∷ [])
-body_more last pair so_far writing = ap (λ (w : Written). body_of last ++ group_in w pair) writing ∙ sym (body-snoc last pair)
+body_more last pair so_far writing = ap (λ (w : Written). body_of last ++ group_in w pair) writing
+    ∙ ap (λ (o : List ℕ). body_of last ++ o) (group_in-written_after (latest_first [] last) pair) ∙ sym (body-snoc last pair)
 
 length_more : (last : List Pair) (pair : Pair) (so_far : Written) → so_far ≡ written_after (latest_first [] last) → length (body_of (last ++ pair ∷ [])) ≡ length (body_of last) + length (group_in so_far pair)
 length_more last pair so_far writing = sym (ap length (body_more last pair so_far writing)) ∙ length-append (body_of last) (group_in so_far pair)

@@ -3,7 +3,8 @@ use Rattle.std.specs.Prelude.{◌≡◌, ℕ, ◌≤◌, List, [], ◌∷◌, �
 use Rattle.std.specs.List.{flat_map}
 use Rattle.babel_tlv.specs.Framing.{framed}
 use Rattle.babel_tlv.specs.Pair.{Pair}
-use Rattle.babel_tlv.specs.Group.{body_of, written_after, ArePacked, IsCanonicalText}
+use Rattle.babel_tlv.specs.Group.{body_of, ArePacked, IsCanonicalText}
+use Rattle.babel_tlv.specs.Writing.{written_after}
 use Rattle.babel_canon.specs.declared.text.Text.{Text}
 
 -- the earlier pairs, the latest first, behind further ones

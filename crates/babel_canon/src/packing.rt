@@ -1,6 +1,7 @@
 //! The canonical text of pairs, written as they come.
 ghost use Rattle.std.specs.Prelude.{◌≡◌, ◌+◌, ◌≤◌, ◌++◌, ◌∷◌, ℕ, List, [], length, IfOk, OnOk};
-ghost use Rattle.babel_tlv.specs.Group.{IsCanonicalText, written_after};
+ghost use Rattle.babel_tlv.specs.Group.{IsCanonicalText};
+ghost use Rattle.babel_tlv.specs.Writing.{written_after};
 ghost use Rattle.babel_tlv.specs.Pair.{Pair};
 ghost use Rattle.babel_canon.specs.Packing.{HasLength, headed};
 ghost use Rattle.babel_canon.specs.Writing.{IsTextOf};

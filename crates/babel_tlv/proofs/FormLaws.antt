@@ -14,7 +14,7 @@ use Rattle.babel_prefix.specs.declared.family.Family.TheVariants.{V4, V6}
 use Rattle.babel_prefix.specs.Width.{width_of, octet_count}
 use Rattle.babel_prefix.proofs.OctetLaws.{take-octets, number-octets}
 use Rattle.babel_prefix.specs.Address.{Address, octets_of}
-use Rattle.babel_tlv.specs.Context.{IsOfFamily}
+use Rattle.babel_tlv.specs.Kept.{IsOfFamily}
 use Rattle.babel_tlv.proofs.PrefixLaws.{length-octets, padded-is, pow_256}
 use Rattle.babel_tlv.specs.Forming.{padded, default_octets}
 

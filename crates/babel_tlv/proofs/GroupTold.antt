@@ -18,10 +18,11 @@ use Rattle.babel_tlv.specs.Forming.{encoding}
 use Rattle.babel_tlv.specs.Context.{Context, next_hop_in_context}
 use Rattle.babel_tlv.specs.Updating.{default_in}
 use Rattle.babel_tlv.specs.Says.{key_event}
-use Rattle.babel_tlv.specs.Group.{pair_family, Written, written_after, hop_in, dst_in, is_id, is_hop, router_id_tlv, next_hop_tlv, route_tlvs, held_seqno, held_metric, update_tlv, shared_octets, prefix_octets, source_sub, group_in, groups_behind}
+use Rattle.babel_tlv.specs.Group.{pair_family, is_id, is_hop, router_id_tlv, next_hop_tlv, held_seqno, held_metric, update_tlv, shared_octets, prefix_octets, source_sub, group, groups_behind}
+use Rattle.babel_tlv.specs.Writing.{route_in, Written, written_after, hop_in, dst_in, group_in}
 use Rattle.babel_tlv.specs.Writing.{with_held, with_dst}
 use Rattle.babel_tlv.specs.News.{spoken, held_event, pair_event}
-use Rattle.babel_tlv.proofs.WrittenLaws.{with_pair-written_after}
+use Rattle.babel_tlv.proofs.WrittenLaws.{with_pair-written_after, group_in-written_after}
 use Rattle.babel_tlv.proofs.Telling.{Tells, Tells-none, Tells-append}
 use Rattle.babel_tlv.proofs.IdTold.{with_id, id_told}
 use Rattle.babel_tlv.proofs.HopTold.{with_hop, hop_told}
@@ -168,7 +169,7 @@ hop_stays V4 context id current known = known
 hop_stays V6 context id current known = known
 
 tlvs_told : (context : Context) (at : ℕ) (so_far : Written) (key : RouteKey) (held : Held) → FitsKey key held → Agrees context so_far
-    → Tells context at (route_tlvs key.dst.address.family so_far held) [] (context_held key.dst.address.family held context)
+    → Tells context at (route_in key.dst.address.family so_far held) [] (context_held key.dst.address.family held context)
 tlvs_told context at so_far key (helds.Route ann) fits agrees =
     let family = key.dst.address.family in
     let id_octets = cond (is_id so_far.router_id ann.router_id) [] (router_id_tlv ann.router_id) in
@@ -221,7 +222,7 @@ group_told context at so_far pair fits agrees =
     let family = pair_family pair in
     let dst = pair.0.dst in
     let src = pair.0.src in
-    let route = route_tlvs family so_far pair.1 in
+    let route = route_in family so_far pair.1 in
     let omit = shared_octets (dst_in family so_far) dst in
     let update = update_tlv omit pair.0 (held_seqno pair.1) (held_metric pair.1) in
     let middle = context_held family pair.1 context in
@@ -240,8 +241,8 @@ pub groups_told : (context : Context) (at : ℕ) (earlier pairs : List Pair) →
     → (behind : Context) × Tells context at (groups_behind earlier pairs) (map pair_event pairs) behind
 groups_told context at earlier [] fits agrees = (context, Tells-none context at)
 groups_told context at earlier (pair ∷ pairs) fits agrees =
-    let group = group_in (written_after earlier) pair in
+    let octets = group earlier pair in
     let next = context_with pair context in
-    let first = group_told context at (written_after earlier) pair fits.0 agrees in
-    let later = groups_told next (at + length group) (pair ∷ earlier) pairs fits.1 (Agrees-after context earlier pair agrees) in
-    (later.0, Tells-append context next later.0 at group (groups_behind (pair ∷ earlier) pairs) (pair_event pair ∷ []) (map pair_event pairs) first later.1)
+    let first = subst (λ (o : List ℕ). Tells context at o (pair_event pair ∷ []) next) (group_in-written_after earlier pair) (group_told context at (written_after earlier) pair fits.0 agrees) in
+    let later = groups_told next (at + length octets) (pair ∷ earlier) pairs fits.1 (Agrees-after context earlier pair agrees) in
+    (later.0, Tells-append context next later.0 at octets (groups_behind (pair ∷ earlier) pairs) (pair_event pair ∷ []) (map pair_event pairs) first later.1)

@@ -11,7 +11,8 @@ use Rattle.babel_tlv.specs.declared.place.Place.TheVariants as places
 use Rattle.babel_tlv.specs.declared.reason.Reason.{Reason}
 use Rattle.babel_tlv.specs.Framing.{TlvAt, tlvs_of}
 use Rattle.babel_tlv.specs.Left.{BeginsTlv}
-use Rattle.babel_tlv.specs.SubTlv.{sub_reason, item_reason, is_source, source_in, source_prefix}
+use Rattle.babel_tlv.specs.SubTlv.{sub_reason, item_reason, is_source, source_prefix}
+use Rattle.babel_tlv.specs.Reading.{source_in}
 use Rattle.babel_tlv.proofs.Reading.{one, tlvs_of-begins}
 use Rattle.babel_tlv.proofs.SubReading.{FaultSoFar, fault_from, fault_from-begins, item_reason-at, list_any-push, reason_or}
 

@@ -5,16 +5,16 @@ use Rattle.std.specs.List.{AllByRecursion}
 use Rattle.std.proofs.lemmas.Bool.{cases_lt}
 use Rattle.std.proofs.lemmas.List.{length-append, drop_at}
 use Rattle.babel_tlv.specs.Pair.{Pair, IsPair}
-use Rattle.babel_tlv.specs.Group.{written_after, group_in, groups_behind, body_of, IsFull, ArePacked, IsCanonicalText}
-use Rattle.babel_tlv.proofs.TextTold.{packed, length-group}
+use Rattle.babel_tlv.specs.Group.{group, groups_behind, body_of, IsFull, ArePacked, IsCanonicalText}
+use Rattle.babel_tlv.proofs.TextTold.{packed, length-behind}
 
 -- ---- one text
 
 length-more : (earlier front back : List Pair) → length (groups_behind earlier front) ≤ length (groups_behind earlier (front ++ back))
 length-more earlier [] back = omega arith
 length-more earlier (pair ∷ front) back =
-    let group = group_in (written_after earlier) pair in
-    omega (arith, length-append group (groups_behind (pair ∷ earlier) front), length-append group (groups_behind (pair ∷ earlier) (front ++ back)), length-more (pair ∷ earlier) front back)
+    let octets = group earlier pair in
+    omega (arith, length-append octets (groups_behind (pair ∷ earlier) front), length-append octets (groups_behind (pair ∷ earlier) (front ++ back)), length-more (pair ∷ earlier) front back)
 
 -- the first list goes on in the second
 record GoesOn (front other behind : List Pair) : Type 0 where
@@ -78,7 +78,7 @@ text_one body pairs octets others one other =
 -- ---- a text
 
 length-alone : (pair : Pair) → IsPair pair → length (body_of (pair ∷ [])) ≤ 79
-length-alone pair fits = omega (arith, length-append (group_in (written_after []) pair) [], length-group (written_after []) pair fits)
+length-alone pair fits = omega (arith, length-append (group [] pair) [], length-behind [] pair fits)
 
 pushed_some : (front : List Pair) (pair : Pair) → front ++ pair ∷ [] ≢ []
 pushed_some [] pair e = cc

@@ -17,11 +17,13 @@ use Rattle.babel_tlv.specs.Framing.{TlvAt, ArePackets, IsBody, framed, packet_oc
 use Rattle.babel_tlv.specs.Forming.{encoding, link_local}
 use Rattle.babel_tlv.specs.Context.{context_after}
 use Rattle.babel_tlv.specs.Says.{Saying, sayings, sayings_behind}
-use Rattle.babel_tlv.specs.Group.{pair_family, Written, written_after, hop_in, dst_in, is_id, is_hop, router_id_tlv, next_hop_tlv, next_hop_octets, route_tlvs, held_seqno, held_metric, shared_octets, update_tlv, update_body, group_in, groups_behind, body_of, ArePacked}
+use Rattle.babel_tlv.specs.Group.{pair_family, is_id, is_hop, router_id_tlv, next_hop_tlv, next_hop_octets, held_seqno, held_metric, shared_octets, update_tlv, update_body, group, groups_behind, body_of, ArePacked}
+use Rattle.babel_tlv.specs.Writing.{route_in, Written, written_after, hop_in, dst_in, group_in}
 use Rattle.babel_tlv.specs.Pair.{Pair, FitsKey, IsPair}
 use Rattle.babel_tlv.specs.News.{spoken, pair_event}
 use Rattle.babel_tlv.proofs.UpdateTold.{length-update}
 use Rattle.babel_tlv.proofs.Telling.{as_ok, what_of, spoken-append, oks-append, sayings_behind-says_in}
+use Rattle.babel_tlv.proofs.WrittenLaws.{group_in-written_after}
 use Rattle.babel_tlv.proofs.GroupTold.{Agrees-start, groups_told}
 
 abbrev pub packed : List (List Pair) → List ℕ
@@ -97,7 +99,7 @@ length-hop V6 bits = by_test (starts_with ◌==◌ (bytes_high_first 16 bits) li
     by_test false = omega arith
 
 -- a route's Router-Id and Next Hop
-length-tlvs : (so_far : Written) (key : RouteKey) (held : Held) → FitsKey key held → length (route_tlvs key.dst.address.family so_far held) ≤ 32
+length-tlvs : (so_far : Written) (key : RouteKey) (held : Held) → FitsKey key held → length (route_in key.dst.address.family so_far held) ≤ 32
 length-tlvs so_far key (helds.Route ann) fits =
     let hop = hop_in key.dst.address.family so_far in
     let id_octets = cond (is_id so_far.router_id ann.router_id) [] (router_id_tlv ann.router_id) in
@@ -112,18 +114,20 @@ pub length-group : (so_far : Written) (pair : Pair) → IsPair pair → length (
 length-group so_far pair fits =
     let family = pair_family pair in
     let omit = shared_octets (dst_in family so_far) pair.0.dst in
-    let route = route_tlvs family so_far pair.1 in
+    let route = route_in family so_far pair.1 in
     let update = update_tlv omit pair.0 (held_seqno pair.1) (held_metric pair.1) in
     let body_len : length (update_body omit pair.0 (held_seqno pair.1) (held_metric pair.1)) ≤ 45 =
     length-update pair.0.dst pair.0.src (encoding family) omit (held_seqno pair.1) (held_metric pair.1) fits.dst fits.src in
     let update_len : length update ≤ 47 = omega (arith, body_len) in
     omega (arith, length-tlvs so_far pair.0 pair.1 fits.fits, update_len, length-append route update)
 
+pub length-behind : (earlier : List Pair) (pair : Pair) → IsPair pair → length (group earlier pair) ≤ 79
+length-behind earlier pair fits = subst (λ (o : List ℕ). length o ≤ 79) (group_in-written_after earlier pair) (length-group (written_after earlier) pair fits)
+
 length-groups : (earlier pairs : List Pair) → AllByRecursion IsPair pairs → length (groups_behind earlier pairs) ≤ 79 * length pairs
 length-groups earlier [] fits = omega arith
 length-groups earlier (pair ∷ pairs) fits =
-    let group = group_in (written_after earlier) pair in
-    omega (arith, length-append group (groups_behind (pair ∷ earlier) pairs), length-group (written_after earlier) pair fits.0, length-groups (pair ∷ earlier) pairs fits.1)
+    omega (arith, length-append (group earlier pair) (groups_behind (pair ∷ earlier) pairs), length-behind earlier pair fits.0, length-groups (pair ∷ earlier) pairs fits.1)
 
 some_pairs : (pairs : List Pair) → pairs ≢ [] → 1 ≤ length pairs
 some_pairs [] some = absurd (some refl)

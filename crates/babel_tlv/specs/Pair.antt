@@ -36,6 +36,4 @@ pub record IsPair (pair : Pair) : Type 0 where
 abbrev pub EventFits : Event → Type 0
 EventFits (events.Announce key ann) = IsPair (key, helds.Route ann)
 EventFits (events.Retract key) = IsPair (key, helds.Unreachable)
-EventFits events.RetractAll = Unit {0}
-EventFits events.Nothing = Unit {0}
-EventFits (events.Ignored reason) = Unit {0}
+EventFits event = Unit {0}

@@ -1,7 +1,9 @@
 -- What the readings of one TLV give: RFC 8966, 4.6.8, 4.6.9; RFC 9079, 7.2.
 use Rattle.std.specs.Prelude.{◌≡◌, ℕ, ◌+◌, ◌++◌, List, drop, take, slice_index, Option, Some, None, Result, Ok, MatchResult}
+use Rattle.std.specs.List.{find}
+use Rattle.std.specs.Option.{option_map}
 use Rattle.babel_prefix.specs.declared.family.Family.{Family}
-use Rattle.babel_prefix.specs.Address.{Address}
+use Rattle.babel_prefix.specs.Address.{Address, AddressPrefix}
 use Rattle.babel_tlv.specs.declared.event.Event.{Event}
 use Rattle.babel_tlv.specs.declared.event.Event.TheVariants as events
 use Rattle.babel_tlv.specs.declared.next_hop.NextHop.{NextHop}
@@ -15,6 +17,7 @@ use Rattle.babel_tlv.specs.Forming.{default_octets, field_len, formed, hop_len, 
 use Rattle.babel_tlv.specs.Framing.{TlvAt}
 use Rattle.babel_tlv.specs.Route.{Announcement}
 use Rattle.babel_tlv.specs.Says.{prefix_event}
+use Rattle.babel_tlv.specs.SubTlv.{is_source, source_prefix}
 use Rattle.babel_tlv.specs.Verdicts.{event_of}
 
 -- a TLV of this type, wherever it lies
@@ -27,6 +30,10 @@ hop_sub_tlvs body = drop (2 + hop_len (slice_index body 0)) body
 
 abbrev pub update_sub_tlvs : List ℕ → List ℕ
 update_sub_tlvs body = drop (10 + field_len body) body
+
+-- the source prefix that sub-TLVs give, if one does
+abbrev pub source_in : Family → List TlvAt → Option AddressPrefix
+source_in family items = option_map (λ item. source_prefix family item.body) (find is_source items)
 
 -- the octets of an Update's prefix: those omitted, of the default prefix, and those that it brings
 abbrev pub joined_octets : Option Address → List ℕ → List ℕ

@@ -21,16 +21,14 @@ pub record AgreeUnder (view : View) (ann other : Announcement) : Type 0 where
 -- two routes whose kept fields are equal, or both unreachable
 abbrev pub HeldSameUnder : View → Held → Held → Type 0
 HeldSameUnder view (helds.Route ann) (helds.Route other) = AgreeUnder view ann other
-HeldSameUnder view (helds.Route ann) helds.Unreachable = ⊥
-HeldSameUnder view helds.Unreachable (helds.Route other) = ⊥
 HeldSameUnder view helds.Unreachable helds.Unreachable = Unit {0}
+HeldSameUnder view held other = ⊥
 
 -- two answers are the same under a view: both none, both unreachable, or both routes whose kept fields are equal
 abbrev pub SameUnder : View → Option Held → Option Held → Type 0
 SameUnder view None None = Unit {0}
-SameUnder view None (Some other) = ⊥
-SameUnder view (Some held) None = ⊥
 SameUnder view (Some held) (Some other) = HeldSameUnder view held other
+SameUnder view answer other = ⊥
 
 -- what stands for a next hop that is ignored: 0.0.0.0 or ::
 abbrev pub no_address : Family → Address

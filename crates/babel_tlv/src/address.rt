@@ -3,7 +3,7 @@ ghost use Rattle.std.specs.Int.Digits.{number_from_digits, number_from_digits_af
 ghost use Rattle.babel_prefix.specs.Width.{octet_count, width_of};
 ghost use Rattle.babel_prefix.specs.Address.{address_of, octets_of};
 ghost use Rattle.babel_prefix.specs.declared.family.Family.TheVariants.{V6};
-ghost use Rattle.babel_tlv.specs.Context.{IsOfFamily};
+ghost use Rattle.babel_tlv.specs.Kept.{IsOfFamily};
 ghost use Rattle.babel_tlv.specs.Forming.{link_local, padded, default_octets};
 
 use babel_prefix::{Addr, Family};

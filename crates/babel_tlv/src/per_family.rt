@@ -1,5 +1,5 @@
 ghost use Rattle.std.specs.Prelude.{◌≡◌, None};
-ghost use Rattle.babel_tlv.specs.Context.{IsOfFamily};
+ghost use Rattle.babel_tlv.specs.Kept.{IsOfFamily};
 ghost use Rattle.babel_tlv.specs.Kept.{kept_for, kept_with};
 
 use babel_prefix::{Addr, Family};

@@ -1,6 +1,6 @@
 ghost use Rattle.std.specs.Prelude.{◌≡◌, ◌≤◌, ◌<◌, ◌+◌, length, IsSome, IfOk, OnOk, MatchOption};
 ghost use Rattle.babel_prefix.specs.Width.{octet_count, width_of};
-ghost use Rattle.babel_tlv.specs.Context.{IsOfFamily};
+ghost use Rattle.babel_tlv.specs.Kept.{IsOfFamily};
 ghost use Rattle.babel_tlv.specs.Forming.{field_len, formed, omitted, prefix_from, prefix_len, sets_default, sets_router_id, update_encoding};
 ghost use Rattle.babel_tlv.specs.Pair.{EventFits};
 ghost use Rattle.babel_tlv.specs.Says.{wildcard_event};

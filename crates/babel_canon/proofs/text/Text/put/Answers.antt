@@ -1,6 +1,6 @@
 -- The group goes behind the last packet's, or begins the next one.
 use Rattle.std.proofs.Common.{◌≡◌, ◌+◌, ◌<◌, ◌≤◌, [], ℕ, List, length, ap, subst, ◌∙◌, refl, arith}
-use Rattle.babel_tlv.specs.Group.{group_in, written_after}
+use Rattle.babel_tlv.specs.Writing.{group_in, written_after}
 use Rattle.babel_tlv.specs.Pair.{Pair}
 use Rattle.babel_canon.specs.Sizes.{IsBodySize}
 use Rattle.babel_canon.proofs.Packets.{Appended, in_last, in_next}
