@@ -8,8 +8,8 @@ ghost use Rattle.std.specs.Ordering.{nat_cmp, as_partial_cmp};
 use std::cmp::Ordering;
 use std::marker::Model;
 
-/// A number of 128 bits in two halves. A `u128` begins at a multiple of 16 octets, so that beside a family and a length
-/// it would leave 14 octets empty, which every copy moves too.
+/// A number of 128 bits in two halves. A `u128` begins at a multiple of 16 octets, so that beside a
+/// family and a length it would leave 14 octets empty, which every copy moves too.
 #[derive(Clone, Copy, Debug)]
 pub(crate) struct Halves {
     high: u64,

@@ -367,6 +367,18 @@ module _ {X : Type 0} where
       let is : get_or (e ∷ es) (length es) row ≡ row = get_or_from_slice_get (e ∷ es) (length es) row row (ap (slice_get (e ∷ es)) (sym at) ∙ sym read) in
       above-last k (e ∷ es) (length es) row rising refl (ap (λ (x : RouteKey × X). key_cmp x.0 k) is ∙ less_of (key_cmp row.0 k) less)
 
+  above_at : (k : RouteKey) (es : List (RouteKey × X)) (i : ℕ) (d : RouteKey × X) → AreAbove k es → i < length es → key_cmp (get_or es i d).0 k ≡ Less
+  above_at k [] i d above inside = absurd (omega (arith, inside))
+  above_at k (e ∷ es) zero d above inside = above.0
+  above_at k (e ∷ es) (suc i) d above inside = above_at k es i d above.1 (omega (arith, inside))
+
+  pub above-last-read : (k : RouteKey) (es : List (RouteKey × X)) (row : RouteKey × X) → Some row ≡ slice_get es (length es - 1) → AreAbove k es → is_lt (key_cmp row.0 k) ≡ true
+  above-last-read k [] row read above = absurd cc
+  above-last-read k (e ∷ es) row read above =
+      let at : length (e ∷ es) - 1 ≡ length es = omega arith in
+      let is : get_or (e ∷ es) (length es) row ≡ row = get_or_from_slice_get (e ∷ es) (length es) row row (ap (slice_get (e ∷ es)) (sym at) ∙ sym read) in
+      ap is_lt (ap (λ (x : RouteKey × X). key_cmp x.0 k) (sym is) ∙ above_at k (e ∷ es) (length es) row above (omega arith))
+
   pub pushed : (k : RouteKey) (o : X) (es : List (RouteKey × X)) → AreAbove k es → es ++ (k, o) ∷ [] ≡ insert_entry key_cmp es k o
   pushed k o [] above = refl
   pushed k o (e ∷ es) above =

@@ -220,7 +220,7 @@ pub(crate) fn has_key<W: Word>(rows: &[WordRow<W>], place: usize, key: &CompactK
 /// Whether the key is greater than all of the rows.
 fn is_past<W: Word>(rows: &[WordRow<W>], key: &CompactKey<W>) -> bool
     requires { IsRising rows.now }
-    ensures { IsTrue result → AreAbove key.now rows.now }
+    ensures { IsTrue result ↔ AreAbove key.now rows.now }
 {
     match rows.last() {
         Some(row) => row.0 < *key,

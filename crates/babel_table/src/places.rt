@@ -1,5 +1,5 @@
 //! Where the rows of keys stand.
-ghost use Rattle.std.specs.Prelude.{◌≡◌, ◌<◌, ◌≤◌, ◌+◌, ℕ, length, false, MatchOption, IfOk, OnOk, OnErr};
+ghost use Rattle.std.specs.Prelude.{◌≡◌, ◌<◌, ◌≤◌, ◌+◌, ℕ, [], length, false, MatchOption, IfOk, OnOk, OnErr};
 ghost use Rattle.std.specs.BTreeMap.{is_at};
 ghost use Rattle.std.specs.Map.{keys_of};
 ghost use Rattle.babel_tlv.specs.Route.{RouteKey, key_cmp};
@@ -39,7 +39,9 @@ impl<W: Word> Model for Places<W> {
 
 impl<W: Word> Places<W> {
     /// No places.
-    pub fn new(alloc: Global) -> Places<W> {
+    pub fn new(alloc: Global) -> Places<W>
+        ensures { result ≡ record { slots = []; overflow = [] } }
+    {
         Places {
             slots: Vec::new(alloc),
             overflow: BTreeMap::new(alloc),
@@ -136,7 +138,9 @@ impl<W: Word> Places<W> {
     }
 
     /// Lists no places.
-    pub fn clear(&mut self) {
+    pub fn clear(&mut self)
+        ensures { self.new ≡ record { slots = []; overflow = [] } }
+    {
         self.slots.clear();
         self.overflow.clear();
     }

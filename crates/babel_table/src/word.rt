@@ -14,7 +14,8 @@ pub trait Word: Ord + Copy {
     ghost number: { Self → ℕ };
 
     /// No bits.
-    fn zero() -> Self;
+    fn zero() -> Self
+        ensures { number result ≡ 0 };
 
     /// The bits of an address of the family.
     fn of(addr: Addr) -> Self

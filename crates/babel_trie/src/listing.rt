@@ -1,5 +1,5 @@
 //! The rows of a list of changes.
-ghost use Rattle.std.specs.Prelude.{◌≡◌, ◌+◌, ◌-◌, ◌*◌, ◌^◌, ◌<◌, ◌≤◌, ◌++◌, List, map, length, OnOk, Option, None, true};
+ghost use Rattle.std.specs.Prelude.{◌≡◌, ◌+◌, ◌-◌, ◌*◌, ◌^◌, ◌<◌, ◌≤◌, ◌++◌, List, map, length, OnOk, Option, None, true, false};
 ghost use Rattle.babel_prefix.specs.Address.{IsAddressPrefix, block_of};
 ghost use Rattle.babel_prefix.specs.Block.{IsBlock};
 ghost use Rattle.babel_prefix.specs.Entries.{Entry};
@@ -79,7 +79,8 @@ fn places(family: Family, bits: u8, place: u128) -> (u128, u128)
 
 /// Whether nothing is answered for any source.
 fn answers_nothing<V: Copy>(sources: Sources<Option<V>>) -> bool
-    ensures { result ≡ true → sources ≡ Constant None }
+    ensures yes { result ≡ true → sources ≡ Constant None }
+    ensures no { result ≡ false → sources ≡ Constant None → ⊥ }
 {
     match sources {
         Sources::Constant(None) => true,

@@ -15,8 +15,10 @@ use std::alloc::AllocError;
 
 /// The value that the rows of a whole block set, or what was answered before where there are none.
 fn set<V: Copy>(rows: &[Row<V>], old: Loose<Option<V>>) -> Loose<Option<V>>
-    ensures is { (nodes : List (Node (Option V))) (t : Shape (Option V)) → Stands nodes old t → IsSet rows.now nodes result t }
-    ensures normal { (nodes : List (Node (Option V))) → IsNormalLoose nodes old → IsNormalLoose nodes result }
+    ensures is { (nodes : List (Node (Option V))) (t : Shape (Option V)) → Stands nodes old t
+        → IsSet rows.now nodes result t }
+    ensures normal { (nodes : List (Node (Option V))) → IsNormalLoose nodes old
+        → IsNormalLoose nodes result }
 {
     match rows.first() {
         None => old,
@@ -34,17 +36,21 @@ impl<V: LawfulOrd> Table<Option<V>> {
         start: u128,
         old: Loose<Option<V>>,
     ) -> Result<Loose<Option<V>>, AllocError>
-        requires sound { IsSound ⟦<Sources<Option<V>> as Ord>⟧.cmp ⟦<Sources<Option<V>> as LawfulOrd>⟧.mark self.old.nodes.items self.old.numbers }
+        requires sound { IsSound ⟦<Sources<Option<V>> as Ord>⟧.cmp
+            ⟦<Sources<Option<V>> as LawfulOrd>⟧.mark self.old.nodes.items self.old.numbers }
         requires trie { IsTrie bits self.old.nodes.items old }
         requires normal { IsNormalLoose self.old.nodes.items old }
         requires place { IsPlace width bits start }
         requires rows { InBlock source_block width bits start rows.now }
         requires one { HasOneDestination rows.now }
         requires width { width ≤ 128 }
-        ensures sound { OnOk result (IsSound ⟦<Sources<Option<V>> as Ord>⟧.cmp ⟦<Sources<Option<V>> as LawfulOrd>⟧.mark self.new.nodes.items self.new.numbers) }
+        ensures sound { OnOk result (IsSound ⟦<Sources<Option<V>> as Ord>⟧.cmp
+            ⟦<Sources<Option<V>> as LawfulOrd>⟧.mark self.new.nodes.items self.new.numbers) }
         ensures keeps { OnOk result (KeepsNodes self.old.nodes.items self.new.nodes.items) }
         ensures normal { IfOk result (IsNormalLoose self.new.nodes.items) }
-        ensures laid { IfOk result (λ new. (t : Shape (Option V)) → Stands self.old.nodes.items old t → IsLaid width bits start (map row_of rows.now) self.new.nodes.items new t) }
+        ensures laid { IfOk result (λ new. (t : Shape (Option V))
+            → Stands self.old.nodes.items old t
+            → IsLaid width bits start (map row_of rows.now) self.new.nodes.items new t) }
     {
         if let Some(value) = old.value() {
             if let Some(inner) = inner_block(rows, width, bits, start) {
@@ -72,14 +78,18 @@ impl<V: LawfulOrd> Table<Option<V>> {
         width: u8,
         old: Sources<Option<V>>,
     ) -> Result<Sources<Option<V>>, AllocError>
-        requires sound { IsSound ⟦<Sources<Option<V>> as Ord>⟧.cmp ⟦<Sources<Option<V>> as LawfulOrd>⟧.mark self.old.nodes.items self.old.numbers }
+        requires sound { IsSound ⟦<Sources<Option<V>> as Ord>⟧.cmp
+            ⟦<Sources<Option<V>> as LawfulOrd>⟧.mark self.old.nodes.items self.old.numbers }
         requires trie { HasTrie width self.old.nodes.items old }
         requires rows { InBlock source_block width width 0 rows.now }
         requires one { HasOneDestination rows.now }
         requires width { width ≤ 128 }
-        ensures sound { OnOk result (IsSound ⟦<Sources<Option<V>> as Ord>⟧.cmp ⟦<Sources<Option<V>> as LawfulOrd>⟧.mark self.new.nodes.items self.new.numbers) }
+        ensures sound { OnOk result (IsSound ⟦<Sources<Option<V>> as Ord>⟧.cmp
+            ⟦<Sources<Option<V>> as LawfulOrd>⟧.mark self.new.nodes.items self.new.numbers) }
         ensures keeps { OnOk result (KeepsNodes self.old.nodes.items self.new.nodes.items) }
-        ensures overlaid { IfOk result (λ new. (t : Shape (Option V)) → Represents self.old.nodes.items old t → IsOverlaid width width 0 (map row_of rows.now) self.new.nodes.items new t) }
+        ensures overlaid { IfOk result (λ new. (t : Shape (Option V))
+            → Represents self.old.nodes.items old t
+            → IsOverlaid width width 0 (map row_of rows.now) self.new.nodes.items new t) }
     {
         let old = self.opened(old);
         let new = self.laid(rows, width, width, 0, old)?;

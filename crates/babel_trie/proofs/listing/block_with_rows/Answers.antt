@@ -60,6 +60,6 @@ returns-then-answers_nothing-clause-rows g c nodes t p =
     let at : c.args.place * 2 ^ node.skip + node.path % 2 ^ node.skip ≡ c.shifted-first.result + node.path % c.bit_at.result =
     omega (arith, c.shifted-first.ensures, ap (λ n. node.path % n) c.bit_at.ensures) in
     let stands = subst (λ (x : Loose (Option g.row.V.Denot)). Stands nodes x t) c.in-Split.is p in
-    let rows = skipped_rows nodes t node (λ _. c.answers_nothing.ensures c.if-answers_nothing.true) stands w c.args.bits c.args.place in
+    let rows = skipped_rows nodes t node (λ _. c.answers_nothing.ensures.yes c.if-answers_nothing.true) stands w c.args.bits c.args.place in
     subst (λ (m : Node (Option g.row.V.Denot)). HasRowsOf w c.args.bits c.args.place t nodes (Split m) left (c.shifted-first.result + node.path % c.bit_at.result)) (sym {b = block_node nodes node} c.fork.ensures)
     (subst (λ n. HasRowsOf w c.args.bits c.args.place t nodes (Split (block_node nodes node)) left n) at rows)

@@ -47,7 +47,7 @@ invariant_of-self-2 g c =
     let few = one_more _ _ _ _ _ c.self.invariant c.self.view_is c.requires.few in
     elim c.if-self-place.branch [
       | then-self-place+then-is_past+in_ok-push w ↦
-          let above : AreAbove k c.self.inside.rows.items = subst (λ ws. AreAbove k ws) w.deref-then-self-place.ensures.value (w.is_past.ensures w.if-is_past.true) in
+          let above : AreAbove k c.self.inside.rows.items = subst (λ ws. AreAbove k ws) w.deref-then-self-place.ensures.value (w.is_past.ensures.0 w.if-is_past.true) in
           rw (w.self-inside-is, w.in_ok-push.ensures.items)
           (counted-front c.self.inside.count c.self.inside.rows.items c.self.inside.rising c.self.inside.places c.self.invariant k none _ w.len-self-inside.result
           (w.len-self-inside.ensures ∙ w.push.new.self.ok.0 ∙ ap length w.in_ok-push.ensures.items) few (w.if-self-place.true ∙ c.len-place.ensures ∙ c.self.inside.rows.ok.0) above)

@@ -103,5 +103,5 @@ loop-run-preserved g c =
       each = λ x t. each x (inr t);
       done = done;
       put = c.loop-run.invariant.put;
-      rows = rows_none w sources (2 ^ w) run later done all (each run (inl refl)) (c.answers_nothing.ensures nothing) rows;
+      rows = rows_none w sources (2 ^ w) run later done all (each run (inl refl)) (c.answers_nothing.ensures.yes nothing) rows;
     }

@@ -31,7 +31,7 @@ laid-requires g t c κs within =
     let a = c.args in
     let inner = c.in-Some-inner_block.inner in
     let nodes = a.self.now.nodes.items in
-    let is = some_holds _ c.value.ensures c.in-Some.is in
+    let is = some_holds _ c.value.ensures.some c.in-Some.is in
     let falls : inner.bits < t = omega (arith, c.decreases, some_holds _ c.inner_block.ensures.smaller c.in-Some-inner_block.is) in
     let trie : IsTrie inner.bits nodes a.old = one_trie inner.bits nodes a.old c.in-Some.value is in
     let place : IsPlace a.width inner.bits inner.start = some_holds _ c.inner_block.ensures.place c.in-Some-inner_block.is in
@@ -40,7 +40,7 @@ laid-requires g t c κs within =
 
 pub along-requires-clause-inside : goal.along-requires-clause-inside
 along-requires-clause-inside g t c =
-    let is = some_holds _ c.value.ensures c.in-Some.is in
+    let is = some_holds _ c.value.ensures.some c.in-Some.is in
     let laid = c.in_ok-inside.ensures.laid (leaf c.in-Some.value) is in
     let smaller = some_holds _ c.inner_block.ensures.smaller c.in-Some-inner_block.is in
     let fits : height laid.new ≤ 128 - (c.args.bits - c.in-Some-inner_block.inner.bits) = omega (arith, laid.fits (omega arith), smaller, c.requires.place.bits_in, c.requires.width) in
@@ -57,7 +57,7 @@ returns-in-Some-inner_block-clause-laid g t c u p =
     let there = c.in-Some-inner_block.is in
     let v = c.in-Some.value in
     let new = c.along.new.self.nodes.items in
-    let is = some_holds _ c.value.ensures c.in-Some.is in
+    let is = some_holds _ c.value.ensures.some c.in-Some.is in
     let laid = c.in_ok-inside.ensures.laid (leaf v) is in
     let smaller = some_holds _ ensures.smaller there in
     let whole = laid_along a.width a.bits a.start inner.bits inner.start inner.path a.rows.now (some_holds _ ensures.place there) (some_holds _ ensures.rows there) (omega (arith, smaller)) (some_holds _ ensures.path there) (some_holds _ ensures.start there)
