@@ -32,7 +32,8 @@ use Rattle.babel_table.specs.Rows.{IsRising, entries_of}
 use Rattle.babel_prefix.specs.TotalOrder.{address_total}
 use Rattle.babel_table.proofs.RowsLaws.{rows-one}
 use Rattle.babel_canon.specs.Grids.{pair_at}
-use Rattle.babel_canon.specs.Boxes.{AnswerTheSame, AreBoxes}
+use Rattle.babel_canon.specs.Boxes.{AreBoxes}
+use Rattle.babel_canon.specs.Answers.{AnswerTheSame}
 use Rattle.babel_canon.specs.BoxesTell.{BoxesAnswer, BoxesTellApart}
 use Rattle.babel_canon.proofs.PairRows.{pairs_hold, rising-apart}
 

@@ -7,7 +7,7 @@ use Rattle.babel_prefix.specs.Address.{Address}
 use Rattle.babel_prefix.specs.Best.{Row}
 use Rattle.babel_prefix.specs.Entries.{answers_in}
 use Rattle.babel_trie.specs.Boxes.{IsLeastDifference as IsLeastPair}
-use Rattle.babel_canon.specs.Fewest.{CoversBoth}
+use Rattle.babel_table.specs.BestMatch.{ContainsBoth}
 use Rattle.babel_trie.specs.declared.differing.Differing.{Differing}
 use Rattle.babel_tlv.specs.declared.held.Held.{Held}
 use Rattle.babel_tlv.specs.Pair.{Pair}
@@ -70,7 +70,7 @@ first_has_least rows others first rest are dst src left right least =
   where
     by : (f : Family) (v4 v6 : List (Row (Differing Held))) → AreFamilyDifferences V4 rows others v4 → AreFamilyDifferences V6 rows others v6 → first ∷ rest ≡ map (difference_at V4) v4 ++ map (difference_at V6) v6 →
         IsLeastDifference rows others (record { family = f; bits = dst.bits }) (record { family = f; bits = src.bits }) left right → f ≡ src.family →
-        CoversBoth first.key (record { family = f; bits = dst.bits }) (record { family = src.family; bits = src.bits })
+        ContainsBoth (record { family = f; bits = dst.bits }) (record { family = src.family; bits = src.bits }) first.key
     by V4 [] v6 v4_are v6_are whole here one =
         let same = (none_in_family held_test (width_of V4) (answers_in V4 (entries_of rows)) (answers_in V4 (entries_of others)) [] v4_are).0 refl in
         let pair = least_in_family rows others (record { family = V4; bits = dst.bits }) (record { family = V4; bits = src.bits }) left right here in
@@ -79,7 +79,7 @@ first_has_least rows others first rest are dst src left right least =
         let pair = least_in_family rows others (record { family = V4; bits = dst.bits }) (record { family = V4; bits = src.bits }) left right here in
         let covers = first_in_family held_test (width_of V4) (answers_in V4 (entries_of rows)) (answers_in V4 (entries_of others)) box boxes v4_are dst.bits src.bits pair in
         let is : first ≡ difference_at V4 box = cc in
-        subst (λ (x : Difference). CoversBoth x.key (record { family = V4; bits = dst.bits }) (record { family = src.family; bits = src.bits })) (sym is) ((refl, covers.0), (one, covers.1))
+        subst (λ (x : Difference). ContainsBoth (record { family = V4; bits = dst.bits }) (record { family = src.family; bits = src.bits }) x.key) (sym is) ((refl, covers.0), (one, covers.1))
     by V6 (box ∷ boxes) v6 v4_are v6_are whole here one =
         let same = same_before rows others V4 (record { family = V6; bits = dst.bits }) (record { family = V6; bits = src.bits }) left right here (omega arith) in
         let none = (none_in_family held_test (width_of V4) (answers_in V4 (entries_of rows)) (answers_in V4 (entries_of others)) (box ∷ boxes) v4_are).1 same in
@@ -89,4 +89,4 @@ first_has_least rows others first rest are dst src left right least =
         let pair = least_in_family rows others (record { family = V6; bits = dst.bits }) (record { family = V6; bits = src.bits }) left right here in
         let covers = first_in_family held_test (width_of V6) (answers_in V6 (entries_of rows)) (answers_in V6 (entries_of others)) box boxes v6_are dst.bits src.bits pair in
         let is : first ≡ difference_at V6 box = cc in
-        subst (λ (x : Difference). CoversBoth x.key (record { family = V6; bits = dst.bits }) (record { family = src.family; bits = src.bits })) (sym is) ((refl, covers.0), (one, covers.1))
+        subst (λ (x : Difference). ContainsBoth (record { family = V6; bits = dst.bits }) (record { family = src.family; bits = src.bits }) x.key) (sym is) ((refl, covers.0), (one, covers.1))

@@ -27,8 +27,9 @@ use Rattle.babel_tlv.specs.Pair.{Pair, IsPair}
 use Rattle.babel_table.specs.Bounds.{Bounds}
 use Rattle.babel_table.specs.Rows.{entries_of}
 use Rattle.babel_canon.specs.Boxes.{AreBoxes}
-use Rattle.babel_canon.specs.Fewest.{AreApart, DoNotOverlap, AreDisjoint, SaysFewest, BoxesAreFewest}
-use Rattle.babel_canon.specs.Headline.{Normalises}
+use Rattle.babel_canon.specs.Fewest.{AreApart, DoNotOverlap, AreDisjoint, BoxesAreFewest}
+use Rattle.babel_canon.specs.Headline.{Sent}
+use Rattle.babel_canon.specs.Normalises.{Normalises, SaysFewest}
 use Rattle.babel_canon.proofs.PairRows.{rising-apart}
 use Rattle.babel_canon.proofs.Boxes.{held_test, entry_of, pair-is, pair_of_row, row_of_pair, all_in, same_in, boxes_answer}
 
@@ -247,12 +248,12 @@ pub boxes_are_fewest : BoxesAreFewest
 boxes_are_fewest rows boxes are = record { disjoint = are_disjoint rows boxes are; fewest = not_shorter rows boxes are }
 
 -- canonical octets are the text of the fewest pairs
-pub says_fewest : (limits : Bounds) (mode : Mode) (body : ℕ) (sender : Address) (dump octets : List ℕ) → Normalises limits mode body sender dump octets
-    → SaysFewest limits mode body sender dump octets
-says_fewest limits mode body sender dump octets normal = record {
+pub says_fewest : (see : List Pair → List Pair) (limits : Bounds) (mode : Mode) (body : ℕ) (it : Sent) (octets : List ℕ) → Normalises see limits mode body it octets
+    → SaysFewest see limits mode body it octets
+says_fewest see limits mode body it octets normal = record {
   table = normal.table;
   is_table = normal.is_table;
   pairs = normal.boxes;
-  fewest = boxes_are_fewest normal.table.rows normal.boxes normal.are_boxes;
+  fewest = boxes_are_fewest (see normal.table.rows) normal.boxes normal.are_boxes;
   text = normal.text;
 }

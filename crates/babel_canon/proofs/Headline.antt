@@ -20,8 +20,10 @@ use Rattle.babel_table.specs.Rows.{Routes, AreRows}
 use Rattle.babel_table.specs.DumpFault.{IsTableOf}
 use Rattle.babel_canon.specs.Sizes.{IsBodySize}
 use Rattle.babel_canon.specs.RoundTrip.{IsRoute, AreReadableIn, TellsPairs, ReadsBack}
-use Rattle.babel_canon.specs.Boxes.{AnswerTheSame, AreBoxes}
-use Rattle.babel_canon.specs.Headline.{Normalises, Sent, DumpsAnswerTheSame, TellsApart, ReadsAgain, Headline}
+use Rattle.babel_canon.specs.Boxes.{AreBoxes}
+use Rattle.babel_canon.specs.Answers.{AnswerTheSame}
+use Rattle.babel_canon.specs.Headline.{Sent, sent, DumpsAnswer, TellsApart, ReadsAgain}
+use Rattle.babel_canon.specs.Normalises.{Normalises, NormaliseFault, as_they_are, Headline}
 use Rattle.babel_canon.proofs.NoFault.{oks_one}
 use Rattle.babel_canon.proofs.PairRows.{rising-apart}
 use Rattle.babel_canon.proofs.RoundTrip.{text_reads_back}
@@ -110,7 +112,7 @@ forms_tell body size rows others boxes other_boxes octets other_octets are other
 
 -- the octets are a dump with these rows, and its canonical form
 pub record IsItsOwn (limits : Bounds) (mode : Mode) (body : ℕ) (boxes : List Pair) (octets : List ℕ) (any : Address) : Type 0 where
-  pub again : Normalises limits mode body any octets octets
+  pub again : Normalises as_they_are limits mode body (sent any octets) octets
   pub rows_are : again.table.rows ≡ boxes
   pub boxes_are : again.boxes ≡ boxes
 
@@ -134,30 +136,31 @@ its_own limits mode body bounds size rows boxes octets are reads few text any =
 
 -- ---- the headline
 
-tells_apart : (limits : Bounds) (mode : Mode) (body : ℕ) → IsBodySize body → (one : Sent) (octets : List ℕ) → Normalises limits mode body one.sender one.dump octets → TellsApart limits mode body one octets
-tells_apart limits mode body size sent octets one other_sent other_octets other =
+tells_apart : (limits : Bounds) (mode : Mode) (body : ℕ) → IsBodySize body → (one : Sent) (octets : List ℕ) → Normalises as_they_are limits mode body one octets
+    → TellsApart AnswerTheSame (Normalises as_they_are limits mode body) limits mode one octets
+tells_apart limits mode body size it octets one other_it other_octets other =
     let tell = forms_tell body size one.table.rows other.table.rows one.boxes other.boxes octets other_octets one.are_boxes other.are_boxes one.text other.text in
     (answers_same tell.0, (λ same. tell.1 (same one.table other.table one.is_table other.is_table)))
   where
-    answers_same : (octets ≡ other_octets → AnswerTheSame one.table.rows other.table.rows) → octets ≡ other_octets → DumpsAnswerTheSame limits mode sent other_sent
+    answers_same : (octets ≡ other_octets → AnswerTheSame one.table.rows other.table.rows) → octets ≡ other_octets → DumpsAnswer AnswerTheSame limits mode it other_it
     answers_same tables_same same table other_table is_table is_other =
-        subst (λ (l : List Pair). AnswerTheSame l other_table.rows) (rows_one limits mode sent.sender sent.dump one.table table one.is_table is_table)
-        (subst (λ (l : List Pair). AnswerTheSame one.table.rows l) (rows_one limits mode other_sent.sender other_sent.dump other.table other_table other.is_table is_other) (tables_same same))
+        subst (λ (l : List Pair). AnswerTheSame l other_table.rows) (rows_one limits mode it.sender it.dump one.table table one.is_table is_table)
+        (subst (λ (l : List Pair). AnswerTheSame one.table.rows l) (rows_one limits mode other_it.sender other_it.dump other.table other_table other.is_table is_other) (tables_same same))
 
-stays_itself : (limits : Bounds) (mode : Mode) (body : ℕ) → AreBounds limits → IsBodySize body → (one : Sent) (octets : List ℕ) → Normalises limits mode body one.sender one.dump octets
-    → (any : Address) → ReadsAgain limits mode body one octets any
-stays_itself limits mode body bounds size sent octets one any =
-    let reads = readable mode one.table.rows one.boxes (rows_readable limits mode sent.sender sent.dump one.table one.is_table) one.are_boxes in
+stays_itself : (limits : Bounds) (mode : Mode) (body : ℕ) → AreBounds limits → IsBodySize body → (one : Sent) (octets : List ℕ) → Normalises as_they_are limits mode body one octets
+    → (any : Address) → ReadsAgain AnswerTheSame (Normalises as_they_are limits mode body) (NormaliseFault as_they_are limits mode) limits mode one octets any
+stays_itself limits mode body bounds size it octets one any =
+    let reads = readable mode one.table.rows one.boxes (rows_readable limits mode it.sender it.dump one.table one.is_table) one.are_boxes in
     let own = its_own limits mode body bounds size one.table.rows one.boxes octets one.are_boxes reads one.few one.text any in
     let same : AnswerTheSame one.boxes one.table.rows = boxes_answer one.table.rows one.boxes one.are_boxes in
     record {
       no_fault = own.again.no_fault;
       answers = λ table other_table a b.
           subst (λ (l : List Pair). AnswerTheSame l other_table.rows) (sym own.rows_are ∙ rows_one limits mode any octets own.again.table table own.again.is_table a)
-          (subst (λ (l : List Pair). AnswerTheSame one.boxes l) (rows_one limits mode sent.sender sent.dump one.table other_table one.is_table b) same);
+          (subst (λ (l : List Pair). AnswerTheSame one.boxes l) (rows_one limits mode it.sender it.dump one.table other_table one.is_table b) same);
       again = own.again;
-      unchanged = λ other normal. normal_form_is_one limits mode body any octets other octets normal own.again;
-      only_memory = λ fault faulty. normal_form_has_no_fault limits mode body any octets octets fault own.again faulty;
+      unchanged = λ other normal. normal_form_is_one limits mode body (sent any octets) other octets normal own.again;
+      only_memory = λ fault faulty. normal_form_has_no_fault limits mode body (sent any octets) octets fault own.again faulty;
     }
 
 pub headline : Headline

@@ -1,6 +1,8 @@
 -- A dump has one canonical text or one fault, want of memory aside.
 use Rattle.std.proofs.Common.{◌≡◌, ℕ, List, length, refl, sym, ap, subst, ◌∙◌, arith, inl, inr}
 use Rattle.babel_prefix.specs.Address.{Address}
+use Rattle.babel_tlv.specs.declared.fault.Fault.{Fault}
+use Rattle.babel_tlv.specs.declared.fault.Fault.TheVariants as faults
 use Rattle.babel_tlv.specs.declared.mode.Mode.{Mode}
 use Rattle.babel_tlv.specs.Pair.{Pair}
 use Rattle.babel_tlv.specs.Group.{IsCanonicalText}
@@ -9,7 +11,10 @@ use Rattle.babel_table.specs.Bounds.{Bounds}
 use Rattle.babel_table.specs.Rows.{Routes}
 use Rattle.babel_table.specs.DumpFault.{IsTableOf}
 use Rattle.babel_table.proofs.OutcomeLaws.{fault_is_one, table_is_one}
-use Rattle.babel_canon.specs.Boxes.{AnswerTheSame, AreBoxes}
+use Rattle.babel_canon.specs.Boxes.{AreBoxes}
+use Rattle.babel_canon.specs.Answers.{AnswerTheSame}
+use Rattle.babel_canon.specs.Headline.{Sent}
+use Rattle.babel_canon.specs.Normalises.{Normalises, NormaliseFault, as_they_are}
 use Rattle.babel_canon.specs.OneOutcome.{NormalFormIsOne, NormaliseFaultIsOne, NormalFormHasNoFault}
 use Rattle.babel_canon.proofs.Boxes.{boxes_one}
 
@@ -25,24 +30,33 @@ pub boxes_same : (rows others ps qs : List Pair) → rows ≡ others → AreBoxe
 boxes_same rows others ps qs same p_boxes q_boxes =
     boxes_one rows others ps qs (subst (λ (l : List Pair). AnswerTheSame rows l) same (λ d s d_in s_in e. refl)) p_boxes q_boxes
 
+-- the canonical form of what is seen of a dump is one, and has no fault
+pub form_is_one : (see : List Pair → List Pair) (limits : Bounds) (mode : Mode) (body : ℕ) (it : Sent) (octets other : List ℕ)
+    → Normalises see limits mode body it octets → Normalises see limits mode body it other → octets ≡ other
+form_is_one see limits mode body it octets other one two =
+    let rows = ap see (rows_one limits mode it.sender it.dump one.table two.table one.is_table two.is_table) in
+    texts_one body one.boxes two.boxes octets other (boxes_same (see one.table.rows) (see two.table.rows) one.boxes two.boxes rows one.are_boxes two.are_boxes) one.text two.text
+
+pub form_has_no_fault : (see : List Pair → List Pair) (limits : Bounds) (mode : Mode) (body : ℕ) (it : Sent) (octets : List ℕ) (fault : Fault)
+    → Normalises see limits mode body it octets → NormaliseFault see limits mode it fault → fault ≡ faults.Memory
+form_has_no_fault see limits mode body it octets fault normal (inl of_dump) = absurd (normal.no_fault fault of_dump)
+form_has_no_fault see limits mode body it octets fault normal (inr (inl (is, no_fault, (table, is_table, (boxes, are_boxes, many))))) =
+    let rows = ap see (rows_one limits mode it.sender it.dump table normal.table is_table normal.is_table) in
+    let same = ap (λ (l : List Pair). length l) (boxes_same (see table.rows) (see normal.table.rows) boxes normal.boxes rows are_boxes normal.are_boxes) in
+    absurd (omega (arith, same, many, normal.few))
+form_has_no_fault see limits mode body it octets fault normal (inr (inr memory)) = memory
+
 pub normal_form_is_one : NormalFormIsOne
-normal_form_is_one limits mode body sender dump octets other one two =
-    let rows = rows_one limits mode sender dump one.table two.table one.is_table two.is_table in
-    texts_one body one.boxes two.boxes octets other (boxes_same one.table.rows two.table.rows one.boxes two.boxes rows one.are_boxes two.are_boxes) one.text two.text
+normal_form_is_one = form_is_one as_they_are
 
 pub normal_form_has_no_fault : NormalFormHasNoFault
-normal_form_has_no_fault limits mode body sender dump octets fault normal (inl of_dump) = absurd (normal.no_fault fault of_dump)
-normal_form_has_no_fault limits mode body sender dump octets fault normal (inr (inl (is, no_fault, (table, is_table, (boxes, are_boxes, many))))) =
-    let rows = rows_one limits mode sender dump table normal.table is_table normal.is_table in
-    let same = ap (λ (l : List Pair). length l) (boxes_same table.rows normal.table.rows boxes normal.boxes rows are_boxes normal.are_boxes) in
-    absurd (omega (arith, same, many, normal.few))
-normal_form_has_no_fault limits mode body sender dump octets fault normal (inr (inr memory)) = memory
+normal_form_has_no_fault = form_has_no_fault as_they_are
 
 pub normalise_fault_is_one : NormaliseFaultIsOne
-normalise_fault_is_one limits mode sender dump fault other (inl one) (inl two) not_memory other_not = fault_is_one limits mode sender dump fault other one two
-normalise_fault_is_one limits mode sender dump fault other (inl one) (inr (inl two)) not_memory other_not = absurd (two.1 fault one)
-normalise_fault_is_one limits mode sender dump fault other (inl one) (inr (inr memory)) not_memory other_not = absurd (other_not memory)
-normalise_fault_is_one limits mode sender dump fault other (inr (inl one)) (inl two) not_memory other_not = absurd (one.1 other two)
-normalise_fault_is_one limits mode sender dump fault other (inr (inl one)) (inr (inl two)) not_memory other_not = one.0 ∙ sym two.0
-normalise_fault_is_one limits mode sender dump fault other (inr (inl one)) (inr (inr memory)) not_memory other_not = absurd (other_not memory)
-normalise_fault_is_one limits mode sender dump fault other (inr (inr memory)) two not_memory other_not = absurd (not_memory memory)
+normalise_fault_is_one limits mode it fault other (inl one) (inl two) not_memory other_not = fault_is_one limits mode it.sender it.dump fault other one two
+normalise_fault_is_one limits mode it fault other (inl one) (inr (inl two)) not_memory other_not = absurd (two.1 fault one)
+normalise_fault_is_one limits mode it fault other (inl one) (inr (inr memory)) not_memory other_not = absurd (other_not memory)
+normalise_fault_is_one limits mode it fault other (inr (inl one)) (inl two) not_memory other_not = absurd (one.1 other two)
+normalise_fault_is_one limits mode it fault other (inr (inl one)) (inr (inl two)) not_memory other_not = one.0 ∙ sym two.0
+normalise_fault_is_one limits mode it fault other (inr (inl one)) (inr (inr memory)) not_memory other_not = absurd (other_not memory)
+normalise_fault_is_one limits mode it fault other (inr (inr memory)) two not_memory other_not = absurd (not_memory memory)

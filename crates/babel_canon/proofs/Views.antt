@@ -25,20 +25,20 @@ use Rattle.babel_table.specs.Bounds.{Bounds, AreBounds}
 use Rattle.babel_table.specs.Rows.{AreRows, entries_of}
 use Rattle.babel_table.specs.Seen.{seen_row, seen_rows}
 use Rattle.babel_table.proofs.SeenLaws.{all_rows, seen_are_rows}
-use Rattle.babel_canon.specs.Boxes.{AnswerTheSame, AreBoxes}
-use Rattle.babel_canon.specs.Canonical.{HasManyBoxes, NormaliseFault}
-use Rattle.babel_canon.specs.Headline.{Sent}
+use Rattle.babel_canon.specs.Boxes.{AreBoxes}
+use Rattle.babel_canon.specs.Answers.{AnswerTheSame}
+use Rattle.babel_canon.specs.Canonical.{HasManyBoxes}
+use Rattle.babel_canon.specs.Headline.{Sent, sent, DumpsAnswer, TellsApart}
+use Rattle.babel_canon.specs.Normalises.{Normalises, NormaliseFault, as_they_are}
 use Rattle.babel_canon.specs.RoundTrip.{AreReadableIn}
 use Rattle.babel_canon.specs.Sizes.{IsBodySize}
-use Rattle.babel_canon.specs.Views.{AnswerTheSameUnder, NormalisesUnder, NormaliseFaultUnder, DumpsAnswerTheSameUnder, TellsApartUnder, ReadsAgainUnder, HeadlineUnder, SaysFewestUnder}
+use Rattle.babel_canon.specs.Views.{AnswerTheSameUnder, ReadsAgainSeen, HeadlineUnder}
 use Rattle.babel_canon.specs.ViewsTell.{SeenAnswersTell, AllNormalises}
 use Rattle.babel_canon.proofs.Boxes.{all_in, box_held, boxes_answer, entry_of, pair_of_row}
-use Rattle.babel_canon.proofs.Fewest.{boxes_are_fewest}
 use Rattle.babel_canon.proofs.Headline.{forms_tell, its_own, readable, rows_readable}
 use Rattle.babel_canon.proofs.MappedBoxes.{mapped_row}
 use Rattle.babel_canon.proofs.Numbered.{answer-map}
-use Rattle.babel_canon.proofs.OneOutcome.{boxes_same, rows_one, texts_one}
-use Rattle.babel_canon.proofs.OneOutcome.{normal_form_is_one as one_without, normal_form_has_no_fault as no_fault_without}
+use Rattle.babel_canon.proofs.OneOutcome.{rows_one, form_is_one, form_has_no_fault}
 
 -- ---- the answers of what is seen are what is seen of the answers
 
@@ -168,45 +168,31 @@ seen_readable view modes.Plain ((key, helds.Unreachable) ∷ rows) reads = absur
 fitting : (view : View) (rows boxes : List Pair) → AreBoxes (seen_rows view rows) boxes → Fitting view rows
 fitting view rows boxes are = record { fit = boxes; are_rows = are.are_rows; answers = boxes_answer (seen_rows view rows) boxes are }
 
-tells_apart : (view : View) (limits : Bounds) (mode : Mode) (body : ℕ) → IsBodySize body → (one : Sent) (octets : List ℕ) → NormalisesUnder view limits mode body one.sender one.dump octets
-    → TellsApartUnder view limits mode body one octets
-tells_apart view limits mode body size sent octets one other_sent other_octets other =
+tells_apart : (view : View) (limits : Bounds) (mode : Mode) (body : ℕ) → IsBodySize body → (one : Sent) (octets : List ℕ) → Normalises (seen_rows view) limits mode body one octets
+    → TellsApart (AnswerTheSameUnder view) (Normalises (seen_rows view) limits mode body) limits mode one octets
+tells_apart view limits mode body size it octets one other_it other_octets other =
     let tell = forms_tell body size (seen_rows view one.table.rows) (seen_rows view other.table.rows) one.boxes other.boxes octets other_octets one.are_boxes other.are_boxes one.text other.text in
     let under = under_seen view one.table.rows other.table.rows (fitting view one.table.rows one.boxes one.are_boxes) (fitting view other.table.rows other.boxes other.are_boxes) in
     (answers_same (λ same. under.1 (tell.0 same)), (λ same. tell.1 (under.0 (same one.table other.table one.is_table other.is_table))))
   where
-    answers_same : (octets ≡ other_octets → AnswerTheSameUnder view one.table.rows other.table.rows) → octets ≡ other_octets → DumpsAnswerTheSameUnder view limits mode sent other_sent
+    answers_same : (octets ≡ other_octets → AnswerTheSameUnder view one.table.rows other.table.rows) → octets ≡ other_octets → DumpsAnswer (AnswerTheSameUnder view) limits mode it other_it
     answers_same tables_same same table other_table is_table is_other =
-        subst (λ (l : List Pair). AnswerTheSameUnder view l other_table.rows) (rows_one limits mode sent.sender sent.dump one.table table one.is_table is_table)
-        (subst (λ (l : List Pair). AnswerTheSameUnder view one.table.rows l) (rows_one limits mode other_sent.sender other_sent.dump other.table other_table other.is_table is_other) (tables_same same))
-
-pub normal_form_is_one : (view : View) (limits : Bounds) (mode : Mode) (body : ℕ) (sender : Address) (dump octets other : List ℕ)
-    → NormalisesUnder view limits mode body sender dump octets → NormalisesUnder view limits mode body sender dump other → octets ≡ other
-normal_form_is_one view limits mode body sender dump octets other one two =
-    let rows = ap (seen_rows view) (rows_one limits mode sender dump one.table two.table one.is_table two.is_table) in
-    texts_one body one.boxes two.boxes octets other (boxes_same (seen_rows view one.table.rows) (seen_rows view two.table.rows) one.boxes two.boxes rows one.are_boxes two.are_boxes) one.text two.text
-
-normal_form_has_no_fault : (view : View) (limits : Bounds) (mode : Mode) (body : ℕ) (sender : Address) (dump octets : List ℕ) (fault : Fault)
-    → NormalisesUnder view limits mode body sender dump octets → NormaliseFaultUnder view limits mode sender dump fault → fault ≡ faults.Memory
-normal_form_has_no_fault view limits mode body sender dump octets fault normal (inl of_dump) = absurd (normal.no_fault fault of_dump)
-normal_form_has_no_fault view limits mode body sender dump octets fault normal (inr (inl (is, no_fault, (table, is_table, (boxes, are_boxes, many))))) =
-    let rows = ap (seen_rows view) (rows_one limits mode sender dump table normal.table is_table normal.is_table) in
-    let same = ap (λ (l : List Pair). length l) (boxes_same (seen_rows view table.rows) (seen_rows view normal.table.rows) boxes normal.boxes rows are_boxes normal.are_boxes) in
-    absurd (omega (arith, same, many, normal.few))
-normal_form_has_no_fault view limits mode body sender dump octets fault normal (inr (inr memory)) = memory
+        subst (λ (l : List Pair). AnswerTheSameUnder view l other_table.rows) (rows_one limits mode it.sender it.dump one.table table one.is_table is_table)
+        (subst (λ (l : List Pair). AnswerTheSameUnder view one.table.rows l) (rows_one limits mode other_it.sender other_it.dump other.table other_table other.is_table is_other) (tables_same same))
 
 stays_itself : (view : View) (limits : Bounds) (mode : Mode) (body : ℕ) → AreBounds limits → IsBodySize body → (one : Sent) (octets : List ℕ)
-    → NormalisesUnder view limits mode body one.sender one.dump octets → (any : Address) → ReadsAgainUnder view limits mode body one octets any
-stays_itself view limits mode body bounds size sent octets one any =
+    → Normalises (seen_rows view) limits mode body one octets → (any : Address)
+    → ReadsAgainSeen view (seen_rows view) limits mode body one octets any × ReadsAgainSeen view as_they_are limits mode body one octets any
+stays_itself view limits mode body bounds size it octets one any =
     let rows = one.table.rows in
-    let reads = readable mode (seen_rows view rows) one.boxes (seen_readable view mode rows (rows_readable limits mode sent.sender sent.dump one.table one.is_table)) one.are_boxes in
+    let reads = readable mode (seen_rows view rows) one.boxes (seen_readable view mode rows (rows_readable limits mode it.sender it.dump one.table one.is_table)) one.are_boxes in
     let own = its_own limits mode body bounds size (seen_rows view rows) one.boxes octets one.are_boxes reads one.few one.text any in
     let stays : seen_rows view one.boxes ≡ one.boxes = seen_boxes view rows one.boxes one.are_boxes in
     let boxes_same_seen : AnswerTheSame (seen_rows view one.boxes) (seen_rows view rows) = subst (λ (l : List Pair). AnswerTheSame l (seen_rows view rows)) (sym stays) (boxes_answer (seen_rows view rows) one.boxes one.are_boxes) in
     let same : AnswerTheSameUnder view one.boxes rows =
     (under_seen view one.boxes rows (record { fit = one.boxes; are_rows = one.are_boxes.are_rows; answers = λ d s d_in s_in e. ap (λ (l : List Pair). answer_for (entries_of l) d s) (sym stays) })
     (fitting view rows one.boxes one.are_boxes)).1 boxes_same_seen in
-    let again : NormalisesUnder view limits mode body any octets octets = record {
+    let again : Normalises (seen_rows view) limits mode body (sent any octets) octets = record {
       no_fault = own.again.no_fault;
       table = own.again.table;
       is_table = own.again.is_table;
@@ -215,18 +201,17 @@ stays_itself view limits mode body bounds size sent octets one any =
       few = own.again.few;
       text = own.again.text;
     } in
-    record {
+    let answers : DumpsAnswer (AnswerTheSameUnder view) limits mode (sent any octets) it = λ table other_table a b.
+    subst (λ (l : List Pair). AnswerTheSameUnder view l other_table.rows) (sym own.rows_are ∙ rows_one limits mode any octets own.again.table table own.again.is_table a)
+    (subst (λ (l : List Pair). AnswerTheSameUnder view one.boxes l) (rows_one limits mode it.sender it.dump one.table other_table one.is_table b) same) in
+    let of_see : (see : List Pair → List Pair) → Normalises see limits mode body (sent any octets) octets → ReadsAgainSeen view see limits mode body it octets any = λ see its. record {
       no_fault = own.again.no_fault;
-      answers = λ table other_table a b.
-          subst (λ (l : List Pair). AnswerTheSameUnder view l other_table.rows) (sym own.rows_are ∙ rows_one limits mode any octets own.again.table table own.again.is_table a)
-          (subst (λ (l : List Pair). AnswerTheSameUnder view one.boxes l) (rows_one limits mode sent.sender sent.dump one.table other_table one.is_table b) same);
-      again = again;
-      unchanged = λ other normal. normal_form_is_one view limits mode body any octets other octets normal again;
-      only_memory = λ fault faulty. normal_form_has_no_fault view limits mode body any octets octets fault again faulty;
-      again_without = own.again;
-      unchanged_without = λ other normal. one_without limits mode body any octets other octets normal own.again;
-      only_memory_without = λ fault faulty. no_fault_without limits mode body any octets octets fault own.again faulty;
-    }
+      answers = answers;
+      again = its;
+      unchanged = λ other normal. form_is_one see limits mode body (sent any octets) other octets normal its;
+      only_memory = λ fault faulty. form_has_no_fault see limits mode body (sent any octets) octets fault its faulty;
+    } in
+    (of_see (seen_rows view) again, of_see as_they_are own.again)
 
 pub headline_under : HeadlineUnder
 headline_under view limits mode body bounds size one octets normal =
@@ -235,7 +220,7 @@ headline_under view limits mode body bounds size one octets normal =
 -- ---- the view that keeps all
 
 pub all_normalises : AllNormalises
-all_normalises limits mode body sender dump octets = (
+all_normalises limits mode body one octets = (
   (λ under. record {
     no_fault = under.no_fault;
     table = under.table;
@@ -256,19 +241,8 @@ all_normalises limits mode body sender dump octets = (
   }),
 )
 
-pub all_faults : (limits : Bounds) (mode : Mode) (sender : Address) (dump : List ℕ) (fault : Fault) → NormaliseFaultUnder keeps_all limits mode sender dump fault → NormaliseFault limits mode sender dump fault
-all_faults limits mode sender dump fault (inl of_dump) = inl of_dump
-all_faults limits mode sender dump fault (inr (inl (is, no_fault, (table, is_table, many)))) =
+pub all_faults : (limits : Bounds) (mode : Mode) (one : Sent) (fault : Fault) → NormaliseFault (seen_rows keeps_all) limits mode one fault → NormaliseFault as_they_are limits mode one fault
+all_faults limits mode one fault (inl of_dump) = inl of_dump
+all_faults limits mode one fault (inr (inl (is, no_fault, (table, is_table, many)))) =
     inr (inl (is, no_fault, (table, is_table, subst (HasManyBoxes limits) (all_rows table.rows) many)))
-all_faults limits mode sender dump fault (inr (inr memory)) = inr (inr memory)
-
--- canonical octets under a view are the text of the fewest pairs
-pub says_fewest_under : (view : View) (limits : Bounds) (mode : Mode) (body : ℕ) (sender : Address) (dump octets : List ℕ) → NormalisesUnder view limits mode body sender dump octets
-    → SaysFewestUnder view limits mode body sender dump octets
-says_fewest_under view limits mode body sender dump octets normal = record {
-  table = normal.table;
-  is_table = normal.is_table;
-  pairs = normal.boxes;
-  fewest = boxes_are_fewest (seen_rows view normal.table.rows) normal.boxes normal.are_boxes;
-  text = normal.text;
-}
+all_faults limits mode one fault (inr (inr memory)) = inr (inr memory)

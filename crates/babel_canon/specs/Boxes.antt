@@ -1,19 +1,12 @@
 -- The boxes of what a table answers (RFC 9079, 4), in both families. Boxes are this project's own.
-use Rattle.std.specs.Prelude.{◌≡◌, List}
+use Rattle.std.specs.Prelude.{List}
 use Rattle.babel_prefix.specs.declared.family.Family.{Family}
 use Rattle.babel_prefix.specs.Width.{width_of}
-use Rattle.babel_prefix.specs.Address.{Address, IsAddress}
-use Rattle.babel_prefix.specs.Entries.{rows_in, answers_in, answer_for}
+use Rattle.babel_prefix.specs.Entries.{rows_in, answers_in}
 use Rattle.babel_trie.specs.Boxes.{Answers, IsBoxList}
 use Rattle.babel_tlv.specs.declared.held.Held.{Held}
 use Rattle.babel_tlv.specs.Pair.{Pair}
 use Rattle.babel_table.specs.Rows.{AreRows, entries_of}
-
--- the same answer for each destination and source of one family
-abbrev pub AnswerTheSame : List Pair → List Pair → Type 0
-AnswerTheSame rows others =
-    (d s : Address) → IsAddress d → IsAddress s → d.family ≡ s.family
-    → answer_for (entries_of rows) d s ≡ answer_for (entries_of others) d s
 
 -- what rows answer for the addresses of a family
 abbrev pub answers_of : Family → List Pair → Answers Held

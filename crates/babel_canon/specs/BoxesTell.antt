@@ -1,7 +1,8 @@
 -- What follows of the boxes of tables: their answers, and when they are equal.
 use Rattle.std.specs.Prelude.{◌≡◌, ◌↔◌, List}
 use Rattle.babel_tlv.specs.Pair.{Pair}
-use Rattle.babel_canon.specs.Boxes.{AnswerTheSame, AreBoxes}
+use Rattle.babel_canon.specs.Boxes.{AreBoxes}
+use Rattle.babel_canon.specs.Answers.{AnswerTheSame}
 
 -- the boxes of rows have the answers of the rows
 abbrev pub BoxesAnswer : Type 0

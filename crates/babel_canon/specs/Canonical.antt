@@ -1,14 +1,10 @@
 -- The canonical form of a table, and why there is none: this project's own. Its octets are packets of RFC 8966, 4.2.
 use Rattle.std.specs.Prelude.{◌≡◌, ℕ, ◌<◌, ◌≤◌, List, length, ◌⊎◌}
-use Rattle.babel_prefix.specs.Address.{Address}
 use Rattle.babel_tlv.specs.declared.fault.Fault.{Fault}
 use Rattle.babel_tlv.specs.declared.fault.Fault.TheVariants as faults
-use Rattle.babel_tlv.specs.declared.mode.Mode.{Mode}
 use Rattle.babel_tlv.specs.Pair.{Pair}
 use Rattle.babel_tlv.specs.Group.{IsCanonicalText}
 use Rattle.babel_table.specs.Bounds.{Bounds}
-use Rattle.babel_table.specs.Rows.{Routes}
-use Rattle.babel_table.specs.DumpFault.{DumpFault, HasNoFault, IsTableOf}
 use Rattle.babel_canon.specs.Boxes.{AreBoxes}
 use Rattle.babel_canon.specs.Fewest.{AreFewest}
 
@@ -49,11 +45,3 @@ HasManyBoxes limits rows = (boxes : List Pair) × AreBoxes rows boxes × (limits
 abbrev pub CanonicalFault : Bounds → List Pair → Fault → Type 0
 CanonicalFault limits rows fault =
     ((fault ≡ faults.TooManyPairs) × HasManyBoxes limits rows) ⊎ (fault ≡ faults.Memory)
-
--- the dump's own fault; or too many pairs, where it has none; or want of memory
-abbrev pub NormaliseFault : Bounds → Mode → Address → List ℕ → Fault → Type 0
-NormaliseFault limits mode sender dump fault =
-    DumpFault limits mode sender dump fault
-    ⊎ ((fault ≡ faults.TooManyPairs) × HasNoFault limits mode sender dump
-    × ((table : Routes) × IsTableOf limits mode sender dump table × HasManyBoxes limits table.rows))
-    ⊎ (fault ≡ faults.Memory)

@@ -11,8 +11,9 @@ use Rattle.babel_trie.specs.Tables.{IsDisjointTable}
 use Rattle.babel_trie.specs.declared.differing.Differing.{Differing}
 use Rattle.babel_tlv.specs.declared.held.Held.{Held}
 use Rattle.babel_tlv.specs.Pair.{Pair}
-use Rattle.babel_canon.specs.Boxes.{AnswerTheSame, answers_of}
-use Rattle.babel_canon.specs.Fewest.{CoversBoth}
+use Rattle.babel_canon.specs.Boxes.{answers_of}
+use Rattle.babel_canon.specs.Answers.{AnswerTheSame}
+use Rattle.babel_table.specs.BestMatch.{ContainsBoth}
 use Rattle.babel_canon.specs.Verdict.{IsLeastDifference}
 use Rattle.babel_canon.specs.declared.every_difference.Difference.{Difference}
 use Rattle.babel_canon.specs.Differences.{AreDifferences}
@@ -41,7 +42,7 @@ FirstHasLeast =
     (rows others : List Pair) (first : Difference) (rest : List Difference)
     → AreDifferences rows others (first ∷ rest)
     → (dst src : Address) (left right : Option Held)
-    → IsLeastDifference rows others dst src left right → CoversBoth first.key dst src
+    → IsLeastDifference rows others dst src left right → ContainsBoth dst src first.key
 
 -- two tables have at most one list of differences
 abbrev pub DifferencesAreOne : Type 0

@@ -8,7 +8,8 @@ use Rattle.babel_trie.specs.Boxes.{SameAnswers}
 use Rattle.babel_trie.specs.Boxes.{IsLeastDifference as IsLeastPair}
 use Rattle.babel_tlv.specs.Pair.{Pair}
 use Rattle.babel_table.specs.Rows.{entries_of}
-use Rattle.babel_canon.specs.Boxes.{AnswerTheSame, answers_of}
+use Rattle.babel_canon.specs.Boxes.{answers_of}
+use Rattle.babel_canon.specs.Answers.{AnswerTheSame}
 use Rattle.babel_canon.specs.Verdict.{IsLeastDifference}
 
 -- no pair, where the answers are the same everywhere, or the pair of the least difference

@@ -2,12 +2,14 @@ pub mod RoundTrip
 pub mod Sizes
 pub mod Packing
 pub mod Writing
+pub mod Answers
 pub mod Boxes
 pub mod BoxesTell
 pub mod Fewest
 pub mod Headline
 pub mod Grids
 pub mod Canonical
+pub mod Normalises
 pub mod Verdict
 pub mod FirstDifference
 pub mod NumberOrder

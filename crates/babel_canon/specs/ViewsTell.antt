@@ -1,6 +1,5 @@
 -- What follows of what views see of tables, and that the view that keeps all is none.
 use Rattle.std.specs.Prelude.{◌≡◌, ℕ, List, ◌↔◌}
-use Rattle.babel_prefix.specs.Address.{Address}
 use Rattle.babel_tlv.specs.declared.mode.Mode.{Mode}
 use Rattle.babel_tlv.specs.declared.view.View.{View}
 use Rattle.babel_tlv.specs.Pair.{Pair}
@@ -8,9 +7,10 @@ use Rattle.babel_tlv.specs.Views.{keeps_all}
 use Rattle.babel_table.specs.Bounds.{Bounds}
 use Rattle.babel_table.specs.Rows.{AreRows}
 use Rattle.babel_table.specs.Seen.{seen_rows}
-use Rattle.babel_canon.specs.Boxes.{AnswerTheSame}
-use Rattle.babel_canon.specs.Headline.{Normalises}
-use Rattle.babel_canon.specs.Views.{AnswerTheSameUnder, NormalisesUnder}
+use Rattle.babel_canon.specs.Answers.{AnswerTheSame}
+use Rattle.babel_canon.specs.Headline.{Sent}
+use Rattle.babel_canon.specs.Normalises.{Normalises, as_they_are}
+use Rattle.babel_canon.specs.Views.{AnswerTheSameUnder}
 
 -- tables answer the same under a view exactly where what the view sees of them answers the same
 abbrev pub SeenAnswersTell : Type 0
@@ -25,5 +25,5 @@ AllRowsAreSeen = (rows : List Pair) → seen_rows keeps_all rows ≡ rows
 -- under the view that keeps all the canonical form is that without a view
 abbrev pub AllNormalises : Type 0
 AllNormalises =
-    (limits : Bounds) (mode : Mode) (body : ℕ) (sender : Address) (dump octets : List ℕ)
-    → NormalisesUnder keeps_all limits mode body sender dump octets ↔ Normalises limits mode body sender dump octets
+    (limits : Bounds) (mode : Mode) (body : ℕ) (one : Sent) (octets : List ℕ)
+    → Normalises (seen_rows keeps_all) limits mode body one octets ↔ Normalises as_they_are limits mode body one octets

@@ -4,7 +4,7 @@ ghost use Rattle.babel_canon.specs.BoxesTell.{BoxesAnswer, BoxesTellApart};
 ghost use Rattle.babel_canon.specs.DifferenceLaws.{DifferencesAreFewest, DifferencesAreOne, FirstHasLeast, NoneWhereSame};
 ghost use Rattle.babel_canon.specs.Fewest.{BoxesAreFewest};
 ghost use Rattle.babel_canon.specs.Packing.{TextIsOne};
-ghost use Rattle.babel_canon.specs.Headline.{Headline};
+ghost use Rattle.babel_canon.specs.Normalises.{Headline};
 ghost use Rattle.babel_canon.specs.Views.{HeadlineUnder};
 ghost use Rattle.babel_canon.specs.ViewsTell.{AllNormalises, AllRowsAreSeen, SeenAnswersTell};
 ghost use Rattle.babel_canon.specs.OneOutcome.{NormalFormIsOne, NormaliseFaultIsOne, NormalFormHasNoFault, VerdictIsOne};

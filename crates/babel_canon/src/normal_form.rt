@@ -1,9 +1,10 @@
 ghost use Rattle.std.specs.Prelude.{IfOk, IfErr};
 ghost use Rattle.babel_prefix.specs.Address.{Address};
-ghost use Rattle.babel_canon.specs.Canonical.{NormaliseFault};
-ghost use Rattle.babel_canon.specs.Fewest.{SaysFewest};
-ghost use Rattle.babel_canon.specs.Headline.{Normalises, TellsApart, ReadsAgain};
-ghost use Rattle.babel_canon.specs.Views.{NormaliseFaultUnder, NormalisesUnder, ReadsAgainUnder, SaysFewestUnder, TellsApartUnder};
+ghost use Rattle.babel_table.specs.Seen.{seen_rows};
+ghost use Rattle.babel_canon.specs.Answers.{AnswerTheSame};
+ghost use Rattle.babel_canon.specs.Headline.{TellsApart, ReadsAgain, sent};
+ghost use Rattle.babel_canon.specs.Normalises.{NormaliseFault, Normalises, SaysFewest, as_they_are};
+ghost use Rattle.babel_canon.specs.Views.{AnswerTheSameUnder, ReadsAgainSeen};
 
 use crate::body::Body;
 use crate::canon::canonical_octets;
@@ -28,13 +29,18 @@ pub fn normalise(
     sender: Addr,
     dump: &[u8],
 ) -> Result<Vec<u8>, Fault>
-    ensures ok { IfOk result (λ text. Normalises limits mode body sender dump.now text.items) }
-    ensures err { IfErr result (NormaliseFault limits mode sender dump.now) }
+    ensures ok { IfOk result (λ text.
+        Normalises as_they_are limits mode body (sent sender dump.now) text.items) }
+    ensures err { IfErr result (NormaliseFault as_they_are limits mode (sent sender dump.now)) }
     ensures tells_apart { IfOk result (λ text.
-        TellsApart limits mode body (record { sender = sender; dump = dump.now }) text.items) }
-    ensures reads_again { IfOk result (λ text. (any : Address) →
-        ReadsAgain limits mode body (record { sender = sender; dump = dump.now }) text.items any) }
-    ensures fewest { IfOk result (λ text. SaysFewest limits mode body sender dump.now text.items) }
+        TellsApart AnswerTheSame (Normalises as_they_are limits mode body)
+        limits mode (sent sender dump.now) text.items) }
+    ensures reads_again { IfOk result (λ text. (any : Address)
+        → ReadsAgain AnswerTheSame (Normalises as_they_are limits mode body)
+        (NormaliseFault as_they_are limits mode)
+        limits mode (sent sender dump.now) text.items any) }
+    ensures fewest { IfOk result (λ text.
+        SaysFewest as_they_are limits mode body (sent sender dump.now) text.items) }
 {
     let _sizes = (limits.entries(), body.octets());
     normalise_under(alloc, limits, mode, body, View::all(), sender, dump)
@@ -60,16 +66,18 @@ pub fn normalise_under(
     dump: &[u8],
 ) -> Result<Vec<u8>, Fault>
     ensures ok { IfOk result (λ text.
-        NormalisesUnder view limits mode body sender dump.now text.items) }
-    ensures err { IfErr result (NormaliseFaultUnder view limits mode sender dump.now) }
+        Normalises (seen_rows view) limits mode body (sent sender dump.now) text.items) }
+    ensures err { IfErr result
+        (NormaliseFault (seen_rows view) limits mode (sent sender dump.now)) }
     ensures tells_apart { IfOk result (λ text.
-        TellsApartUnder view limits mode body
-        (record { sender = sender; dump = dump.now }) text.items) }
+        TellsApart (AnswerTheSameUnder view) (Normalises (seen_rows view) limits mode body)
+        limits mode (sent sender dump.now) text.items) }
     ensures reads_again { IfOk result (λ text. (any : Address)
-        → ReadsAgainUnder view limits mode body
-        (record { sender = sender; dump = dump.now }) text.items any) }
+        → ReadsAgainSeen view (seen_rows view) limits mode body
+        (sent sender dump.now) text.items any
+        × ReadsAgainSeen view as_they_are limits mode body (sent sender dump.now) text.items any) }
     ensures fewest { IfOk result (λ text.
-        SaysFewestUnder view limits mode body sender dump.now text.items) }
+        SaysFewest (seen_rows view) limits mode body (sent sender dump.now) text.items) }
 {
     let _valid = (limits.entries(), body.octets());
     let table = read_dump(alloc, limits, mode, sender, dump)?;

@@ -12,10 +12,12 @@ use Rattle.babel_table.specs.Seen.{seen_rows, seen_table}
 use Rattle.babel_table.proofs.SeenLaws.{all_rows}
 use Rattle.babel_canon.specs.Sizes.{IsBodySize}
 use Rattle.babel_canon.specs.Canonical.{AreCanonical, CanonicalFault, HasManyBoxes, SaysCanonical}
-use Rattle.babel_canon.specs.Fewest.{AreFewest, SaysFewest}
-use Rattle.babel_canon.specs.Headline.{Headline, Normalises, Sent}
+use Rattle.babel_canon.specs.Answers.{AnswerTheSame}
+use Rattle.babel_canon.specs.Fewest.{AreFewest}
+use Rattle.babel_canon.specs.Headline.{Sent, sent}
+use Rattle.babel_canon.specs.Normalises.{Headline, Normalises, SaysFewest, as_they_are}
 use Rattle.babel_canon.specs.Packing.{TextIsOne}
-use Rattle.babel_canon.specs.Views.{HeadlineUnder, NormalisesUnder, SaysFewestUnder}
+use Rattle.babel_canon.specs.Views.{HeadlineUnder}
 use Rattle.babel_canon.specs.ViewsTell.{AllNormalises}
 use Rattle.babel_dump.specs.Given.{GaveNormal, GaveTable, Input, IsFaultOfForm, IsNormal}
 use Rattle.babel_dump.specs.InFormat.{pairs_or_counts_in}
@@ -28,9 +30,9 @@ pub gave_normal : Headline → HeadlineUnder → AllNormalises → (reader : Inp
 gave_normal headline under all reader body table seen octets bounds size given seen_is says_seen =
     let reading = reader.reading in
     let gave = given.given in
-    let sent : Sent = record { sender = reading.sender; dump = gave.dump } in
+    let it : Sent = sent reading.sender gave.dump in
     let says : SaysCanonical reading.limits body (seen_rows reading.view table.rows) octets = subst (λ (t : Routes). SaysCanonical reading.limits body t.rows octets) seen_is says_seen in
-    let normal : NormalisesUnder reading.view reading.limits reading.mode body reading.sender gave.dump octets = record {
+    let normal : Normalises (seen_rows reading.view) reading.limits reading.mode body it octets = record {
       no_fault = gave.accepted;
       table = table;
       is_table = gave.is_table;
@@ -39,21 +41,22 @@ gave_normal headline under all reader body table seen octets bounds size given s
       few = says.are_canonical.few;
       text = says.text;
     } in
-    let fewest : SaysFewestUnder reading.view reading.limits reading.mode body reading.sender gave.dump octets =
+    let fewest : SaysFewest (seen_rows reading.view) reading.limits reading.mode body it octets =
     record { table = table; is_table = gave.is_table; pairs = says.pairs; fewest = says.are_canonical.fewest; text = says.text } in
-    let told = under reading.view reading.limits reading.mode body bounds size sent octets normal in
-    let whole : reading.view ≡ keeps_all → IsNormal reading body gave.dump octets = λ keeps.
-    let plain : Normalises reading.limits reading.mode body reading.sender gave.dump octets = (all reading.limits reading.mode body reading.sender gave.dump octets).0
-    (subst (λ (view : View). NormalisesUnder view reading.limits reading.mode body reading.sender gave.dump octets) keeps normal) in
+    let told = under reading.view reading.limits reading.mode body bounds size it octets normal in
+    let whole : reading.view ≡ keeps_all → IsNormal AnswerTheSame as_they_are reading.limits reading.mode body it octets = λ keeps.
+    let plain : Normalises as_they_are reading.limits reading.mode body it octets = (all reading.limits reading.mode body it octets).0
+    (subst (λ (view : View). Normalises (seen_rows view) reading.limits reading.mode body it octets) keeps normal) in
     let rows : seen_rows reading.view table.rows ≡ table.rows = ap (λ (view : View). seen_rows view table.rows) keeps ∙ all_rows table.rows in
-    let plain_fewest : SaysFewest reading.limits reading.mode body reading.sender gave.dump octets =
+    let plain_fewest : SaysFewest as_they_are reading.limits reading.mode body it octets =
     record { table = table; is_table = gave.is_table; pairs = says.pairs; fewest = subst (λ (l : List Pair). AreFewest l says.pairs) rows says.are_canonical.fewest; text = says.text } in
-    let plain_told = headline reading.limits reading.mode body bounds size sent octets plain in
+    let plain_told = headline reading.limits reading.mode body bounds size it octets plain in
     record { normalises = plain; fewest = plain_fewest; tells_apart = plain_told.0; reads_again = plain_told.1 } in
     record {
       table = table;
       gave = given;
-      under = record { normalises = normal; fewest = fewest; tells_apart = told.0; reads_again = told.1 };
+      under = record { normalises = normal; fewest = fewest; tells_apart = told.0; reads_again = λ any. (told.1 any).0 };
+      reads_without = λ any. (told.1 any).1;
       whole = whole;
     }
 

@@ -12,7 +12,8 @@ use Rattle.std.specs.Option.{option_map}
 use Rattle.std.specs.Str.{IsUtf8}
 use Rattle.babel_tlv.specs.declared.reason.Reason.{Reason}
 use Rattle.babel_table.specs.Counts.{Counts, all_reasons, count_at, reason_place}
-use Rattle.babel_dump.specs.JsonText.{comma_separated, ignored_object, ignored_objects, report_json}
+use Rattle.babel_dump.specs.JsonText.{ignored_object, report_json}
+use Rattle.babel_dump.specs.TextParts.{comma_separated, ignored_objects}
 
 -- what stands between these values and one more
 abbrev pub comma_after : List (List ℕ) → List ℕ

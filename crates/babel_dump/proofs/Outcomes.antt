@@ -15,11 +15,11 @@ use Rattle.babel_canon.specs.Boxes.{AreBoxes}
 use Rattle.babel_canon.specs.Canonical.{HasManyBoxes}
 use Rattle.babel_canon.specs.Differences.{AreDifferences}
 use Rattle.babel_canon.specs.Verdict.{IsVerdict}
-use Rattle.babel_canon.specs.Views.{NormalisesUnder}
+use Rattle.babel_canon.specs.Headline.{sent}
+use Rattle.babel_canon.specs.Normalises.{Normalises}
 use Rattle.babel_canon.specs.declared.every_difference.Difference.{Difference}
 use Rattle.babel_canon.specs.declared.verdict.Verdict.{Verdict}
-use Rattle.babel_canon.proofs.OneOutcome.{boxes_same}
-use Rattle.babel_canon.proofs.Views.{normal_form_is_one}
+use Rattle.babel_canon.proofs.OneOutcome.{boxes_same, form_is_one}
 use Rattle.babel_canon.proofs.OneDifferences.{differences_are_one}
 use Rattle.babel_canon.proofs.OneVerdict.{verdict_is_one}
 use Rattle.babel_dump.specs.Command.{Compares, InTurn, IsOfMemory, IsOfMemoryOrMany, ListsDifferences, ListsPairs, LooksUp, Shows, WritesNormal}
@@ -31,7 +31,8 @@ use Rattle.babel_dump.specs.InFormat.{answer_line_in, differences_or_count_in, e
 use Rattle.babel_dump.specs.JobRun.{left_reading, reading_of, right_reading}
 use Rattle.babel_dump.specs.OneOutcome.{FaultIsOfAll, FaultIsOne, IsOfOctets, IsOverBoth, NothingWritten, OtherFaultIsOfAll, RanOver, StatusIsOne, StatusOrFault, WrittenIsPrefix}
 use Rattle.babel_dump.specs.Run.{HasCause, Output, Ran, UnlessWrite, run_status}
-use Rattle.babel_dump.specs.RunText.{answer_in, differences_status, each_status, form_text, lacks_route, lookup_status, verdict_status}
+use Rattle.babel_dump.specs.RunText.{answer_in, differences_status, each_status, form_text, lookup_status, verdict_status}
+use Rattle.babel_dump.specs.TextParts.{lacks_route}
 use Rattle.babel_dump.specs.Ignored.{IgnoresNone, first_ignored}
 use Rattle.babel_dump.specs.declared.format.Format.{Format}
 use Rattle.babel_dump.specs.declared.ignored.IgnoredTlv.{IgnoredTlv}
@@ -164,7 +165,7 @@ pub record NormalSays (reading : Reading) (body : ℕ) (hex : Bool) (dump : List
   pub octets : List ℕ
   pub table : Routes
   pub sound : IsSound reading dump table
-  pub normal : NormalisesUnder reading.view reading.limits reading.mode body reading.sender dump octets
+  pub normal : Normalises (seen_rows reading.view) reading.limits reading.mode body (sent reading.sender dump) octets
   pub text_is : text ≡ form_text hex octets
   pub status_is : status ≡ 0
 
@@ -296,7 +297,7 @@ normal_says_one : (reading : Reading) (body : ℕ) (hex : Bool) (dump text text_
     → NormalSays reading body hex dump text status → NormalSays reading body hex dump text_too status_too
     → (text ≡ text_too) × (status ≡ status_too)
 normal_says_one reading body hex dump text text_too status status_too one two =
-    let same = normal_form_is_one reading.view _ _ body _ dump one.octets two.octets one.normal two.normal in
+    let same = form_is_one (seen_rows reading.view) _ _ body _ one.octets two.octets one.normal two.normal in
     (one.text_is ∙ ap (form_text hex) same ∙ sym two.text_is, one.status_is ∙ sym two.status_is)
 
 pairs_say_one : (reading : Reading) (count : Bool) (format : Format) (dump text text_too : List ℕ) (status status_too : ℕ)
@@ -500,7 +501,7 @@ normalises reader body hex dump text status has says =
       octets = says.octets;
       table = says.gave.table;
       sound = sound reader dump says.gave.table has says.gave.gave;
-      normal = subst (λ (d : List ℕ). NormalisesUnder reader.reading.view reader.reading.limits reader.reading.mode body reader.reading.sender d says.octets) same says.gave.under.normalises;
+      normal = subst (λ (d : List ℕ). Normalises (seen_rows reader.reading.view) reader.reading.limits reader.reading.mode body (sent reader.reading.sender d) says.octets) same says.gave.under.normalises;
       text_is = says.text_is;
       status_is = says.status_is;
     }

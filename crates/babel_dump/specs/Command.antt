@@ -79,14 +79,13 @@ GaveSound reader = (table : Routes) × GaveTable reader table
 -- first has none. Want of memory is the other's only while that is read, and else the first's. `AfterBoth` has the faults that
 -- can come as the first's after both dumps, of which neither has one.
 abbrev pub InTurn : Input → Input → (AfterBoth : Fault → Type 0) → (untouched : Type 0) → RunFault → Type 0
-InTurn reader other AfterBoth untouched run_faults.Read = untouched
 InTurn reader other AfterBoth untouched (run_faults.Dump fault) = untouched ⊎ (AfterBoth fault × GaveSound reader × GaveSound other)
-InTurn reader other AfterBoth untouched (run_faults.Ignored tlv) = untouched
 InTurn reader other AfterBoth untouched run_faults.OtherRead = GaveSound reader
 InTurn reader other AfterBoth untouched (run_faults.OtherIgnored tlv) = GaveSound reader
 InTurn reader other AfterBoth untouched (run_faults.OtherDump fault) = GaveSound reader
 InTurn reader other AfterBoth untouched (run_faults.Pairs fault) = ⊥
 InTurn reader other AfterBoth untouched run_faults.Write = GaveSound reader × GaveSound other
+InTurn reader other AfterBoth untouched fault = untouched
 
 -- those of `compare`, and of `compare --all`
 abbrev pub IsOfMemory : Fault → Type 0

@@ -1,6 +1,6 @@
 -- What `lookup --each` promises: the pairs are read first, and then each is looked up in the dump. No RFC speaks of it: this
 -- is the project's own.
-use Rattle.std.specs.Prelude.{ℕ, Vec, ◌≡◌, ◌<◌, ◌≤◌, ◌⊎◌, List, None, Result, Err, IfOk, IfErr, OnOk, length}
+use Rattle.std.specs.Prelude.{ℕ, ◌≡◌, ◌<◌, ◌≤◌, ◌⊎◌, List, None, Result, Err, length}
 use Rattle.std.specs.Io.KnownBytes.{Consumes}
 use Rattle.babel_tlv.specs.declared.fault.Fault.TheVariants as faults
 use Rattle.babel_table.specs.Rows.{Routes}
@@ -45,26 +45,6 @@ RefusesPairs reader (run_faults.Pairs pairs_faults.TooLong) = GaveTooMany reader
 RefusesPairs reader (run_faults.Pairs pairs_faults.Read) = HasFailed reader
 RefusesPairs reader (run_faults.Dump fault) = fault ≡ faults.Memory
 RefusesPairs reader fault = ⊥
-
--- a fault of lines: the first that is wrong, or want of memory
-abbrev pub IsFaultOfLines : List (List ℕ) → RunFault → Type 0
-IsFaultOfLines lines (run_faults.Pairs (pairs_faults.NotAPair line)) = IsFirstWrong lines line
-IsFaultOfLines lines (run_faults.Dump fault) = fault ≡ faults.Memory
-IsFaultOfLines lines fault = ⊥
-
--- what reading a text for pairs promises
-pub record GatheredText {Z : Type 0} (reader : Input) (result : Result (Vec ℕ Z) RunFault) : Type 0 where
-  pub text : IfOk result (λ text. GaveText reader text.items)
-  pub no_failure : OnOk result (NoFailure reader)
-  pub cause : IfErr result (RefusesPairs reader)
-  pub few_calls : FewCalls reader
-
--- what reading the pairs that a text asks for promises
-pub record GatheredPairs {Z : Type 0} (reader : Input) (result : Result (Vec AddrPair Z) RunFault) : Type 0 where
-  pub pairs : IfOk result (λ pairs. GavePairsOf reader pairs.items)
-  pub no_failure : OnOk result (NoFailure reader)
-  pub cause : IfErr result (RefusesPairs reader)
-  pub few_calls : FewCalls reader
 
 -- what the dump's table answers for each of these pairs
 pub record LooksUpEach (reader : Input) (format : Format) (pairs : List AddrPair) (text : List ℕ) (status : ℕ) : Type 0 where

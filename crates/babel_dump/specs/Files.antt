@@ -16,10 +16,7 @@ first_file (jobs.Differences dumps count) = dumps.file
 
 -- where the other dump of a comparison is read from, or the pairs of `--each`
 abbrev pub other_file : Job → Option DumpFile
-other_file (jobs.Show dump) = None
-other_file (jobs.Lookup dump pair) = None
 other_file (jobs.Each dump pairs) = Some pairs
-other_file (jobs.Normalise dump body hex) = None
-other_file (jobs.Pairs dump count) = None
 other_file (jobs.Compare dumps) = Some dumps.other
 other_file (jobs.Differences dumps count) = Some dumps.other
+other_file job = None

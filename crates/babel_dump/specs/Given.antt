@@ -5,6 +5,7 @@ use Rattle.babel_prefix.specs.Address.{Address}
 use Rattle.babel_tlv.specs.declared.fault.Fault.{Fault}
 use Rattle.babel_tlv.specs.declared.fault.Fault.TheVariants as faults
 use Rattle.babel_tlv.specs.declared.mode.Mode.{Mode}
+use Rattle.babel_tlv.specs.Pair.{Pair}
 use Rattle.babel_tlv.specs.Views.{keeps_all}
 use Rattle.babel_table.specs.Bounds.{Bounds}
 use Rattle.babel_table.specs.DumpFault.{DumpFault, HasNoFault, IsTableOf}
@@ -12,10 +13,12 @@ use Rattle.babel_table.specs.Rows.{Routes}
 use Rattle.babel_table.specs.Seen.{seen_rows}
 use Rattle.babel_canon.specs.Canonical.{Canonical, HasManyBoxes, IsCanonical}
 use Rattle.babel_canon.specs.Differences.{AreDifferences}
-use Rattle.babel_canon.specs.Fewest.{AreFewest, SaysFewest}
-use Rattle.babel_canon.specs.Headline.{Normalises, TellsApart, ReadsAgain}
+use Rattle.babel_canon.specs.Answers.{AnswerTheSame}
+use Rattle.babel_canon.specs.Fewest.{AreFewest}
+use Rattle.babel_canon.specs.Headline.{ReadsAgain, Sent, TellsApart, sent}
+use Rattle.babel_canon.specs.Normalises.{NormaliseFault, Normalises, SaysFewest, as_they_are}
 use Rattle.babel_canon.specs.Verdict.{IsVerdict}
-use Rattle.babel_canon.specs.Views.{NormalisesUnder, ReadsAgainUnder, SaysFewestUnder, TellsApartUnder}
+use Rattle.babel_canon.specs.Views.{AnswerTheSameUnder, ReadsAgainSeen}
 use Rattle.babel_canon.specs.declared.every_difference.Difference.{Difference}
 use Rattle.babel_canon.specs.declared.verdict.Verdict.{Verdict}
 use Rattle.babel_dump.specs.Device.{InputState}
@@ -85,31 +88,27 @@ IsFaultOfForm reader fault =
     ⊎ ((fault ≡ faults.TooManyPairs) × ((table : Routes) × GaveTable reader table
     × HasManyBoxes reader.reading.limits (seen_rows reader.reading.view table.rows)))
 
--- These are the canonical octets of a dump that is read so: they tell the dump apart from each that answers otherwise,
--- and, read with any sender, answer as it does; and no list of pairs that says as much is shorter.
-pub record IsNormal (reading : Reading) (body : ℕ) (dump octets : List ℕ) : Type 0 where
-  pub normalises : Normalises reading.limits reading.mode body reading.sender dump octets
-  pub fewest : SaysFewest reading.limits reading.mode body reading.sender dump octets
-  pub tells_apart : TellsApart reading.limits reading.mode body (record { sender = reading.sender; dump = dump }) octets
-  pub reads_again : (any : Address)
-      → ReadsAgain reading.limits reading.mode body (record { sender = reading.sender; dump = dump }) octets any
+-- These are the canonical octets of what is seen of a dump: they tell it apart from each that answers
+-- otherwise, and, read with any sender, answer as it does; and no list of pairs says as much in fewer.
+pub record IsNormal (Same : List Pair → List Pair → Type 0) (see : List Pair → List Pair)
+    (limits : Bounds) (mode : Mode) (body : ℕ) (one : Sent) (octets : List ℕ) : Type 0 where
+  pub normalises : Normalises see limits mode body one octets
+  pub fewest : SaysFewest see limits mode body one octets
+  pub tells_apart : TellsApart Same (Normalises see limits mode body) limits mode one octets
+  pub reads_again : (any : Address) → ReadsAgain Same (Normalises see limits mode body)
+      (NormaliseFault see limits mode) limits mode one octets any
 
--- the same of the view of the reading
-pub record IsNormalUnder (reading : Reading) (body : ℕ) (dump octets : List ℕ) : Type 0 where
-  pub normalises : NormalisesUnder reading.view reading.limits reading.mode body reading.sender dump octets
-  pub fewest : SaysFewestUnder reading.view reading.limits reading.mode body reading.sender dump octets
-  pub tells_apart :
-      TellsApartUnder reading.view reading.limits reading.mode body (record { sender = reading.sender; dump = dump }) octets
-  pub reads_again : (any : Address)
-      → ReadsAgainUnder reading.view reading.limits reading.mode body (record { sender = reading.sender; dump = dump }) octets any
-
--- the reader gave a dump, all that it had, and these are its canonical octets under the view; and, if that keeps every
--- field, its canonical octets
+-- the reader gave a dump, all that it had, and these are its canonical octets under the view, read
+-- again with it or without; and, if it keeps every field, its canonical octets
 pub record GaveNormal (reader : Input) (body : ℕ) (octets : List ℕ) : Type 0 where
   pub table : Routes
   pub gave : GaveTable reader table
-  pub under : IsNormalUnder reader.reading body gave.given.dump octets
-  pub whole : reader.reading.view ≡ keeps_all → IsNormal reader.reading body gave.given.dump octets
+  pub under : IsNormal (AnswerTheSameUnder reader.reading.view) (seen_rows reader.reading.view)
+      reader.reading.limits reader.reading.mode body (sent reader.reading.sender gave.given.dump) octets
+  pub reads_without : (any : Address) → ReadsAgainSeen reader.reading.view as_they_are
+      reader.reading.limits reader.reading.mode body (sent reader.reading.sender gave.given.dump) octets any
+  pub whole : reader.reading.view ≡ keeps_all → IsNormal AnswerTheSame as_they_are
+      reader.reading.limits reader.reading.mode body (sent reader.reading.sender gave.given.dump) octets
 
 -- the reader gave a dump, all that it had, and these are its table and the canonical form of what the view sees of it, with
 -- the fewest pairs

@@ -11,7 +11,7 @@ use Rattle.babel_table.specs.Rows.{Routes}
 use Rattle.babel_canon.specs.declared.verdict.Verdict.{Verdict}
 use Rattle.babel_canon.specs.declared.every_difference.Difference.{Difference}
 use Rattle.babel_dump.specs.JsonText.{counts_json, difference_count_json, difference_json, lookup_json, pair_json, report_json, same_json, verdict_json}
-use Rattle.babel_dump.specs.RunText.{answer_in, answer_line, counts_text, difference_count_text, difference_text, lookup_text, pair_line, report_text, same_text, verdict_text}
+use Rattle.babel_dump.specs.RunText.{answer_in, answer_line, answer_text, counts_text, difference_count_text, difference_text, newline, pair_line, report_text, same_text, verdict_text}
 use Rattle.babel_dump.specs.declared.addr_pair.AddrPair.{AddrPair}
 use Rattle.babel_dump.specs.declared.format.Format.{Format}
 use Rattle.babel_dump.specs.declared.format.Format.TheVariants as formats
@@ -44,7 +44,8 @@ abbrev pub show_in : Format → Routes → List ℕ
 show_in format table = pairs_in format keeps_all table.rows ++ report_in format table.report
 
 abbrev pub lookup_in : Format → (dst src : Address) → Option Held → List ℕ
-lookup_in format dst src answer = in_format format (lookup_text keeps_all answer) (lookup_json dst src answer)
+lookup_in format dst src answer =
+    in_format format (answer_text keeps_all answer ++ newline) (lookup_json dst src answer)
 
 abbrev pub answer_line_in : Format → (dst src : Address) → Option Held → List ℕ
 answer_line_in format dst src answer = in_format format (answer_line dst src answer) (lookup_json dst src answer)
@@ -56,28 +57,19 @@ each_in format table pairs = flat_map (λ pair. answer_line_in format pair.dst p
 abbrev pub verdict_in : Format → View → Verdict → List ℕ
 verdict_in format view verdict = in_format format (verdict_text view verdict) (verdict_json view verdict)
 
--- `same`
-abbrev pub same_in : Format → List ℕ
-same_in format = in_format format same_text same_json
-
 abbrev pub difference_in : Format → View → Difference → List ℕ
 difference_in format view difference =
     in_format format (difference_text view difference) (difference_json view difference)
 
--- what says each of these differences
-abbrev pub difference_lines_in : Format → View → List Difference → List ℕ
-difference_lines_in format view differences = flat_map (difference_in format view) differences
-
 -- `same` where there is no difference
 abbrev pub differences_in : Format → View → List Difference → List ℕ
-differences_in format view [] = same_in format
-differences_in format view (first ∷ rest) = difference_lines_in format view (first ∷ rest)
-
-abbrev pub difference_count_in : Format → ℕ → List ℕ
-difference_count_in format count =
-    in_format format (difference_count_text count) (difference_count_json count)
+differences_in format view [] = in_format format same_text same_json
+differences_in format view differences = flat_map (difference_in format view) differences
 
 -- what says each difference, or how many there are
 abbrev pub differences_or_count_in : Format → View → Bool → List Difference → List ℕ
 differences_or_count_in format view count differences =
-    if count then difference_count_in format (length differences) else differences_in format view differences
+    if count
+    then in_format format (difference_count_text (length differences))
+    (difference_count_json (length differences))
+    else differences_in format view differences

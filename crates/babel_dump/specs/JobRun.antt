@@ -39,13 +39,9 @@ first_reading limits (jobs.Differences dumps count) = left_reading limits dumps
 
 -- what the other reader gave, where the job has another dump
 abbrev pub other_input : Bounds → Job → (Reading → Input) → Option Input
-other_input limits (jobs.Show dump) other = None
-other_input limits (jobs.Lookup dump pair) other = None
-other_input limits (jobs.Each dump pairs) other = None
-other_input limits (jobs.Normalise dump body hex) other = None
-other_input limits (jobs.Pairs dump count) other = None
 other_input limits (jobs.Compare dumps) other = Some (other (right_reading limits dumps))
 other_input limits (jobs.Differences dumps count) other = Some (other (right_reading limits dumps))
+other_input limits job other = None
 
 -- A job's run does what its command promises, with the job's own words. `reader` and `other` are what the two readers gave,
 -- read so; `untouched` says that the other is as it was, which it is after each command over one dump.

@@ -4,6 +4,7 @@ use Rattle.std.specs.Prelude.{Bool, if◌then◌else◌, ℕ, List, ◌++◌, co
 use Rattle.std.specs.List.{filter_map, join_by}
 use Rattle.std.specs.Option.{option_map}
 use Rattle.std.specs.Fmt.{decimal}
+use Rattle.hex.specs.Hex.{encode_lower}
 use Rattle.babel_prefix.specs.Address.{Address}
 use Rattle.babel_prefix.specs.Text.{printed, printed_prefix}
 use Rattle.babel_tlv.specs.declared.reason.Reason.{Reason}
@@ -16,7 +17,7 @@ use Rattle.babel_table.specs.Counts.{Counts, all_reasons, reason_place, count_at
 use Rattle.babel_canon.specs.declared.verdict.Verdict.{Verdict}
 use Rattle.babel_canon.specs.declared.verdict.Verdict.TheVariants as verdicts
 use Rattle.babel_canon.specs.declared.every_difference.Difference.{Difference}
-use Rattle.babel_dump.specs.RunText.{hex_digits, newline, reason_name}
+use Rattle.babel_dump.specs.RunText.{newline, reason_name}
 
 -- `"TEXT"`
 abbrev pub quoted : List ℕ → List ℕ
@@ -30,7 +31,7 @@ kept_json kept value = if kept then value else codes "null"
 abbrev pub announcement_json : View → Announcement → List ℕ
 announcement_json view ann =
     codes "{\"next_hop\":" ++ kept_json view.next_hop (quoted (printed ann.next_hop))
-    ++ codes ",\"router_id\":" ++ kept_json view.router_id (quoted (hex_digits ann.router_id))
+    ++ codes ",\"router_id\":" ++ kept_json view.router_id (quoted (encode_lower ann.router_id))
     ++ codes ",\"seqno\":" ++ kept_json view.seqno (decimal ann.seqno)
     ++ codes ",\"metric\":" ++ kept_json view.metric (decimal ann.metric) ++ codes "}"
 
@@ -65,19 +66,14 @@ ignored_object reason counted =
     codes "{\"reason\":\"" ++ reason_name reason ++ codes "\",\"count\":" ++ decimal counted.0 ++ codes ",\"first\":"
     ++ decimal counted.1 ++ codes "}"
 
--- an object for each of these reasons that occurred
-abbrev pub ignored_objects : Counts → List Reason → List (List ℕ)
-ignored_objects counts reasons =
-    filter_map (λ reason. option_map (ignored_object reason) (count_at counts.ignored (reason_place reason))) reasons
-
--- with a comma between each two
-abbrev pub comma_separated : List (List ℕ) → List ℕ
-comma_separated values = join_by (λ value. value) (codes ",") values
-
--- `{"tlvs":N,"ignored":[..]}`
+-- `{"tlvs":N,"ignored":[..]}`, with an object for each reason that occurred, and commas between
 abbrev pub report_json : Counts → List ℕ
 report_json counts =
-    codes "{\"tlvs\":" ++ decimal counts.tlvs ++ codes ",\"ignored\":[" ++ comma_separated (ignored_objects counts all_reasons) ++ codes "]}" ++ newline
+    codes "{\"tlvs\":" ++ decimal counts.tlvs ++ codes ",\"ignored\":["
+    ++ join_by (λ value. value) (codes ",")
+    (filter_map (λ reason. option_map (ignored_object reason)
+    (count_at counts.ignored (reason_place reason))) all_reasons)
+    ++ codes "]}" ++ newline
 
 -- `{"same":true}`
 abbrev pub same_json : List ℕ

@@ -1,5 +1,5 @@
 -- What the two parts of a run promise, reading and writing. These are this project's own.
-use Rattle.std.specs.Prelude.{ℕ, Bool, ◌≡◌, ◌≢◌, ◌+◌, ◌<◌, ◌≤◌, List, length, Option, Result, Ok, Err, IfOk, IfErr, OnOk, OnErr}
+use Rattle.std.specs.Prelude.{ℕ, Bool, Vec, ◌≡◌, ◌≢◌, ◌+◌, ◌<◌, ◌≤◌, List, length, Option, Result, Ok, Err, IfOk, IfErr, IfSome, OnOk, OnErr}
 use Rattle.std.specs.Io.KnownBytes.{Appends}
 use Rattle.babel_tlv.specs.declared.fault.Fault.{Fault}
 use Rattle.babel_tlv.specs.declared.fault.Fault.TheVariants as faults
@@ -13,15 +13,19 @@ use Rattle.babel_canon.specs.Canonical.{Canonical, IsCanonical}
 use Rattle.babel_canon.specs.Differences.{AreDifferences}
 use Rattle.babel_canon.specs.Fewest.{AreFewest}
 use Rattle.babel_canon.specs.declared.every_difference.Difference.{Difference}
+use Rattle.babel_dump.specs.AskedPairs.{IsFirstWrong}
 use Rattle.babel_dump.specs.Device.{AppendsPrefix}
+use Rattle.babel_dump.specs.Each.{GavePairsOf, GaveText, RefusesPairs}
 use Rattle.babel_dump.specs.Given.{GaveAll, GaveIgnored, GaveTable, Input, IsFaultOfGiven}
 use Rattle.babel_dump.specs.InFormat.{differences_or_count_in, pairs_or_counts_in}
-use Rattle.babel_dump.specs.Run.{FewCalls, HasCause, HasFailed, IfOther, NoFailure, Output, Reports}
+use Rattle.babel_dump.specs.Run.{FewCalls, HasCause, HasFailed, NoFailure, Output, Reports}
 use Rattle.babel_dump.specs.RunText.{differences_status}
+use Rattle.babel_dump.specs.declared.addr_pair.AddrPair.{AddrPair}
 use Rattle.babel_dump.specs.declared.both.SeenTables.{SeenTables}
 use Rattle.babel_dump.specs.declared.finish.Found.{Found}
 use Rattle.babel_dump.specs.declared.format.Format.{Format}
 use Rattle.babel_dump.specs.declared.outcome.Outcome.{Outcome}
+use Rattle.babel_dump.specs.declared.pairs_fault.PairsFault.TheVariants as pairs_faults
 use Rattle.babel_dump.specs.declared.run_fault.RunFault.{RunFault}
 use Rattle.babel_dump.specs.declared.run_fault.RunFault.TheVariants as run_faults
 
@@ -34,10 +38,10 @@ pub record IsFedAll (feeder : Progress) (reader : Input) : Type 0 where
 -- what reading these dumps promises, of which something was made
 pub record Gathered {T : Type 0} (reader : Input) (other : Option Input) (Refuses : Fault → Type 0) (Made : T → Type 0) (result : Result T RunFault) : Type 0 where
   pub made : IfOk result Made
-  pub no_failure : OnOk result (NoFailure reader × IfOther other NoFailure)
+  pub no_failure : OnOk result (NoFailure reader × IfSome other NoFailure)
   pub cause : IfErr result (HasCause reader other Refuses)
   pub few_calls : FewCalls reader
-  pub few_other_calls : IfOther other FewCalls
+  pub few_other_calls : IfSome other FewCalls
 
 -- each fault of reading the other dump alone has its cause
 abbrev pub HasOtherCause : Input → RunFault → Type 0
@@ -56,6 +60,28 @@ pub record GatheredOther {T : Type 0} (other : Input) (Made : T → Type 0) (res
   pub no_failure : OnOk result (NoFailure other)
   pub cause : IfErr result (HasOtherCause other)
   pub few_calls : FewCalls other
+
+-- a fault of lines: the first that is wrong, or want of memory
+abbrev pub IsFaultOfLines : List (List ℕ) → RunFault → Type 0
+IsFaultOfLines lines (run_faults.Pairs (pairs_faults.NotAPair line)) = IsFirstWrong lines line
+IsFaultOfLines lines (run_faults.Dump fault) = fault ≡ faults.Memory
+IsFaultOfLines lines fault = ⊥
+
+-- what reading a text for pairs promises
+pub record GatheredText {Z : Type 0} (reader : Input) (result : Result (Vec ℕ Z) RunFault) :
+    Type 0 where
+  pub text : IfOk result (λ text. GaveText reader text.items)
+  pub no_failure : OnOk result (NoFailure reader)
+  pub cause : IfErr result (RefusesPairs reader)
+  pub few_calls : FewCalls reader
+
+-- what reading the pairs that a text asks for promises
+pub record GatheredPairs {Z : Type 0} (reader : Input)
+    (result : Result (Vec AddrPair Z) RunFault) : Type 0 where
+  pub pairs : IfOk result (λ pairs. GavePairsOf reader pairs.items)
+  pub no_failure : OnOk result (NoFailure reader)
+  pub cause : IfErr result (RefusesPairs reader)
+  pub few_calls : FewCalls reader
 
 -- two readers gave a dump each, all that they had, and this is what the view of the first sees of the dumps' tables
 pub record GaveBoth (reader other : Input) (seen : SeenTables) : Type 0 where

@@ -5,7 +5,7 @@ ghost use Rattle.std.specs.List.{slice_split};
 ghost use Rattle.babel_prefix.specs.Address.{Address};
 ghost use Rattle.babel_prefix.specs.Text.{AddressText};
 ghost use Rattle.babel_dump.specs.AskedPairs.{AskFor, AsksBy, SaysPair, is_passed_over, lines_of, words_of};
-ghost use Rattle.babel_dump.specs.Each.{IsFaultOfLines};
+ghost use Rattle.babel_dump.specs.Parts.{IsFaultOfLines};
 ghost use Rattle.babel_dump.specs.declared.addr_pair.AddrPair.{AddrPair};
 
 use crate::addr_pair::AddrPair;

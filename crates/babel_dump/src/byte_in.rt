@@ -1,7 +1,7 @@
 ghost use Rattle.std.specs.Prelude.{◌≡◌, ◌+◌, ◌-◌, ◌^◌, ◌<◌, length};
 ghost use Rattle.std.specs.Io.{ReadsAtMost};
 ghost use Rattle.std.specs.Io.KnownBytes.{ReadConsumes};
-ghost use Rattle.babel_dump.specs.Device.{InputState, failed_reads, ended_reads};
+ghost use Rattle.babel_dump.specs.Device.{InputState, failed_calls, ended_reads};
 
 use std::io;
 use std::io::Read;
@@ -23,7 +23,8 @@ pub trait ByteIn {
         requires few_ends { (state self.old).ends < 2 ^ 64 - 1 }
         ensures bound { ReadsAtMost result buf.new }
         ensures octets { ReadConsumes (state self.old).left (state self.new).left result buf.new }
-        ensures counts_failure { (state self.new).failures ≡ (state self.old).failures + failed_reads result }
+        ensures counts_failure { (state self.new).failures
+            ≡ (state self.old).failures + failed_calls result }
         ensures counts_read { (state self.new).reads ≡ (state self.old).reads + 1 }
         ensures counts_end { (state self.new).ends ≡ (state self.old).ends + ended_reads result (length buf.old) };
 }

@@ -1,7 +1,7 @@
 ghost use Rattle.std.specs.Prelude.{◌≡◌, ◌+◌, ◌-◌, ◌^◌, ◌<◌, length};
 ghost use Rattle.std.specs.Io.{WritesAtMost};
 ghost use Rattle.std.specs.Io.KnownBytes.{Keeps, WriteAppends};
-ghost use Rattle.babel_dump.specs.Device.{OutputState, failed_writes, failed_flushes};
+ghost use Rattle.babel_dump.specs.Device.{OutputState, failed_writes, failed_calls};
 
 use std::io;
 use std::io::Write;
@@ -32,7 +32,8 @@ pub trait ByteOut {
         requires few_failures { (state self.old).failures < 2 ^ 64 - 1 }
         requires few_flushes { (state self.old).flushes < 2 ^ 64 - 1 }
         ensures octets { Keeps (state self.old).taken (state self.new).taken }
-        ensures counts_failure { (state self.new).failures ≡ (state self.old).failures + failed_flushes result }
+        ensures counts_failure { (state self.new).failures
+            ≡ (state self.old).failures + failed_calls result }
         ensures counts_flush { (state self.new).flushes ≡ (state self.old).flushes + 1 };
 }
 

@@ -1,5 +1,6 @@
 ghost use Rattle.std.specs.Prelude.{◌≡◌, ◌^◌, ◌<◌, None, IfOk, string_bytes};
-ghost use Rattle.babel_dump.specs.Each.{GatheredPairs, LooksUpEach, RanEach};
+ghost use Rattle.babel_dump.specs.Each.{LooksUpEach, RanEach};
+ghost use Rattle.babel_dump.specs.Parts.{GatheredPairs};
 ghost use Rattle.babel_dump.specs.Given.{IsFaultOfGiven, read_from};
 ghost use Rattle.babel_dump.specs.InFormat.{each_in};
 ghost use Rattle.babel_dump.specs.Parts.{Gathered, SaysSo};

@@ -1,7 +1,8 @@
 //! The lines that the runs write as JSON: RFC 8259. No text of an address, a router-id or a reason has a
 //! character that JSON escapes.
 ghost use Rattle.std.specs.Prelude.{◌≡◌, ◌++◌, IfOk, OnOk, string_bytes};
-ghost use Rattle.babel_dump.specs.JsonText.{comma_separated, counts_json, difference_count_json, ignored_objects, report_json, same_json, verdict_json};
+ghost use Rattle.babel_dump.specs.JsonText.{counts_json, difference_count_json, report_json, same_json, verdict_json};
+ghost use Rattle.babel_dump.specs.TextParts.{comma_separated, ignored_objects};
 
 use crate::addr_pair::AddrPair;
 use crate::differ::Differ;
@@ -95,7 +96,7 @@ struct Addressed<A>(A, A);
 
 impl<A: fmt::Display> fmt::Display for Addressed<A> {
     ghost use Rattle.babel_dump.specs.JsonText.{addressed_json};
-    ghost use Rattle.babel_dump.specs.RunText.{of_both};
+    ghost use Rattle.babel_dump.specs.TextParts.{of_both};
 
     ghost output = { λ pair. of_both addressed_json (A.output pair.0) (A.output pair.1) };
 
@@ -147,7 +148,7 @@ pub(crate) struct DifferJson<A>(pub View, pub Differ<A>);
 
 impl<A: fmt::Display> fmt::Display for DifferJson<A> {
     ghost use Rattle.babel_dump.specs.JsonText.{differ_json};
-    ghost use Rattle.babel_dump.specs.RunText.{of_both};
+    ghost use Rattle.babel_dump.specs.TextParts.{of_both};
 
     ghost output = { λ line. of_both
         (λ dst src. differ_json line.0 dst src line.1.left line.1.right)

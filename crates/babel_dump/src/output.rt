@@ -1,7 +1,8 @@
 //! What the runs write, in the format that is asked for.
 ghost use Rattle.std.specs.Prelude.{◌≡◌, IfOk, string_bytes};
 ghost use Rattle.babel_tlv.specs.Views.{keeps_all};
-ghost use Rattle.babel_dump.specs.InFormat.{counts_in, difference_count_in, difference_lines_in, differences_in, lookup_in, pairs_in, same_in, show_in, verdict_in};
+ghost use Rattle.babel_dump.specs.InFormat.{counts_in, differences_in, lookup_in, pairs_in, show_in, verdict_in};
+ghost use Rattle.babel_dump.specs.TextParts.{difference_count_in, difference_lines_in, same_in};
 
 use crate::addr_pair::AddrPair;
 use crate::differ::Differ;

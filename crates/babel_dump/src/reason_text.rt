@@ -1,6 +1,7 @@
 //! The lines of a report.
 ghost use Rattle.std.specs.Prelude.{◌≡◌, ◌++◌, OnOk, string_bytes};
-ghost use Rattle.babel_dump.specs.RunText.{ignored_lines, reason_name, report_text};
+ghost use Rattle.babel_dump.specs.RunText.{reason_name, report_text};
+ghost use Rattle.babel_dump.specs.TextParts.{ignored_lines};
 
 use babel_table::Report;
 use babel_tlv::Reason;

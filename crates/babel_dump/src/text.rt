@@ -1,6 +1,7 @@
 //! The lines that the runs write.
 ghost use Rattle.std.specs.Prelude.{◌≡◌, IfOk, string_bytes};
-ghost use Rattle.babel_dump.specs.RunText.{counts_text, difference_count_text, hex_text, lookup_text, same_text, verdict_text};
+ghost use Rattle.babel_dump.specs.RunText.{counts_text, difference_count_text, same_text, verdict_text};
+ghost use Rattle.babel_dump.specs.TextParts.{hex_text, lookup_text};
 
 use crate::addr_pair::AddrPair;
 use crate::differ::Differ;
@@ -15,7 +16,7 @@ pub(crate) struct RouterId(pub [u8; 8]);
 
 impl fmt::Display for RouterId {
     ghost use Rattle.std.specs.Prelude.{Some};
-    ghost use Rattle.babel_dump.specs.RunText.{hex_digits};
+    ghost use Rattle.babel_dump.specs.TextParts.{hex_digits};
 
     ghost output = { λ id. Some (hex_digits id.0) };
 
@@ -128,7 +129,8 @@ impl fmt::Display for EachLine {
 pub(crate) struct DifferLines<A>(pub View, pub Differ<A>);
 
 impl<A: fmt::Display> fmt::Display for DifferLines<A> {
-    ghost use Rattle.babel_dump.specs.RunText.{differ_lines, of_both};
+    ghost use Rattle.babel_dump.specs.RunText.{differ_lines};
+    ghost use Rattle.babel_dump.specs.TextParts.{of_both};
 
     ghost output = { λ lines. of_both
         (λ dst src. differ_lines lines.0 dst src lines.1.left lines.1.right)

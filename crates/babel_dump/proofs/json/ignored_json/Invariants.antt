@@ -1,6 +1,6 @@
 use Rattle.std.proofs.Common.{◌≡◌, take}
 use Rattle.std.specs.Prelude.{string_bytes}
-use Rattle.babel_dump.specs.JsonText.{comma_separated, ignored_objects}
+use Rattle.babel_dump.specs.TextParts.{comma_separated, ignored_objects}
 use Rattle.babel_dump.proofs.JsonLaws.{comma_after}
 use Rattle.babel_dump.proofs.json.ignored_json.Given as goal
 

@@ -1,7 +1,7 @@
 -- The lines so far are those of the differences so far.
 use Rattle.std.proofs.Common.{◌≡◌, take}
 use Rattle.std.specs.Prelude.{string_bytes}
-use Rattle.babel_dump.specs.InFormat.{difference_lines_in}
+use Rattle.babel_dump.specs.TextParts.{difference_lines_in}
 use Rattle.babel_dump.proofs.output.difference_lines.Given as goal
 
 abbrev pub invariant-loop-difference : goal.invariant-loop-difference

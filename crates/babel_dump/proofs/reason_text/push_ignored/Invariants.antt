@@ -1,6 +1,6 @@
 use Rattle.std.proofs.Common.{◌≡◌, ◌++◌, take}
 use Rattle.std.specs.Prelude.{string_bytes}
-use Rattle.babel_dump.specs.RunText.{ignored_lines}
+use Rattle.babel_dump.specs.TextParts.{ignored_lines}
 use Rattle.babel_dump.proofs.reason_text.push_ignored.Given as goal
 
 abbrev pub invariant-loop-reason : goal.invariant-loop-reason

@@ -3,7 +3,7 @@ use Rattle.std.proofs.Common.{◌≡◌, List, ℕ, Option, Some, None, refl, su
 use Rattle.std.specs.Prelude.{codes}
 use Rattle.std.specs.Fmt.{DisplaysOnOk, ◌++?◌}
 use Rattle.babel_dump.specs.JsonText.{addressed_json}
-use Rattle.babel_dump.specs.RunText.{of_both}
+use Rattle.babel_dump.specs.TextParts.{of_both}
 use Rattle.babel_dump.proofs.json.AddressedDisplay.fmt.Goals as goal
 
 -- the two texts, where there are both

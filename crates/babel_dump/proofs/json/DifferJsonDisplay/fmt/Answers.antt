@@ -5,7 +5,7 @@ use Rattle.std.specs.Fmt.{DisplaysOnOk, ◌++?◌}
 use Rattle.babel_tlv.specs.declared.held.Held.{Held}
 use Rattle.babel_tlv.specs.declared.view.View.{View}
 use Rattle.babel_dump.specs.JsonText.{addressed_json, answer_json, differ_json}
-use Rattle.babel_dump.specs.RunText.{of_both}
+use Rattle.babel_dump.specs.TextParts.{of_both}
 use Rattle.babel_dump.proofs.json.DifferJsonDisplay.fmt.Goals as goal
 
 -- the two texts, where there are both

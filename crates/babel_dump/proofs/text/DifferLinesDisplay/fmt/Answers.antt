@@ -4,7 +4,8 @@ use Rattle.std.specs.Prelude.{codes}
 use Rattle.std.specs.Fmt.{DisplaysOnOk, ◌++?◌}
 use Rattle.babel_tlv.specs.declared.held.Held.{Held}
 use Rattle.babel_tlv.specs.declared.view.View.{View}
-use Rattle.babel_dump.specs.RunText.{answer_text, differ_lines, of_both}
+use Rattle.babel_dump.specs.RunText.{answer_text, differ_lines}
+use Rattle.babel_dump.specs.TextParts.{of_both}
 use Rattle.babel_dump.proofs.text.DifferLinesDisplay.fmt.Goals as goal
 
 -- the two texts, where there are both
