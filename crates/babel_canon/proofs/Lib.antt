@@ -20,6 +20,7 @@ mod SinkLaws
 mod GridLaws
 mod MappedBoxes
 mod PackedDifferences
+mod PackedLaws
 mod DifferenceLists
 mod DifferenceLaws
 pub mod OneDifferences

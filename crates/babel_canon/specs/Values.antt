@@ -1,5 +1,5 @@
 -- Values in eight octets, and rows that have these in place of values: this project's own.
-use Rattle.std.specs.Prelude.{◌≡◌, ◌≢◌, ◌↔◌, ◌==◌, if◌then◌else◌, ℕ, List, All, Some, filter, get_or, map, slice_get}
+use Rattle.std.specs.Prelude.{◌≡◌, ◌≢◌, ◌↔◌, ◌==◌, if◌then◌else◌, ℕ, List, [], ◌∷◌, All, Some, filter, get_or, map, slice_get}
 use Rattle.std.specs.BTreeMap.{BTreeMap, get}
 use Rattle.babel_prefix.specs.declared.family.Family.{Family}
 use Rattle.babel_prefix.specs.Best.{Row}
@@ -51,6 +51,12 @@ pub record IsPacked (origins : List Held) (held : Held) (value : PackedValue) : 
 -- something is packed so
 abbrev pub HasValue : List Held → PackedValue → Type 0
 HasValue origins value = IsPacked origins (value_of origins value) value
+
+-- rows as entries, each with the packed value in place of its own
+abbrev pub packed_entries : List Pair → List PackedValue → List (Entry PackedValue)
+packed_entries (row ∷ rows) (value ∷ values) = (row.0.dst, row.0.src, value) ∷ packed_entries rows values
+packed_entries (row ∷ rows) [] = []
+packed_entries [] values = []
 
 -- an entry with the value that its own stands for
 abbrev pub valued_entry : List Held → Entry PackedValue → Entry Held

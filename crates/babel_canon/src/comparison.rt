@@ -2,13 +2,13 @@ ghost use Rattle.std.specs.Prelude.{◌≡◌, IfOk, IfErr};
 ghost use Rattle.babel_canon.specs.Verdict.{IsVerdict};
 ghost use Rattle.babel_canon.specs.FirstDifference.{IsFirstDifference, IsFirstInFamily};
 
-use crate::grids::family_entries;
+use crate::grids::{PackedRows, family_values};
 use crate::values::Values;
 use crate::verdict::Verdict;
 use babel_prefix::{Addr, Family};
 use babel_table::Table;
 use babel_tlv::Fault;
-use babel_trie::least_difference;
+use babel_trie::least_difference_of;
 use std::alloc::{AllocError, Global};
 
 /// The least pair of a destination and a source of one family that two tables answer differently; `None` if there is none.
@@ -21,10 +21,15 @@ fn family_difference(
     ensures { IfOk result (IsFirstInFamily family left.now.rows right.now.rows) }
 {
     let mut values = Values::new(alloc);
-    let entries = family_entries(alloc, family, left, &mut values)?;
-    let others = family_entries(alloc, family, right, &mut values)?;
+    let mine = family_values(alloc, family, left, &mut values)?;
+    let theirs = family_values(alloc, family, right, &mut values)?;
     drop(values);
-    least_difference(alloc, family, &entries, &others)
+    least_difference_of(
+        alloc,
+        family,
+        PackedRows::of(family, left, mine.as_slice()),
+        PackedRows::of(family, right, theirs.as_slice()),
+    )
 }
 
 /// The same in both families: a pair of IPv6 only where IPv4 has none.

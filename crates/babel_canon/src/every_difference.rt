@@ -9,13 +9,13 @@ ghost use Rattle.babel_canon.specs.PackedDifferences.{ArePackedDifferences, HasD
 ghost use Rattle.babel_canon.specs.Values.{AreNumbered, KeepsValues, value_of};
 ghost use Rattle.babel_canon.specs.declared.values.PackedValue.{PackedValue};
 
-use crate::grids::{Grids, family_entries};
+use crate::grids::{Grids, PackedRows, family_values};
 use crate::sinks::Given;
 use crate::values::{PackedValue, Values};
 use babel_prefix::{Family, Prefix};
 use babel_table::{Limits, Table};
 use babel_tlv::{Fault, Held, Key};
-use babel_trie::{Differing, Grid, Sink};
+use babel_trie::{Differing, Grid, Sink, differences_of};
 use std::alloc::{AllocError, Global};
 use std::marker::{Brand, PhantomData};
 
@@ -84,9 +84,11 @@ fn family_differences(
     ensures boxes { IfOk result (λ grid.
         ArePackedDifferences family left.now.rows right.now.rows values.new.list.items grid.boxes) }
 {
-    let entries = family_entries(alloc, family, left, values)?;
-    let others = family_entries(alloc, family, right, values)?;
-    let grid = babel_trie::differences(alloc, family, &entries, &others)?;
+    let mine = family_values(alloc, family, left, values)?;
+    let theirs = family_values(alloc, family, right, values)?;
+    let rows = PackedRows::of(family, left, mine.as_slice());
+    let others = PackedRows::of(family, right, theirs.as_slice());
+    let grid = differences_of(alloc, family, rows, others)?;
     Ok(grid)
 }
 

@@ -1,16 +1,17 @@
 ghost use Rattle.std.specs.Prelude.{◌≡◌, ◌+◌, ◌-◌, ◌^◌, ◌++◌, List, IfOk, OnOk, length, map, min};
 ghost use Rattle.babel_prefix.specs.declared.family.Family.TheVariants.{V4, V6};
 ghost use Rattle.babel_prefix.specs.Entries.{Entry, HasDistinctPrefixes};
-ghost use Rattle.babel_table.specs.Rows.{AreRows};
+ghost use Rattle.babel_table.specs.Left.{rows_left};
+ghost use Rattle.babel_table.specs.Rows.{AreRows, family_rows};
 ghost use Rattle.babel_trie.specs.Nested.{entry_at};
-ghost use Rattle.babel_canon.specs.Values.{AreNumbered, AreNumberedBoxes, AreNumberedEntries, KeepsValues};
+ghost use Rattle.babel_canon.specs.Values.{AreNumbered, AreNumberedBoxes, AreNumberedEntries, KeepsValues, packed_entries};
 ghost use Rattle.babel_canon.specs.declared.values.PackedValue.{PackedValue};
 
 use crate::values::{PackedValue, Values};
 use babel_prefix::{Family, Prefix};
-use babel_table::Table;
+use babel_table::{Table, TableRows};
 use babel_tlv::{Held, Key};
-use babel_trie::{Grid, LawfulOrd, Sink};
+use babel_trie::{Grid, LawfulOrd, Rows, Sink};
 use std::alloc::{AllocError, Global};
 
 /// A destination prefix, a source prefix, and what is answered there, packed.
@@ -23,28 +24,64 @@ pub(crate) struct Grids<V: LawfulOrd> {
     pub v6: Grid<V>,
 }
 
-/// The rows of one family of a table, with their values packed, as a grid takes them.
-pub(crate) fn family_entries(
+/// The rows of one family of a table, with packed values in place of theirs. No row is spelled out before it is asked for.
+#[derive(Clone, Copy)]
+pub(crate) struct PackedRows<'a> {
+    rows: TableRows<'a>,
+    values: &'a [PackedValue],
+}
+
+impl<'a> PackedRows<'a> {
+    /// The rows of a family of the table, with these values.
+    pub(crate) fn of(family: Family, table: &'a Table, values: &'a [PackedValue]) -> PackedRows<'a>
+        ensures { packed_entries (rows_left result.rows) result.values.now
+            ≡ packed_entries (family_rows family table.now.rows) values.now }
+    {
+        PackedRows {
+            rows: table.rows_of(family),
+            values,
+        }
+    }
+}
+
+impl<'a> Rows<PackedValue> for PackedRows<'a> {
+    ghost use Rattle.babel_table.specs.Left.{rows_left};
+    ghost use Rattle.babel_canon.specs.Values.{packed_entries};
+
+    ghost rows = { λ r. packed_entries (rows_left r.rows) r.values.now };
+
+    fn split(self) -> Option<(Row, PackedRows<'a>)> {
+        let PackedRows { mut rows, values } = self;
+        let (key, _) = rows.next()?;
+        let (value, values) = values.split_first()?;
+        Some(((key.dst(), key.src(), *value), PackedRows { rows, values }))
+    }
+}
+
+/// The packed values of the rows of one family of a table.
+pub(crate) fn family_values(
     alloc: Global,
     family: Family,
     table: &Table,
     values: &mut Values,
-) -> Result<Vec<Row>, AllocError>
+) -> Result<Vec<PackedValue>, AllocError>
     requires { AreNumbered values.old.list.items values.old.numbers }
     ensures numbered { OnOk result (AreNumbered values.new.list.items values.new.numbers) }
     ensures keeps { OnOk result (KeepsValues values.old.list.items values.new.list.items) }
-    ensures prefixes { IfOk result (λ entries. HasDistinctPrefixes entries.items) }
-    ensures entries { IfOk result (λ entries.
-        AreNumberedEntries family table.now.rows values.new.list.items entries.items) }
+    ensures prefixes { IfOk result (λ packed.
+        HasDistinctPrefixes (packed_entries (family_rows family table.now.rows) packed.items)) }
+    ensures entries { IfOk result (λ packed.
+        AreNumberedEntries family table.now.rows values.new.list.items
+        (packed_entries (family_rows family table.now.rows) packed.items)) }
 {
-    let mut entries = Vec::new(alloc);
-    for (key, held) in table.rows() {
-        if key.dst().family() == family {
-            let value = values.packed(&held)?;
-            entries.push((key.dst(), key.src(), value))?;
-        }
+    let rows = table.rows_of(family);
+    let mut packed = Vec::with_capacity(alloc, rows.len())?;
+    for (key, held) in rows {
+        let _valid = key.dst();
+        let value = values.packed(&held)?;
+        packed.push(value)?;
     }
-    Ok(entries)
+    Ok(packed)
 }
 
 /// What a table answers for the addresses of one family.
@@ -61,8 +98,9 @@ fn family_grid(
     ensures boxes { IfOk result (λ grid.
         AreNumberedBoxes family table.now.rows values.new.list.items grid.boxes) }
 {
-    let entries = family_entries(alloc, family, table, values)?;
-    let grid = Grid::of(alloc, family, &entries)?;
+    let packed = family_values(alloc, family, table, values)?;
+    let rows = PackedRows::of(family, table, packed.as_slice());
+    let grid = Grid::of_rows(alloc, family, rows)?;
     Ok(grid)
 }
 

@@ -1,7 +1,7 @@
 ghost use Rattle.std.specs.Prelude.{◌≡◌, MatchOption};
 ghost use Rattle.babel_table.specs.BestMatch.{HasBestMatch, HasNoMatch};
 ghost use Rattle.babel_table.specs.Left.{rows_left};
-ghost use Rattle.babel_table.specs.Rows.{AreRows};
+ghost use Rattle.babel_table.specs.Rows.{AreRows, family_rows};
 ghost use Rattle.babel_table.specs.Seen.{seen_rows};
 
 use crate::compact_row::CompactRow;
@@ -44,6 +44,23 @@ impl SortedRows {
         TableRows {
             v4: &self.v4,
             v6: &self.v6,
+        }
+    }
+
+    /// The rows of one family in order.
+    pub fn of_family(&self, family: Family) -> TableRows<'_>
+        ensures value { rows_left result ≡ family_rows family self.now }
+        ensures valid { AreRows self.now }
+    {
+        match family {
+            Family::V4 => TableRows {
+                v4: &self.v4,
+                v6: &[],
+            },
+            Family::V6 => TableRows {
+                v4: &[],
+                v6: &self.v6,
+            },
         }
     }
 

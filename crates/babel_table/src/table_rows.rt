@@ -5,7 +5,7 @@ use crate::halves::Halves;
 use babel_tlv::{Held, Key};
 
 /// The rows of a table in rising order, each once.
-#[derive(Drop)]
+#[derive(Clone, Copy)]
 pub struct TableRows<'a> {
     pub(crate) v4: &'a [CompactRow<u32>],
     pub(crate) v6: &'a [CompactRow<Halves>],

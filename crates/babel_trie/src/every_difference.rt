@@ -7,7 +7,7 @@ use crate::comparison::Comparison;
 use crate::differing::Differing;
 use crate::grid::Grid;
 use crate::lawful::LawfulOrd;
-use crate::rows::Row;
+use crate::rows::{Row, Rows};
 use crate::table::Table;
 use babel_prefix::Family;
 use std::alloc::{AllocError, Global};
@@ -31,6 +31,23 @@ pub fn differences<V: LawfulOrd>(
     ensures family { IfOk result (λ grid. grid.family ≡ family) }
     ensures boxes { IfOk result (λ grid. AreDifferences (width_of family)
         (answers_in family left.now) (answers_in family right.now) grid.boxes) }
+{
+    differences_of(alloc, family, left, right)
+}
+
+/// The same of rows that are no slices: they are gone through one by one, and not copied if they stand in order.
+pub fn differences_of<V: LawfulOrd, L: Rows<V>, R: Rows<V>>(
+    alloc: Global,
+    family: Family,
+    left: L,
+    right: R,
+) -> Result<Grid<Differing<V>>, AllocError>
+    requires left_family { All (AreOfFamily family) (L.rows left) }
+    requires left_prefixes { HasDistinctPrefixes (L.rows left) }
+    requires right_family { All (AreOfFamily family) (R.rows right) }
+    requires right_prefixes { HasDistinctPrefixes (R.rows right) }
+    ensures family { IfOk result (λ grid. grid.family ≡ family) }
+    ensures boxes { IfOk result (λ grid. AreDifferences (width_of family) (answers_in family (L.rows left)) (answers_in family (R.rows right)) grid.boxes) }
 {
     let mut sources = Table::new(alloc);
     let left = sources.runs(alloc, family, left)?;

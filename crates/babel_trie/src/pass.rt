@@ -15,7 +15,7 @@ ghost use Rattle.babel_trie.specs.declared.table.Sources.TheVariants.{Constant};
 
 use crate::fit::last_address;
 use crate::lawful::{LawfulOrd, are_same};
-use crate::rows::Row;
+use crate::rows::{Row, Rows};
 use crate::runs::Change;
 use crate::table::{Node, Sources, Table};
 use babel_prefix::Prefix;
@@ -46,32 +46,40 @@ pub fn say<F: LawfulOrd>(out: &mut Vec<Change<F>>, change: Change<F>) -> Result<
     Ok(())
 }
 
-/// The destination of the first row, the rows of this destination, which come first, and the others.
+/// The destination of the first row, and the rows behind those of this destination.
 #[derive(Clone, Copy)]
-struct Leading<'a, V> {
+struct Leading<R> {
     destination: Prefix,
-    rows: &'a [Row<V>],
-    others: &'a [Row<V>],
+    others: R,
 }
 
-/// The rows that lead, if there are any.
-fn first_destination<V>(rows: &[Row<V>]) -> Option<Leading<'_, V>>
-    ensures none { IfNone result (rows.now ≡ []) }
-    ensures parts { IfSome result (λ r. rows.now ≡ r.rows.now ++ r.others.now) }
-    ensures some { IfSome result (λ r. 0 < length r.rows.now) }
-    ensures one { IfSome result (λ r. (x : _) → Listed r.rows.now x → block_of x.0 ≡ block_of r.destination) }
+/// Copies the rows of the first destination, if there are rows.
+fn first_destination<V: Copy, R: Rows<V>>(
+    rows: R,
+    own: &mut Vec<Row<V>>,
+) -> Result<Option<Leading<R>>, AllocError>
+    ensures none { IfOk result (λ r. IfNone r (R.rows rows ≡ [])) }
+    ensures parts { IfOk result (λ r. IfSome r (λ first. R.rows rows ≡ own.new.items ++ R.rows first.others)) }
+    ensures some { IfOk result (λ r. IfSome r (λ _. 0 < length own.new.items)) }
+    ensures one { IfOk result (λ r. IfSome r (λ first. (x : _) → Listed own.new.items x → block_of x.0 ≡ block_of first.destination)) }
 {
-    let destination = rows.first()?.0;
-    let mut count = 1usize;
-    while count < rows.len() && rows[count].0 == destination {
-        count += 1;
+    let Some((first, mut others)) = rows.split() else {
+        return Ok(None);
+    };
+    let destination = first.0;
+    own.clear();
+    own.push(first)?;
+    while let Some((row, behind)) = others.split() {
+        if row.0 != destination {
+            break;
+        }
+        own.push(row)?;
+        others = behind;
     }
-    let (rows, others) = rows.split_at(count);
-    Some(Leading {
+    Ok(Some(Leading {
         destination,
-        rows,
         others,
-    })
+    }))
 }
 
 /// A pass over rows in order: the changes said, the change come to, which is said once the next one is, and the changes
@@ -157,20 +165,20 @@ impl<F: LawfulOrd> Pass<F> {
 
 impl<V: LawfulOrd> Table<Option<V>> {
     /// The changes of the answers of rows in order that are a table of this width.
-    pub fn table_runs(
+    pub fn table_runs<R: Rows<V>>(
         &mut self,
         alloc: Global,
         width: u8,
-        rows: &[Row<V>],
+        rows: R,
     ) -> Result<Vec<Change<Sources<Option<V>>>>, AllocError>
         requires sound { IsSound ⟦<Sources<Option<V>> as Ord>⟧.cmp ⟦<Sources<Option<V>> as LawfulOrd>⟧.mark self.old.nodes.items self.old.numbers }
-        requires order { InOrder RowOrder rows.now }
-        requires table { IsTable width (map row_of rows.now) }
+        requires order { InOrder RowOrder (R.rows rows) }
+        requires table { IsTable width (map row_of (R.rows rows)) }
         requires width { width ≤ 128 }
         ensures sound { OnOk result (IsSound ⟦<Sources<Option<V>> as Ord>⟧.cmp ⟦<Sources<Option<V>> as LawfulOrd>⟧.mark self.new.nodes.items self.new.numbers) }
         ensures keeps { OnOk result (KeepsNodes self.old.nodes.items self.new.nodes.items) }
-        ensures runs { IfOk result (λ list. HasRuns width self.new.nodes.items list.items (answer width (map row_of rows.now))) }
-        ensures few { IfOk result (λ list. length list.items ≤ 2 * length rows.now + 1) }
+        ensures runs { IfOk result (λ list. HasRuns width self.new.nodes.items list.items (answer width (map row_of (R.rows rows)))) }
+        ensures few { IfOk result (λ list. length list.items ≤ 2 * length (R.rows rows) + 1) }
     {
         let last = last_address(0, width);
         let mut pass = Pass {
@@ -181,12 +189,13 @@ impl<V: LawfulOrd> Table<Option<V>> {
             },
             ahead: Vec::new(alloc),
         };
+        let mut own = Vec::new(alloc);
         let mut rest = rows;
-        while let Some(next) = first_destination(rest) {
+        while let Some(next) = first_destination(rest, &mut own)? {
             let start = next.destination.addr().bits();
             let end = last_address(start, width - next.destination.len());
             pass.reach(start)?;
-            let here = self.overlaid(next.rows, width, pass.sources())?;
+            let here = self.overlaid(&own, width, pass.sources())?;
             pass.enter(start, end, last, here)?;
             rest = next.others;
         }

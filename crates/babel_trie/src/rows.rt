@@ -1,7 +1,7 @@
 //! Rows in order, and their parts.
-ghost use Rattle.std.specs.Prelude.{◌≡◌, ◌≢◌, ◌+◌, ◌-◌, ◌*◌, ◌/◌, ◌^◌, ◌++◌, ◌<◌, ◌≤◌, ◌==◌, nat_lt, List, All, IfOk, IfSome, IfNone, true, false, length};
+ghost use Rattle.std.specs.Prelude.{◌≡◌, ◌≢◌, ◌+◌, ◌-◌, ◌*◌, ◌/◌, ◌^◌, ◌++◌, ◌<◌, ◌≤◌, ◌==◌, ◌∷◌, nat_lt, List, [], All, IfOk, IfSome, IfNone, MatchOption, true, false, length};
 ghost use Rattle.std.specs.List.Sorted.{IsPartitionedBy, IsPartitionPoint, IsPermutation};
-ghost use Rattle.babel_prefix.specs.Entries.{HasPrefixes};
+ghost use Rattle.babel_prefix.specs.Entries.{Entry, HasPrefixes};
 ghost use Rattle.babel_prefix.specs.Members.{Listed};
 ghost use Rattle.babel_trie.specs.Held.{RowOrder, row_place};
 ghost use Rattle.babel_trie.specs.Rows.{InOrder, InBlock, IsPlace, AreParted, source_block};
@@ -12,6 +12,25 @@ use std::alloc::{AllocError, Global};
 
 /// A row: a destination, a source and what they are given.
 pub type Row<V> = (Prefix, Prefix, V);
+
+/// Rows one after another, which can be gone through more than once: a slice of them, or what each row is made of.
+pub trait Rows<V>: Copy {
+    // The rows.
+    ghost rows: { Self → List (Entry V) };
+
+    /// The first row, and the others; `None` where there are none.
+    fn split(self) -> Option<(Row<V>, Self)>
+        ensures { MatchOption result (rows self ≡ []) (λ parts. rows self ≡ parts.0 ∷ rows parts.1) };
+}
+
+impl<'a, V: Copy> Rows<V> for &'a [Row<V>] {
+    ghost rows = { λ slice. slice.now };
+
+    fn split(self) -> Option<(Row<V>, &'a [Row<V>])> {
+        let (first, others) = self.split_first()?;
+        Some((*first, others))
+    }
+}
 
 /// The place of a row in the order of rows: by destination, then by source; a prefix stands before those inside it.
 fn place<V>(row: &Row<V>) -> ((u128, u8), (u128, u8))
@@ -26,31 +45,35 @@ fn place<V>(row: &Row<V>) -> ((u128, u8), (u128, u8))
 }
 
 /// Whether the rows stand in order.
-pub fn are_in_order<V>(rows: &[Row<V>]) -> bool
-    ensures in_order { result ≡ true → InOrder RowOrder rows.now }
-    ensures prefixes { result ≡ true → All HasPrefixes rows.now }
+pub fn are_in_order<V: Copy, R: Rows<V>>(rows: R) -> bool
+    ensures in_order { result ≡ true → InOrder RowOrder (R.rows rows) }
+    ensures prefixes { result ≡ true → All HasPrefixes (R.rows rows) }
 {
     let mut before = ((0, 0), (0, 0));
-    for row in rows {
-        let here = place(row);
+    let mut left = rows;
+    while let Some((row, others)) = left.split() {
+        let here = place(&row);
         if here.cmp(&before).is_lt() {
             return false;
         }
         before = here;
+        left = others;
     }
     true
 }
 
 /// The rows in order: a prefix stands before those inside it.
-pub fn sorted_rows<V: Copy>(alloc: Global, rows: &[Row<V>]) -> Result<Vec<Row<V>>, AllocError>
-    ensures permutation { IfOk result (λ sorted. IsPermutation rows.now sorted.items) }
+pub fn sorted_rows<V: Copy, R: Rows<V>>(alloc: Global, rows: R) -> Result<Vec<Row<V>>, AllocError>
+    ensures permutation { IfOk result (λ sorted. IsPermutation (R.rows rows) sorted.items) }
     ensures in_order { IfOk result (λ sorted. InOrder RowOrder sorted.items) }
-    ensures prefixes { IfOk result (λ _. All HasPrefixes rows.now) }
+    ensures prefixes { IfOk result (λ _. All HasPrefixes (R.rows rows)) }
 {
-    let mut sorted = Vec::with_capacity(alloc, rows.len())?;
-    for row in rows {
+    let mut sorted = Vec::new(alloc);
+    let mut left = rows;
+    while let Some((row, others)) = left.split() {
         let _ = (row.0.len(), row.1.len());
-        sorted.push(*row)?;
+        sorted.push(row)?;
+        left = others;
     }
     sorted.sort_unstable_by_key(|row| {
         (

@@ -8,7 +8,7 @@ ghost use Rattle.babel_trie.specs.Spans.{start_or};
 ghost use Rattle.babel_trie.specs.declared.table.Sources.{Sources};
 
 use crate::lawful::LawfulOrd;
-use crate::rows::{Row, are_in_order, sorted_rows};
+use crate::rows::{Rows, are_in_order, sorted_rows};
 use crate::table::{Node, Sources, Table};
 use babel_prefix::Family;
 use std::alloc::{AllocError, Global};
@@ -32,26 +32,26 @@ pub fn sources_of<V>(list: &[Change<Sources<V>>], dst: u128) -> &Sources<V>
 
 impl<V: LawfulOrd> Table<Option<V>> {
     /// The changes of the answers of these rows, in whatever order they stand. Rows in order are used as they are.
-    pub fn runs(
+    pub fn runs<R: Rows<V>>(
         &mut self,
         alloc: Global,
         family: Family,
-        rows: &[Row<V>],
+        rows: R,
     ) -> Result<Vec<Change<Sources<Option<V>>>>, AllocError>
         requires sound { IsSound ⟦<Sources<Option<V>> as Ord>⟧.cmp ⟦<Sources<Option<V>> as LawfulOrd>⟧.mark self.old.nodes.items self.old.numbers }
-        requires family { All (AreOfFamily family) rows.now }
-        requires prefixes { HasDistinctPrefixes rows.now }
+        requires family { All (AreOfFamily family) (R.rows rows) }
+        requires prefixes { HasDistinctPrefixes (R.rows rows) }
         ensures sound { OnOk result (IsSound ⟦<Sources<Option<V>> as Ord>⟧.cmp ⟦<Sources<Option<V>> as LawfulOrd>⟧.mark self.new.nodes.items self.new.numbers) }
         ensures keeps { OnOk result (KeepsNodes self.old.nodes.items self.new.nodes.items) }
-        ensures runs { IfOk result (λ list. HasRuns (width_of family) self.new.nodes.items list.items (answers_in family rows.now)) }
-        ensures few { IfOk result (λ list. length list.items ≤ 2 * length rows.now + 1) }
+        ensures runs { IfOk result (λ list. HasRuns (width_of family) self.new.nodes.items list.items (answers_in family (R.rows rows))) }
+        ensures few { IfOk result (λ list. length list.items ≤ 2 * length (R.rows rows) + 1) }
     {
         if are_in_order(rows) {
             let list = self.table_runs(alloc, family.width(), rows)?;
             return Ok(list);
         }
         let sorted = sorted_rows(alloc, rows)?;
-        let list = self.table_runs(alloc, family.width(), &sorted)?;
+        let list = self.table_runs(alloc, family.width(), sorted.as_slice())?;
         Ok(list)
     }
 }

@@ -1,15 +1,17 @@
-use Rattle.std.proofs.Common.{◌≡◌, List, Option, Some, None, Result, Ok, Err, IfOk, sym, subst}
+use Rattle.std.proofs.Common.{◌≡◌, List, Option, Some, None, Result, Ok, Err, IfOk, ap, ◌∙◌, sym, subst}
+use Rattle.std.specs.List.{All}
 use Rattle.std.specs.Option.{IfSome, MatchOption}
 use Rattle.babel_prefix.specs.declared.family.Family.{Family}
 use Rattle.babel_prefix.specs.Width.{width_of}
 use Rattle.babel_prefix.specs.Address.{Address}
-use Rattle.babel_prefix.specs.Entries.{Entry, answers_in}
+use Rattle.babel_prefix.specs.Entries.{Entry, AreOfFamily, HasDistinctPrefixes, answers_in}
 use Rattle.babel_trie.specs.Boxes.{SameAnswers, IsLeastDifference}
 use Rattle.babel_tlv.specs.declared.held.Held.{Held}
 use Rattle.babel_tlv.specs.Pair.{Pair}
-use Rattle.babel_table.specs.Rows.{entries_of}
+use Rattle.babel_table.specs.Left.{rows_left}
+use Rattle.babel_table.specs.Rows.{entries_of, family_rows}
 use Rattle.babel_canon.specs.declared.values.PackedValue.{PackedValue}
-use Rattle.babel_canon.specs.Values.{AreNumberedEntries}
+use Rattle.babel_canon.specs.Values.{AreNumberedEntries, packed_entries}
 use Rattle.babel_canon.specs.FirstDifference.{IsFirstInFamily}
 use Rattle.babel_canon.proofs.Numbered.{AreDistinct, same_by_value, difference_by_value}
 use Rattle.babel_canon.proofs.ValueLists.{distinct, entries_still, entries_say}
@@ -33,16 +35,39 @@ module _ (family : Family) (rows others : List Pair) (values : List Held) (once 
   }
   by_value (Err e) of_family least = tt
 
+pub least_difference_of-requires-clause-left_family : goal.least_difference_of-requires-clause-left_family
+least_difference_of-requires-clause-left_family c =
+    let same = c.of.ensures ∙ ap (packed_entries (family_rows c.args.family c.args.left.now.rows)) c.as_slice.ensures.value in
+    subst (λ (es : List (Entry PackedValue)). All (AreOfFamily c.args.family) es) (sym same) c.in_ok-mine.ensures.entries.of_family
+
+pub least_difference_of-requires-clause-left_prefixes : goal.least_difference_of-requires-clause-left_prefixes
+least_difference_of-requires-clause-left_prefixes c =
+    let same = c.of.ensures ∙ ap (packed_entries (family_rows c.args.family c.args.left.now.rows)) c.as_slice.ensures.value in
+    subst HasDistinctPrefixes (sym same) c.in_ok-mine.ensures.prefixes
+
+pub least_difference_of-requires-clause-right_family : goal.least_difference_of-requires-clause-right_family
+least_difference_of-requires-clause-right_family c =
+    let same = c.of-2.ensures ∙ ap (packed_entries (family_rows c.args.family c.args.right.now.rows)) c.as_slice-2.ensures.value in
+    subst (λ (es : List (Entry PackedValue)). All (AreOfFamily c.args.family) es) (sym same) c.in_ok-theirs.ensures.entries.of_family
+
+pub least_difference_of-requires-clause-right_prefixes : goal.least_difference_of-requires-clause-right_prefixes
+least_difference_of-requires-clause-right_prefixes c =
+    let same = c.of-2.ensures ∙ ap (packed_entries (family_rows c.args.family c.args.right.now.rows)) c.as_slice-2.ensures.value in
+    subst HasDistinctPrefixes (sym same) c.in_ok-theirs.ensures.prefixes
+
 pub returns : goal.returns
 returns c =
     let family = c.args.family in
     let rows = c.args.left.now.rows in
     let others = c.args.right.now.rows in
-    let old = c.family_entries.new.values.list.items in
-    let values = c.family_entries-2.new.values.list.items in
-    let mine : AreNumberedEntries family rows values c.in_ok-entries.entries.items =
-    entries_still old values c.in_ok-others.ensures.keeps family rows c.in_ok-entries.entries.items c.in_ok-entries.ensures.entries in
-    by_value family rows others values (distinct values c.family_entries-2.new.values.numbers c.in_ok-others.ensures.numbered) c.deref.result.now c.deref-2.result.now
-    (subst (λ (es : List (Entry PackedValue)). AreNumberedEntries family rows values es) (sym c.deref.ensures.value) mine)
-    (subst (λ (es : List (Entry PackedValue)). AreNumberedEntries family others values es) (sym c.deref-2.ensures.value) c.in_ok-others.ensures.entries)
-    c.least_difference.result c.least_difference.ensures.family c.least_difference.ensures.least
+    let old = c.family_values.new.values.list.items in
+    let values = c.family_values-2.new.values.list.items in
+    let entries = packed_entries (family_rows family rows) c.in_ok-mine.mine.items in
+    let mine : AreNumberedEntries family rows values entries = entries_still old values c.in_ok-theirs.ensures.keeps family rows entries c.in_ok-mine.ensures.entries in
+    let same = c.of.ensures ∙ ap (packed_entries (family_rows family rows)) c.as_slice.ensures.value in
+    let same_others = c.of-2.ensures ∙ ap (packed_entries (family_rows family others)) c.as_slice-2.ensures.value in
+    by_value family rows others values (distinct values c.family_values-2.new.values.numbers c.in_ok-theirs.ensures.numbered)
+    (packed_entries (rows_left c.of.result.rows) c.of.result.values.now) (packed_entries (rows_left c.of-2.result.rows) c.of-2.result.values.now)
+    (subst (λ (es : List (Entry PackedValue)). AreNumberedEntries family rows values es) (sym same) mine)
+    (subst (λ (es : List (Entry PackedValue)). AreNumberedEntries family others values es) (sym same_others) c.in_ok-theirs.ensures.entries)
+    c.least_difference_of.result c.least_difference_of.ensures.family c.least_difference_of.ensures.least

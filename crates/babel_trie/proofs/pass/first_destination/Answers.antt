@@ -1,12 +1,24 @@
--- What holds at each place below the split holds of the first part.
-use Rattle.std.proofs.Common.{◌≡◌}
+-- One row more has the destination.
+use Rattle.std.proofs.Common.{◌≡◌, inl, inr, [], ◌∷◌, ◌++◌, length, sym, ◌∙◌, ap, subst, arith, rules}
+use Rattle.std.proofs.lemmas.List.{length-append}
 use Rattle.babel_prefix.specs.Address.{block_of}
-use Rattle.babel_prefix.specs.Entries.{Entry}
-use Rattle.babel_trie.proofs.PlaceLaws.{first_part}
+use Rattle.babel_prefix.proofs.Members.{Listed, Listed-append_cases}
+use Rattle.babel_trie.proofs.Lists.{one_more}
 use Rattle.babel_trie.proofs.pass.first_destination.Goals as goal
 
-pub returns-clause-one : goal.returns-clause-one
-returns-clause-one g c =
-    let rows = c.args.rows.now in
-    first_part (λ (x : Entry g.row.V.Denot). block_of x.0 ≡ block_of c.in_ok-destination.field-0.now.0) rows c.split_at.result.0.now c.split_at.result.1.now c.loop-count.count c.split_at.ensures.by_index.0 c.split_at.ensures.front_len
-    (λ k d from k_in. c.loop-count.invariant.one k d k_in)
+pub loop-row-preserved : goal.loop-row-preserved
+loop-row-preserved g c =
+    let so = c.loop-row.invariant in
+    let own = c.loop-row.own.items in
+    let x = c.in-Some-split.row in
+    let others = g.R.Rows.rows c.in-Some-split.behind in
+    let pushed = c.in_ok-push-2.ensures.items in
+    let same : x.0 ≡ c.in-Some.first.0 = search rules in
+    record {
+      some = omega (arith, ap length pushed, length-append own (x ∷ []));
+      parts = one_more (g.R.Rows.rows c.args.rows) own (g.R.Rows.rows c.loop-row.others) others x so.parts c.in-Some-split.ensures ∙ ap (λ ys. ys ++ others) (sym pushed);
+      one = λ y t. elim (Listed-append_cases own (x ∷ []) y (subst (λ ys. Listed ys y) pushed t)) [
+        | inl before ↦ so.one y before
+        | inr last ↦ elim last [ inl e ↦ sym (ap (λ z. block_of z.0) e) ∙ ap block_of same | inr none ↦ elim none [ ] ]
+      ];
+    }

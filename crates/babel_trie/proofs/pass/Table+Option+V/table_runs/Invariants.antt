@@ -9,16 +9,16 @@ use Rattle.babel_trie.proofs.NodeLaws.{sources_cmp}
 use Rattle.babel_trie.proofs.PassLaws.{AreSoFar}
 use Rattle.babel_trie.proofs.pass.Table+Option+V.table_runs.Given as goal
 
-abbrev pub invariant-loop-next : goal.invariant-loop-next
-invariant-loop-next g l = record {
+abbrev pub invariant-loop-own : goal.invariant-loop-own
+invariant-loop-own g l = record {
   gone : List (Entry g.row.V.Denot);
-  parts : l.rows ≡ gone ++ l.rest;
+  parts : g.R.Rows.rows l.fn.rows ≡ gone ++ g.R.Rows.rows l.rest;
   sound : IsSound (sources_cmp (option_cmp g.V.Ord.cmp)) (sources_mark (option_mark g.V.LawfulOrd.mark)) l.self.nodes.items l.self.numbers;
   keeps : KeepsNodes l.fn.self.nodes.items l.self.nodes.items;
   is_open : IsOpen l.pass;
-  so_far : AreSoFar l.width gone l.rest l.self.nodes.items l.pass.list.items l.pass.now (ahead_of l.pass);
+  so_far : AreSoFar l.fn.width gone (g.R.Rows.rows l.rest) l.self.nodes.items l.pass.list.items l.pass.now (ahead_of l.pass);
   few : length l.pass.list.items + length l.pass.ahead.items ≤ 2 * length gone;
 }
 
-abbrev pub decreases-loop-next : goal.decreases-loop-next
-decreases-loop-next g l = length l.rest
+abbrev pub decreases-loop-own : goal.decreases-loop-own
+decreases-loop-own g l = length (g.R.Rows.rows l.rest)

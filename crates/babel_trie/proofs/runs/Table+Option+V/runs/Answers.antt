@@ -13,35 +13,35 @@ use Rattle.babel_trie.proofs.runs.Table+Option+V.runs.Goals as goal
 pub table_runs-requires-clause-table : goal.table_runs-requires-clause-table
 table_runs-requires-clause-table g c =
     let prefixes = c.are_in_order.ensures.prefixes c.if-are_in_order.true in
-    subst (λ n. IsTable n (map row_of c.args.rows.now)) (sym c.width.ensures) (table_of_entries c.args.family c.args.rows.now prefixes c.requires.family c.requires.prefixes)
+    subst (λ n. IsTable n (map row_of (g.R.Rows.rows c.args.rows))) (sym c.width.ensures) (table_of_entries c.args.family (g.R.Rows.rows c.args.rows) prefixes c.requires.family c.requires.prefixes)
 
 pub returns-then-are_in_order-clause-runs : goal.returns-then-are_in_order-clause-runs
 returns-then-are_in_order-clause-runs g c =
     let w = width_of c.args.family in
     let sources = c.table_runs.new.self.nodes.items in
     let list = c.in_ok-list.list.items in
-    let here = subst (λ n. HasRuns n sources list (answer n (map row_of c.args.rows.now))) c.width.ensures c.in_ok-list.ensures.runs in
-    subst (λ (rs : List (Row g.row.V.Denot)). HasRuns w sources list (answer w rs)) (sym (rows_in-all c.args.family c.args.rows.now c.requires.family)) here
+    let here = subst (λ n. HasRuns n sources list (answer n (map row_of (g.R.Rows.rows c.args.rows)))) c.width.ensures c.in_ok-list.ensures.runs in
+    subst (λ (rs : List (Row g.row.V.Denot)). HasRuns w sources list (answer w rs)) (sym (rows_in-all c.args.family (g.R.Rows.rows c.args.rows) c.requires.family)) here
 
 pub table_runs-requires-2-clause-table : goal.table_runs-requires-2-clause-table
 table_runs-requires-2-clause-table g c =
     let w = width_of c.args.family in
-    let rows = c.args.rows.now in
+    let rows = g.R.Rows.rows c.args.rows in
     let table = table_of_entries c.args.family rows c.in_ok-sorted.ensures.prefixes c.requires.family c.requires.prefixes in
-    let here = subst (λ (xs : List (Entry g.row.V.Denot)). IsTable w (map row_of xs)) (sym c.deref.ensures.value) (table_of_sorted w rows c.in_ok-sorted.sorted.items table c.in_ok-sorted.ensures.permutation) in
-    subst (λ n. IsTable n (map row_of c.deref.result.now)) (sym c.width-2.ensures) here
+    let here = subst (λ (xs : List (Entry g.row.V.Denot)). IsTable w (map row_of xs)) (sym c.as_slice.ensures.value) (table_of_sorted w rows c.in_ok-sorted.sorted.items table c.in_ok-sorted.ensures.permutation) in
+    subst (λ n. IsTable n (map row_of c.as_slice.result.now)) (sym c.width-2.ensures) here
 
 pub returns-clause-runs : goal.returns-clause-runs
 returns-clause-runs g c =
     let w = width_of c.args.family in
-    let rows = c.args.rows.now in
+    let rows = g.R.Rows.rows c.args.rows in
     let sources = c.table_runs-2.new.self.nodes.items in
     let list = c.in_ok-list-2.list.items in
     let table = table_of_entries c.args.family rows c.in_ok-sorted.ensures.prefixes c.requires.family c.requires.prefixes in
-    let wide = subst (λ n. HasRuns n sources list (answer n (map row_of c.deref.result.now))) c.width-2.ensures c.in_ok-list-2.ensures.runs in
-    let here = subst (λ (xs : List (Entry g.row.V.Denot)). HasRuns w sources list (answer w (map row_of xs))) c.deref.ensures.value wide in
+    let wide = subst (λ n. HasRuns n sources list (answer n (map row_of c.as_slice.result.now))) c.width-2.ensures c.in_ok-list-2.ensures.runs in
+    let here = subst (λ (xs : List (Entry g.row.V.Denot)). HasRuns w sources list (answer w (map row_of xs))) c.as_slice.ensures.value wide in
     subst (λ (rs : List (Row g.row.V.Denot)). HasRuns w sources list (answer w rs)) (sym (rows_in-all c.args.family rows c.requires.family))
     (runs-same w sources list (answer w (map row_of c.in_ok-sorted.sorted.items)) (answer w (map row_of rows)) (answers_of_sorted w rows c.in_ok-sorted.sorted.items table c.in_ok-sorted.ensures.permutation) here)
 
 pub returns-clause-few : goal.returns-clause-few
-returns-clause-few g c = omega (arith, c.in_ok-list-2.ensures.few, ap length c.deref.ensures.value, length_permutation c.args.rows.now c.in_ok-sorted.sorted.items c.in_ok-sorted.ensures.permutation)
+returns-clause-few g c = omega (arith, c.in_ok-list-2.ensures.few, ap length c.as_slice.ensures.value, length_permutation (g.R.Rows.rows c.args.rows) c.in_ok-sorted.sorted.items c.in_ok-sorted.ensures.permutation)

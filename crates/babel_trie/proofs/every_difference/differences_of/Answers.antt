@@ -17,7 +17,7 @@ use Rattle.babel_trie.proofs.HalfLaws.{width_most}
 use Rattle.babel_trie.proofs.NodeLaws.{sources_cmp, sound_by}
 use Rattle.babel_trie.proofs.RunLaws.{runs-grow}
 use Rattle.babel_trie.proofs.TellLaws.{differing_cmp}
-use Rattle.babel_trie.proofs.every_difference.differences.Goals as goal
+use Rattle.babel_trie.proofs.every_difference.differences_of.Goals as goal
 
 pub runs-requires-3-clause-known : goal.runs-requires-3-clause-known
 runs-requires-3-clause-known g c = c.new-comparison.ensures.known c.runs-2.new.self.nodes.items
@@ -26,7 +26,7 @@ pub runs-requires-3-clause-left : goal.runs-requires-3-clause-left
 runs-requires-3-clause-left g c =
     let w = width_of c.args.family in
     let nodes = c.runs-2.new.self.nodes.items in
-    let f = answers_in c.args.family c.args.left.now in
+    let f = answers_in c.args.family (g.L.Rows.rows c.args.left) in
     let grown = runs-grow w c.runs.new.self.nodes.items nodes c.in_ok-left.left.items f c.in_ok-right.ensures.keeps c.in_ok-left.ensures.runs in
     let list = subst (λ (xs : List (Change (Sources (Option g.row.V.Denot)))). HasRuns w nodes xs f) (sym c.deref.ensures.value) grown in
     let left = subst (λ n. HasRuns n nodes c.deref.result.now f) (sym c.width.ensures) list in
@@ -36,7 +36,7 @@ pub runs-requires-3-clause-right : goal.runs-requires-3-clause-right
 runs-requires-3-clause-right g c =
     let w = width_of c.args.family in
     let nodes = c.runs-2.new.self.nodes.items in
-    let f' = answers_in c.args.family c.args.right.now in
+    let f' = answers_in c.args.family (g.R.Rows.rows c.args.right) in
     let other_list = subst (λ (xs : List (Change (Sources (Option g.row.V.Denot)))). HasRuns w nodes xs f') (sym c.deref-2.ensures.value) c.in_ok-right.ensures.runs in
     let right = subst (λ n. HasRuns n nodes c.deref-2.result.now f') (sym c.width.ensures) other_list in
     (f', right)
@@ -57,11 +57,11 @@ pub of_runs-requires-clause-runs : goal.of_runs-requires-clause-runs
 of_runs-requires-clause-runs g c =
     let w = width_of c.args.family in
     let nodes = c.runs-2.new.self.nodes.items in
-    let f = answers_in c.args.family c.args.left.now in
+    let f = answers_in c.args.family (g.L.Rows.rows c.args.left) in
     let grown = runs-grow w c.runs.new.self.nodes.items nodes c.in_ok-left.left.items f c.in_ok-right.ensures.keeps c.in_ok-left.ensures.runs in
     let list = subst (λ (xs : List (Change (Sources (Option g.row.V.Denot)))). HasRuns w nodes xs f) (sym c.deref.ensures.value) grown in
     let left = subst (λ n. HasRuns n nodes c.deref.result.now f) (sym c.width.ensures) list in
-    let f' = answers_in c.args.family c.args.right.now in
+    let f' = answers_in c.args.family (g.R.Rows.rows c.args.right) in
     let other_list = subst (λ (xs : List (Change (Sources (Option g.row.V.Denot)))). HasRuns w nodes xs f') (sym c.deref-2.ensures.value) c.in_ok-right.ensures.runs in
     let right = subst (λ n. HasRuns n nodes c.deref-2.result.now f') (sym c.width.ensures) other_list in
     let new = c.runs-3.new.self.differences.nodes.items in
@@ -73,11 +73,11 @@ pub returns-clause-boxes : goal.returns-clause-boxes
 returns-clause-boxes g c =
     let w = width_of c.args.family in
     let nodes = c.runs-2.new.self.nodes.items in
-    let f = answers_in c.args.family c.args.left.now in
+    let f = answers_in c.args.family (g.L.Rows.rows c.args.left) in
     let grown = runs-grow w c.runs.new.self.nodes.items nodes c.in_ok-left.left.items f c.in_ok-right.ensures.keeps c.in_ok-left.ensures.runs in
     let list = subst (λ (xs : List (Change (Sources (Option g.row.V.Denot)))). HasRuns w nodes xs f) (sym c.deref.ensures.value) grown in
     let left = subst (λ n. HasRuns n nodes c.deref.result.now f) (sym c.width.ensures) list in
-    let f' = answers_in c.args.family c.args.right.now in
+    let f' = answers_in c.args.family (g.R.Rows.rows c.args.right) in
     let other_list = subst (λ (xs : List (Change (Sources (Option g.row.V.Denot)))). HasRuns w nodes xs f') (sym c.deref-2.ensures.value) c.in_ok-right.ensures.runs in
     let right = subst (λ n. HasRuns n nodes c.deref-2.result.now f') (sym c.width.ensures) other_list in
     let new = c.runs-3.new.self.differences.nodes.items in
