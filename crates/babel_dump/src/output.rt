@@ -1,7 +1,7 @@
 //! What the runs write, in the format that is asked for.
-ghost use Rattle.std.specs.Prelude.{◌≡◌, IfOk, string_bytes};
+ghost use Rattle.std.specs.Prelude.{◌≡◌, ◌++◌, IfOk, OnOk, string_bytes};
 ghost use Rattle.babel_tlv.specs.Views.{keeps_all};
-ghost use Rattle.babel_dump.specs.InFormat.{counts_in, differences_in, lookup_in, pairs_in, show_in, verdict_in};
+ghost use Rattle.babel_dump.specs.InFormat.{counts_in, differences_in, line_in, lookup_in, pairs_in, show_in, verdict_in};
 ghost use Rattle.babel_dump.specs.TextParts.{difference_count_in, difference_lines_in, same_in};
 
 use crate::addr_pair::AddrPair;
@@ -11,34 +11,16 @@ use crate::json::{
     DifferJson, LookupJson, PairJson, counts_json, difference_count_json, push_report_json,
     same_json, verdict_json,
 };
+use crate::push::push_pair_line;
 use crate::reason_text::push_report;
 use crate::text::{
-    DifferLines, EachLine, PairLine, counts_text, difference_count_text, lookup_text, same_text,
-    verdict_text,
+    DifferLines, EachLine, counts_text, difference_count_text, lookup_text, same_text, verdict_text,
 };
 use babel_canon::{Difference, Verdict};
 use babel_table::Table;
 use babel_tlv::{Held, Key, View};
 use std::alloc::{AllocError, Global};
 use std::fmt;
-
-/// A row of a table: a line in a format.
-#[derive(Clone, Copy)]
-struct Line(Format, View, Key, Held);
-
-impl fmt::Display for Line {
-    ghost use Rattle.std.specs.Prelude.{Some};
-    ghost use Rattle.babel_dump.specs.InFormat.{line_in};
-
-    ghost output = { λ line. Some (line_in line.0 line.1 (line.2, line.3)) };
-
-    fn fmt<W: fmt::Write>(&self, f: &mut fmt::Formatter<W>) -> fmt::Result {
-        match self.0 {
-            Format::Text => PairLine(self.1, self.2, self.3).fmt(f),
-            Format::Json => PairJson(self.1, self.2, self.3).fmt(f),
-        }
-    }
-}
 
 /// What is answered for a destination and a source: a line in a format.
 #[derive(Clone, Copy)]
@@ -103,6 +85,26 @@ impl Format {
     }
 }
 
+/// Appends a row of a table: a line in a format.
+fn push_line(
+    text: &mut String,
+    format: Format,
+    view: View,
+    key: Key,
+    held: Held,
+) -> Result<(), AllocError>
+    ensures { OnOk result (string_bytes text.new
+        ≡ string_bytes text.old ++ line_in format view (key, held)) }
+{
+    match format {
+        Format::Text => push_pair_line(text, view, key, held),
+        Format::Json => {
+            let line = PairJson(view, key, held);
+            write!(text, "{line}")
+        }
+    }
+}
+
 /// The lines of pairs.
 pub(crate) fn pairs_output(
     alloc: Global,
@@ -114,8 +116,7 @@ pub(crate) fn pairs_output(
 {
     let mut text = String::with_capacity(alloc, pairs.len().saturating_mul(format.line_room()))?;
     for pair in pairs {
-        let line = Line(format, view, pair.0, pair.1);
-        write!(text, "{line}")?;
+        push_line(&mut text, format, view, pair.0, pair.1)?;
     }
     Ok(text)
 }
@@ -127,8 +128,7 @@ fn rows_output(alloc: Global, format: Format, table: &Table) -> Result<String, A
     let rows = table.rows();
     let mut text = String::with_capacity(alloc, rows.len().saturating_mul(format.line_room()))?;
     for (key, held) in rows {
-        let line = Line(format, View::all(), key, held);
-        write!(text, "{line}")?;
+        push_line(&mut text, format, View::all(), key, held)?;
     }
     Ok(text)
 }

@@ -6,7 +6,7 @@ ghost use Rattle.babel_dump.specs.TextParts.{hex_text, lookup_text};
 use crate::addr_pair::AddrPair;
 use crate::differ::Differ;
 use babel_canon::Verdict;
-use babel_tlv::{Held, Key, View};
+use babel_tlv::{Held, View};
 use std::alloc::{AllocError, Global};
 use std::{fmt, str};
 
@@ -68,24 +68,6 @@ impl fmt::Display for Shown {
             }
             Held::Unreachable => f.write_str("unreachable"),
         }
-    }
-}
-
-/// A row of a table, as the runs show it.
-#[derive(Clone, Copy)]
-pub(crate) struct PairLine(pub View, pub Key, pub Held);
-
-impl fmt::Display for PairLine {
-    ghost use Rattle.std.specs.Prelude.{Some};
-    ghost use Rattle.babel_dump.specs.RunText.{pair_line};
-
-    ghost output = { λ line. Some (pair_line line.0 (line.1, line.2)) };
-
-    fn fmt<W: fmt::Write>(&self, f: &mut fmt::Formatter<W>) -> fmt::Result {
-        let dst = self.1.dst();
-        let src = self.1.src();
-        let shown = Shown(self.0, self.2);
-        write!(f, "{dst} from {src} {shown}\n")
     }
 }
 
