@@ -24,21 +24,29 @@ valued_both values both = record {
 
 -- a row of two answers with the values that theirs stand for
 abbrev pub valued_row : List Held → Row (Differing PackedValue) → Row (Differing Held)
-valued_row values row = record { dst = row.dst; src = row.src; value = valued_both values row.value }
+valued_row values row = record {
+  dst = row.dst;
+  src = row.src;
+  value = valued_both values row.value;
+}
 
--- these are the boxes of what entries differ in that have, with these values, the rows of two tables in a family
+-- these are the boxes of what entries differ in that have, with these values, the rows of two
+-- tables in a family
 pub record ArePackedDifferences (family : Family) (rows others : List Pair) (values : List Held)
     (boxes : List (Row (Differing PackedValue))) : Type 0 where
   pub mine : List (Entry PackedValue)
   pub theirs : List (Entry PackedValue)
   pub mine_are : AreNumberedEntries family rows values mine
   pub theirs_are : AreNumberedEntries family others values theirs
-  pub boxes_are : AreBoxesOfDifference (width_of family) (answers_in family mine) (answers_in family theirs) boxes
+  pub boxes_are : AreBoxesOfDifference (width_of family) (answers_in family mine)
+      (answers_in family theirs) boxes
 
 -- the boxes of both families as differences, IPv4 first, with the values that theirs stand for
-abbrev pub valued_differences : List Held → (v4 v6 : List (Row (Differing PackedValue))) → List Difference
+abbrev pub valued_differences : List Held → (v4 v6 : List (Row (Differing PackedValue))) →
+    List Difference
 valued_differences values v4 v6 =
-    map (difference_at V4) (map (valued_row values) v4) ++ map (difference_at V6) (map (valued_row values) v6)
+    map (difference_at V4) (map (valued_row values) v4)
+    ++ map (difference_at V6) (map (valued_row values) v6)
 
 -- an entry of two answers as a difference
 abbrev pub packed_difference : List Held → Entry (Differing PackedValue) → Difference

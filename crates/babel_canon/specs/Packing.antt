@@ -1,4 +1,5 @@
--- A packet that is put behind others (RFC 8966, 4.2), and the laws of the text, which is this project's own.
+-- A packet that is put behind others (RFC 8966, 4.2), and the laws of the text, which is this
+-- project's own.
 use Rattle.std.specs.Prelude.{◌≡◌, ℕ, List, ◌∷◌, ◌++◌, length}
 use Rattle.std.specs.Int.{w16, to_be_bytes}
 use Rattle.std.specs.List.{AllByRecursion}
@@ -13,7 +14,8 @@ headed len body = 42 ∷ 2 ∷ to_be_bytes w16 len ++ body
 -- a header at this offset that says some length, with a body behind it, now says this length
 abbrev pub HasLength : ℕ → ℕ → List ℕ → List ℕ → Type 0
 HasLength at len old new =
-    (front body : List ℕ) (before : ℕ) → length front ≡ at → old ≡ front ++ headed before body → new ≡ front ++ headed len body
+    (front body : List ℕ) (before : ℕ) → length front ≡ at → old ≡ front ++ headed before body →
+    new ≡ front ++ headed len body
 
 -- pairs have exactly one text
 pub record HaveOneText (body : ℕ) (pairs : List Pair) : Type 0 where
@@ -22,4 +24,5 @@ pub record HaveOneText (body : ℕ) (pairs : List Pair) : Type 0 where
   pub one : (other : List ℕ) → IsCanonicalText body pairs other → other ≡ text
 
 abbrev pub TextIsOne : Type 0
-TextIsOne = (body : ℕ) (pairs : List Pair) → IsBodySize body → AllByRecursion IsPair pairs → HaveOneText body pairs
+TextIsOne = (body : ℕ) (pairs : List Pair) → IsBodySize body → AllByRecursion IsPair pairs →
+    HaveOneText body pairs

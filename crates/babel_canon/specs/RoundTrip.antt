@@ -1,5 +1,6 @@
 -- What the canonical text of pairs is read as: RFC 8966, 4.5 and 4.6.9; RFC 9079, 5.
-use Rattle.std.specs.Prelude.{◌≡◌, ◌≢◌, ℕ, ◌*◌, ◌^◌, ◌<◌, ◌≤◌, List, length, map, Ok, ◌↔◌, Contains, AllPairs}
+use Rattle.std.specs.Prelude.{◌≡◌, ◌≢◌, ℕ, ◌*◌, ◌^◌, ◌<◌, ◌≤◌, List, length, map, Ok, ◌↔◌, Contains}
+use Rattle.std.specs.Prelude.{AllPairs}
 use Rattle.std.specs.List.{AllByRecursion}
 use Rattle.std.specs.Map.{keys_of}
 use Rattle.babel_prefix.specs.Address.{Address}
@@ -40,13 +41,16 @@ pub record TellsPairs (sender : Address) (octets : List ℕ) (pairs : List Pair)
   pub fine : map (λ saying. saying.what) (sayings sender packets) ≡ map (λ event. Ok event) said
   pub news : spoken said ≡ map pair_event pairs
 
--- Read with this sender, the octets tell the pairs, and exactly these stand behind them; they have no fault where a
--- table has room for the pairs, and are no more than 83 octets for each; and every table of them has the pairs as its
--- rows.
-pub record ReadsBack (mode : Mode) (sender : Address) (octets : List ℕ) (pairs : List Pair) : Type 0 where
+-- Read with this sender, the octets tell the pairs, and exactly these stand behind them; they have
+-- no fault where a table has room for the pairs, and are no more than 83 octets for each; and every
+-- table of them has the pairs as its rows.
+pub record ReadsBack (mode : Mode) (sender : Address) (octets : List ℕ)
+    (pairs : List Pair) : Type 0 where
   pub tells : TellsPairs sender octets pairs
-  pub holds : (key : RouteKey) (held : Held) → Holds mode tells.said key held ↔ Contains pairs (key, held)
-  pub no_fault : (limits : Bounds) → length pairs ≤ limits.entries → 83 * length pairs ≤ limits.bytes
+  pub holds : (key : RouteKey) (held : Held) →
+      Holds mode tells.said key held ↔ Contains pairs (key, held)
+  pub no_fault : (limits : Bounds) → length pairs ≤ limits.entries →
+      83 * length pairs ≤ limits.bytes
       → HasNoFault limits mode sender octets
   pub short : length octets ≤ 83 * length pairs
   pub table : (limits : Bounds) (table : Routes) → IsTableOf limits mode sender octets table
@@ -55,6 +59,8 @@ pub record ReadsBack (mode : Mode) (sender : Address) (octets : List ℕ) (pairs
 -- the canonical text of pairs with distinct keys, with any sender, is read back as the pairs
 abbrev pub TextReadsBack : Type 0
 TextReadsBack =
-    (mode : Mode) (body : ℕ) (pairs : List Pair) (octets : List ℕ) (sender : Address) → body < 2 ^ 16
-    → AllByRecursion IsPair pairs → HaveDistinctKeys pairs → AreReadableIn mode pairs → IsCanonicalText body pairs octets
+    (mode : Mode) (body : ℕ) (pairs : List Pair) (octets : List ℕ) (sender : Address)
+    → body < 2 ^ 16 → AllByRecursion IsPair pairs → HaveDistinctKeys pairs
+    → AreReadableIn mode pairs
+    → IsCanonicalText body pairs octets
     → ReadsBack mode sender octets pairs

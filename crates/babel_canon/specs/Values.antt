@@ -1,5 +1,6 @@
 -- Values in eight octets, and rows that have these in place of values: this project's own.
-use Rattle.std.specs.Prelude.{◌≡◌, ◌≢◌, ◌↔◌, ◌==◌, if◌then◌else◌, ℕ, List, [], ◌∷◌, All, Some, filter, get_or, map, slice_get}
+use Rattle.std.specs.Prelude.{◌≡◌, ◌≢◌, ◌↔◌, ◌==◌, if◌then◌else◌, ℕ, List, [], ◌∷◌, All, Some}
+use Rattle.std.specs.Prelude.{filter, get_or, map, slice_get}
 use Rattle.std.specs.BTreeMap.{BTreeMap, get}
 use Rattle.babel_prefix.specs.declared.family.Family.{Family}
 use Rattle.babel_prefix.specs.Best.{Row}
@@ -12,9 +13,15 @@ use Rattle.babel_table.specs.Rows.{entries_of}
 use Rattle.babel_canon.specs.declared.values.PackedValue.{PackedValue}
 use Rattle.babel_canon.specs.Grids.{AreFamilyBoxes, both_families}
 
--- what routes of one router by one next hop have in common: the route of these with seqno and metric 0
+-- what routes of one router by one next hop have in common: the route of these with seqno and
+-- metric 0
 abbrev pub origin_of : Held → Held
-origin_of (helds.Route ann) = helds.Route (record { router_id = ann.router_id; seqno = 0; metric = 0; next_hop = ann.next_hop })
+origin_of (helds.Route ann) = helds.Route (record {
+  router_id = ann.router_id;
+  seqno = 0;
+  metric = 0;
+  next_hop = ann.next_hop;
+})
 origin_of helds.Unreachable = helds.Unreachable
 
 -- the map has each origin exactly under its number, which is its place in the list
@@ -24,24 +31,32 @@ pub record AreNumbered (origins : List Held) (numbers : BTreeMap Held ℕ) : Typ
 
 -- each number keeps its origin
 abbrev pub KeepsValues : List Held → List Held → Type 0
-KeepsValues old new = (i : ℕ) (held : Held) → slice_get old i ≡ Some held → slice_get new i ≡ Some held
+KeepsValues old new =
+    (i : ℕ) (held : Held) → slice_get old i ≡ Some held → slice_get new i ≡ Some held
 
 -- the route of an origin with this seqno and metric, or unreachable where the metric is infinite
 abbrev pub restored : Held → ℕ → ℕ → Held
 restored (helds.Route origin) seqno metric =
     if metric == 65535 then helds.Unreachable
-    else helds.Route (record { router_id = origin.router_id; seqno = seqno; metric = metric; next_hop = origin.next_hop })
+    else helds.Route (record {
+      router_id = origin.router_id;
+      seqno = seqno;
+      metric = metric;
+      next_hop = origin.next_hop;
+    })
 restored helds.Unreachable seqno metric = helds.Unreachable
 
 abbrev pub value_of : List Held → PackedValue → Held
-value_of origins value = restored (get_or origins value.origin helds.Unreachable) value.seqno value.metric
+value_of origins value =
+    restored (get_or origins value.origin helds.Unreachable) value.seqno value.metric
 
 -- a route has a finite metric
 abbrev pub HasFiniteMetric : Held → Type 0
 HasFiniteMetric (helds.Route ann) = ann.metric ≢ 65535
 HasFiniteMetric helds.Unreachable = Unit {0}
 
--- what is held is packed so: the number of its origin, its seqno and its metric; and it is restored from these
+-- what is held is packed so: the number of its origin, its seqno and its metric; and it is restored
+-- from these
 pub record IsPacked (origins : List Held) (held : Held) (value : PackedValue) : Type 0 where
   pub origin : slice_get origins value.origin ≡ Some (origin_of held)
   pub seqno : value.seqno ≡ held_seqno held

@@ -53,8 +53,8 @@ impl Canon {
     }
 }
 
-/// The grids that the canonical pairs of a table are made from, with these values. The pairs are known to be
-/// no more than the limit before any of them is made.
+/// The grids that the canonical pairs of a table are made from, with these values. The pairs are
+/// known to be no more than the limit before any of them is made.
 fn counted_grids(
     alloc: Global,
     limits: Limits,
@@ -77,8 +77,9 @@ fn counted_grids(
     Ok(grids)
 }
 
-/// The canonical pairs of a table: by family, IPv4 first, then by destination, then by source. `TooManyPairs` if they are
-/// more than the entries of the limits, which is known before any of them is made; else `Memory`, if there is too little.
+/// The canonical pairs of a table: by family, IPv4 first, then by destination, then by source.
+/// `TooManyPairs` if they are more than the entries of the limits, which is known before any of
+/// them is made; else `Memory`, if there is too little.
 ///
 /// The pairs do not overlap and have the answers of the table, and no such list has fewer.
 pub fn canonical_pairs(
@@ -95,8 +96,8 @@ pub fn canonical_pairs(
     Ok(pairs)
 }
 
-/// The octets of the canonical pairs of a table, in packets with bodies of at most this many octets. No list of the pairs is
-/// made. `Err` as of `canonical_pairs`.
+/// The octets of the canonical pairs of a table, in packets with bodies of at most this many
+/// octets. No list of the pairs is made. `Err` as of `canonical_pairs`.
 pub fn canonical_octets(
     alloc: Global,
     limits: Limits,
@@ -123,9 +124,9 @@ pub fn pair_count(alloc: Global, limits: Limits, table: &Table) -> Result<usize,
     Ok(grids.count() as usize)
 }
 
-/// The canonical form of a table, in packets with bodies of at most this many octets. `TooManyPairs` if its canonical pairs
-/// are more than the entries of the limits, which is known before any of them is made; else `Memory`, if there is too
-/// little.
+/// The canonical form of a table, in packets with bodies of at most this many octets.
+/// `TooManyPairs` if its canonical pairs are more than the entries of the limits, which is known
+/// before any of them is made; else `Memory`, if there is too little.
 ///
 /// The pairs do not overlap and have the answers of the table, and no such list has fewer.
 pub fn canonical(alloc: Global, limits: Limits, body: Body, table: &Table) -> Result<Canon, Fault>

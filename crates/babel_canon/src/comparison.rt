@@ -11,7 +11,8 @@ use babel_tlv::Fault;
 use babel_trie::least_difference_of;
 use std::alloc::{AllocError, Global};
 
-/// The least pair of a destination and a source of one family that two tables answer differently; `None` if there is none.
+/// The least pair of a destination and a source of one family that two tables answer differently;
+/// `None` if there is none.
 fn family_difference(
     alloc: Global,
     family: Family,
@@ -46,8 +47,8 @@ fn first_difference(
     }
 }
 
-/// Whether two tables give every destination and source the same answer; and if not, the least pair at which they differ.
-/// `Memory` if there is too little, and no other fault.
+/// Whether two tables give every destination and source the same answer; and if not, the least pair
+/// at which they differ. `Memory` if there is too little, and no other fault.
 pub fn compare(alloc: Global, left: &Table, right: &Table) -> Result<Verdict, Fault>
     ensures ok { IfOk result (IsVerdict left.now.rows right.now.rows) }
     ensures err { IfErr result (λ fault. fault ≡ Fault.Memory) }

@@ -19,8 +19,8 @@ use babel_trie::{Differing, Grid, Sink, differences_of};
 use std::alloc::{AllocError, Global};
 use std::marker::{Brand, PhantomData};
 
-/// A destination prefix and a source prefix for whose addresses two tables answer these two, which differ. `None` where a
-/// table has no route for them.
+/// A destination prefix and a source prefix for whose addresses two tables answer these two, which
+/// differ. `None` where a table has no route for them.
 #[derive(Clone, Copy, PartialEq, Eq)]
 pub struct Difference {
     pub key: Key,
@@ -154,9 +154,10 @@ fn listed(
     listed_by::<Brand>(alloc, grids, values)
 }
 
-/// All that two tables answer differently: the longest blocks of destinations and sources on which the two answers are one
-/// pair, by family, IPv4 first, then by destination, then by source. `TooManyPairs` if they are more than the entries of the
-/// limits, which is known before any of them is made; else `Memory`, if there is too little.
+/// All that two tables answer differently: the longest blocks of destinations and sources on which
+/// the two answers are one pair, by family, IPv4 first, then by destination, then by source.
+/// `TooManyPairs` if they are more than the entries of the limits, which is known before any of
+/// them is made; else `Memory`, if there is too little.
 pub fn differences(
     alloc: Global,
     limits: Limits,

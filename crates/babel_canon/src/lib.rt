@@ -1,5 +1,6 @@
-//! The canonical dump: the longest blocks of addresses on which what a table answers is one, as pairs, and the octets that say
-//! them; and how the answers of two tables compare. It knows nothing of files, of texts, or of a command line.
+//! The canonical dump: the longest blocks of addresses on which what a table answers is one, as
+//! pairs, and the octets that say them; and how the answers of two tables compare. It knows nothing
+//! of files, of texts, or of a command line.
 #![tactic(auto)]
 
 mod body;

@@ -19,7 +19,8 @@ use babel_trie::Sink;
 use std::alloc::{AllocError, Global};
 use std::marker::{Brand, PhantomData};
 
-/// The list that packed values refer to, and the greatest length of a packet's body, which no sink changes.
+/// The list that packed values refer to, and the greatest length of a packet's body, which no sink
+/// changes.
 pub(crate) trait Given {
     ghost values: { List Held };
 
@@ -144,7 +145,8 @@ pub(crate) fn listed(
     listed_by::<Brand>(alloc, grids, values)
 }
 
-/// The canonical octets of these pairs, in packets with bodies of at most this many octets. No list of the pairs is made.
+/// The canonical octets of these pairs, in packets with bodies of at most this many octets. No list
+/// of the pairs is made.
 pub(crate) fn written(
     alloc: Global,
     body: Body,

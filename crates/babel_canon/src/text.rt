@@ -3,8 +3,9 @@ ghost use Rattle.std.specs.Prelude.{◌+◌, ◌≤◌, length};
 use crate::body::Body;
 use babel_tlv::Writing;
 
-/// The canonical octets of the pairs so far, in packets with bodies of at most so many octets. The last packet, which goes
-/// on, stands at an offset, and has a body of so many octets; its header says so.
+/// The canonical octets of the pairs so far, in packets with bodies of at most so many octets. The
+/// last packet, which goes on, stands at an offset, and has a body of so many octets; its header
+/// says so.
 #[derive(Drop)]
 pub(crate) struct Text {
     pub body: Body,

@@ -9,7 +9,8 @@ use std::alloc::{AllocError, Global};
 use std::cmp::Ordering;
 use std::collections::BTreeMap;
 
-/// A value: the number of its origin, and its seqno and metric, which are 0 and infinite where it is unreachable.
+/// A value: the number of its origin, and its seqno and metric, which are 0 and infinite where it
+/// is unreachable.
 #[derive(Clone, Copy, PartialEq, Eq, PartialOrd, Ord)]
 pub(crate) struct PackedValue {
     origin: u32,
@@ -100,7 +101,8 @@ impl Values {
         Ok(number)
     }
 
-    /// The number of a value's origin; the map is asked only where the origin is not the one that was asked for last.
+    /// The number of a value's origin; the map is asked only where the origin is not the one that
+    /// was asked for last.
     fn number_of(&mut self, held: &Held) -> Result<u32, AllocError>
         requires { AreNumbered self.old.list.items self.old.numbers }
         ensures numbered { OnOk result (AreNumbered self.new.list.items self.new.numbers) }

@@ -6,8 +6,8 @@ use babel_tlv::Held;
 pub enum Verdict {
     /// Every destination and source has the same answer.
     Same,
-    /// The least pair of a destination and a source, by family, destination and source, with different answers, and the
-    /// answers of the two tables there.
+    /// The least pair of a destination and a source, by family, destination and source, with
+    /// different answers, and the answers of the two tables there.
     Differ {
         /// The destination.
         dst: Addr,

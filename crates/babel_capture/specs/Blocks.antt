@@ -1,10 +1,12 @@
 -- A capture as its blocks, one after another: draft-ietf-opsawg-pcap, 3; draft-ietf-opsawg-pcapng,
 -- 3.1, 3.2.
-use Rattle.std.specs.Prelude.{◌≡◌, ℕ, ◌+◌, ◌<◌, ◌≤◌, max, List, [], ◌∷◌, ◌++◌, length, take, Ok, ◌⊎◌}
+use Rattle.std.specs.Prelude.{◌≡◌, ℕ, ◌+◌, ◌<◌, ◌≤◌, max, List, [], ◌∷◌, ◌++◌, length, take, Ok}
+use Rattle.std.specs.Prelude.{◌⊎◌}
 use Rattle.std.specs.List.{flat_map}
 use Rattle.std.specs.Result.{IsOkAnd}
 use Rattle.babel_capture.specs.declared.layout.Layout.TheVariants as layouts
-use Rattle.babel_capture.specs.Contents.{Captured, Content, file, section, describes, holds, nothing, block_said, context_after}
+use Rattle.babel_capture.specs.Contents.{Captured, Content, file, section, describes, holds}
+use Rattle.babel_capture.specs.Contents.{nothing, block_said, context_after}
 use Rattle.babel_capture.specs.Context.{Before}
 use Rattle.babel_capture.specs.Frame.{frame_sight}
 use Rattle.babel_capture.specs.Lengths.{header_len, block_len}

@@ -4,7 +4,8 @@ use Rattle.std.specs.Prelude.{◌≡◌, ◌≢◌, ℕ, List, [], ◌++◌, len
 use Rattle.babel_capture.specs.declared.fault.Fault.{Fault}
 use Rattle.babel_capture.specs.declared.fault.Fault.TheVariants as faults
 use Rattle.babel_capture.specs.declared.wanted.Wanted.{Wanted}
-use Rattle.babel_capture.specs.Blocks.{BlockAt, IsPartial, AreBlocks, start, context_behind, octets_of, sightings_of}
+use Rattle.babel_capture.specs.Blocks.{BlockAt, IsPartial, AreBlocks, start, context_behind}
+use Rattle.babel_capture.specs.Blocks.{octets_of, sightings_of}
 use Rattle.babel_capture.specs.Context.{Before}
 use Rattle.babel_capture.specs.Counts.{Made}
 use Rattle.babel_capture.specs.Gathering.{Gathering, IsGathered, AreMade}
@@ -19,8 +20,10 @@ pub record IsRead (limit : ℕ) (octets : List ℕ) (gathering : Gathering) : Ty
   pub started : HasStarted (context_behind (start limit) blocks)
   pub gathered : IsGathered (sightings_of blocks) gathering
 
--- the octets are a capture, and then less than a block: its last one is cut short, at this offset if there are any
-pub record IsReadToCut (limit : ℕ) (octets : List ℕ) (gathering : Gathering) (cut : Option ℕ) : Type 0 where
+-- the octets are a capture, and then less than a block: its last one is cut short, at this offset
+-- if there are any
+pub record IsReadToCut (limit : ℕ) (octets : List ℕ) (gathering : Gathering)
+    (cut : Option ℕ) : Type 0 where
   pub read : List ℕ
   pub rest : List ℕ
   pub whole : octets ≡ read ++ rest

@@ -32,7 +32,8 @@ pub record Ipv6Header : Type 0 where
 
 abbrev pub ipv6_octets : Ipv6Header → List ℕ → List ℕ
 ipv6_octets ip carried =
-    (6 * 2 ^ 4 + ip.class) ∷ big_bytes 3 ip.flow ++ big_bytes 2 (length carried) ++ 17 ∷ ip.hop_limit
+    (6 * 2 ^ 4 + ip.class) ∷ big_bytes 3 ip.flow ++ big_bytes 2 (length carried)
+    ++ 17 ∷ ip.hop_limit
     ∷ big_bytes 16 ip.sender ++ big_bytes 16 ip.destination ++ carried
 
 -- class, length and sender fit their fields

@@ -2,7 +2,8 @@
 use Rattle.std.specs.Prelude.{ℕ, ◌/◌, ◌^◌, List, slice_index}
 use Rattle.byteorder.specs.Endian.{big_from}
 
--- the number in this many octets from a place on, the highest first: network_number PLACE COUNT OCTETS
+-- the number in this many octets from a place on, the highest first: network_number PLACE COUNT
+-- OCTETS
 unfoldable pub network_number : ℕ → ℕ → List ℕ → ℕ
 network_number place count octets = big_from place count octets
 

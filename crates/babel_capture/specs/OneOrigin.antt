@@ -1,4 +1,5 @@
--- A law of the definitions: one sender on one interface has one tally at most. It is this project's own.
+-- A law of the definitions: one sender on one interface has one tally at most. It is this project's
+-- own.
 use Rattle.std.specs.Prelude.{◌≡◌, ◌≤◌, ℕ, List, length, Option, Some}
 use Rattle.babel_prefix.specs.Address.{Address}
 use Rattle.babel_capture.specs.Capture.{IsReadToCut}

@@ -4,7 +4,8 @@ use Rattle.babel_capture.specs.declared.fault.Fault.{Fault}
 use Rattle.babel_capture.specs.declared.layout.Layout.{Layout}
 use Rattle.babel_capture.specs.declared.layout.Layout.TheVariants as layouts
 use Rattle.babel_capture.specs.declared.wanted.Wanted.{Wanted}
-use Rattle.babel_capture.specs.Blocks.{BlockAt, HasHeader, IsPartial, header_of, BeginsBlock, AreBlocks, start, context_behind, octets_of, sightings_of}
+use Rattle.babel_capture.specs.Blocks.{BlockAt, HasHeader, IsPartial, header_of, BeginsBlock}
+use Rattle.babel_capture.specs.Blocks.{AreBlocks, start, context_behind, octets_of, sightings_of}
 use Rattle.babel_capture.specs.Contents.{Content, block_said}
 use Rattle.babel_capture.specs.Context.{Before}
 use Rattle.babel_capture.specs.Counts.{Made}

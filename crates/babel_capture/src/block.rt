@@ -63,7 +63,8 @@ fn read_packet<'a>(
 ) -> Result<Block<'a>, Fault>
     ensures ok { IfOk result (λ block. packet_said before.now at interface frame.now whole_len
         ≡ Ok (content_of block)) }
-    ensures err { IfErr result (λ fault. packet_said before.now at interface frame.now whole_len ≡ Err fault) }
+    ensures err { IfErr result (λ fault. packet_said before.now at interface frame.now whole_len
+        ≡ Err fault) }
 {
     let Some(described) = before.interface(interface) else {
         return Err(Fault::NoInterface { at });

@@ -120,7 +120,8 @@ impl Context {
         Ok(Some(&octets[..len as usize]))
     }
 
-    /// How many octets make the header whole that these octets, at this offset, begin; or, if it is, the block.
+    /// How many octets make the header whole that these octets, at this offset, begin; or, if it
+    /// is, the block.
     pub fn lacking(&self, at: u64, octets: &[u8]) -> usize {
         let header_len = self.layout.header_len();
         if octets.len() < header_len {

@@ -96,7 +96,8 @@ impl Gathered {
             → IsGathered (before ++ sighting_of (self.old.report.packets + 1) at
             (captured_of packet.now) ∷ []) self.new) }
         ensures err { IfErr result (λ fault. (fault ≡ Fault.Memory)
-            ⊎ IsRefused self.old.wanted self.old.senders at (holds (captured_of packet.now)) fault) }
+            ⊎ IsRefused self.old.wanted self.old.senders at
+            (holds (captured_of packet.now)) fault) }
     {
         let seen = look(packet.link, packet.frame, packet.whole_len);
         match self.wanted.finding(packet.interface, seen) {

@@ -57,8 +57,9 @@ pub fn dump_is_framed()
         → (fault : DumpFault) → FrameFault gathering.dump fault → IsPastEnd fault }
 {}
 
-/// The senders that are counted of a capture are those of whom a packet was found: each once on each
-/// interface, by interface and then by address, with the number of its packets and of their octets.
+/// The senders that are counted of a capture are those of whom a packet was found: each once on
+/// each interface, by interface and then by address, with the number of its packets and of their
+/// octets.
 pub fn senders_are_those_found()
     ensures { (limit : ℕ) (octets : List ℕ) (gathering : Gathering)
         → (read : IsRead limit octets gathering)

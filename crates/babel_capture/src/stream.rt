@@ -30,8 +30,8 @@ fn remove_front(octets: &mut Vec<u8>, used: usize)
 }
 
 impl Stream {
-    /// Takes the next octets. They are copied only as far as they complete the block that is pending,
-    /// and where they begin one that is not whole: the others are read where they lie.
+    /// Takes the next octets. They are copied only as far as they complete the block that is
+    /// pending, and where they begin one that is not whole: the others are read where they lie.
     pub fn take(&mut self, piece: &[u8]) -> Result<(), Fault>
         ensures wanted { self.new.reader.gathering.wanted ≡ self.old.reader.gathering.wanted }
         ensures ok { OnOk result ((limit : ℕ) (fed : List ℕ)
@@ -61,8 +61,8 @@ impl Stream {
         self.take_in_place(rest)
     }
 
-    /// How many of these octets complete the header of the block that is pending, or, if that is whole,
-    /// the block.
+    /// How many of these octets complete the header of the block that is pending, or, if that is
+    /// whole, the block.
     fn lacking_of(&self, piece: &[u8]) -> usize
         ensures { result ≤ length piece.now }
     {

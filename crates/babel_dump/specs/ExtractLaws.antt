@@ -32,13 +32,16 @@ pub record Extracted (octets : List ℕ) : Type 0 where
 -- no job over them, whatever its words and limits, refuses them for such a fault, as its first dump
 abbrev pub ExtractedIsFramed : Type 0
 ExtractedIsFramed =
-    (octets : List ℕ) → Extracted octets → (limits : Bounds) (job : Job) (other before after : List ℕ) (fault : Fault)
-    → RanOver limits job octets other before after (Err (run_faults.Dump fault)) → ¬ IsOfFraming fault
+    (octets : List ℕ) → Extracted octets →
+    (limits : Bounds) (job : Job) (other before after : List ℕ) (fault : Fault)
+    → RanOver limits job octets other before after (Err (run_faults.Dump fault))
+    → ¬ IsOfFraming fault
 
 -- nor as the other dump of a job over two
 abbrev pub OtherExtractedIsFramed : Type 0
 OtherExtractedIsFramed =
     (octets : List ℕ) → Extracted octets
     → (limits : Bounds) (job : Job) (dumps : TwoDumps) (dump before after : List ℕ) (fault : Fault)
-    → IsOverBoth job dumps → RanOver limits job dump octets before after (Err (run_faults.OtherDump fault))
+    → IsOverBoth job dumps
+    → RanOver limits job dump octets before after (Err (run_faults.OtherDump fault))
     → ¬ IsOfFraming fault

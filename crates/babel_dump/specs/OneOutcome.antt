@@ -1,5 +1,5 @@
--- Laws of the definitions: what a job's run answers and writes is settled by the octets of its readers. These are this
--- project's own.
+-- Laws of the definitions: what a job's run answers and writes is settled by the octets of its
+-- readers. These are this project's own.
 use Rattle.std.specs.Prelude.{◌≡◌, ◌≢◌, ◌⊎◌, ℕ, Bool, List, ◌++◌, take, Some, Result, Ok, Err}
 use Rattle.babel_tlv.specs.declared.fault.Fault.{Fault}
 use Rattle.babel_tlv.specs.declared.fault.Fault.TheVariants as faults
@@ -17,15 +17,17 @@ use Rattle.babel_dump.specs.declared.pairs_fault.PairsFault.TheVariants as pairs
 use Rattle.babel_dump.specs.declared.run_fault.RunFault.{RunFault}
 use Rattle.babel_dump.specs.declared.run_fault.RunFault.TheVariants as run_faults
 
--- A run of the job over devices that say their octets: the readers have `dump` and `other` left, and the writer took
--- `before` until then, and `after` at last.
-pub record RanOver (limits : Bounds) (job : Job) (dump other before after : List ℕ) (result : Result Outcome RunFault) : Type 0 where
+-- A run of the job over devices that say their octets: the readers have `dump` and `other` left,
+-- and the writer took `before` until then, and `after` at last.
+pub record RanOver (limits : Bounds) (job : Job) (dump other before after : List ℕ)
+    (result : Result Outcome RunFault) : Type 0 where
   pub old : InputState
   pub new : InputState
   pub other_old : InputState
   pub other_new : InputState
   pub writer : Output
-  pub ran : RanJob limits job (read_from old new) (read_from other_old other_new) writer (other_new ≡ other_old) result
+  pub ran : RanJob limits job (read_from old new) (read_from other_old other_new) writer
+      (other_new ≡ other_old) result
   pub has : old.left ≡ Some dump
   pub other_has : other_old.left ≡ Some other
   pub took : writer.old.taken ≡ Some before
@@ -44,56 +46,72 @@ IsOfOctets (run_faults.Pairs pairs_faults.TooLong) = Unit {0}
 IsOfOctets (run_faults.Pairs pairs_faults.Read) = ⊥
 IsOfOctets run_faults.Write = ⊥
 
--- two runs of a job over the same octets that answer a status answer the same, and write the same text
+-- two runs of a job over the same octets that answer a status answer the same, and write the same
+-- text
 abbrev pub StatusIsOne : Type 0
 StatusIsOne =
-    (limits : Bounds) (job : Job) (dump other before after before_too after_too : List ℕ) (outcome outcome_too : Outcome)
-    → RanOver limits job dump other before after (Ok outcome) → RanOver limits job dump other before_too after_too (Ok outcome_too)
-    → (outcome.status ≡ outcome_too.status) × ((text : List ℕ) × (after ≡ before ++ text) × (after_too ≡ before_too ++ text))
+    (limits : Bounds) (job : Job) (dump other before after before_too after_too : List ℕ)
+    (outcome outcome_too : Outcome)
+    → RanOver limits job dump other before after (Ok outcome)
+    → RanOver limits job dump other before_too after_too (Ok outcome_too)
+    → (outcome.status ≡ outcome_too.status)
+    × ((text : List ℕ) × (after ≡ before ++ text) × (after_too ≡ before_too ++ text))
 
 -- where one answers a status, no other answers a fault of the octets
 abbrev pub StatusOrFault : Type 0
 StatusOrFault =
-    (limits : Bounds) (job : Job) (dump other before after before_too after_too : List ℕ) (outcome : Outcome) (fault : RunFault)
-    → RanOver limits job dump other before after (Ok outcome) → RanOver limits job dump other before_too after_too (Err fault)
+    (limits : Bounds) (job : Job) (dump other before after before_too after_too : List ℕ)
+    (outcome : Outcome) (fault : RunFault)
+    → RanOver limits job dump other before after (Ok outcome)
+    → RanOver limits job dump other before_too after_too (Err fault)
     → ¬ IsOfOctets fault
 
 -- where two answer a fault of the octets, it is the same
 abbrev pub FaultIsOne : Type 0
 FaultIsOne =
-    (limits : Bounds) (job : Job) (dump other before after before_too after_too : List ℕ) (fault fault_too : RunFault)
-    → RanOver limits job dump other before after (Err fault) → RanOver limits job dump other before_too after_too (Err fault_too)
+    (limits : Bounds) (job : Job) (dump other before after before_too after_too : List ℕ)
+    (fault fault_too : RunFault)
+    → RanOver limits job dump other before after (Err fault)
+    → RanOver limits job dump other before_too after_too (Err fault_too)
     → IsOfOctets fault → IsOfOctets fault_too → fault ≡ fault_too
 
--- The first dump's fault is that of all octets that the reader had; but for want of memory, and for too many pairs, which no
--- octets have.
+-- The first dump's fault is that of all octets that the reader had; but for want of memory, and for
+-- too many pairs, which no octets have.
 abbrev pub FaultIsOfAll : Type 0
 FaultIsOfAll =
     (limits : Bounds) (job : Job) (dump other before after : List ℕ) (fault : Fault)
-    → RanOver limits job dump other before after (Err (run_faults.Dump fault)) → fault ≢ faults.Memory → fault ≢ faults.TooManyPairs
+    → RanOver limits job dump other before after (Err (run_faults.Dump fault))
+    → fault ≢ faults.Memory → fault ≢ faults.TooManyPairs
     → DumpFault limits (first_reading limits job).mode (first_reading limits job).sender dump fault
 
 -- the job is over these two dumps
 abbrev pub IsOverBoth : Job → TwoDumps → Type 0
-IsOverBoth job dumps = (job ≡ jobs.Compare dumps) ⊎ ((count : Bool) × (job ≡ jobs.Differences dumps count))
+IsOverBoth job dumps =
+    (job ≡ jobs.Compare dumps) ⊎ ((count : Bool) × (job ≡ jobs.Differences dumps count))
 
 -- so is the other's
 abbrev pub OtherFaultIsOfAll : Type 0
 OtherFaultIsOfAll =
-    (limits : Bounds) (job : Job) (dumps : TwoDumps) (dump other before after : List ℕ) (fault : Fault)
+    (limits : Bounds) (job : Job) (dumps : TwoDumps) (dump other before after : List ℕ)
+    (fault : Fault)
     → IsOverBoth job dumps
-    → RanOver limits job dump other before after (Err (run_faults.OtherDump fault)) → fault ≢ faults.Memory
+    → RanOver limits job dump other before after (Err (run_faults.OtherDump fault))
+    → fault ≢ faults.Memory
     → DumpFault limits dumps.mode dumps.other_from other fault
 
--- a failed write leaves the first octets of the text that any run over the same octets writes that answers a status
+-- a failed write leaves the first octets of the text that any run over the same octets writes that
+-- answers a status
 abbrev pub WrittenIsPrefix : Type 0
 WrittenIsPrefix =
-    (limits : Bounds) (job : Job) (dump other before after before_too after_too : List ℕ) (outcome : Outcome)
-    → RanOver limits job dump other before after (Err run_faults.Write) → RanOver limits job dump other before_too after_too (Ok outcome)
+    (limits : Bounds) (job : Job) (dump other before after before_too after_too : List ℕ)
+    (outcome : Outcome)
+    → RanOver limits job dump other before after (Err run_faults.Write)
+    → RanOver limits job dump other before_too after_too (Ok outcome)
     → (text : List ℕ) × (n : ℕ) × (after_too ≡ before_too ++ text) × (after ≡ before ++ take n text)
 
 -- any other fault leaves nothing
 abbrev pub NothingWritten : Type 0
 NothingWritten =
     (limits : Bounds) (job : Job) (dump other before after : List ℕ) (fault : RunFault)
-    → RanOver limits job dump other before after (Err fault) → fault ≢ run_faults.Write → after ≡ before
+    → RanOver limits job dump other before after (Err fault) → fault ≢ run_faults.Write
+    → after ≡ before

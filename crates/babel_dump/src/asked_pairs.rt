@@ -26,8 +26,9 @@ enum Asked {
     Wrong,
 }
 
-/// The pairs that the lines of a text ask for, in their order. A line has a destination and a source, with blanks between and
-/// around them. A line is passed over that has only blanks, or whose first octet that is no blank is `#`.
+/// The pairs that the lines of a text ask for, in their order. A line has a destination and a
+/// source, with blanks between and around them. A line is passed over that has only blanks, or
+/// whose first octet that is no blank is `#`.
 ///
 /// # Errors
 ///
@@ -64,7 +65,8 @@ fn asked_by(alloc: Global, line: &[u8]) -> Result<Asked, AllocError>
 
 /// The first words of a line, at most three: a pair has two.
 fn first_words(alloc: Global, line: &[u8]) -> Result<Vec<&[u8]>, AllocError>
-    ensures { IfOk result (λ words. map (λ word. word.now) words.items ≡ take 3 (words_of line.now)) }
+    ensures { IfOk result (λ words. map (λ word. word.now) words.items
+        ≡ take 3 (words_of line.now)) }
 {
     line.split(|octet| octet.is_ascii_whitespace())
         .filter(|word| !word.is_empty())
@@ -103,7 +105,8 @@ fn pair(dst: &[u8], src: &[u8]) -> Option<AddrPair>
 /// The address whose text a word is.
 fn address(word: &[u8]) -> Option<Addr>
     ensures some { IfSome result (λ address. IsUtf8 word.now × AddressText word.now address) }
-    ensures none { IfNone result ((address : Address) → IsUtf8 word.now → AddressText word.now address → ⊥) }
+    ensures none { IfNone result ((address : Address) → IsUtf8 word.now
+        → AddressText word.now address → ⊥) }
 {
     parse_addr(str::from_utf8(word).ok()?)
 }

@@ -18,7 +18,8 @@ pub(crate) struct SeenTables {
     pub right: Table,
 }
 
-/// Reads two dumps, the first to its end before the other: their tables, as the view of the first sees both.
+/// Reads two dumps, the first to its end before the other: their tables, as the view of the first
+/// sees both.
 pub(crate) fn read_both<R: ByteIn, S: ByteIn>(
     alloc: Global,
     reading: Reading,
@@ -47,7 +48,8 @@ pub(crate) fn read_both<R: ByteIn, S: ByteIn>(
     Ok(SeenTables { left, right })
 }
 
-/// Reads the other dump of a comparison to its end, or to its first fault, which is then the other's.
+/// Reads the other dump of a comparison to its end, or to its first fault, which is then the
+/// other's.
 fn read_other<S: ByteIn>(alloc: Global, reading: Reading, other: &mut S) -> Result<Table, RunFault>
     requires failures { (S.state other.old).failures < 2 ^ 63 }
     requires reads { (S.state other.old).reads < 2 ^ 63 }

@@ -8,8 +8,8 @@ use std::io::Read;
 
 /// A device that gives octets, as std's `Read` does, with counts that contracts alone see.
 pub trait ByteIn {
-    // The octets that are left to give, where the device says them, how many calls failed, how many reads there were, and
-    // how many of them met the end.
+    // The octets that are left to give, where the device says them, how many calls failed, how many
+    // reads there were, and how many of them met the end.
     ghost state: { Self → InputState };
 
     /// Gives its next octets, at least one where there are more and the buffer isn't empty.
@@ -26,7 +26,8 @@ pub trait ByteIn {
         ensures counts_failure { (state self.new).failures
             ≡ (state self.old).failures + failed_calls result }
         ensures counts_read { (state self.new).reads ≡ (state self.old).reads + 1 }
-        ensures counts_end { (state self.new).ends ≡ (state self.old).ends + ended_reads result (length buf.old) };
+        ensures counts_end { (state self.new).ends
+            ≡ (state self.old).ends + ended_reads result (length buf.old) };
 }
 
 /// A device over any reader of std.
@@ -41,7 +42,12 @@ pub struct FromReader<R: Read> {
 impl<R: Read> FromReader<R> {
     /// A device that gives what the reader gives, and has counted nothing.
     pub fn new(reader: R) -> FromReader<R>
-        ensures { ⟦<FromReader<R> as ByteIn>⟧.state result ≡ record { left = R.remaining reader; failures = 0; reads = 0; ends = 0 } }
+        ensures { ⟦<FromReader<R> as ByteIn>⟧.state result ≡ record {
+          left = R.remaining reader;
+          failures = 0;
+          reads = 0;
+          ends = 0;
+        } }
     {
         FromReader {
             reader,
@@ -53,7 +59,12 @@ impl<R: Read> FromReader<R> {
 }
 
 impl<R: Read> ByteIn for FromReader<R> {
-    ghost state = { λ d. record { left = R.remaining d.reader; failures = d.failures; reads = d.reads; ends = d.ends } };
+    ghost state = { λ d. record {
+      left = R.remaining d.reader;
+      failures = d.failures;
+      reads = d.reads;
+      ends = d.ends;
+    } };
 
     fn read(&mut self, buf: &mut [u8]) -> io::Result<usize> {
         self.reads += 1;

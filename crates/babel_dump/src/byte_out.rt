@@ -8,7 +8,8 @@ use std::io::Write;
 
 /// A device that takes octets, as std's `Write` does, with counts that contracts alone see.
 pub trait ByteOut {
-    // The octets that were taken, where the device says them, how many calls failed, and how many flushes there were.
+    // The octets that were taken, where the device says them, how many calls failed, and how many
+    // flushes there were.
     ghost state: { Self → OutputState };
 
     /// Takes some of the first octets, and says how many.
@@ -20,7 +21,8 @@ pub trait ByteOut {
         requires { (state self.old).failures < 2 ^ 64 - 1 }
         ensures bound { WritesAtMost result buf.now }
         ensures octets { WriteAppends (state self.old).taken (state self.new).taken result buf.now }
-        ensures counts_failure { (state self.new).failures ≡ (state self.old).failures + failed_writes result (length buf.now) }
+        ensures counts_failure { (state self.new).failures
+            ≡ (state self.old).failures + failed_writes result (length buf.now) }
         ensures no_flush { (state self.new).flushes ≡ (state self.old).flushes };
 
     /// Sends on what was taken.
@@ -48,7 +50,11 @@ pub struct FromWriter<W: Write> {
 impl<W: Write> FromWriter<W> {
     /// A device that hands all to the writer, and has counted nothing.
     pub fn new(writer: W) -> FromWriter<W>
-        ensures { ⟦<FromWriter<W> as ByteOut>⟧.state result ≡ record { taken = W.contents writer; failures = 0; flushes = 0 } }
+        ensures { ⟦<FromWriter<W> as ByteOut>⟧.state result ≡ record {
+          taken = W.contents writer;
+          failures = 0;
+          flushes = 0;
+        } }
     {
         FromWriter {
             writer,
@@ -59,7 +65,11 @@ impl<W: Write> FromWriter<W> {
 }
 
 impl<W: Write> ByteOut for FromWriter<W> {
-    ghost state = { λ d. record { taken = W.contents d.writer; failures = d.failures; flushes = d.flushes } };
+    ghost state = { λ d. record {
+      taken = W.contents d.writer;
+      failures = d.failures;
+      flushes = d.flushes;
+    } };
 
     fn write(&mut self, buf: &[u8]) -> io::Result<usize> {
         match self.writer.write(buf) {

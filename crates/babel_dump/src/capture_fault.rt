@@ -29,8 +29,8 @@ pub enum CaptureRunFault {
 }
 
 impl CaptureRunFault {
-    /// The exit status of the program: 3 where the capture is refused, 4 where a read or a write failed, 5 where an
-    /// allocation was refused.
+    /// The exit status of the program: 3 where the capture is refused, 4 where a read or a write
+    /// failed, 5 where an allocation was refused.
     pub fn status(&self) -> u8
         ensures { result ≡ capture_fault_status self.now }
     {

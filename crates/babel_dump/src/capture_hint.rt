@@ -30,7 +30,8 @@ pub enum CaptureHint {
 }
 
 impl CaptureHint {
-    /// What to do about a fault of a run over a capture of so many octets at most, which begins with these octets.
+    /// What to do about a fault of a run over a capture of so many octets at most, which begins
+    /// with these octets.
     pub fn of(fault: &CaptureRunFault, limit: u32, begins: &[u8]) -> Option<CaptureHint> {
         match fault {
             CaptureRunFault::Capture(Fault::NotCapture) if begins.starts_with(&[42, 2]) => {

@@ -24,7 +24,8 @@ pub(crate) struct CaptureRead {
     pub cut: Option<u64>,
 }
 
-/// Reads a capture to its end, or to its first fault. One that is read strictly is refused where a wanted datagram was left out.
+/// Reads a capture to its end, or to its first fault. One that is read strictly is refused where a
+/// wanted datagram was left out.
 pub(crate) fn read_capture<R: ByteIn>(
     alloc: Global,
     reading: CaptureReading,
@@ -79,7 +80,8 @@ fn finished(capture: Capture, accept_cut: bool) -> Result<CaptureRead, Fault>
         → IsReadSo accept_cut capture.limit fed read.gathered read.cut) }
     ensures wanted { IfOk result (λ read. read.gathered.wanted
         ≡ capture.progress.gathering.wanted) }
-    ensures fault { IfErr result (λ fault. fault ≢ Fault.Memory → (fed : List ℕ) → HasRead capture fed
+    ensures fault { IfErr result (λ fault. fault ≢ Fault.Memory → (fed : List ℕ)
+        → HasRead capture fed
         → CaptureFault capture.limit capture.progress.gathering.wanted fed fault) }
     ensures accepted { capture.fault ≡ None → accept_cut ≡ true
         → IfErr result (λ fault. fault ≡ Fault.NotCapture) }
@@ -113,11 +115,13 @@ fn feed_all<R: ByteIn>(
     ensures limit { capture.new.limit ≡ reading.now.limit }
     ensures wanted { capture.new.progress.gathering.wanted ≡ reading.now.wanted }
     ensures sound { OnOk result (capture.new.fault ≡ None) }
-    ensures gathered { let input = capture_from (R.state reader.old) (R.state reader.new) reading.now in
+    ensures gathered { let input =
+        capture_from (R.state reader.old) (R.state reader.new) reading.now in
         GatheredCapture input IsNoFault (λ _. IsFedWhole capture.new input) result }
 {
     let mut piece = [0; PIECE];
-    // Each read gives an octet at least, but for the last, and the capture refuses the first block past the limit.
+    // Each read gives an octet at least, but for the last, and the capture refuses the first block
+    // past the limit.
     'reads: for _ in 0..u64::from(reading.limit) + LONGEST_HEADER {
         match reader.read(&mut piece) {
             Ok(0) => return Ok(()),

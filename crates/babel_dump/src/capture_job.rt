@@ -5,8 +5,8 @@ use crate::format::Format;
 use crate::job::DumpFile;
 use babel_prefix::Addr;
 
-/// What the program's words ask for of a capture: a job, how many octets are read at most, and whether notes come after its
-/// output.
+/// What the program's words ask for of a capture: a job, how many octets are read at most, and
+/// whether notes come after its output.
 #[derive(Debug, Drop)]
 pub struct CaptureOrder {
     pub job: CaptureJob,
@@ -30,7 +30,8 @@ pub enum CaptureJob {
         capture: OneCapture,
         /// The sender: `--from`.
         from: Addr,
-        /// The interface where its packets were captured: `--interface`. Where it is left out, there may be only one.
+        /// The interface where its packets were captured: `--interface`. Where it is left out,
+        /// there may be only one.
         interface: Option<u32>,
         /// Whether the dump is written as hexadecimal digits: `--hex`.
         hex: bool,

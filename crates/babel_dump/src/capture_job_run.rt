@@ -15,13 +15,15 @@ use babel_capture::Wanted;
 use babel_prefix::Addr;
 use std::alloc::Global;
 
-/// Does a job over a capture of so many octets at most: the run of its command, with the job's own words.
+/// Does a job over a capture of so many octets at most: the run of its command, with the job's own
+/// words.
 ///
 /// # Errors
 ///
-/// `Capture` with the capture's fault, or with `Memory`; `LeftOut` with the first datagram that was left out, where the
-/// capture has no fault and is read strictly; `SeveralInterfaces` where `extract` names no interface and the sender's
-/// packets came on several; `Read` where a read failed; `Write` where a write or the flush failed.
+/// `Capture` with the capture's fault, or with `Memory`; `LeftOut` with the first datagram that was
+/// left out, where the capture has no fault and is read strictly; `SeveralInterfaces` where
+/// `extract` names no interface and the sender's packets came on several; `Read` where a read
+/// failed; `Write` where a write or the flush failed.
 pub fn run_capture_job<R: ByteIn, W: ByteOut>(
     alloc: Global,
     limit: u32,
@@ -66,7 +68,8 @@ fn senders_reading(limit: u32, capture: &OneCapture) -> CaptureReading
     }
 }
 
-/// How a capture is read of which one sender's dump is asked for, on this interface where one is named.
+/// How a capture is read of which one sender's dump is asked for, on this interface where one is
+/// named.
 fn dump_reading(
     limit: u32,
     capture: &OneCapture,

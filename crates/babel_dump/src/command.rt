@@ -5,8 +5,8 @@ use std::alloc::{AllocError, Global};
 /// The most routes for which the least limit on octets, 83 for each, is a number of 32 bits.
 const MOST_ROUTES: i64 = 51_746_593;
 
-/// The end of a help text: what has to be known, if anything, then the exit statuses, of which only 0 and 1 differ from
-/// command to command, and examples.
+/// The end of a help text: what has to be known, if anything, then the exit statuses, of which only
+/// 0 and 1 differ from command to command, and examples.
 macro_rules! after_help {
     ($($known:literal,)* examples: $($example:literal),+; $($status:literal),+) => {
         after_help!(refused: "a dump"; $($known,)* examples: $($example),+; $($status),+)
@@ -349,7 +349,8 @@ fn of_one_dump<'a>(alloc: Global, command: Command<'a>) -> Result<Command<'a>, A
     with_settings(alloc, command.arg(from)?)?.arg(file)
 }
 
-/// The command with what each command has that reads a dump: how retractions are read, whether there are notes, and the limits.
+/// The command with what each command has that reads a dump: how retractions are read, whether
+/// there are notes, and the limits.
 fn with_settings<'a>(alloc: Global, command: Command<'a>) -> Result<Command<'a>, AllocError> {
     command
         .arg(hold(alloc))?

@@ -21,14 +21,15 @@ use babel_table::Limits;
 use babel_tlv::{Mode, View};
 use std::alloc::Global;
 
-/// Reads two dumps, each that its sender sent, the first to its end before the other, and writes `same`, or the least
-/// destination and source with different answers, by family, destination and source, and the two answers there. The
-/// status is 0 where every destination and source has the same answer, else 1.
+/// Reads two dumps, each that its sender sent, the first to its end before the other, and writes
+/// `same`, or the least destination and source with different answers, by family, destination and
+/// source, and the two answers there. The status is 0 where every destination and source has the
+/// same answer, else 1.
 ///
 /// # Errors
 ///
-/// `Dump` with the first dump's fault, or with `Memory`; `Read` where a read of it failed; `OtherDump` and `OtherRead`
-/// for the other; `Write` where a write or the flush failed.
+/// `Dump` with the first dump's fault, or with `Memory`; `Read` where a read of it failed;
+/// `OtherDump` and `OtherRead` for the other; `Write` where a write or the flush failed.
 pub fn run_compare<R: ByteIn, S: ByteIn, W: ByteOut>(
     alloc: Global,
     limits: Limits,
@@ -47,9 +48,10 @@ pub fn run_compare<R: ByteIn, S: ByteIn, W: ByteOut>(
     requires other_ends { (S.state other.old).ends < 2 ^ 63 }
     requires writer_failures { (W.state writer.old).failures < 2 ^ 63 }
     requires writer_flushes { (W.state writer.old).flushes < 2 ^ 63 }
-    ensures { RanCompare (input limits mode sender (R.state reader.old) (R.state reader.new))
-        (input limits mode other_sender (S.state other.old) (S.state other.new))
-        formats.Text (output (W.state writer.old) (W.state writer.new)) (other.new ≡ other.old) result }
+    ensures { let dump = input limits mode sender (R.state reader.old) (R.state reader.new) in
+        let other_dump = input limits mode other_sender (S.state other.old) (S.state other.new) in
+        let output = output (W.state writer.old) (W.state writer.new) in
+        RanCompare dump other_dump formats.Text output (other.new ≡ other.old) result }
 {
     let reading = Reading {
         limits,
@@ -85,18 +87,20 @@ pub(crate) fn compare<R: ByteIn, S: ByteIn, W: ByteOut>(
     requires other_ends { (S.state other.old).ends < 2 ^ 63 }
     requires writer_failures { (W.state writer.old).failures < 2 ^ 63 }
     requires writer_flushes { (W.state writer.old).flushes < 2 ^ 63 }
-    ensures ran { RanCompare (read_from (R.state reader.old) (R.state reader.new) reading)
-        (read_from (S.state other.old) (S.state other.new) other_reading)
-        format (output (W.state writer.old) (W.state writer.new)) (other.new ≡ other.old) (run_status result) }
-    ensures reports { IfOk result (Reports (read_from (R.state reader.old) (R.state reader.new) reading)
-        (Some (read_from (S.state other.old) (S.state other.new) other_reading))) }
+    ensures ran { let dump = read_from (R.state reader.old) (R.state reader.new) reading in
+        let other_dump = read_from (S.state other.old) (S.state other.new) other_reading in
+        let output = output (W.state writer.old) (W.state writer.new) in
+        RanCompare dump other_dump format output (other.new ≡ other.old) (run_status result) }
+    ensures reports { let dump = read_from (R.state reader.old) (R.state reader.new) reading in
+        let other_dump = read_from (S.state other.old) (S.state other.new) other_reading in
+        IfOk result (Reports dump (Some other_dump)) }
 {
     let found = read_verdict(alloc, reading, other_reading, format, reader, other);
     finish(writer, found)
 }
 
-/// Reads two dumps, the first to its end before the other, and makes the lines of how their answers compare, as the view of
-/// the first sees both.
+/// Reads two dumps, the first to its end before the other, and makes the lines of how their answers
+/// compare, as the view of the first sees both.
 fn read_verdict<R: ByteIn, S: ByteIn>(
     alloc: Global,
     reading: Reading,
@@ -113,7 +117,8 @@ fn read_verdict<R: ByteIn, S: ByteIn>(
     requires other_ends { (S.state other.old).ends < 2 ^ 63 }
     ensures gathered { let dump = read_from (R.state reader.old) (R.state reader.new) reading in
         let other_dump = read_from (S.state other.old) (S.state other.new) other_reading in
-        Gathered dump (Some other_dump) (IsFaultOfGiven dump) (SaysSo dump (Some other_dump) (Compares dump other_dump format)) result }
+        Gathered dump (Some other_dump) (IsFaultOfGiven dump)
+        (SaysSo dump (Some other_dump) (Compares dump other_dump format)) result }
     ensures in_turn { let dump = read_from (R.state reader.old) (R.state reader.new) reading in
         let other_dump = read_from (S.state other.old) (S.state other.new) other_reading in
         IfErr result (InTurn dump other_dump IsOfMemory (other.new ≡ other.old)) }

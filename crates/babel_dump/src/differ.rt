@@ -1,7 +1,7 @@
 use babel_tlv::Held;
 
-/// A destination and a source, as two addresses or as two prefixes, and what two tables answer for them. `None` where a table
-/// has no route.
+/// A destination and a source, as two addresses or as two prefixes, and what two tables answer for
+/// them. `None` where a table has no route.
 #[derive(Clone, Copy)]
 pub(crate) struct Differ<A> {
     pub dst: A,

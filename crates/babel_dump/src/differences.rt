@@ -20,14 +20,14 @@ use babel_table::Limits;
 use babel_tlv::{Fault, View};
 use std::alloc::Global;
 
-/// Reads two dumps, the first to its end before the other, and writes what says each block of destinations and sources that
-/// they answer differently, with the two answers there, or, with `count`, how many such blocks there are. The status is 0
-/// where there is none, else 1.
+/// Reads two dumps, the first to its end before the other, and writes what says each block of
+/// destinations and sources that they answer differently, with the two answers there, or, with
+/// `count`, how many such blocks there are. The status is 0 where there is none, else 1.
 ///
 /// # Errors
 ///
-/// Those of a comparison; and, with and without `count`, `Dump` with `TooManyPairs` where the blocks are more than the
-/// entries of the limits.
+/// Those of a comparison; and, with and without `count`, `Dump` with `TooManyPairs` where the
+/// blocks are more than the entries of the limits.
 pub(crate) fn differences<R: ByteIn, S: ByteIn, W: ByteOut>(
     alloc: Global,
     reading: Reading,
@@ -49,16 +49,18 @@ pub(crate) fn differences<R: ByteIn, S: ByteIn, W: ByteOut>(
     ensures ran { let dump = read_from (R.state reader.old) (R.state reader.new) reading in
         let other_dump = read_from (S.state other.old) (S.state other.new) other_reading in
         let output = output (W.state writer.old) (W.state writer.new) in
-        RanDifferences dump other_dump count format output (other.new ≡ other.old) (run_status result) }
-    ensures reports { IfOk result (Reports (read_from (R.state reader.old) (R.state reader.new) reading)
-        (Some (read_from (S.state other.old) (S.state other.new) other_reading))) }
+        RanDifferences dump other_dump count format output (other.new ≡ other.old)
+        (run_status result) }
+    ensures reports { let dump = read_from (R.state reader.old) (R.state reader.new) reading in
+        let other_dump = read_from (S.state other.old) (S.state other.new) other_reading in
+        IfOk result (Reports dump (Some other_dump)) }
 {
     let found = read_differences(alloc, reading, other_reading, count, format, reader, other);
     finish(writer, found)
 }
 
-/// Reads two dumps, the first to its end before the other, and makes the lines of what they answer differently, as the view
-/// of the first sees both.
+/// Reads two dumps, the first to its end before the other, and makes the lines of what they answer
+/// differently, as the view of the first sees both.
 fn read_differences<R: ByteIn, S: ByteIn>(
     alloc: Global,
     reading: Reading,
@@ -98,8 +100,8 @@ fn read_differences<R: ByteIn, S: ByteIn>(
     })
 }
 
-/// The lines of what two tables answer differently, or of how many differences there are, and the status that they make. The
-/// tables are gone before the lines are made.
+/// The lines of what two tables answer differently, or of how many differences there are, and the
+/// status that they make. The tables are gone before the lines are made.
 fn lines(
     alloc: Global,
     limits: Limits,

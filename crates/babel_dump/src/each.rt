@@ -22,8 +22,8 @@ use crate::run_fault::RunFault;
 use babel_table::Table;
 use std::alloc::{AllocError, Global};
 
-/// Reads the pairs that a text asks for, and then a dump, and writes what it answers for each of them. The status is 0 where
-/// each answer is a route, else 1.
+/// Reads the pairs that a text asks for, and then a dump, and writes what it answers for each of
+/// them. The status is 0 where each answer is a route, else 1.
 ///
 /// # Errors
 ///
@@ -44,9 +44,12 @@ pub(crate) fn each<R: ByteIn, S: ByteIn, W: ByteOut>(
     requires pairs_ends { (S.state pairs.old).ends < 2 ^ 63 }
     requires writer_failures { (W.state writer.old).failures < 2 ^ 63 }
     requires writer_flushes { (W.state writer.old).flushes < 2 ^ 63 }
-    ensures ran { RanEach (read_from (R.state reader.old) (R.state reader.new) reading) (read_from (S.state pairs.old) (S.state pairs.new) reading)
-        format (output (W.state writer.old) (W.state writer.new)) (run_status result) }
-    ensures reports { IfOk result (Reports (read_from (R.state reader.old) (R.state reader.new) reading) None) }
+    ensures ran { let dump = read_from (R.state reader.old) (R.state reader.new) reading in
+        let asked = read_from (S.state pairs.old) (S.state pairs.new) reading in
+        let output = output (W.state writer.old) (W.state writer.new) in
+        RanEach dump asked format output (run_status result) }
+    ensures reports { let dump = read_from (R.state reader.old) (R.state reader.new) reading in
+        IfOk result (Reports dump None) }
 {
     let asked = read_pairs(alloc, Reading { ..reading }, pairs)?;
     let found = read_answers(alloc, reading, format, &asked, reader);
@@ -80,7 +83,8 @@ fn read_answers<R: ByteIn>(
     requires reads { (R.state reader.old).reads < 2 ^ 63 }
     requires ends { (R.state reader.old).ends < 2 ^ 63 }
     ensures { let dump = read_from (R.state reader.old) (R.state reader.new) reading in
-        Gathered dump None (IsFaultOfGiven dump) (SaysSo dump None (LooksUpEach dump format asked.now)) result }
+        Gathered dump None (IsFaultOfGiven dump)
+        (SaysSo dump None (LooksUpEach dump format asked.now)) result }
 {
     let table = read_table(alloc, reading, reader)?;
     let (text, status) = answers(alloc, format, &table, asked)?;
@@ -102,7 +106,8 @@ fn answers(
     table: &Table,
     asked: &[AddrPair],
 ) -> Result<(String, u8), AllocError>
-    ensures text { IfOk result (λ answers. string_bytes answers.0 ≡ each_in format table.now asked.now) }
+    ensures text { IfOk result (λ answers. string_bytes answers.0
+        ≡ each_in format table.now asked.now) }
     ensures status { IfOk result (λ answers. answers.1 ≡ each_status table.now asked.now) }
 {
     let mut text = String::new(alloc);

@@ -17,8 +17,9 @@ use babel_capture::{Origin, Tally};
 use std::alloc::Global;
 use std::collections::BTreeMap;
 
-/// Reads a capture that is read so, and writes the dump of the wanted sender: as it is, or, with `hex`, as lower-case
-/// hexadecimal digits on a line. If there are no packets the status is 1, and nothing is written.
+/// Reads a capture that is read so, and writes the dump of the wanted sender: as it is, or, with
+/// `hex`, as lower-case hexadecimal digits on a line. If there are no packets the status is 1, and
+/// nothing is written.
 pub(crate) fn extract<R: ByteIn, W: ByteOut>(
     alloc: Global,
     reading: CaptureReading,
@@ -38,8 +39,8 @@ pub(crate) fn extract<R: ByteIn, W: ByteOut>(
     finish_capture(writer, found)
 }
 
-/// Reads a capture to its end, or to its first fault, and makes the text of the wanted sender's dump. The sender may have
-/// sent on one interface alone.
+/// Reads a capture to its end, or to its first fault, and makes the text of the wanted sender's
+/// dump. The sender may have sent on one interface alone.
 fn read_packets<R: ByteIn>(
     alloc: Global,
     reading: CaptureReading,

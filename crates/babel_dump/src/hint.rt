@@ -1,4 +1,5 @@
 //! What a user can do where a dump or a word is refused.
+use crate::job::{Job, Order};
 use crate::pairs_fault::PairsFault;
 use crate::run_fault::RunFault;
 use babel_table::Limits;
@@ -14,6 +15,9 @@ pub enum Hint {
     /// There are more canonical pairs than the limit.
     #[error("hint: the limit is {0} canonical pairs; --max-routes raises it")]
     Pairs(u32),
+    /// There are more differences than the limit.
+    #[error("hint: the limit is {0} differences; --max-routes raises it")]
+    Differences(u32),
     /// There are more octets than the limit.
     #[error("hint: the limit is {0} octets; --max-octets raises it")]
     Octets(u32),
@@ -31,7 +35,8 @@ pub enum Hint {
     NoNextHop(&'static str),
 }
 
-/// The first octets of captures: pcapng, and pcap in either byte order, with microseconds or nanoseconds.
+/// The first octets of captures: pcapng, and pcap in either byte order, with microseconds or
+/// nanoseconds.
 const CAPTURES: [[u8; 4]; 5] = [
     [0x0a, 0x0d, 0x0d, 0x0a],
     [0xd4, 0xc3, 0xb2, 0xa1],
@@ -41,9 +46,12 @@ const CAPTURES: [[u8; 4]; 5] = [
 ];
 
 impl Hint {
-    /// What to do about a fault of a run within these limits, over a first and another dump that begin with these octets.
-    pub fn of(fault: RunFault, limits: Limits, begins: &[u8], other_begins: &[u8]) -> Option<Hint> {
+    /// What to do about a fault of the run of a job, over a first and another dump that begin with
+    /// these octets.
+    pub fn of(order: &Order, fault: RunFault, begins: &[u8], other_begins: &[u8]) -> Option<Hint> {
+        let limits = order.limits;
         match fault {
+            RunFault::Dump(Fault::TooManyPairs) => Some(Hint::of_too_many(order)),
             RunFault::Dump(fault) => Hint::of_dump(fault, limits, begins),
             RunFault::OtherDump(fault) => Hint::of_dump(fault, limits, other_begins),
             RunFault::Ignored(tlv) => Hint::of_reason(tlv.reason, "--from"),
@@ -53,7 +61,8 @@ impl Hint {
         }
     }
 
-    /// What to know about TLVs that were ignored for this reason, in a dump whose sender this option names.
+    /// What to know about TLVs that were ignored for this reason, in a dump whose sender this
+    /// option names.
     pub fn of_reason(reason: Reason, option: &'static str) -> Option<Hint> {
         match reason {
             Reason::UnknownEncoding => Some(Hint::UnknownEncoding),
@@ -62,10 +71,19 @@ impl Hint {
         }
     }
 
+    /// What to do where a job has more pairs than the limit; those of `compare --all` are
+    /// differences.
+    fn of_too_many(order: &Order) -> Hint {
+        let limit = order.limits.entries();
+        match &order.job {
+            Job::Differences { .. } => Hint::Differences(limit),
+            _ => Hint::Pairs(limit),
+        }
+    }
+
     fn of_dump(fault: Fault, limits: Limits, begins: &[u8]) -> Option<Hint> {
         match fault {
             Fault::TooManyRoutes { .. } => Some(Hint::Routes(limits.entries())),
-            Fault::TooManyPairs => Some(Hint::Pairs(limits.entries())),
             Fault::TooLong => Some(Hint::Octets(limits.bytes())),
             Fault::BadMagic { at: 0 } if CAPTURES.iter().any(|magic| begins == magic.as_slice()) =>
                 { Some(Hint::Capture) }

@@ -6,7 +6,8 @@ use std::alloc::{AllocError, Global};
 use std::collections::BTreeMap;
 use std::fmt;
 
-/// The interfaces on which a sender's packets were captured, in rising order. `Display` gives them with a comma between each two.
+/// The interfaces on which a sender's packets were captured, in rising order. `Display` gives them
+/// with a comma between each two.
 #[derive(Debug, Drop, PartialEq, Eq)]
 pub struct Interfaces(pub Vec<u64>);
 

@@ -10,7 +10,8 @@ use babel_table::Limits;
 use babel_tlv::{Mode, View};
 use std::alloc::AllocError;
 
-/// What the program's words ask for: a job, the limits that it is done within, and whether notes come after its output.
+/// What the program's words ask for: a job, the limits that it is done within, and whether notes
+/// come after its output.
 #[derive(Debug, Drop)]
 pub struct Order {
     pub job: Job,
@@ -72,10 +73,11 @@ pub struct OneDump {
     pub mode: Mode,
     /// Whether the dump is refused if a TLV of it is ignored: `--strict`.
     pub strict: bool,
-    /// How what was found is written: `--json`. What `normalise` writes are octets, whatever the format.
+    /// How what was found is written: `--json`. What `normalise` writes are octets, whatever the
+    /// format.
     pub format: Format,
-    /// Which fields of what is announced count: those that `--ignore` does not name. What `show` and `lookup` write is
-    /// whole, whatever the view.
+    /// Which fields of what is announced count: those that `--ignore` does not name. What `show`
+    /// and `lookup` write is whole, whatever the view.
     pub view: View,
     /// Where the dump is read from: FILE.
     pub file: DumpFile,

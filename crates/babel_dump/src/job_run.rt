@@ -19,13 +19,13 @@ use crate::show::show;
 use babel_table::Limits;
 use std::alloc::Global;
 
-/// Does a job: the run of its command, with the job's own words. The other reader has the other dump of a comparison, or the
-/// pairs of `--each`; each other job leaves it as it was.
+/// Does a job: the run of its command, with the job's own words. The other reader has the other
+/// dump of a comparison, or the pairs of `--each`; each other job leaves it as it was.
 ///
 /// # Errors
 ///
-/// Those of the command's run; of a job that reads strictly also `Ignored` with the first TLV that was ignored, where the
-/// dump has no fault, and `OtherIgnored` for the other dump of a comparison.
+/// Those of the command's run; of a job that reads strictly also `Ignored` with the first TLV that
+/// was ignored, where the dump has no fault, and `OtherIgnored` for the other dump of a comparison.
 pub fn run_job<R: ByteIn, S: ByteIn, W: ByteOut>(
     alloc: Global,
     limits: Limits,
@@ -42,7 +42,8 @@ pub fn run_job<R: ByteIn, S: ByteIn, W: ByteOut>(
     requires other_ends { (S.state other.old).ends < 2 ^ 63 }
     requires writer_failures { (W.state writer.old).failures < 2 ^ 63 }
     requires writer_flushes { (W.state writer.old).flushes < 2 ^ 63 }
-    ensures { RanJob limits job.now (read_from (R.state reader.old) (R.state reader.new)) (read_from (S.state other.old) (S.state other.new))
+    ensures { RanJob limits job.now (read_from (R.state reader.old) (R.state reader.new))
+        (read_from (S.state other.old) (S.state other.new))
         (output (W.state writer.old) (W.state writer.new)) (other.new ≡ other.old) result }
 {
     match job {

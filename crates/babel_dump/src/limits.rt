@@ -11,8 +11,8 @@ pub(crate) struct TooFew {
     pub routes: u32,
 }
 
-/// The limits that `--max-octets` and `--max-routes` ask for. Where they are left out there may be 262,144 routes, and
-/// 33,554,432 octets, or 83 for each route if that is more.
+/// The limits that `--max-octets` and `--max-routes` ask for. Where they are left out there may be
+/// 262,144 routes, and 33,554,432 octets, or 83 for each route if that is more.
 pub(crate) fn asked_limits(octets: Option<u32>, routes: Option<u32>) -> Result<Limits, TooFew>
     ensures fits { IsOk result ↔ AreBounds (asked_bounds octets routes) }
     ensures ok { IfOk result (λ limits. limits ≡ asked_bounds octets routes) }

@@ -22,12 +22,13 @@ use babel_table::Limits;
 use babel_tlv::{Held, Mode, View};
 use std::alloc::Global;
 
-/// Reads a dump that this sender sent, and writes what it answers for a destination and a source of one family, or
-/// `none`: RFC 9079, 4. The status is 0 where the answer is a route, else 1.
+/// Reads a dump that this sender sent, and writes what it answers for a destination and a source of
+/// one family, or `none`: RFC 9079, 4. The status is 0 where the answer is a route, else 1.
 ///
 /// # Errors
 ///
-/// `Dump` with the dump's fault, or with `Memory`; `Read` where a read failed; `Write` where a write or the flush failed.
+/// `Dump` with the dump's fault, or with `Memory`; `Read` where a read failed; `Write` where a
+/// write or the flush failed.
 pub fn run_lookup<R: ByteIn, W: ByteOut>(
     alloc: Global,
     limits: Limits,
@@ -44,8 +45,9 @@ pub fn run_lookup<R: ByteIn, W: ByteOut>(
     requires reader_ends { (R.state reader.old).ends < 2 ^ 63 }
     requires writer_failures { (W.state writer.old).failures < 2 ^ 63 }
     requires writer_flushes { (W.state writer.old).flushes < 2 ^ 63 }
-    ensures { RanLookup (input limits mode sender (R.state reader.old) (R.state reader.new)) dst src formats.Text
-        (output (W.state writer.old) (W.state writer.new)) result }
+    ensures { let dump = input limits mode sender (R.state reader.old) (R.state reader.new) in
+        let output = output (W.state writer.old) (W.state writer.new) in
+        RanLookup dump dst src formats.Text output result }
 {
     let reading = Reading {
         limits,
@@ -79,9 +81,11 @@ pub(crate) fn lookup<R: ByteIn, W: ByteOut>(
     requires reader_ends { (R.state reader.old).ends < 2 ^ 63 }
     requires writer_failures { (W.state writer.old).failures < 2 ^ 63 }
     requires writer_flushes { (W.state writer.old).flushes < 2 ^ 63 }
-    ensures ran { RanLookup (read_from (R.state reader.old) (R.state reader.new) reading) pair.dst pair.src format
-        (output (W.state writer.old) (W.state writer.new)) (run_status result) }
-    ensures reports { IfOk result (Reports (read_from (R.state reader.old) (R.state reader.new) reading) None) }
+    ensures ran { let dump = read_from (R.state reader.old) (R.state reader.new) reading in
+        let output = output (W.state writer.old) (W.state writer.new) in
+        RanLookup dump pair.dst pair.src format output (run_status result) }
+    ensures reports { let dump = read_from (R.state reader.old) (R.state reader.new) reading in
+        IfOk result (Reports dump None) }
 {
     let found = read_answer(alloc, reading, pair, format, reader);
     finish(writer, found)
@@ -99,7 +103,8 @@ fn read_answer<R: ByteIn>(
     requires reads { (R.state reader.old).reads < 2 ^ 63 }
     requires ends { (R.state reader.old).ends < 2 ^ 63 }
     ensures { let dump = read_from (R.state reader.old) (R.state reader.new) reading in
-        Gathered dump None (IsFaultOfGiven dump) (SaysSo dump None (LooksUp dump pair.dst pair.src format)) result }
+        Gathered dump None (IsFaultOfGiven dump)
+        (SaysSo dump None (LooksUp dump pair.dst pair.src format)) result }
 {
     let table = read_table(alloc, reading, reader)?;
     let answer = table.lookup(&pair.dst, &pair.src);

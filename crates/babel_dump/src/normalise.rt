@@ -18,16 +18,19 @@ use babel_table::Limits;
 use babel_tlv::{Mode, View};
 use std::alloc::Global;
 
-/// Reads a dump that this sender sent, and writes its canonical octets, in packets with bodies of at most this many
-/// octets: as they are, or, with `hex`, as lower-case hexadecimal digits on a line. The status is 0.
+/// Reads a dump that this sender sent, and writes its canonical octets, in packets with bodies of
+/// at most this many octets: as they are, or, with `hex`, as lower-case hexadecimal digits on a
+/// line. The status is 0.
 ///
-/// The octets of two dumps, under the same limits, mode and body size, are equal exactly where the dumps give every
-/// destination and source the same answer; and the octets, read with any sender, give these answers again.
+/// The octets of two dumps, under the same limits, mode and body size, are equal exactly where the
+/// dumps give every destination and source the same answer; and the octets, read with any sender,
+/// give these answers again.
 ///
 /// # Errors
 ///
-/// `Dump` with the dump's fault, with `TooManyPairs` where the canonical pairs are more than the entries of the limits,
-/// or with `Memory`; `Read` where a read failed; `Write` where a write or the flush failed.
+/// `Dump` with the dump's fault, with `TooManyPairs` where the canonical pairs are more than the
+/// entries of the limits, or with `Memory`; `Read` where a read failed; `Write` where a write or
+/// the flush failed.
 pub fn run_normalise<R: ByteIn, W: ByteOut>(
     alloc: Global,
     limits: Limits,
@@ -43,8 +46,9 @@ pub fn run_normalise<R: ByteIn, W: ByteOut>(
     requires reader_ends { (R.state reader.old).ends < 2 ^ 63 }
     requires writer_failures { (W.state writer.old).failures < 2 ^ 63 }
     requires writer_flushes { (W.state writer.old).flushes < 2 ^ 63 }
-    ensures { RanNormalise (input limits mode sender (R.state reader.old) (R.state reader.new)) body hex
-        (output (W.state writer.old) (W.state writer.new)) result }
+    ensures { let dump = input limits mode sender (R.state reader.old) (R.state reader.new) in
+        let output = output (W.state writer.old) (W.state writer.new) in
+        RanNormalise dump body hex output result }
 {
     let reading = Reading {
         limits,
@@ -71,9 +75,11 @@ pub(crate) fn normalise<R: ByteIn, W: ByteOut>(
     requires reader_ends { (R.state reader.old).ends < 2 ^ 63 }
     requires writer_failures { (W.state writer.old).failures < 2 ^ 63 }
     requires writer_flushes { (W.state writer.old).flushes < 2 ^ 63 }
-    ensures ran { RanNormalise (read_from (R.state reader.old) (R.state reader.new) reading) body hex
-        (output (W.state writer.old) (W.state writer.new)) (run_status result) }
-    ensures reports { IfOk result (Reports (read_from (R.state reader.old) (R.state reader.new) reading) None) }
+    ensures ran { let dump = read_from (R.state reader.old) (R.state reader.new) reading in
+        let output = output (W.state writer.old) (W.state writer.new) in
+        RanNormalise dump body hex output (run_status result) }
+    ensures reports { let dump = read_from (R.state reader.old) (R.state reader.new) reading in
+        IfOk result (Reports dump None) }
 {
     let found = read_normal(alloc, reading, body, hex, reader);
     finish(writer, found)
@@ -91,7 +97,8 @@ fn read_normal<R: ByteIn>(
     requires reads { (R.state reader.old).reads < 2 ^ 63 }
     requires ends { (R.state reader.old).ends < 2 ^ 63 }
     ensures { let dump = read_from (R.state reader.old) (R.state reader.new) reading in
-        Gathered dump None (IsFaultOfForm dump) (SaysSo dump None (WritesNormal dump body hex)) result }
+        Gathered dump None (IsFaultOfForm dump)
+        (SaysSo dump None (WritesNormal dump body hex)) result }
 {
     let (report, octets) = read_octets(alloc, reading, body, reader)?;
     let text = if hex {

@@ -23,13 +23,14 @@ use babel_table::{Limits, Table};
 use babel_tlv::{Fault, Mode, View};
 use std::alloc::Global;
 
-/// Reads a dump that this sender sent, and writes a line for each of its canonical pairs, or, with `count`, how many
-/// rows its table has and how many canonical pairs. The status is 0.
+/// Reads a dump that this sender sent, and writes a line for each of its canonical pairs, or, with
+/// `count`, how many rows its table has and how many canonical pairs. The status is 0.
 ///
 /// # Errors
 ///
-/// With and without `count`: `Dump` with the dump's fault, with `TooManyPairs` where the canonical pairs are more than
-/// the entries of the limits, or with `Memory`; `Read` where a read failed; `Write` where a write or the flush failed.
+/// With and without `count`: `Dump` with the dump's fault, with `TooManyPairs` where the canonical
+/// pairs are more than the entries of the limits, or with `Memory`; `Read` where a read failed;
+/// `Write` where a write or the flush failed.
 pub fn run_pairs<R: ByteIn, W: ByteOut>(
     alloc: Global,
     limits: Limits,
@@ -44,8 +45,9 @@ pub fn run_pairs<R: ByteIn, W: ByteOut>(
     requires reader_ends { (R.state reader.old).ends < 2 ^ 63 }
     requires writer_failures { (W.state writer.old).failures < 2 ^ 63 }
     requires writer_flushes { (W.state writer.old).flushes < 2 ^ 63 }
-    ensures { RanPairs (input limits mode sender (R.state reader.old) (R.state reader.new)) count formats.Text
-        (output (W.state writer.old) (W.state writer.new)) result }
+    ensures { let dump = input limits mode sender (R.state reader.old) (R.state reader.new) in
+        let output = output (W.state writer.old) (W.state writer.new) in
+        RanPairs dump count formats.Text output result }
 {
     let reading = Reading {
         limits,
@@ -72,15 +74,18 @@ pub(crate) fn pairs<R: ByteIn, W: ByteOut>(
     requires reader_ends { (R.state reader.old).ends < 2 ^ 63 }
     requires writer_failures { (W.state writer.old).failures < 2 ^ 63 }
     requires writer_flushes { (W.state writer.old).flushes < 2 ^ 63 }
-    ensures ran { RanPairs (read_from (R.state reader.old) (R.state reader.new) reading) count format
-        (output (W.state writer.old) (W.state writer.new)) (run_status result) }
-    ensures reports { IfOk result (Reports (read_from (R.state reader.old) (R.state reader.new) reading) None) }
+    ensures ran { let dump = read_from (R.state reader.old) (R.state reader.new) reading in
+        let output = output (W.state writer.old) (W.state writer.new) in
+        RanPairs dump count format output (run_status result) }
+    ensures reports { let dump = read_from (R.state reader.old) (R.state reader.new) reading in
+        IfOk result (Reports dump None) }
 {
     let found = read_pairs(alloc, reading, count, format, reader);
     finish(writer, found)
 }
 
-/// Reads a dump to its end, or to its first fault, and makes the lines of its canonical pairs, or of their count.
+/// Reads a dump to its end, or to its first fault, and makes the lines of its canonical pairs, or
+/// of their count.
 fn read_pairs<R: ByteIn>(
     alloc: Global,
     reading: Reading,
@@ -92,7 +97,8 @@ fn read_pairs<R: ByteIn>(
     requires reads { (R.state reader.old).reads < 2 ^ 63 }
     requires ends { (R.state reader.old).ends < 2 ^ 63 }
     ensures { let dump = read_from (R.state reader.old) (R.state reader.new) reading in
-        Gathered dump None (IsFaultOfForm dump) (SaysSo dump None (ListsPairs dump count format)) result }
+        Gathered dump None (IsFaultOfForm dump)
+        (SaysSo dump None (ListsPairs dump count format)) result }
 {
     let table = read_table(alloc, reading, reader)?;
     let report = *table.report();
@@ -105,8 +111,8 @@ fn read_pairs<R: ByteIn>(
     Ok(Found { text, outcome })
 }
 
-/// The lines of a table's canonical pairs under a view, or of how many rows and pairs there are, for which no pair is made. The table is
-/// gone before the lines of pairs are made.
+/// The lines of a table's canonical pairs under a view, or of how many rows and pairs there are,
+/// for which no pair is made. The table is gone before the lines of pairs are made.
 fn lines(
     alloc: Global,
     limits: Limits,
@@ -115,7 +121,8 @@ fn lines(
     format: Format,
     table: Table,
 ) -> Result<String, Fault>
-    ensures ok { IfOk result (λ text. SaysPairs limits view count format table.rows (string_bytes text)) }
+    ensures ok { IfOk result (λ text. SaysPairs limits view count format table.rows
+        (string_bytes text)) }
     ensures err { IfErr result (CanonicalFault limits (seen_rows view table.rows)) }
 {
     text_is_one();

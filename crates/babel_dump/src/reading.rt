@@ -13,6 +13,7 @@ pub(crate) struct Reading {
     pub sender: Addr,
     /// Whether a dump is refused of which a TLV is ignored.
     pub strict: bool,
-    /// Which fields of what is announced count, where answers are compared or put into canonical form.
+    /// Which fields of what is announced count, where answers are compared or put into canonical
+    /// form.
     pub view: View,
 }

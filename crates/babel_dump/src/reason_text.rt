@@ -25,7 +25,8 @@ impl fmt::Display for Counted {
     }
 }
 
-/// How many TLVs were ignored for a reason, and where the first lies: a line, or nothing if none was.
+/// How many TLVs were ignored for a reason, and where the first lies: a line, or nothing if none
+/// was.
 #[derive(Clone, Copy)]
 struct IgnoredLine(Reason, Option<(u64, u64)>);
 
@@ -48,7 +49,8 @@ impl fmt::Display for IgnoredLine {
 
 /// Adds the lines of a report.
 pub(crate) fn push_report(text: &mut String, report: &Report) -> Result<(), AllocError>
-    ensures { OnOk result (string_bytes text.new ≡ string_bytes text.old ++ report_text report.now) }
+    ensures { OnOk result (string_bytes text.new
+        ≡ string_bytes text.old ++ report_text report.now) }
 {
     let tlvs = report.tlvs();
     write!(text, "tlvs {tlvs}\n")?;
@@ -57,7 +59,8 @@ pub(crate) fn push_report(text: &mut String, report: &Report) -> Result<(), Allo
 
 /// Adds a line for each of these reasons that occurred.
 fn push_ignored(text: &mut String, report: &Report, reasons: &[Reason]) -> Result<(), AllocError>
-    ensures { OnOk result (string_bytes text.new ≡ string_bytes text.old ++ ignored_lines report.now reasons.now) }
+    ensures { OnOk result (string_bytes text.new
+        ≡ string_bytes text.old ++ ignored_lines report.now reasons.now) }
 {
     for reason in reasons {
         let line = IgnoredLine(*reason, report.ignored(*reason));

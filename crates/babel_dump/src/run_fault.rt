@@ -82,8 +82,9 @@ impl From<WriteFailed> for RunFault {
     }
 }
 
-/// The exit status of the program for what a run gave: the run's own, 2 where the pairs of `--each` are refused, 3 where a
-/// dump is, 4 where a read or a write failed, 5 where an allocation was refused.
+/// The exit status of the program for what a run gave: the run's own, 2 where the pairs of `--each`
+/// are refused, 3 where a dump is, 4 where a read or a write failed, 5 where an allocation was
+/// refused.
 pub fn status_of(outcome: &Result<u8, RunFault>) -> u8
     ensures { result ≡ exit_status outcome.now }
 {

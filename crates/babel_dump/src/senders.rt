@@ -14,8 +14,8 @@ use crate::capture_text::senders_text;
 use crate::format::Format;
 use std::alloc::Global;
 
-/// Reads a capture that is read so, and writes a line for each sender on each interface, in a format. The status is 1 if
-/// there is none.
+/// Reads a capture that is read so, and writes a line for each sender on each interface, in a
+/// format. The status is 1 if there is none.
 pub(crate) fn senders<R: ByteIn, W: ByteOut>(
     alloc: Global,
     reading: CaptureReading,

@@ -19,12 +19,13 @@ use babel_table::Limits;
 use babel_tlv::{Mode, View};
 use std::alloc::Global;
 
-/// Reads a dump that this sender sent, and writes a line for each row of its table, how many TLVs it has, and a line for
-/// each reason for which TLVs were ignored. The status is 0.
+/// Reads a dump that this sender sent, and writes a line for each row of its table, how many TLVs
+/// it has, and a line for each reason for which TLVs were ignored. The status is 0.
 ///
 /// # Errors
 ///
-/// `Dump` with the dump's fault, or with `Memory`; `Read` where a read failed; `Write` where a write or the flush failed.
+/// `Dump` with the dump's fault, or with `Memory`; `Read` where a read failed; `Write` where a
+/// write or the flush failed.
 pub fn run_show<R: ByteIn, W: ByteOut>(
     alloc: Global,
     limits: Limits,
@@ -38,8 +39,9 @@ pub fn run_show<R: ByteIn, W: ByteOut>(
     requires reader_ends { (R.state reader.old).ends < 2 ^ 63 }
     requires writer_failures { (W.state writer.old).failures < 2 ^ 63 }
     requires writer_flushes { (W.state writer.old).flushes < 2 ^ 63 }
-    ensures { RanShow (input limits mode sender (R.state reader.old) (R.state reader.new)) formats.Text
-        (output (W.state writer.old) (W.state writer.new)) result }
+    ensures { let dump = input limits mode sender (R.state reader.old) (R.state reader.new) in
+        let output = output (W.state writer.old) (W.state writer.new) in
+        RanShow dump formats.Text output result }
 {
     let reading = Reading {
         limits,
@@ -65,9 +67,11 @@ pub(crate) fn show<R: ByteIn, W: ByteOut>(
     requires reader_ends { (R.state reader.old).ends < 2 ^ 63 }
     requires writer_failures { (W.state writer.old).failures < 2 ^ 63 }
     requires writer_flushes { (W.state writer.old).flushes < 2 ^ 63 }
-    ensures ran { RanShow (read_from (R.state reader.old) (R.state reader.new) reading) format
-        (output (W.state writer.old) (W.state writer.new)) (run_status result) }
-    ensures reports { IfOk result (Reports (read_from (R.state reader.old) (R.state reader.new) reading) None) }
+    ensures ran { let dump = read_from (R.state reader.old) (R.state reader.new) reading in
+        let output = output (W.state writer.old) (W.state writer.new) in
+        RanShow dump format output (run_status result) }
+    ensures reports { let dump = read_from (R.state reader.old) (R.state reader.new) reading in
+        IfOk result (Reports dump None) }
 {
     let found = read_rows(alloc, reading, format, reader);
     finish(writer, found)

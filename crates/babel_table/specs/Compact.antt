@@ -15,15 +15,24 @@ abbrev pub prefix_in : Family → ℕ → ℕ → AddressPrefix
 prefix_in family bits len = record { address = record { family = family; bits = bits }; len = len }
 
 abbrev pub key_in : Family → ℕ → ℕ → ℕ → ℕ → RouteKey
-key_in family dst dst_len src src_len = record { dst = prefix_in family dst dst_len; src = prefix_in family src src_len }
+key_in family dst dst_len src src_len = record {
+  dst = prefix_in family dst dst_len;
+  src = prefix_in family src src_len;
+}
 
 pub key_total : IsTotalOrder key_cmp
-key_total = then_total (on_total (λ (k : RouteKey). k.dst) prefix_total) (on_total (λ (k : RouteKey). k.src) prefix_total)
+key_total = then_total (on_total (λ (k : RouteKey). k.dst) prefix_total)
+    (on_total (λ (k : RouteKey). k.src) prefix_total)
 
 -- an announcement with a next hop of a family, of its numbers
 abbrev pub announced : List ℕ → ℕ → ℕ → Family → ℕ → Announcement
 announced router_id seqno metric family bits =
-    record { router_id = router_id; seqno = seqno; metric = metric; next_hop = record { family = family; bits = bits } }
+    record {
+      router_id = router_id;
+      seqno = seqno;
+      metric = metric;
+      next_hop = record { family = family; bits = bits };
+    }
 
 -- RFC 8966, 4.6.9: where the metric is infinite there is no route
 abbrev pub held_by : Announcement → Held

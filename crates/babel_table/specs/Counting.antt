@@ -15,7 +15,11 @@ ignored_with ignored (events.Announce key ann) at = ignored
 ignored_with ignored (events.Retract key) at = ignored
 ignored_with ignored events.RetractAll at = ignored
 ignored_with ignored events.Nothing at = ignored
-ignored_with ignored (events.Ignored reason) at = slice_set ignored (reason_place reason) (one_more at (count_at ignored (reason_place reason)))
+ignored_with ignored (events.Ignored reason) at =
+    slice_set ignored (reason_place reason) (one_more at (count_at ignored (reason_place reason)))
 
 abbrev pub counted_with : Counts → Event → ℕ → Counts
-counted_with counts event at = record { tlvs = counts.tlvs + 1; ignored = ignored_with counts.ignored event at }
+counted_with counts event at = record {
+  tlvs = counts.tlvs + 1;
+  ignored = ignored_with counts.ignored event at;
+}

@@ -1,6 +1,8 @@
--- What a feeder has made of the octets that it was fed. Reading in pieces is this project's own: RFC 8966, 4 has each packet
--- come whole, in a datagram. Where packets and TLVs end is that of RFC 8966, 4.2 and 4.3.
-use Rattle.std.specs.Prelude.{◌≡◌, ℕ, ◌+◌, ◌-◌, ◌<◌, ◌≤◌, List, [], ◌∷◌, ◌++◌, length, take, Option, Some, None, Result, Ok, Err, ◌⊎◌}
+-- What a feeder has made of the octets that it was fed. Reading in pieces is this project's own:
+-- RFC 8966, 4 has each packet come whole, in a datagram. Where packets and TLVs end is that of RFC
+-- 8966, 4.2 and 4.3.
+use Rattle.std.specs.Prelude.{◌≡◌, ℕ, ◌+◌, ◌-◌, ◌<◌, ◌≤◌, List, [], ◌∷◌, ◌++◌, length, take, Option}
+use Rattle.std.specs.Prelude.{Some, None, Result, Ok, Err, ◌⊎◌}
 use Rattle.std.specs.List.{flat_map, Contains}
 use Rattle.babel_prefix.specs.Address.{Address}
 use Rattle.babel_tlv.specs.declared.event.Event.{Event}
@@ -10,7 +12,8 @@ use Rattle.babel_tlv.specs.declared.fault.Fault.TheVariants as faults
 use Rattle.babel_tlv.specs.declared.held.Held.{Held}
 use Rattle.babel_tlv.specs.declared.mode.Mode.{Mode}
 use Rattle.babel_tlv.specs.declared.mode.Mode.TheVariants as modes
-use Rattle.babel_tlv.specs.Framing.{TlvAt, ReadsAs, LacksBody, packet_octets, ArePackets, HeaderFault, BeginsPacket, TlvPastEndAt, AreTlvs, tlvs_of}
+use Rattle.babel_tlv.specs.Framing.{TlvAt, ReadsAs, LacksBody, packet_octets, ArePackets}
+use Rattle.babel_tlv.specs.Framing.{HeaderFault, BeginsPacket, TlvPastEndAt, AreTlvs, tlvs_of}
 use Rattle.babel_tlv.specs.Route.{RouteKey}
 use Rattle.babel_tlv.specs.Says.{Saying, sayings, sayings_behind}
 use Rattle.babel_tlv.specs.Context.{Context, context_after}
@@ -22,9 +25,10 @@ use Rattle.babel_table.specs.DumpFault.{AreFine, RefusedBy, DumpFault}
 
 -- ---- the table so far
 
--- the rows and the counts are those of these sayings, each of which is an event, with no more than so many keys held
--- behind any of them
-pub record StandsBehind (mode : Mode) (entries : ℕ) (table : Routes) (said : List Saying) : Type 0 where
+-- the rows and the counts are those of these sayings, each of which is an event, with no more than
+-- so many keys held behind any of them
+pub record StandsBehind (mode : Mode) (entries : ℕ) (table : Routes)
+    (said : List Saying) : Type 0 where
   pub events : List Event
   pub fine : AreFine mode entries [] said events
   pub rows : AreRowsOf mode events table.rows
@@ -48,16 +52,19 @@ MayGrow mode (events.Ignored reason) = ⊥
 
 -- rows behind events become the rows behind these and one more
 abbrev pub Follows : Mode → Event → List (RouteKey × Held) → List (RouteKey × Held) → Type 0
-Follows mode event old new = (said : List Event) → AreRowsOf mode said old → AreRowsOf mode (said ++ event ∷ []) new
+Follows mode event old new =
+    (said : List Event) → AreRowsOf mode said old → AreRowsOf mode (said ++ event ∷ []) new
 
 -- behind the events of these rows, one more would make more rows than may be
 abbrev pub Overflows : Mode → ℕ → Event → List (RouteKey × Held) → Type 0
-Overflows mode entries event rows = (said : List Event) → AreRowsOf mode said rows → HoldsMoreThan mode entries (said ++ event ∷ [])
+Overflows mode entries event rows =
+    (said : List Event) → AreRowsOf mode said rows → HoldsMoreThan mode entries (said ++ event ∷ [])
 
 -- why an event is not taken into the rows: there would be too many, or want of memory
 abbrev pub IsRefused : Mode → ℕ → ℕ → Event → List (RouteKey × Held) → Fault → Type 0
 IsRefused mode entries at event rows fault =
-    ((fault ≡ faults.TooManyRoutes at) × Overflows mode entries event rows) ⊎ ((fault ≡ faults.Memory) × MayGrow mode event)
+    ((fault ≡ faults.TooManyRoutes at) × Overflows mode entries event rows)
+    ⊎ ((fault ≡ faults.Memory) × MayGrow mode event)
 
 abbrev pub MayGrowAt : Mode → Result Event Fault → Type 0
 MayGrowAt mode (Ok event) = MayGrow mode event
@@ -67,18 +74,23 @@ MayGrowAt mode (Err fault) = ⊥
 abbrev pub SomeMayGrow : Mode → List Saying → Type 0
 SomeMayGrow mode said = (saying : Saying) × Contains said saying × MayGrowAt mode saying.what
 
--- Behind the earlier TLVs of a packet, some of its TLVs are taken: what the others say, in this context, is all that is left of
--- what the packet says, and the table stands behind what was said before.
-pub record TookSome (mode : Mode) (entries : ℕ) (sender : Address) (old : Routes) (all : List TlvAt) (now : Routes) (context : Context) (left : List TlvAt) : Type 0 where
+-- Behind the earlier TLVs of a packet, some of its TLVs are taken: what the others say, in this
+-- context, is all that is left of what the packet says, and the table stands behind what was said
+-- before.
+pub record TookSome (mode : Mode) (entries : ℕ) (sender : Address) (old : Routes) (all : List TlvAt)
+    (now : Routes) (context : Context) (left : List TlvAt) : Type 0 where
   pub earlier : List TlvAt
   pub done : List Saying
   pub context_is : context ≡ context_after sender earlier
   pub whole : sayings_behind sender [] all ≡ done ++ sayings_behind sender earlier left
-  pub stands : (said : List Saying) → StandsBehind mode entries old said → StandsBehind mode entries now (said ++ done)
+  pub stands : (said : List Saying) → StandsBehind mode entries old said →
+      StandsBehind mode entries now (said ++ done)
 
 -- The table takes these sayings: it then stands behind what was said before, and these.
 abbrev pub Takes : Mode → ℕ → List Saying → Routes → Routes → Type 0
-Takes mode entries said old new = (before : List Saying) → StandsBehind mode entries old before → StandsBehind mode entries new (before ++ said)
+Takes mode entries said old new =
+    (before : List Saying) → StandsBehind mode entries old before →
+    StandsBehind mode entries new (before ++ said)
 
 -- a fault that octets have, and keep however they go on
 abbrev pub IsLasting : Fault → Type 0
@@ -92,30 +104,37 @@ IsLasting faults.TooLong = Unit {0}
 IsLasting faults.TooManyPairs = ⊥
 IsLasting faults.Memory = ⊥
 
--- one of these sayings refuses the dump, whatever comes behind, or needs memory that there is none of
+-- one of these sayings refuses the dump, whatever comes behind, or needs memory that there is none
+-- of
 abbrev pub Fails : Mode → ℕ → List Saying → Routes → Fault → Type 0
 Fails mode entries said old fault =
     (IsLasting fault
-    × ((before later : List Saying) → StandsBehind mode entries old before → RefusedBy mode entries (before ++ said ++ later) fault))
+    × ((before later : List Saying) → StandsBehind mode entries old before →
+    RefusedBy mode entries (before ++ said ++ later) fault))
     ⊎ ((fault ≡ faults.Memory) × SomeMayGrow mode said)
 
--- the octets begin with packets, of which the first lies at this offset: they are taken, and the rest begins at this place
-pub record TookPackets (mode : Mode) (entries : ℕ) (sender : Address) (at : ℕ) (octets : List ℕ) (old now : Routes) (rest : List ℕ) (place : ℕ) : Type 0 where
+-- the octets begin with packets, of which the first lies at this offset: they are taken, and the
+-- rest begins at this place
+pub record TookPackets (mode : Mode) (entries : ℕ) (sender : Address) (at : ℕ) (octets : List ℕ)
+    (old now : Routes) (rest : List ℕ) (place : ℕ) : Type 0 where
   pub packets : List (List TlvAt)
   pub whole : octets ≡ flat_map packet_octets packets ++ rest
   pub placed : ArePackets at packets
   pub here : place ≡ at + length (flat_map packet_octets packets)
   pub takes : Takes mode entries (sayings sender packets) old now
 
--- why the octets at this place aren't taken: they begin with no packet whose body is TLVs, or one of its TLVs fails
+-- why the octets at this place aren't taken: they begin with no packet whose body is TLVs, or one
+-- of its TLVs fails
 abbrev pub StopsAt : Mode → ℕ → Address → Routes → List ℕ → ℕ → Fault → Type 0
 StopsAt mode entries sender now rest place fault =
     HeaderFault place rest fault
     ⊎ ((body : List ℕ) × BeginsPacket rest body × (TlvPastEndAt (place + 4) body fault
-    ⊎ (AreTlvs (place + 4) body (tlvs_of (place + 4) body) × Fails mode entries (sayings_behind sender [] (tlvs_of (place + 4) body)) now fault)))
+    ⊎ (AreTlvs (place + 4) body (tlvs_of (place + 4) body)
+    × Fails mode entries (sayings_behind sender [] (tlvs_of (place + 4) body)) now fault)))
 
 -- some packets are taken, and then comes the fault
-pub record StopsBehind (mode : Mode) (entries : ℕ) (sender : Address) (at : ℕ) (octets : List ℕ) (old : Routes) (fault : Fault) : Type 0 where
+pub record StopsBehind (mode : Mode) (entries : ℕ) (sender : Address) (at : ℕ) (octets : List ℕ)
+    (old : Routes) (fault : Fault) : Type 0 where
   pub now : Routes
   pub rest : List ℕ
   pub place : ℕ
@@ -126,19 +145,21 @@ pub record StopsBehind (mode : Mode) (entries : ℕ) (sender : Address) (at : �
 abbrev pub IsPartial : List ℕ → Type 0
 IsPartial octets = (length octets < 4) ⊎ LacksBody octets
 
--- Why octets behind some that are pending are not taken. Those past the limit on all are not looked at: among the others
--- some packets are taken and then comes the fault, or all are taken, and there are too many octets.
+-- Why octets behind some that are pending are not taken. Those past the limit on all are not looked
+-- at: among the others some packets are taken and then comes the fault, or all are taken, and there
+-- are too many octets.
 abbrev pub StopsWithin : ℕ → Mode → ℕ → Address → ℕ → List ℕ → List ℕ → Routes → Fault → Type 0
 StopsWithin bytes mode entries sender at pending octets old fault =
     let near : List ℕ = take (bytes - (at + length pending)) octets in
     StopsBehind mode entries sender at (pending ++ near) old fault
-    ⊎ ((fault ≡ faults.TooLong) × (bytes < at + length (pending ++ octets)) × (now : Routes) × (rest : List ℕ) × (place : ℕ)
+    ⊎ ((fault ≡ faults.TooLong) × (bytes < at + length (pending ++ octets)) × (now : Routes)
+    × (rest : List ℕ) × (place : ℕ)
     × TookPackets mode entries sender at (pending ++ near) old now rest place × IsPartial rest)
 
 -- ---- a feeder
 
--- what a feeder holds: what it was made with, the rows and the counts of the whole packets, where the next packet begins, its
--- octets so far, and the fault if it has one
+-- what a feeder holds: what it was made with, the rows and the counts of the whole packets, where
+-- the next packet begins, its octets so far, and the fault if it has one
 pub record Progress : Type 0 where
   pub limits : Bounds
   pub mode : Mode
@@ -148,7 +169,8 @@ pub record Progress : Type 0 where
   pub pending : List ℕ
   pub fault : Option Fault
 
--- without a fault: as many TLVs at most as octets, no octet past the limit, and less than a packet pending
+-- without a fault: as many TLVs at most as octets, no octet past the limit, and less than a packet
+-- pending
 pub record IsReady (bytes tlvs at : ℕ) (pending : List ℕ) : Type 0 where
   pub counted : tlvs ≤ at
   pub in_limit : at + length pending ≤ bytes
@@ -161,18 +183,22 @@ pub record HasTaken (progress : Progress) (fed : List ℕ) : Type 0 where
   pub reads : ReadsAs fed packets progress.pending
   pub partial : IsPartial progress.pending
   pub place : progress.at ≡ length (flat_map packet_octets packets)
-  pub stands : StandsBehind progress.mode progress.limits.entries progress.table (sayings progress.sender packets)
+  pub stands : StandsBehind progress.mode progress.limits.entries progress.table
+      (sayings progress.sender packets)
 
 -- some TLV of the whole packets that the octets begin with may need memory
 abbrev pub NeedsMemory : Mode → Address → List ℕ → Type 0
 NeedsMemory mode sender octets =
-    (packets : List (List TlvAt)) × (rest : List ℕ) × ReadsAs octets packets rest × SomeMayGrow mode (sayings sender packets)
+    (packets : List (List TlvAt)) × (rest : List ℕ) × ReadsAs octets packets rest
+    × SomeMayGrow mode (sayings sender packets)
 
 -- want of memory, or the fault of the octets, which it stays however they go on
 abbrev pub HasFailed : Progress → Fault → List ℕ → Type 0
 HasFailed progress fault fed =
     ((fault ≡ faults.Memory) × NeedsMemory progress.mode progress.sender fed)
-    ⊎ (IsLasting fault × ((more : List ℕ) → DumpFault progress.limits progress.mode progress.sender (fed ++ more) fault))
+    ⊎ (IsLasting fault
+    × ((more : List ℕ) →
+    DumpFault progress.limits progress.mode progress.sender (fed ++ more) fault))
 
 abbrev pub HasReadTo : Progress → Option Fault → List ℕ → Type 0
 HasReadTo progress None fed = HasTaken progress fed

@@ -18,9 +18,12 @@ pub record LeadsFrom (dst : AddressPrefix) (src : Address) (row : Pair) : Type 0
 pub record HasNoSource (rows : List Pair) (dst : AddressPrefix) (src : Address) : Type 0 where
   pub none : (row : Pair) → Contains rows row → LeadsFrom dst src row → ⊥
 
--- this stands in a row to the destination prefix from the address, and no such row has a longer source prefix
-pub record HasLongestSource (rows : List Pair) (dst : AddressPrefix) (src : Address) (held : Held) : Type 0 where
+-- this stands in a row to the destination prefix from the address, and no such row has a longer
+-- source prefix
+pub record HasLongestSource (rows : List Pair) (dst : AddressPrefix) (src : Address)
+    (held : Held) : Type 0 where
   pub key : RouteKey
   pub listed : Contains rows (key, held)
   pub leads : LeadsFrom dst src (key, held)
-  pub longest : (other : Pair) → Contains rows other → LeadsFrom dst src other → other.0.src.len ≤ key.src.len
+  pub longest : (other : Pair) → Contains rows other → LeadsFrom dst src other →
+      other.0.src.len ≤ key.src.len

@@ -20,37 +20,43 @@ use Rattle.babel_table.specs.Rows.{Routes}
 abbrev pub FaultIsOne : Type 0
 FaultIsOne =
     (limits : Bounds) (mode : Mode) (sender : Address) (dump : List ℕ) (fault other : Fault)
-    → DumpFault limits mode sender dump fault → DumpFault limits mode sender dump other → fault ≡ other
+    → DumpFault limits mode sender dump fault → DumpFault limits mode sender dump other
+    → fault ≡ other
 
 -- a dump has at most one table
 abbrev pub TableIsOne : Type 0
 TableIsOne =
     (limits : Bounds) (mode : Mode) (sender : Address) (dump : List ℕ) (table other : Routes)
-    → IsTableOf limits mode sender dump table → IsTableOf limits mode sender dump other → table ≡ other
+    → IsTableOf limits mode sender dump table → IsTableOf limits mode sender dump other
+    → table ≡ other
 
 -- too many pairs is no fault of a dump, nor is want of memory
 abbrev pub FaultIsOfOctets : Type 0
 FaultIsOfOctets =
     (limits : Bounds) (mode : Mode) (sender : Address) (dump : List ℕ) (fault : Fault)
-    → DumpFault limits mode sender dump fault → (fault ≢ faults.TooManyPairs) × (fault ≢ faults.Memory)
+    → DumpFault limits mode sender dump fault
+    → (fault ≢ faults.TooManyPairs) × (fault ≢ faults.Memory)
 
 -- a fault other than Truncated stays however the octets go on
 abbrev pub FaultStays : Type 0
 FaultStays =
     (limits : Bounds) (mode : Mode) (sender : Address) (given more : List ℕ) (fault : Fault)
-    → DumpFault limits mode sender given fault → ¬ IsTruncated fault → DumpFault limits mode sender (given ++ more) fault
+    → DumpFault limits mode sender given fault → ¬ IsTruncated fault
+    → DumpFault limits mode sender (given ++ more) fault
 
 -- some TLV of the whole packets that the octets begin with says such an event
 abbrev pub SomeTlvSays : Address → List ℕ → (Event → Type 0) → Type 0
 SomeTlvSays sender octets IsSuch =
-    (packets : List (List TlvAt)) × (rest : List ℕ) × (at : ℕ) × (event : Event) × ReadsAs octets packets rest
+    (packets : List (List TlvAt)) × (rest : List ℕ) × (at : ℕ) × (event : Event)
+    × ReadsAs octets packets rest
     × Contains (sayings sender packets) (event_at at event) × IsSuch event
 
 -- in mode Plain only an announcement needs memory
 abbrev pub RoutesNeedMemory : Type 0
 RoutesNeedMemory =
     (sender : Address) (octets : List ℕ) → NeedsMemory modes.Plain sender octets
-    → SomeTlvSays sender octets (λ event. (key : RouteKey) × (ann : Announcement) × (event ≡ events.Announce key ann))
+    → SomeTlvSays sender octets (λ event. (key : RouteKey) × (ann : Announcement)
+    × (event ≡ events.Announce key ann))
 
 -- in mode Hold only an announcement or a retraction of one key does
 abbrev pub KeysNeedMemory : Type 0

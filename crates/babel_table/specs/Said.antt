@@ -1,6 +1,7 @@
--- How rows of a family are kept: what was last said of each key, in the order in which the keys came, and where each is found. This
--- project's own.
-use Rattle.std.specs.Prelude.{◌≡◌, ℕ, ◌<◌, ◌≤◌, ◌+◌, ◌-◌, ◌*◌, ◌/◌, ◌%◌, ◌^◌, ◌⊎◌, false, Option, Some, None, List, [], ◌∷◌, length, take}
+-- How rows of a family are kept: what was last said of each key, in the order in which the keys
+-- came, and where each is found. This project's own.
+use Rattle.std.specs.Prelude.{◌≡◌, ℕ, ◌<◌, ◌≤◌, ◌+◌, ◌-◌, ◌*◌, ◌/◌, ◌%◌, ◌^◌, ◌⊎◌, false, Option}
+use Rattle.std.specs.Prelude.{Some, None, List, [], ◌∷◌, length, take}
 use Rattle.std.specs.List.{AllByRecursion, HoldsAt, IsDistinct, list_any}
 use Rattle.std.specs.List.Sorted.{IsStrictlySortedBy}
 use Rattle.std.specs.Ordering.{eq_by_cmp}
@@ -53,7 +54,8 @@ folded bits = mixed (bits / 2 ^ 64) (bits % 2 ^ 64)
 -- 32 bits that each bit of a key may change
 unfoldable pub tag_of : RouteKey → ℕ
 tag_of key =
-    mixed (mixed (mixed (folded key.dst.address.bits) (folded key.src.address.bits)) (key.dst.len * 256 + key.src.len)) 0 / 2 ^ 32
+    mixed (mixed (mixed (folded key.dst.address.bits) (folded key.src.address.bits))
+    (key.dst.len * 256 + key.src.len)) 0 / 2 ^ 32
 
 -- the slot at which a search for the key begins
 abbrev pub start_of : Places → RouteKey → ℕ
@@ -69,16 +71,20 @@ AreTaken slots start count = (before : ℕ) → before < count → IsTaken slots
 
 -- the first slot from there on that has no place
 abbrev pub IsFree : List (ℕ × ℕ) → ℕ → ℕ → Type 0
-IsFree slots start step = (step < 8) × AreTaken slots start step × HoldsAt (λ slot. slot.1 ≡ 4294967295) slots (start + step)
+IsFree slots start step =
+    (step < 8) × AreTaken slots start step
+    × HoldsAt (λ slot. slot.1 ≡ 4294967295) slots (start + step)
 
--- a search for the key comes to the place: so far behind the start, or where all slots in reach are taken
+-- a search for the key comes to the place: so far behind the start, or where all slots in reach are
+-- taken
 pub record IsListed (places : Places) (key : RouteKey) (place : ℕ) : Type 0 where
   pub room : 8 < length places.slots
   pub small : place < 4294967295
   pub far : ℕ
   pub near : far ≤ 8
   pub passed : AreTaken places.slots (start_of places key) far
-  pub here : ((far < 8) × HoldsAt (λ slot. slot ≡ (tag_of key, place)) places.slots (start_of places key + far))
+  pub here : ((far < 8)
+      × HoldsAt (λ slot. slot ≡ (tag_of key, place)) places.slots (start_of places key + far))
       ⊎ ((far ≡ 8) × (lookup (is_at (key_cmp key)) places.overflow ≡ Some place))
 
 -- no place of the key is listed
@@ -87,7 +93,9 @@ IsUnlisted keys places key = (place : ℕ) → IsPlace keys key place → IsList
 
 -- the places of the keys are listed, from the first on
 abbrev pub AreListed : List RouteKey → ℕ → Places → Type 0
-AreListed keys first places = (key : RouteKey) (place : ℕ) → first ≤ place → IsPlace keys key place → IsListed places key place
+AreListed keys first places =
+    (key : RouteKey) (place : ℕ) → first ≤ place → IsPlace keys key place →
+    IsListed places key place
 
 -- each key has one place: among those in front, which rise, or else as it is listed
 pub record AreIndexed (keys : List RouteKey) (rising : ℕ) (places : Places) : Type 0 where

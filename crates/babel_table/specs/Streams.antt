@@ -1,4 +1,5 @@
--- What a stream of packets, and the table so far, make of octets: this project's own, as what a feeder makes of them.
+-- What a stream of packets, and the table so far, make of octets: this project's own, as what a
+-- feeder makes of them.
 use Rattle.std.specs.Prelude.{◌≡◌, ℕ, List, [], ◌∷◌, ◌⊎◌}
 use Rattle.babel_prefix.specs.Address.{Address}
 use Rattle.babel_tlv.specs.declared.fault.Fault.{Fault}
@@ -7,7 +8,8 @@ use Rattle.babel_tlv.specs.Framing.{TlvAt, AreTlvs, TlvPastEndAt, tlvs_of}
 use Rattle.babel_tlv.specs.Says.{Saying, sayings_behind}
 use Rattle.babel_table.specs.declared.so_far.SoFar.{SoFar}
 use Rattle.babel_table.specs.declared.stream.Stream.{Stream}
-use Rattle.babel_table.specs.Feeding.{Fails, StopsBehind, StopsWithin, Takes, TookPackets, TookSome, routes}
+use Rattle.babel_table.specs.Feeding.{Fails, StopsBehind, StopsWithin, Takes, TookPackets, TookSome}
+use Rattle.babel_table.specs.Feeding.{routes}
 use Rattle.babel_table.specs.Rows.{Routes}
 
 -- ---- the table so far, which keeps its mode and how many rows there may be
@@ -39,12 +41,14 @@ abbrev pub FailsInBody : SoFar → Address → ℕ → List ℕ → Fault → Ty
 FailsInBody old sender at body fault =
     TlvPastEndAt at body fault
     ⊎ (AreTlvs at body (tlvs_of at body)
-    × Fails old.rows.mode old.rows.entries (sayings_behind sender [] (tlvs_of at body)) (table_of old) fault)
+    × Fails old.rows.mode old.rows.entries (sayings_behind sender [] (tlvs_of at body))
+    (table_of old) fault)
 
 -- it takes the packets that the octets at this offset begin with, and the rest begins at this place
 abbrev pub TakesPackets : SoFar → Address → ℕ → List ℕ → SoFar → List ℕ → ℕ → Type 0
 TakesPackets old sender at octets new rest place =
-    TookPackets old.rows.mode old.rows.entries sender at octets (table_of old) (table_of new) rest place
+    TookPackets old.rows.mode old.rows.entries sender at octets (table_of old) (table_of new) rest
+    place
 
 -- it takes some packets of the octets at this offset, and then comes the fault
 abbrev pub StopsInPackets : SoFar → Address → ℕ → List ℕ → Fault → Type 0
@@ -56,12 +60,14 @@ StopsInPackets old sender at octets fault =
 -- the mode, how many rows there may be, and the sender stay
 abbrev pub KeepsSettings : Stream → Stream → Type 0
 KeepsSettings old new =
-    (new.so_far.rows.mode ≡ old.so_far.rows.mode) × (new.so_far.rows.entries ≡ old.so_far.rows.entries)
+    (new.so_far.rows.mode ≡ old.so_far.rows.mode)
+    × (new.so_far.rows.entries ≡ old.so_far.rows.entries)
     × (new.sender ≡ old.sender)
 
 -- it takes the packets that the octets begin with, and these are left
 abbrev pub TakesOctets : Stream → List ℕ → Stream → List ℕ → Type 0
-TakesOctets old octets new left = TakesPackets old.so_far old.sender old.at octets new.so_far left new.at
+TakesOctets old octets new left =
+    TakesPackets old.so_far old.sender old.at octets new.so_far left new.at
 
 -- it takes some packets of the octets, and then comes the fault
 abbrev pub StopsInOctets : Stream → List ℕ → Fault → Type 0
@@ -70,5 +76,6 @@ StopsInOctets old octets fault = StopsInPackets old.so_far old.sender old.at oct
 -- the same behind what is pending, without looking at octets past so many in all
 abbrev pub StopsInLimit : ℕ → Stream → List ℕ → Fault → Type 0
 StopsInLimit bytes old octets fault =
-    StopsWithin bytes old.so_far.rows.mode old.so_far.rows.entries old.sender old.at old.pending octets
+    StopsWithin bytes old.so_far.rows.mode old.so_far.rows.entries old.sender old.at old.pending
+    octets
     (table_of old.so_far) fault

@@ -9,8 +9,8 @@ use std::marker::Model;
 /// The metric of what holds no route: RFC 8966, 4.6.9.
 const INFINITY: u16 = 0xffff;
 
-/// What is held for a key of the family whose addresses are kept in these words: 16 octets for IPv4, 32 for IPv6. Where
-/// the metric is infinite no route is held.
+/// What is held for a key of the family whose addresses are kept in these words: 16 octets for
+/// IPv4, 32 for IPv6. Where the metric is infinite no route is held.
 #[derive(Drop)]
 pub struct CompactHeld<W: Word> {
     next_hop: W,

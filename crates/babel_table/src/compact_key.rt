@@ -81,7 +81,8 @@ impl<W: Word> PartialOrd for CompactKey<W> {
 
     ghost partial_cmp = { as_partial_cmp key_cmp };
 
-    ghost laws = { partial_order_from_own_ties (partial_order_from_total key_total) (Prim.search (comparing, rules)) };
+    ghost laws = { partial_order_from_own_ties (partial_order_from_total key_total)
+        (Prim.search (comparing, rules)) };
 
     fn partial_cmp(&self, other: &CompactKey<W>) -> Option<Ordering> {
         Some(self.cmp(other))

@@ -75,7 +75,8 @@ impl<W: Word> PartialOrd for CompactPrefix<W> {
 
     ghost partial_cmp = { as_partial_cmp prefix_cmp };
 
-    ghost laws = { partial_order_from_own_ties (partial_order_from_total prefix_total) (Prim.search (comparing, rules)) };
+    ghost laws = { partial_order_from_own_ties (partial_order_from_total prefix_total)
+        (Prim.search (comparing, rules)) };
 
     fn partial_cmp(&self, other: &CompactPrefix<W>) -> Option<Ordering> {
         Some(self.cmp(other))

@@ -27,15 +27,16 @@ const MOST_ROWS: usize = u32::MAX as usize;
 /// A key and what was last said of it: nothing where it was retracted.
 pub(crate) type WordRow<W> = (CompactKey<W>, Option<Stored<W>>);
 
-/// What is kept for the keys of the family whose addresses are kept in these words. A router repeats its routes in one
-/// order, whichever it is, so the row behind the one found last is tried before any search; and what came last may be
-/// retracted at once.
+/// What is kept for the keys of the family whose addresses are kept in these words. A router
+/// repeats its routes in one order, whichever it is, so the row behind the one found last is tried
+/// before any search; and what came last may be retracted at once.
 #[derive(Drop)]
 pub struct FamilyRows<W: Word> {
     alloc: Global,
     /// A row for each key, in the order in which the keys came.
     rows: Vec<WordRow<W>>,
-    /// The place that is tried first: behind the row that was found last, or of the row that came last.
+    /// The place that is tried first: behind the row that was found last, or of the row that came
+    /// last.
     next: usize,
     /// So many rows at the front are in the order of their keys.
     rising: usize,
@@ -149,7 +150,8 @@ impl<W: Word> FamilyRows<W> {
         }
     }
 
-    /// Takes the retracted rows out where they are many more than the others, and puts these in order.
+    /// Takes the retracted rows out where they are many more than the others, and puts these in
+    /// order.
     fn compact(&mut self)
         ensures { self.new ≡ self.old }
     {

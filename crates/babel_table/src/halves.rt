@@ -29,7 +29,10 @@ impl Model for Halves {
 
     ghost inverse = { λ n. record { high = n / 2 ^ 64; low = n % 2 ^ 64 } };
 
-    ghost inverse_ok = { λ h fits i. record { high = div-mul-add h.high (2 ^ 64) h.low fits.1 i; low = mod-mul-add h.high (2 ^ 64) h.low fits.1 i } };
+    ghost inverse_ok = { λ h fits i. record {
+      high = div-mul-add h.high (2 ^ 64) h.low fits.1 i;
+      low = mod-mul-add h.high (2 ^ 64) h.low fits.1 i;
+    } };
 }
 
 impl PartialEq for Halves {
@@ -77,7 +80,8 @@ impl PartialOrd for Halves {
 
     ghost partial_cmp = { as_partial_cmp nat_cmp };
 
-    ghost laws = { partial_order_from_own_ties (partial_order_from_total nat_cmp_total) (Prim.search (comparing, rules)) };
+    ghost laws = { partial_order_from_own_ties (partial_order_from_total nat_cmp_total)
+        (Prim.search (comparing, rules)) };
 
     fn partial_cmp(&self, other: &Halves) -> Option<Ordering> {
         Some(self.cmp(other))

@@ -11,7 +11,8 @@ pub fn table_is_one()
     ensures { TableIsOne }
 {}
 
-/// A dump's fault is never `TooManyPairs`, which is about a canonical form, nor `Memory`, which is about a run.
+/// A dump's fault is never `TooManyPairs`, which is about a canonical form, nor `Memory`, which is
+/// about a run.
 pub fn fault_is_of_octets()
     ensures { FaultIsOfOctets }
 {}
@@ -21,7 +22,8 @@ pub fn fault_stays()
     ensures { FaultStays }
 {}
 
-/// Only what may add a row needs memory: an announcement, and in mode Hold also a retraction of one key.
+/// Only what may add a row needs memory: an announcement, and in mode Hold also a retraction of one
+/// key.
 pub fn rows_need_memory()
     ensures plain { RoutesNeedMemory }
     ensures hold { KeysNeedMemory }

@@ -11,8 +11,8 @@ use crate::word::Word;
 use babel_prefix::{Addr, Prefix};
 use babel_tlv::Held;
 
-/// What stands in the best matching row (RFC 9079, 4): among the rows from the source to the longest
-/// destination prefix that has one, the row of the longest source prefix.
+/// What stands in the best matching row (RFC 9079, 4): among the rows from the source to the
+/// longest destination prefix that has one, the row of the longest source prefix.
 #[tactic(auto, using(crate::proofs::LookupLaws::by_length))]
 pub(crate) fn best_match<W: Word>(rows: &[CompactRow<W>], dst: &Addr, src: &Addr) -> Option<Held>
     requires rows { AreRows rows.now }

@@ -21,8 +21,9 @@ const NOWHERE: u32 = u32::MAX;
 /// The tag of a key, and its place.
 type Slot = (u32, u32);
 
-/// The places of keys among rows that have them. A key's place is in one of a few slots, from the one that its tag names;
-/// where these are taken, it is in a map. So a search is short whatever keys a dump has.
+/// The places of keys among rows that have them. A key's place is in one of a few slots, from the
+/// one that its tag names; where these are taken, it is in a map. So a search is short whatever
+/// keys a dump has.
 #[derive(Drop)]
 pub struct Places<W: Word> {
     slots: Vec<Slot>,

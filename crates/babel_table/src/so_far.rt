@@ -61,8 +61,8 @@ impl SoFar {
         self.take(verdict, route, tlv.at)
     }
 
-    /// Takes the TLVs of a packet's body, whose first octet lies at this offset. If the body is not TLVs to its end, that is the fault,
-    /// whatever TLV fails before: RFC 8966, 4.3.
+    /// Takes the TLVs of a packet's body, whose first octet lies at this offset. If the body is not
+    /// TLVs to its end, that is the fault, whatever TLV fails before: RFC 8966, 4.3.
     pub fn take_body(&mut self, sender: Addr, body: &[u8], at: u64) -> Result<(), Fault>
         requires fits { at + length body.now < 2 ^ 64 }
         requires room { self.old.report.tlvs + length body.now < 2 ^ 64 }
@@ -88,7 +88,8 @@ impl SoFar {
         tlvs.check_rest()
     }
 
-    /// Takes the whole packets that the octets begin with, the first at this offset: how many octets they are.
+    /// Takes the whole packets that the octets begin with, the first at this offset: how many
+    /// octets they are.
     pub fn take_packets(&mut self, sender: Addr, octets: &[u8], at: u64) -> Result<usize, Fault>
         requires fits { at + length octets.now < 2 ^ 64 }
         requires room { self.old.report.tlvs + length octets.now < 2 ^ 64 }

@@ -13,7 +13,8 @@ abbrev pub HopIsOf : Family → Held → Type 0
 HopIsOf family (helds.Route ann) = ann.next_hop.family ≡ family
 HopIsOf family helds.Unreachable = Unit {0}
 
--- with next hops of one family two values are the same under a view exactly where what is seen of them is equal
+-- with next hops of one family two values are the same under a view exactly where what is seen of
+-- them is equal
 abbrev pub SeenTellsApart : Type 0
 SeenTellsApart =
     (view : View) (family : Family) (held other : Held) → HopIsOf family held → HopIsOf family other
@@ -29,4 +30,5 @@ SeenTwiceIsSeen = (view : View) (held : Held) → seen view (seen view held) ≡
 
 -- what is seen of what fits a key fits it too
 abbrev pub SeenFits : Type 0
-SeenFits = (view : View) (key : RouteKey) (held : Held) → FitsKey key held → FitsKey key (seen view held)
+SeenFits = (view : View) (key : RouteKey) (held : Held) → FitsKey key held →
+    FitsKey key (seen view held)

@@ -26,7 +26,8 @@ pub fn held_order()
     ensures { (a b : HeldValue) → ⟦<Held as Ord>⟧.cmp a b ≡ held_cmp a b }
 {}
 
-/// The orders of keys, announcements and held values are total: any two compare, one way round, and what is less chains.
+/// The orders of keys, announcements and held values are total: any two compare, one way round, and
+/// what is less chains.
 #[tactic(auto, using(crate::proofs::OrderLaws::key_total, crate::proofs::OrderLaws::announcement_total, crate::proofs::OrderLaws::held_total))]
 pub fn orders_are_total()
     ensures keys { IsTotalOrder key_cmp }
@@ -42,8 +43,9 @@ pub fn equal_are_one()
     ensures held { (a b : HeldValue) → (held_cmp a b ≡ Equal) ↔ (a ≡ b) }
 {}
 
-/// What a view sees of two values with next hops of one family is equal exactly where these are both unreachable, or both
-/// routes whose kept fields are equal. The view that keeps every field changes nothing; what is seen is seen so again, and fits its key.
+/// What a view sees of two values with next hops of one family is equal exactly where these are
+/// both unreachable, or both routes whose kept fields are equal. The view that keeps every field
+/// changes nothing; what is seen is seen so again, and fits its key.
 #[tactic(auto, using(crate::proofs::ViewLaws::seen_tells_apart, crate::proofs::ViewLaws::all_is_seen, crate::proofs::ViewLaws::seen_twice_is_seen, crate::proofs::ViewLaws::seen_fits))]
 pub fn views_tell()
     ensures tells_apart { SeenTellsApart }

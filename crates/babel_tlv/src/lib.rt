@@ -1,8 +1,9 @@
-//! Babel packets, RFC 8966 and RFC 9079: their framing and TLVs, the parser state, what each TLV says of routes, and
-//! the octets that say one route.
+//! Babel packets, RFC 8966 and RFC 9079: their framing and TLVs, the parser state, what each TLV
+//! says of routes, and the octets that say one route.
 //!
-//! The crate reads octets that are in memory and keeps nothing of them but a parser state of a few addresses; no call
-//! takes memory. It knows nothing of tables, of files, or of where a packet came from.
+//! The crate reads octets that are in memory and keeps nothing of them but a parser state of a few
+//! addresses; no call takes memory. It knows nothing of tables, of files, or of where a packet came
+//! from.
 #![tactic(auto)]
 
 mod address;

@@ -10,7 +10,8 @@ use babel_prefix::{Addr, Family, Prefix};
 /// The router-id that stands for one that is ignored. It is not reserved (RFC 8966, 4.1.3).
 const STATED_ID: [u8; 8] = [0, 0, 0, 0, 0, 0, 0, 1];
 
-/// Which fields of an announcement (RFC 8966, 4.6.9) count: those that are true are kept, and the others ignored.
+/// Which fields of an announcement (RFC 8966, 4.6.9) count: those that are true are kept, and the
+/// others ignored.
 #[derive(Clone, Copy, Debug, PartialEq, Eq)]
 pub struct View {
     /// Whether the address that packets are sent to counts.
@@ -50,8 +51,9 @@ impl View {
         self.next_hop && self.router_id && self.seqno && self.metric
     }
 
-    /// What is held, with a stated value for each field that is ignored: next hop `0.0.0.0` or `::`, router-id
-    /// `0000000000000001`, seqno 0, metric 0. What is seen of a route can be announced as a route.
+    /// What is held, with a stated value for each field that is ignored: next hop `0.0.0.0` or
+    /// `::`, router-id `0000000000000001`, seqno 0, metric 0. What is seen of a route can be
+    /// announced as a route.
     pub fn seen(self, held: Held) -> Held
         ensures { result ≡ seen self held }
     {

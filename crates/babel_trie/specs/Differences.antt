@@ -1,4 +1,5 @@
--- What two functions of two addresses answer differently, as a function and as its boxes: this project's own.
+-- What two functions of two addresses answer differently, as a function and as its boxes: this
+-- project's own.
 use Rattle.std.specs.Prelude.{◌≡◌, ◌≢◌, ℕ, ◌^◌, ◌<◌, List, Option, Some, None}
 use Rattle.babel_prefix.specs.Best.{Row}
 use Rattle.babel_trie.specs.Boxes.{Answers, IsBoxList}
@@ -16,7 +17,8 @@ module _ {V : Type 0} where
       (d s : ℕ) → d < 2 ^ width → s < 2 ^ width → TellsApart (f d s) (g d s) (difference d s)
 
   -- the boxes of the difference, each once, in order
-  pub record AreDifferences (width : ℕ) (f g : Answers V) (boxes : List (Row (Differing V))) : Type 0 where
+  pub record AreDifferences (width : ℕ) (f g : Answers V)
+      (boxes : List (Row (Differing V))) : Type 0 where
     pub difference : Answers (Differing V)
     pub is_difference : IsDifference width f g difference
     pub box_list : IsBoxList width difference boxes

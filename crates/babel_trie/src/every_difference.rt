@@ -35,7 +35,8 @@ pub fn differences<V: LawfulOrd>(
     differences_of(alloc, family, left, right)
 }
 
-/// The same of rows that are no slices: they are gone through one by one, and not copied if they stand in order.
+/// The same of rows that are no slices: they are gone through one by one, and not copied if they
+/// stand in order.
 pub fn differences_of<V: LawfulOrd, L: Rows<V>, R: Rows<V>>(
     alloc: Global,
     family: Family,
@@ -47,7 +48,8 @@ pub fn differences_of<V: LawfulOrd, L: Rows<V>, R: Rows<V>>(
     requires right_family { All (AreOfFamily family) (R.rows right) }
     requires right_prefixes { HasDistinctPrefixes (R.rows right) }
     ensures family { IfOk result (λ grid. grid.family ≡ family) }
-    ensures boxes { IfOk result (λ grid. AreDifferences (width_of family) (answers_in family (L.rows left)) (answers_in family (R.rows right)) grid.boxes) }
+    ensures boxes { IfOk result (λ grid. AreDifferences (width_of family)
+        (answers_in family (L.rows left)) (answers_in family (R.rows right)) grid.boxes) }
 {
     let mut sources = Table::new(alloc);
     let left = sources.runs(alloc, family, left)?;

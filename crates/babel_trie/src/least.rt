@@ -37,7 +37,8 @@ pub fn least_difference<V: LawfulOrd>(
     least_difference_of(alloc, family, left, right)
 }
 
-/// The same of rows that are no slices: they are gone through one by one, and not copied if they stand in order.
+/// The same of rows that are no slices: they are gone through one by one, and not copied if they
+/// stand in order.
 pub fn least_difference_of<V: LawfulOrd, L: Rows<V>, R: Rows<V>>(
     alloc: Global,
     family: Family,
@@ -48,8 +49,13 @@ pub fn least_difference_of<V: LawfulOrd, L: Rows<V>, R: Rows<V>>(
     requires left_prefixes { HasDistinctPrefixes (L.rows left) }
     requires right_family { All (AreOfFamily family) (R.rows right) }
     requires right_prefixes { HasDistinctPrefixes (R.rows right) }
-    ensures family { IfOk result (λ found. IfSome found (λ p. (p.0.family ≡ family) × (p.1.family ≡ family))) }
-    ensures least { IfOk result (λ found. MatchOption found (SameAnswers (width_of family) (answers_in family (L.rows left)) (answers_in family (R.rows right))) (λ p. IsLeastDifference (width_of family) (answers_in family (L.rows left)) (answers_in family (R.rows right)) p.0.bits p.1.bits)) }
+    ensures family { IfOk result (λ found. IfSome found (λ p. (p.0.family ≡ family)
+        × (p.1.family ≡ family))) }
+    ensures least { let width = width_of family in
+        let f = answers_in family (L.rows left) in
+        let g = answers_in family (R.rows right) in
+        IfOk result (λ found. MatchOption found (SameAnswers width f g)
+        (λ p. IsLeastDifference width f g p.0.bits p.1.bits)) }
 {
     let mut sources = Table::new(alloc);
     let left = sources.runs(alloc, family, left)?;

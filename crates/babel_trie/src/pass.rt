@@ -1,4 +1,5 @@
-//! The addresses at which the answers change from one destination to the next, found in one pass over sorted rows.
+//! The addresses at which the answers change from one destination to the next, found in one pass
+//! over sorted rows.
 ghost use Rattle.std.specs.Prelude.{◌≡◌, ◌≢◌, ◌⊎◌, ℕ, ◌+◌, ◌-◌, ◌*◌, ◌^◌, ◌<◌, ◌≤◌, ◌++◌, List, [], map, length, slice_get, Option, Some, true, false, IfOk, IfSome, IfNone, OnOk};
 ghost use Rattle.babel_prefix.specs.Address.{block_of};
 ghost use Rattle.babel_prefix.specs.Best.{IsTable, answer};
@@ -23,8 +24,11 @@ use std::alloc::{AllocError, Global};
 
 /// Whether the last change is to these answers.
 fn ends_with<F: LawfulOrd>(list: &[Change<F>], sources: F) -> bool
-    ensures same { result ≡ true → (x : Change F) × (slice_get list.now (length list.now - 1) ≡ Some x) × (x.sources ≡ sources) }
-    ensures other { result ≡ false → (x : Change F) → slice_get list.now (length list.now - 1) ≡ Some x → x.sources ≢ sources }
+    ensures same { result ≡ true
+        → (x : Change F) × (slice_get list.now (length list.now - 1) ≡ Some x)
+        × (x.sources ≡ sources) }
+    ensures other { result ≡ false → (x : Change F)
+        → slice_get list.now (length list.now - 1) ≡ Some x → x.sources ≢ sources }
 {
     let Some(last) = list.last() else {
         return false;
@@ -36,7 +40,8 @@ fn ends_with<F: LawfulOrd>(list: &[Change<F>], sources: F) -> bool
 pub fn say<F: LawfulOrd>(out: &mut Vec<Change<F>>, change: Change<F>) -> Result<(), AllocError>
     requires runs { AreRuns out.old.items }
     requires below { StartBelow change.start out.old.items }
-    ensures filled { OnOk result ((to : ℕ) → change.start < to → IsFilled change.start to change.sources out.old.items out.new.items) }
+    ensures filled { OnOk result ((to : ℕ) → change.start < to
+        → IsFilled change.start to change.sources out.old.items out.new.items) }
     ensures one { OnOk result (length out.new.items ≤ length out.old.items + 1) }
 {
     if ends_with(out, change.sources) {
@@ -59,9 +64,11 @@ fn first_destination<V: Copy, R: Rows<V>>(
     own: &mut Vec<Row<V>>,
 ) -> Result<Option<Leading<R>>, AllocError>
     ensures none { IfOk result (λ r. IfNone r (R.rows rows ≡ [])) }
-    ensures parts { IfOk result (λ r. IfSome r (λ first. R.rows rows ≡ own.new.items ++ R.rows first.others)) }
+    ensures parts { IfOk result (λ r. IfSome r (λ first. R.rows rows
+        ≡ own.new.items ++ R.rows first.others)) }
     ensures some { IfOk result (λ r. IfSome r (λ _. 0 < length own.new.items)) }
-    ensures one { IfOk result (λ r. IfSome r (λ first. (x : _) → Listed own.new.items x → block_of x.0 ≡ block_of first.destination)) }
+    ensures one { IfOk result (λ r. IfSome r (λ first. (x : _) → Listed own.new.items x
+        → block_of x.0 ≡ block_of first.destination)) }
 {
     let Some((first, mut others)) = rows.split() else {
         return Ok(None);
@@ -82,8 +89,8 @@ fn first_destination<V: Copy, R: Rows<V>>(
     }))
 }
 
-/// A pass over rows in order: the changes said, the change come to, which is said once the next one is, and the changes
-/// back behind the blocks that are open, of which the last comes next.
+/// A pass over rows in order: the changes said, the change come to, which is said once the next one
+/// is, and the changes back behind the blocks that are open, of which the last comes next.
 #[derive(Drop)]
 struct Pass<F> {
     list: Vec<Change<F>>,
@@ -106,7 +113,8 @@ impl<F: LawfulOrd> Pass<F> {
         requires order { self.old.now.start ≤ next.start }
         ensures now { OnOk result (self.new.now ≡ next) }
         ensures ahead { OnOk result (self.new.ahead.items ≡ self.old.ahead.items) }
-        ensures filled { OnOk result (IsFilled self.old.now.start next.start self.old.now.sources self.old.list.items self.new.list.items) }
+        ensures filled { OnOk result (IsFilled self.old.now.start next.start self.old.now.sources
+            self.old.list.items self.new.list.items) }
         ensures one { OnOk result (length self.new.list.items ≤ length self.old.list.items + 1) }
     {
         if self.now.start < next.start {
@@ -123,9 +131,12 @@ impl<F: LawfulOrd> Pass<F> {
         ensures is_open { OnOk result (IsOpen self.new) }
         ensures reached { OnOk result (self.new.now.start ≤ start) }
         ensures behind { OnOk result (StartBehind start (ahead_of self.new)) }
-        ensures same { OnOk result ((none : F) (d : ℕ) → said_at none (all_changes self.new) d ≡ said_at none (all_changes self.old) d) }
-        ensures left { OnOk result ((x : Change F) → Listed (coming self.new) x → Listed (coming self.old) x) }
-        ensures few { OnOk result (length self.new.list.items + length self.new.ahead.items ≤ length self.old.list.items + length self.old.ahead.items) }
+        ensures same { OnOk result ((none : F) (d : ℕ)
+            → said_at none (all_changes self.new) d ≡ said_at none (all_changes self.old) d) }
+        ensures left { OnOk result ((x : Change F) → Listed (coming self.new) x
+            → Listed (coming self.old) x) }
+        ensures few { OnOk result (length self.new.list.items + length self.new.ahead.items
+            ≤ length self.old.list.items + length self.old.ahead.items) }
     {
         while let Some(next) = self.ahead.last() {
             let next = *next;
@@ -138,8 +149,8 @@ impl<F: LawfulOrd> Pass<F> {
         Ok(())
     }
 
-    /// Comes to the sources of a block, which ends at an address; behind it, if it is not the end of all, come those
-    /// of now again.
+    /// Comes to the sources of a block, which ends at an address; behind it, if it is not the end
+    /// of all, come those of now again.
     fn enter(&mut self, start: u128, end: u128, last: u128, sources: F) -> Result<(), AllocError>
         requires is_open { IsOpen self.old }
         requires order { self.old.now.start ≤ start }
@@ -147,10 +158,14 @@ impl<F: LawfulOrd> Pass<F> {
         requires behind { StartBehind end (ahead_of self.old) }
         ensures is_open { OnOk result (IsOpen self.new) }
         ensures now { OnOk result (self.new.now.start ≡ start) }
-        ensures inside { OnOk result ((none : F) (d : ℕ) → start ≤ d → d ≤ end → said_at none (all_changes self.new) d ≡ sources) }
-        ensures outside { OnOk result ((none : F) (d : ℕ) → (d < start) ⊎ (end < d) → d ≤ last → said_at none (all_changes self.new) d ≡ said_at none (all_changes self.old) d) }
-        ensures ahead { OnOk result ((x : Change F) → Listed (ahead_of self.new) x → ((x.start ≡ end + 1) × (end < last)) ⊎ Listed (ahead_of self.old) x) }
-        ensures few { OnOk result (length self.new.list.items + length self.new.ahead.items ≤ length self.old.list.items + length self.old.ahead.items + 2) }
+        ensures inside { OnOk result ((none : F) (d : ℕ) → start ≤ d → d ≤ end
+            → said_at none (all_changes self.new) d ≡ sources) }
+        ensures outside { OnOk result ((none : F) (d : ℕ) → (d < start) ⊎ (end < d) → d ≤ last
+            → said_at none (all_changes self.new) d ≡ said_at none (all_changes self.old) d) }
+        ensures ahead { OnOk result ((x : Change F) → Listed (ahead_of self.new) x
+            → ((x.start ≡ end + 1) × (end < last)) ⊎ Listed (ahead_of self.old) x) }
+        ensures few { OnOk result (length self.new.list.items + length self.new.ahead.items
+            ≤ length self.old.list.items + length self.old.ahead.items + 2) }
     {
         if end < last {
             self.ahead.push(Change {
@@ -171,13 +186,16 @@ impl<V: LawfulOrd> Table<Option<V>> {
         width: u8,
         rows: R,
     ) -> Result<Vec<Change<Sources<Option<V>>>>, AllocError>
-        requires sound { IsSound ⟦<Sources<Option<V>> as Ord>⟧.cmp ⟦<Sources<Option<V>> as LawfulOrd>⟧.mark self.old.nodes.items self.old.numbers }
+        requires sound { IsSound ⟦<Sources<Option<V>> as Ord>⟧.cmp
+            ⟦<Sources<Option<V>> as LawfulOrd>⟧.mark self.old.nodes.items self.old.numbers }
         requires order { InOrder RowOrder (R.rows rows) }
         requires table { IsTable width (map row_of (R.rows rows)) }
         requires width { width ≤ 128 }
-        ensures sound { OnOk result (IsSound ⟦<Sources<Option<V>> as Ord>⟧.cmp ⟦<Sources<Option<V>> as LawfulOrd>⟧.mark self.new.nodes.items self.new.numbers) }
+        ensures sound { OnOk result (IsSound ⟦<Sources<Option<V>> as Ord>⟧.cmp
+            ⟦<Sources<Option<V>> as LawfulOrd>⟧.mark self.new.nodes.items self.new.numbers) }
         ensures keeps { OnOk result (KeepsNodes self.old.nodes.items self.new.nodes.items) }
-        ensures runs { IfOk result (λ list. HasRuns width self.new.nodes.items list.items (answer width (map row_of (R.rows rows)))) }
+        ensures runs { IfOk result (λ list. HasRuns width self.new.nodes.items list.items
+            (answer width (map row_of (R.rows rows)))) }
         ensures few { IfOk result (λ list. length list.items ≤ 2 * length (R.rows rows) + 1) }
     {
         let last = last_address(0, width);

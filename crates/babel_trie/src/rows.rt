@@ -13,14 +13,16 @@ use std::alloc::{AllocError, Global};
 /// A row: a destination, a source and what they are given.
 pub type Row<V> = (Prefix, Prefix, V);
 
-/// Rows one after another, which can be gone through more than once: a slice of them, or what each row is made of.
+/// Rows one after another, which can be gone through more than once: a slice of them, or what each
+/// row is made of.
 pub trait Rows<V>: Copy {
     // The rows.
     ghost rows: { Self → List (Entry V) };
 
     /// The first row, and the others; `None` where there are none.
     fn split(self) -> Option<(Row<V>, Self)>
-        ensures { MatchOption result (rows self ≡ []) (λ parts. rows self ≡ parts.0 ∷ rows parts.1) };
+        ensures { MatchOption result (rows self ≡ []) (λ parts. rows self
+            ≡ parts.0 ∷ rows parts.1) };
 }
 
 impl<'a, V: Copy> Rows<V> for &'a [Row<V>] {
@@ -32,7 +34,8 @@ impl<'a, V: Copy> Rows<V> for &'a [Row<V>] {
     }
 }
 
-/// The place of a row in the order of rows: by destination, then by source; a prefix stands before those inside it.
+/// The place of a row in the order of rows: by destination, then by source; a prefix stands before
+/// those inside it.
 fn place<V>(row: &Row<V>) -> ((u128, u8), (u128, u8))
     ensures place { result ≡ row_place row.now }
     ensures prefixes { HasPrefixes row.now }
@@ -106,7 +109,8 @@ fn upper_start(start: u128, bits: u8) -> u128
 fn own_count<V>(rows: &[Row<V>], len: u8) -> usize
     requires { IsPartitionedBy (λ x. (source_block x).len == len) rows.now }
     ensures within { result ≤ length rows.now }
-    ensures point { IsPartitionPoint (λ x. ((source_block x).len == len) ≡ true) (λ x. ((source_block x).len == len) ≡ false) rows.now result }
+    ensures point { IsPartitionPoint (λ x. ((source_block x).len == len) ≡ true)
+        (λ x. ((source_block x).len == len) ≡ false) rows.now result }
 {
     if rows.is_empty() {
         return 0;
@@ -121,7 +125,8 @@ fn own_count<V>(rows: &[Row<V>], len: u8) -> usize
 fn low_count<V>(rows: &[Row<V>], middle: u128) -> usize
     requires { IsPartitionedBy (λ x. nat_lt (source_block x).start middle) rows.now }
     ensures within { result ≤ length rows.now }
-    ensures point { IsPartitionPoint (λ x. nat_lt (source_block x).start middle ≡ true) (λ x. nat_lt (source_block x).start middle ≡ false) rows.now result }
+    ensures point { IsPartitionPoint (λ x. nat_lt (source_block x).start middle ≡ true)
+        (λ x. nat_lt (source_block x).start middle ≡ false) rows.now result }
 {
     if rows.is_empty() {
         return 0;
@@ -158,7 +163,8 @@ fn low_and_high<V>(rows: &[Row<V>], middle: u128) -> (&[Row<V>], &[Row<V>])
     rows.split_at(low)
 }
 
-/// The rows of a block of sources: those of the whole block, and those of its halves, if there are any.
+/// The rows of a block of sources: those of the whole block, and those of its halves, if there are
+/// any.
 pub fn parts<V>(
     rows: &[Row<V>],
     width: u8,
@@ -172,7 +178,8 @@ pub fn parts<V>(
     ensures own { (x : _) → Listed result.0.now x → (source_block x).len ≡ width - bits }
     ensures none { IfNone result.1 (rows.now ≡ result.0.now) }
     ensures middle { IfSome result.1 (λ rest. rest.middle ≡ start + 2 ^ (bits - 1)) }
-    ensures halves { IfSome result.1 (λ rest. AreParted source_block width bits start rows.now result.0.now rest.low.now rest.high.now) }
+    ensures halves { IfSome result.1 (λ rest. AreParted source_block width bits start rows.now
+        result.0.now rest.low.now rest.high.now) }
 {
     let (own, rest) = own_and_rest(rows, width - bits);
     if rest.is_empty() {
@@ -203,7 +210,8 @@ pub struct Inner {
     pub path: u128,
 }
 
-/// The smallest block that all rows of a block lie in, if there are rows and it is not the whole block.
+/// The smallest block that all rows of a block lie in, if there are rows and it is not the whole
+/// block.
 pub fn inner_block<V>(rows: &[Row<V>], width: u8, bits: u8, start: u128) -> Option<Inner>
     requires place { IsPlace width bits start }
     requires rows { InBlock source_block width bits start rows.now }

@@ -31,19 +31,23 @@ pub fn sources_of<V>(list: &[Change<Sources<V>>], dst: u128) -> &Sources<V>
 }
 
 impl<V: LawfulOrd> Table<Option<V>> {
-    /// The changes of the answers of these rows, in whatever order they stand. Rows in order are used as they are.
+    /// The changes of the answers of these rows, in whatever order they stand. Rows in order are
+    /// used as they are.
     pub fn runs<R: Rows<V>>(
         &mut self,
         alloc: Global,
         family: Family,
         rows: R,
     ) -> Result<Vec<Change<Sources<Option<V>>>>, AllocError>
-        requires sound { IsSound ⟦<Sources<Option<V>> as Ord>⟧.cmp ⟦<Sources<Option<V>> as LawfulOrd>⟧.mark self.old.nodes.items self.old.numbers }
+        requires sound { IsSound ⟦<Sources<Option<V>> as Ord>⟧.cmp
+            ⟦<Sources<Option<V>> as LawfulOrd>⟧.mark self.old.nodes.items self.old.numbers }
         requires family { All (AreOfFamily family) (R.rows rows) }
         requires prefixes { HasDistinctPrefixes (R.rows rows) }
-        ensures sound { OnOk result (IsSound ⟦<Sources<Option<V>> as Ord>⟧.cmp ⟦<Sources<Option<V>> as LawfulOrd>⟧.mark self.new.nodes.items self.new.numbers) }
+        ensures sound { OnOk result (IsSound ⟦<Sources<Option<V>> as Ord>⟧.cmp
+            ⟦<Sources<Option<V>> as LawfulOrd>⟧.mark self.new.nodes.items self.new.numbers) }
         ensures keeps { OnOk result (KeepsNodes self.old.nodes.items self.new.nodes.items) }
-        ensures runs { IfOk result (λ list. HasRuns (width_of family) self.new.nodes.items list.items (answers_in family (R.rows rows))) }
+        ensures runs { IfOk result (λ list. HasRuns (width_of family) self.new.nodes.items
+            list.items (answers_in family (R.rows rows))) }
         ensures few { IfOk result (λ list. length list.items ≤ 2 * length (R.rows rows) + 1) }
     {
         if are_in_order(rows) {

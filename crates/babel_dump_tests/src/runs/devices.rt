@@ -41,7 +41,12 @@ impl<'a> ScriptedIn<'a> {
 }
 
 impl ByteIn for ScriptedIn<'_> {
-    ghost state = { λ d. record { left = Some d.rest.now; failures = d.failures; reads = d.reads; ends = d.ends } };
+    ghost state = { λ d. record {
+      left = Some d.rest.now;
+      failures = d.failures;
+      reads = d.reads;
+      ends = d.ends;
+    } };
 
     fn read(&mut self, buf: &mut [u8]) -> io::Result<usize> {
         self.reads += 1;
@@ -103,7 +108,8 @@ impl ByteIn for EndlessIn<'_> {
     }
 }
 
-/// Takes at most so many octets in each write. One call of `write` or `flush` may fail, counted from 1.
+/// Takes at most so many octets in each write. One call of `write` or `flush` may fail, counted
+/// from 1.
 #[derive(Drop)]
 pub struct ScriptedOut {
     taken: Vec<u8>,
@@ -139,7 +145,11 @@ impl ScriptedOut {
 }
 
 impl ByteOut for ScriptedOut {
-    ghost state = { λ d. record { taken = Some d.taken.items; failures = d.failures; flushes = d.flushes } };
+    ghost state = { λ d. record {
+      taken = Some d.taken.items;
+      failures = d.failures;
+      flushes = d.flushes;
+    } };
 
     fn write(&mut self, buf: &[u8]) -> io::Result<usize> {
         self.calls = self.calls.saturating_add(1);

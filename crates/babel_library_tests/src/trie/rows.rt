@@ -69,8 +69,8 @@ impl Rows {
         Ok(found.map(|(dst, src)| (dst.bits(), src.bits())))
     }
 
-    /// The boxes of what these rows and others answer differently, each with both answers as one number, and how many there
-    /// are.
+    /// The boxes of what these rows and others answer differently, each with both answers as one
+    /// number, and how many there are.
     pub fn differences(&self, alloc: Global, other: &Rows) -> Result<(Vec<Line>, u64), AllocError>
         requires { self.now.family ≡ other.now.family }
     {
@@ -115,7 +115,8 @@ pub fn in_one(left: Option<u32>, right: Option<u32>) -> u32 {
 
 /// Whether no row has the two prefixes of this one.
 fn is_new(rows: &[Row], row: &Row) -> bool
-    ensures { IsTrue result → All (λ other. other.0 ≡ row.now.0 → other.1 ≡ row.now.1 → ⊥) rows.now }
+    ensures { IsTrue result
+        → All (λ other. other.0 ≡ row.now.0 → other.1 ≡ row.now.1 → ⊥) rows.now }
 {
     for other in rows {
         if other.0 == row.0 && other.1 == row.1 {
@@ -140,7 +141,8 @@ fn covers(start: u128, len: u8, width: u8, address: u128) -> bool {
         == 0
 }
 
-/// The value of the row with the longest destination of those that match, and of these the longest source.
+/// The value of the row with the longest destination of those that match, and of these the longest
+/// source.
 pub fn wanted_at(lines: &[Line], width: u8, dst: u128, src: u128) -> Option<u32> {
     let mut best: Option<Line> = None;
     for line in lines {
