@@ -11,7 +11,7 @@ use Rattle.babel_prefix.specs.declared.family.Family.{Family}
 use Rattle.babel_prefix.specs.declared.family.Family.TheVariants.{V4, V6}
 use Rattle.babel_prefix.specs.Width.{width_of, same_family}
 use Rattle.babel_prefix.specs.Block.{Block, BlockCovers, IsBlock}
-use Rattle.babel_prefix.specs.Address.{Address, AddressPrefix, Covers, block_of, prefix_of}
+use Rattle.babel_prefix.specs.Address.{AddressPrefix, Covers, block_of, prefix_of}
 use Rattle.babel_prefix.specs.Best.{Row}
 use Rattle.babel_prefix.specs.Entries.{Entry, AreOfFamily, are_of_family, row_of, rows_in, answers_in}
 use Rattle.babel_prefix.proofs.Members.{any_two, Listed-get_or, Listed-from_Contains, Contains-from_Listed}

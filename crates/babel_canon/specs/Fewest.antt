@@ -1,6 +1,6 @@
 -- Lists of pairs that have the answers of rows (RFC 9079, 4) and do not overlap, of both families together, and how short
 -- they can be: this project's own.
-use Rattle.std.specs.Prelude.{◌≡◌, ◌⊎◌, ℕ, ◌≤◌, List, length, AllPairs}
+use Rattle.std.specs.Prelude.{◌≡◌, ◌⊎◌, ◌≤◌, List, length, AllPairs}
 use Rattle.std.specs.List.{AllByRecursion}
 use Rattle.babel_prefix.specs.Address.{Address, AddressPrefix, IsAddress, Covers}
 use Rattle.babel_tlv.specs.Route.{RouteKey, IsKey}

@@ -5,8 +5,8 @@ ghost use Rattle.std.specs.List.{join_with_byte};
 ghost use Rattle.std.specs.Fmt.{decimal, digits, digit_glyph};
 ghost use Rattle.babel_prefix.specs.declared.family.Family.TheVariants.{V6};
 ghost use Rattle.babel_prefix.specs.Text.{printed, printed_bits, printed_prefix};
-ghost use Rattle.babel_dump.specs.RunText.{announcement_text, held_text, hex_digits};
-ghost use Rattle.babel_dump.specs.RunText.{kept_text, pair_line};
+ghost use Rattle.babel_dump.specs.RunText.{announcement_text, held_text, kept_text, pair_line};
+ghost use Rattle.babel_dump.specs.TextParts.{hex_digits};
 
 use crate::text::RouterId;
 use babel_prefix::{Addr, Family, Prefix};

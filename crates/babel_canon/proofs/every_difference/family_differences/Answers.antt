@@ -1,5 +1,5 @@
 -- The entries of the first table still have their rows when those of the second are packed, too.
-use Rattle.std.proofs.Common.{◌≡◌, List, ap, ◌∙◌, subst, sym}
+use Rattle.std.proofs.Common.{List, ap, ◌∙◌, subst, sym}
 use Rattle.std.specs.List.{All}
 use Rattle.babel_prefix.specs.Width.{width_of}
 use Rattle.babel_prefix.specs.Entries.{Entry, AreOfFamily, HasDistinctPrefixes, answers_in}

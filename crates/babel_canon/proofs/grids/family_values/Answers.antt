@@ -1,7 +1,7 @@
 -- Each row of the family has its value, and behind the last one the rows are those of the table.
 use Rattle.std.proofs.Common.{◌≡◌, ◌++◌, ◌∷◌, List, [], length, append_assoc, arith, ap, subst, sym, ◌∙◌}
 use Rattle.std.proofs.lemmas.List.{append-nil, length-append}
-use Rattle.babel_prefix.specs.Entries.{Entry, HasDistinctPrefixes}
+use Rattle.babel_prefix.specs.Entries.{HasDistinctPrefixes}
 use Rattle.babel_tlv.specs.Pair.{Pair}
 use Rattle.babel_table.specs.Left.{rows_left}
 use Rattle.babel_table.specs.Rows.{family_rows}
