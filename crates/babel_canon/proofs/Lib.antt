@@ -21,6 +21,7 @@ mod GridLaws
 mod MappedBoxes
 mod PackedDifferences
 mod PackedLaws
+mod PackedOrder
 mod DifferenceLists
 mod DifferenceLaws
 pub mod OneDifferences

@@ -1,15 +1,20 @@
 -- What sinks have of the boxes of two grids.
-use Rattle.std.proofs.Common.{◌≡◌, ◌+◌, ◌≤◌, List, [], ◌∷◌, ◌++◌, length, map, refl, ap, ◌∙◌, arith}
-use Rattle.std.proofs.lemmas.List.{length-map, map-append}
+use Rattle.std.proofs.Common.{◌≡◌, ◌+◌, ◌≤◌, List, [], ◌∷◌, ◌++◌, length, map, refl, sym, ap, ◌∙◌, subst, append_assoc, arith}
+use Rattle.std.specs.Borrow.{MutBor}
+use Rattle.std.proofs.lemmas.List.{append-nil, length-map, map-append}
 use Rattle.babel_prefix.specs.declared.family.Family.{Family}
 use Rattle.babel_prefix.specs.declared.family.Family.TheVariants.{V4, V6}
 use Rattle.babel_prefix.specs.Best.{Row}
+use Rattle.babel_prefix.specs.Entries.{Entry}
 use Rattle.babel_trie.specs.Nested.{entry_at}
+use Rattle.babel_trie.specs.Sinks.{StopsAmong}
 use Rattle.babel_tlv.specs.declared.held.Held.{Held}
 use Rattle.babel_tlv.specs.Pair.{Pair}
+use Rattle.babel_canon.specs.declared.unpacked.Unpacked.{Unpacked}
 use Rattle.babel_canon.specs.declared.values.PackedValue.{PackedValue}
+use Rattle.babel_canon.specs.declared.values.Values.{Values}
 use Rattle.babel_canon.specs.Grids.{pair_at}
-use Rattle.babel_canon.specs.Sinks.{numbered_pair}
+use Rattle.babel_canon.specs.Sinks.{HasUnpacked, numbered_pair}
 use Rattle.babel_canon.specs.Values.{AreNumberedBoxes, valued, valued_pairs}
 use Rattle.babel_table.specs.Bounds.{Bounds}
 use Rattle.babel_table.specs.Rows.{AreRows}
@@ -43,3 +48,62 @@ module _ (values : List Held) where
     few = omega (arith, boxes-length v4 v6, few);
     fewest = boxes_are_fewest rows (valued_pairs values v4 v6) are;
   }
+
+module _ {S : Type 0} (Has Then : S → S → List Pair → Type 0) (given values : List Held) (begun out new : MutBor S) (rows : List (Entry PackedValue)) where
+  -- one row more
+  pub unpacked_more : (row : Entry PackedValue) (pair : Pair) → new.ghost_name ≡ out.ghost_name → pair ≡ numbered_pair values row
+      → ((start : S) (pairs : List Pair) → Has start out.now pairs → Then start new.now (pairs ++ pair ∷ []))
+      → HasUnpacked Has Has given begun values out rows → HasUnpacked Has Then given begun values new (rows ++ row ∷ [])
+  unpacked_more row pair same is more so =
+      let f = numbered_pair given in
+      let pair_is : pair ≡ f row = is ∙ ap (λ (vs : List Held). numbered_pair vs row) so.values_are in
+      record {
+        values_are = so.values_are;
+        same_sink = same ∙ so.same_sink;
+        has = λ start pairs had. subst (Then start new.now)
+            (append_assoc pairs (map f rows) (pair ∷ []) ∙ ap (λ (ps : List Pair). pairs ++ ps) (ap (λ (p : Pair). map f rows ++ p ∷ []) pair_is ∙ sym (map-append f rows (row ∷ []))))
+            (more start (pairs ++ map f rows) (so.has start pairs had));
+      }
+
+-- The boxes of both families are put into a sink by way of one that unpacks their values. `end` is what the sink then is.
+module _ {S : Type 0} (Has Then : S → S → List Pair → Type 0) (values : Values) (v4 v6 : List (Row PackedValue)) (all : List Pair) (out new_out : MutBor S) (new_values : List Held) (end : S) where
+  abbrev all_rows : List (Entry PackedValue)
+  all_rows = map (entry_at V4) v4 ++ map (entry_at V6) v6
+
+  abbrev Before : Unpacked S → List (Entry PackedValue) → Type 0
+  Before sink rows = HasUnpacked Has Has sink.values.now.list.items sink.out values.list.items out rows
+
+  abbrev After : Unpacked S → List (Entry PackedValue) → Type 0
+  After sink rows = HasUnpacked Has Then sink.values.now.list.items sink.out new_values new_out rows
+
+  abbrev sink_before : Unpacked S
+  sink_before = record { values = record { ref_ptr = (0, 0); now = values }; out = out }
+
+  nothing_yet : Before sink_before []
+  nothing_yet = record {
+    values_are = refl;
+    same_sink = refl;
+    has = λ start pairs had. subst (Has start out.now) (sym (append-nil pairs)) had;
+  }
+
+  module _ (all_is : valued_pairs values.list.items v4 v6 ≡ all) (ends : out.ghost_name ≡ new_out.ghost_name → end ≡ new_out.now) where
+    -- it has all of them
+    pub unpacked_put : ((sink : Unpacked S) (rows : List (Entry PackedValue)) → Before sink rows → After sink ((rows ++ map (entry_at V4) v4) ++ map (entry_at V6) v6))
+        → (start : S) (pairs : List Pair) → Has start out.now pairs → Then start end (pairs ++ all)
+    unpacked_put put start pairs had =
+        let done = put sink_before [] nothing_yet in
+        subst (λ (s : S). Then start s (pairs ++ all)) (sym (ends (sym done.same_sink)))
+        (subst (λ (ps : List Pair). Then start new_out.now (pairs ++ ps)) (pairs_of_both values.list.items v4 v6 ∙ all_is) (done.has start pairs had))
+
+    -- it stopped at one of them
+    pub unpacked_stops : ((sink : Unpacked S) (rows : List (Entry PackedValue)) → Before sink rows → StopsAmong (After sink) rows all_rows)
+        → (start : S) (pairs : List Pair) → Has start out.now pairs → StopsAmong (Then start end) pairs all
+    unpacked_stops stops start pairs had =
+        let f = numbered_pair values.list.items in
+        let s = stops sink_before [] nothing_yet in
+        record {
+          first = map f s.first;
+          rest = map f s.rest;
+          whole = sym all_is ∙ sym (pairs_of_both values.list.items v4 v6) ∙ ap (map f) s.whole ∙ map-append f s.first s.rest;
+          stopped = subst (λ (x : S). Then start x (pairs ++ map f s.first)) (sym (ends (sym s.stopped.same_sink))) (s.stopped.has start pairs had);
+        }

@@ -1,6 +1,6 @@
--- What canonical octets tell of the dumps that they were made from, in whatever form: this project's
--- own. `Same` says when two tables answer the same, `Made` which octets are made of a dump, and
--- `Refused` for which faults none are.
+-- What canonical octets tell of the dumps that they were made from, in whatever form: this
+-- project's own. `Same` says when two tables answer the same, `Made` which octets are made of a
+-- dump, and `Refused` for which faults none are.
 use Rattle.std.specs.Prelude.{◌≡◌, ◌↔◌, ℕ, List}
 use Rattle.babel_prefix.specs.Address.{Address}
 use Rattle.babel_tlv.specs.declared.fault.Fault.{Fault}
@@ -19,22 +19,24 @@ pub record Sent : Type 0 where
 abbrev pub sent : Address → List ℕ → Sent
 sent sender dump = record { sender = sender; dump = dump }
 
--- the tables of two dumps answer the same
+-- the tables of two dumps answer the same (a dump has one table at most)
 abbrev pub DumpsAnswer : (Same : List Pair → List Pair → Type 0) → Bounds → Mode → Sent → Sent
     → Type 0
 DumpsAnswer Same limits mode one other =
     (table other_table : Routes) → IsTableOf limits mode one.sender one.dump table
     → IsTableOf limits mode other.sender other.dump other_table → Same table.rows other_table.rows
 
--- octets are equal to those that are made of another dump exactly where both answer the same
+-- these octets (made of one dump, by *ok*) are equal to octets that are made of any other exactly
+-- where both dumps answer the same
 abbrev pub TellsApart : (Same : List Pair → List Pair → Type 0) → (Made : Sent → List ℕ → Type 0)
     → Bounds → Mode → Sent → List ℕ → Type 0
 TellsApart Same Made limits mode one octets =
     (other : Sent) (other_octets : List ℕ) → Made other other_octets
-    → (octets ≡ other_octets) ↔ DumpsAnswer Same limits mode one other
+    → ((octets ≡ other_octets) ↔ DumpsAnswer Same limits mode one other)
 
--- The octets, read with this sender, have no fault and answer as the dump does; what is made of them
--- is themselves, and nothing else; and nothing but want of memory keeps them from it.
+-- These octets of one dump, read with `any` sender, have no fault and answer as the dump does;
+-- what is made of them is themselves, and nothing else; and nothing but want of memory keeps them
+-- from it.
 pub record ReadsAgain (Same : List Pair → List Pair → Type 0) (Made : Sent → List ℕ → Type 0)
     (Refused : Sent → Fault → Type 0) (limits : Bounds) (mode : Mode) (one : Sent) (octets : List ℕ)
     (any : Address) : Type 0 where

@@ -19,8 +19,8 @@ AnswerTheSameUnder view rows others =
     (d s : Address) → IsAddress d → IsAddress s → d.family ≡ s.family
     → SameUnder view (answer_for (entries_of rows) d s) (answer_for (entries_of others) d s)
 
--- The octets, read with this sender, answer as the dump does under the view, and are their own
--- canonical form: for `see` what the view sees of rows, or the rows as they are.
+-- `ReadsAgain` under a view: what is the same is the same under the view, and what is made of a
+-- dump is the canonical form of what `see` sees: what the view sees of rows, or rows as they are
 abbrev pub ReadsAgainSeen : View → (see : List Pair → List Pair) → Bounds → Mode → ℕ → Sent → List ℕ
     → Address → Type 0
 ReadsAgainSeen view see limits mode body = ReadsAgain (AnswerTheSameUnder view)

@@ -1,15 +1,11 @@
-ghost use Rattle.std.specs.Prelude.{◌≡◌, ◌+◌, ◌≤◌, IfOk, IfErr, length};
-ghost use Rattle.babel_prefix.specs.declared.family.Family.TheVariants.{V4, V6};
-ghost use Rattle.babel_canon.specs.Boxes.{AreBoxes};
+ghost use Rattle.std.specs.Prelude.{◌≡◌, IfOk, IfErr};
 ghost use Rattle.babel_canon.specs.Canonical.{AreCanonical, CanonicalFault, CountsCanonical, IsCanonical, SaysCanonical};
 ghost use Rattle.babel_canon.specs.Fewest.{AreFewest};
-ghost use Rattle.babel_canon.specs.Values.{AreNumbered, valued_pairs};
 
 use crate::body::Body;
-use crate::grids::Grids;
 use crate::packing::write_text;
-use crate::sinks::{listed, written};
-use crate::values::{PackedValue, Values};
+use crate::pairs::CanonicalPairs;
+use crate::text::Text;
 use babel_table::{Limits, Table};
 use babel_tlv::{Fault, Held, Key};
 use std::alloc::Global;
@@ -53,30 +49,6 @@ impl Canon {
     }
 }
 
-/// The grids that the canonical pairs of a table are made from, with these values. The pairs are
-/// known to be no more than the limit before any of them is made.
-fn counted_grids(
-    alloc: Global,
-    limits: Limits,
-    table: &Table,
-    values: &mut Values,
-) -> Result<Grids<PackedValue>, Fault>
-    requires { AreNumbered values.old.list.items values.old.numbers }
-    ensures v4 { IfOk result (λ grids. grids.v4.family ≡ V4) }
-    ensures v6 { IfOk result (λ grids. grids.v6.family ≡ V6) }
-    ensures few { IfOk result (λ grids.
-        length grids.v4.boxes + length grids.v6.boxes ≤ limits.entries) }
-    ensures boxes { IfOk result (λ grids. AreBoxes table.now.rows
-        (valued_pairs values.new.list.items grids.v4.boxes grids.v6.boxes)) }
-    ensures err { IfErr result (CanonicalFault limits table.now.rows) }
-{
-    let grids = Grids::of(alloc, table, values)?;
-    if grids.count() > limits.entries() as u64 {
-        return Err(Fault::TooManyPairs);
-    }
-    Ok(grids)
-}
-
 /// The canonical pairs of a table: by family, IPv4 first, then by destination, then by source.
 /// `TooManyPairs` if they are more than the entries of the limits, which is known before any of
 /// them is made; else `Memory`, if there is too little.
@@ -90,10 +62,10 @@ pub fn canonical_pairs(
     ensures ok { IfOk result (λ pairs. AreCanonical limits table.now.rows pairs.items) }
     ensures err { IfErr result (CanonicalFault limits table.now.rows) }
 {
-    let mut values = Values::new(alloc);
-    let grids = counted_grids(alloc, limits, table, &mut values)?;
-    let pairs = listed(alloc, grids, &values)?;
-    Ok(pairs)
+    let pairs = CanonicalPairs::of(alloc, limits, table)?;
+    let mut list = Vec::with_capacity(alloc, pairs.count())?;
+    pairs.put(&mut list)?;
+    Ok(list)
 }
 
 /// The octets of the canonical pairs of a table, in packets with bodies of at most this many
@@ -107,10 +79,10 @@ pub fn canonical_octets(
     ensures ok { IfOk result (λ octets. SaysCanonical limits body table.now.rows octets.items) }
     ensures err { IfErr result (CanonicalFault limits table.now.rows) }
 {
-    let mut values = Values::new(alloc);
-    let grids = counted_grids(alloc, limits, table, &mut values)?;
-    let octets = written(alloc, body, grids, &values)?;
-    Ok(octets)
+    let pairs = CanonicalPairs::of(alloc, limits, table)?;
+    let mut text = Text::new(alloc, body, pairs.count())?;
+    pairs.put(&mut text)?;
+    Ok(text.into_octets())
 }
 
 /// How many canonical pairs a table has. None of them is made. `Err` as of `canonical_pairs`.
@@ -118,10 +90,8 @@ pub fn pair_count(alloc: Global, limits: Limits, table: &Table) -> Result<usize,
     ensures ok { IfOk result (CountsCanonical limits table.now.rows) }
     ensures err { IfErr result (CanonicalFault limits table.now.rows) }
 {
-    let mut values = Values::new(alloc);
-    let grids = counted_grids(alloc, limits, table, &mut values)?;
-    let _valid = limits.entries();
-    Ok(grids.count() as usize)
+    let pairs = CanonicalPairs::of(alloc, limits, table)?;
+    Ok(pairs.count())
 }
 
 /// The canonical form of a table, in packets with bodies of at most this many octets.

@@ -1,5 +1,5 @@
 //! All that two tables answer differently.
-ghost use Rattle.std.specs.Prelude.{◌≡◌, ◌+◌, ◌++◌, ◌∷◌, ◌≤◌, List, Option, IfOk, IfErr, OnOk, [], length};
+ghost use Rattle.std.specs.Prelude.{◌≡◌, ◌+◌, ◌++◌, ◌∷◌, ◌≤◌, ⊤, List, Option, IfOk, IfErr, OnOk, OnErr, [], length};
 ghost use Rattle.std.specs.Option.{option_map};
 ghost use Rattle.babel_prefix.specs.declared.family.Family.TheVariants.{V4, V6};
 ghost use Rattle.babel_prefix.specs.Entries.{Entry};
@@ -10,14 +10,12 @@ ghost use Rattle.babel_canon.specs.Values.{AreNumbered, KeepsValues, value_of};
 ghost use Rattle.babel_canon.specs.declared.values.PackedValue.{PackedValue};
 
 use crate::grids::{Grids, PackedRows, family_values};
-use crate::sinks::Given;
 use crate::values::{PackedValue, Values};
 use babel_prefix::{Family, Prefix};
 use babel_table::{Limits, Table};
 use babel_tlv::{Fault, Held, Key};
 use babel_trie::{Differing, Grid, Sink, differences_of};
 use std::alloc::{AllocError, Global};
-use std::marker::{Brand, PhantomData};
 
 /// A destination prefix and a source prefix for whose addresses two tables answer these two, which
 /// differ. `None` where a table has no route for them.
@@ -33,10 +31,9 @@ type Row = (Prefix, Prefix, Differing<PackedValue>);
 
 /// A list of differences.
 #[derive(Drop)]
-struct DifferenceList<'a, G: Given> {
+struct DifferenceList<'a> {
     values: &'a Values,
     list: Vec<Difference>,
-    given: PhantomData<G>,
 }
 
 /// The answer, unpacked.
@@ -49,16 +46,25 @@ fn unpacked(values: &Values, answer: Option<PackedValue>) -> Option<Held>
     }
 }
 
-impl<'a, G: Given> Sink<Differing<PackedValue>> for DifferenceList<'a, G> {
-    ghost has = { λ list rows.
-        HasDifferences G.values list.values.now.list.items list.list.items rows };
+impl<'a> Sink<Differing<PackedValue>> for DifferenceList<'a> {
+    ghost use Rattle.babel_canon.specs.declared.every_difference.DifferenceList.{DifferenceList};
+
+    type Error = AllocError;
+
+    ghost has = { λ start list rows. HasDifferences start.values.now.list.items
+        list.values.now.list.items list.list.items rows };
+
+    ghost stopped = { λ _ _ _. ⊤ };
 
     fn put(&mut self, row: Row) -> Result<(), AllocError>
         requires { row.0.address.family ≡ row.1.address.family }
-        ensures { OnOk result ((rows : List (Entry (Differing PackedValue)))
-            → HasDifferences G.values self.old.values.now.list.items self.old.list.items rows
-            → HasDifferences G.values self.new.values.now.list.items self.new.list.items
-            (rows ++ row ∷ [])) }
+        ensures ok { OnOk result ((start : DifferenceList)
+            (rows : List (Entry (Differing PackedValue)))
+            → HasDifferences start.values.now.list.items
+            self.old.values.now.list.items self.old.list.items rows
+            → HasDifferences start.values.now.list.items
+            self.new.values.now.list.items self.new.list.items (rows ++ row ∷ [])) }
+        ensures err { OnErr result ⊤ }
     {
         let (dst, src, both) = row;
         let key = Key::new(dst, src).unwrap();
@@ -119,27 +125,6 @@ fn counted_differences(
     Ok(grids)
 }
 
-fn listed_by<G: Given>(
-    alloc: Global,
-    grids: Grids<Differing<PackedValue>>,
-    values: &Values,
-) -> Result<Vec<Difference>, AllocError>
-    requires given { values.now.list.items ≡ G.values }
-    requires v4 { grids.v4.family ≡ V4 }
-    requires v6 { grids.v6.family ≡ V6 }
-    ensures { IfOk result (λ list.
-        list.items ≡ valued_differences G.values grids.v4.boxes grids.v6.boxes) }
-{
-    let count = grids.count() as usize;
-    let mut list: DifferenceList<'_, G> = DifferenceList {
-        values,
-        list: Vec::with_capacity(alloc, count)?,
-        given: PhantomData,
-    };
-    grids.put_boxes(&mut list)?;
-    Ok(list.list)
-}
-
 /// The boxes of grids as differences, IPv4 first, with the values that theirs stand for.
 fn listed(
     alloc: Global,
@@ -151,7 +136,13 @@ fn listed(
     ensures { IfOk result (λ list.
         list.items ≡ valued_differences values.now.list.items grids.v4.boxes grids.v6.boxes) }
 {
-    listed_by::<Brand>(alloc, grids, values)
+    let count = grids.count() as usize;
+    let mut list = DifferenceList {
+        values,
+        list: Vec::with_capacity(alloc, count)?,
+    };
+    grids.put_boxes(&mut list)?;
+    Ok(list.list)
 }
 
 /// All that two tables answer differently: the longest blocks of destinations and sources on which

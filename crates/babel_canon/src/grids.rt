@@ -1,9 +1,14 @@
-ghost use Rattle.std.specs.Prelude.{◌≡◌, ◌+◌, ◌-◌, ◌^◌, ◌++◌, List, IfOk, OnOk, length, map, min};
+ghost use Rattle.std.specs.Prelude.{◌≡◌, ◌+◌, ◌-◌, ◌^◌, ◌++◌, List, All, IfOk, OnOk, OnErr, length};
+ghost use Rattle.std.specs.Prelude.{map, min};
 ghost use Rattle.babel_prefix.specs.declared.family.Family.TheVariants.{V4, V6};
-ghost use Rattle.babel_prefix.specs.Entries.{Entry, HasDistinctPrefixes};
+ghost use Rattle.babel_prefix.specs.Entries.{Entry, HasPrefixes, HasDistinctPrefixes};
 ghost use Rattle.babel_table.specs.Left.{rows_left};
 ghost use Rattle.babel_table.specs.Rows.{AreRows, family_rows};
+ghost use Rattle.babel_trie.specs.Held.{RowOrder};
 ghost use Rattle.babel_trie.specs.Nested.{entry_at};
+ghost use Rattle.babel_trie.specs.OneOrder.{rows_in_order-prop};
+ghost use Rattle.babel_trie.specs.Rows.{InOrder};
+ghost use Rattle.babel_trie.specs.Sinks.{StopsAmong};
 ghost use Rattle.babel_canon.specs.Values.{AreNumbered, AreNumberedBoxes, AreNumberedEntries, KeepsValues, packed_entries};
 ghost use Rattle.babel_canon.specs.declared.values.PackedValue.{PackedValue};
 
@@ -24,11 +29,14 @@ pub(crate) struct Grids<V: LawfulOrd> {
     pub v6: Grid<V>,
 }
 
-/// The rows of one family of a table, with packed values in place of theirs. No row is spelled out before it is asked for.
+/// The rows of one family of a table, in order, with packed values in place of theirs. No row is
+/// spelled out before it is asked for.
 #[derive(Clone, Copy)]
 pub(crate) struct PackedRows<'a> {
     rows: TableRows<'a>,
     values: &'a [PackedValue],
+    ghost in_order: { InOrder RowOrder (packed_entries (rows_left rows) values.now) } by { rows_in_order-prop _ },
+    ghost prefixes: { All HasPrefixes (packed_entries (rows_left rows) values.now) },
 }
 
 impl<'a> PackedRows<'a> {
@@ -52,9 +60,13 @@ impl<'a> Rows<PackedValue> for PackedRows<'a> {
 
     fn split(self) -> Option<(Row, PackedRows<'a>)> {
         let PackedRows { mut rows, values } = self;
-        let (key, _) = rows.next()?;
+        let key = rows.next_key()?;
         let (value, values) = values.split_first()?;
         Some(((key.dst(), key.src(), *value), PackedRows { rows, values }))
+    }
+
+    fn are_in_order(self) -> bool {
+        true
     }
 }
 
@@ -139,12 +151,16 @@ impl<V: LawfulOrd> Grids<V> {
 
     /// Puts the boxes out, IPv4 first. Those of IPv4 are gone before the first of IPv6 is put out.
     #[tactic(auto, using(crate::proofs::GridLaws::put_of_family))]
-    pub(crate) fn put_boxes<S: Sink<V>>(self, out: &mut S) -> Result<(), AllocError>
+    pub(crate) fn put_boxes<S: Sink<V>>(self, out: &mut S) -> Result<(), S::Error>
         requires v4 { self.v4.family ≡ V4 }
         requires v6 { self.v6.family ≡ V6 }
-        ensures { OnOk result ((rows : List (Entry V)) → S.has out.old rows
-            → S.has out.new
+        requires can { S.can_put out.old }
+        ensures ok { OnOk result ((start : S) (rows : List (Entry V)) → S.has start out.old rows
+            → S.has start out.new
             ((rows ++ map (entry_at V4) self.v4.boxes) ++ map (entry_at V6) self.v6.boxes)) }
+        ensures err { OnErr result ((start : S) (rows : List (Entry V)) → S.has start out.old rows
+            → StopsAmong (S.stopped start out.new) rows
+            (map (entry_at V4) self.v4.boxes ++ map (entry_at V6) self.v6.boxes)) }
     {
         let Grids { v4, v6 } = self;
         v4.put_boxes(out)?;

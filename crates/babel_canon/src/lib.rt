@@ -11,8 +11,10 @@ mod grids;
 pub mod laws;
 mod normal_form;
 mod packing;
-mod sinks;
+mod pair_sink;
+mod pairs;
 mod text;
+mod unpacked;
 mod values;
 mod verdict;
 
@@ -21,4 +23,6 @@ pub use canon::{Canon, canonical, canonical_octets, canonical_pairs, pair_count}
 pub use comparison::compare;
 pub use every_difference::{Difference, difference_count, differences};
 pub use normal_form::{normalise, normalise_under};
+pub use pair_sink::PairSink;
+pub use pairs::CanonicalPairs;
 pub use verdict::Verdict;

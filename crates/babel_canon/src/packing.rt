@@ -78,20 +78,18 @@ impl Text {
     }
 
     /// Puts the group of a pair behind the others, in a new packet where the last one has no room for it.
-    pub(crate) fn put(&mut self, key: &Key, held: &Held) -> Result<(), AllocError>
+    pub(crate) fn push(&mut self, key: &Key, held: &Held) -> Result<(), AllocError>
         ensures { OnOk result ((body : ℕ) (pairs : List Pair) → IsTextOf body self.old pairs
             → IsTextOf body self.new (pairs ++ (key.now, held.now) ∷ [])) }
     {
         let limit = self.body.octets() as usize;
-        let mut writing = self.writing;
-        let group = put_group(&mut writing, key, held);
+        let group = put_group(&mut self.writing, key, held);
         if limit < self.len.saturating_add(group.len()) {
             self.begin()?;
             let group = put_group(&mut self.writing, key, held);
             self.append(&group)?;
             return Ok(());
         }
-        self.writing = writing;
         self.append(&group)?;
         Ok(())
     }
@@ -120,7 +118,7 @@ pub(crate) fn write_text(
 {
     let mut text = Text::new(alloc, body, pairs.len())?;
     for (key, held) in pairs {
-        text.put(key, held)?;
+        text.push(key, held)?;
     }
     Ok(text.into_octets())
 }

@@ -1,5 +1,5 @@
 //! Values in eight octets: where routes come from has a number, and stands once in a list.
-ghost use Rattle.std.specs.Prelude.{◌≡◌, ◌+◌, ◌*◌, ◌^◌, IfOk, OnOk, Some, slice_get, true};
+ghost use Rattle.std.specs.Prelude.{◌≡◌, ◌+◌, ◌*◌, ◌^◌, ◌<◌, IfOk, OnOk, Some, slice_get, true};
 ghost use Rattle.babel_tlv.specs.Group.{held_metric, held_seqno};
 ghost use Rattle.babel_canon.specs.Values.{AreNumbered, HasFiniteMetric, IsPacked, KeepsValues, origin_of, value_of};
 
@@ -30,12 +30,31 @@ impl LawfulOrd for PackedValue {
     }
 }
 
-/// Each origin once, the number of each, and the number that was asked for last.
+/// In how many places a number that was asked for is kept.
+const PLACES: usize = 64;
+
+/// Each origin once, the number of each, and numbers that were asked for, each in the place of its
+/// origin.
 #[derive(Drop)]
 pub(crate) struct Values {
     list: Vec<Held>,
     numbers: BTreeMap<Held, u32>,
-    last: u32,
+    recent: [u32; PLACES],
+}
+
+/// The place of an origin, which others may share.
+fn place_of(origin: &Held) -> usize
+    ensures { result < 64 }
+{
+    match origin {
+        Held::Route(ann) => {
+            let router = u64::from_be_bytes(ann.router_id());
+            let hop = (ann.next_hop().bits() % (1 << 64)) as u64;
+            let mixed = router.wrapping_add(hop).wrapping_mul(0x9e37_79b9_7f4a_7c15);
+            (mixed >> 58) as usize
+        }
+        Held::Unreachable => 0,
+    }
 }
 
 /// The origin of a value: the route of its router and next hop that has seqno and metric 0.
@@ -71,16 +90,16 @@ impl Values {
         Values {
             list: Vec::new(alloc),
             numbers: BTreeMap::new(alloc),
-            last: 0,
+            recent: [0; PLACES],
         }
     }
 
-    /// Whether this origin was asked for last.
-    fn is_last(&self, origin: &Held) -> bool
-        ensures { result ≡ true → slice_get self.now.list.items self.now.last ≡ Some origin.now }
+    /// Whether this is the number of the origin.
+    fn is_number(&self, number: u32, origin: &Held) -> bool
+        ensures { result ≡ true → slice_get self.now.list.items number ≡ Some origin.now }
     {
-        let last = self.last as usize;
-        last < self.list.len() && self.list[last].cmp(origin) == Ordering::Equal
+        let at = number as usize;
+        at < self.list.len() && self.list[at].cmp(origin) == Ordering::Equal
     }
 
     /// The number of an origin, which is added if it is not there.
@@ -101,8 +120,8 @@ impl Values {
         Ok(number)
     }
 
-    /// The number of a value's origin; the map is asked only where the origin is not the one that
-    /// was asked for last.
+    /// The number of a value's origin; the map is asked only where another number is kept in the
+    /// origin's place.
     fn number_of(&mut self, held: &Held) -> Result<u32, AllocError>
         requires { AreNumbered self.old.list.items self.old.numbers }
         ensures numbered { OnOk result (AreNumbered self.new.list.items self.new.numbers) }
@@ -111,11 +130,13 @@ impl Values {
         ensures keeps { OnOk result (KeepsValues self.old.list.items self.new.list.items) }
     {
         let origin = origin_of(held);
-        if self.is_last(&origin) {
-            return Ok(self.last);
+        let place = place_of(&origin);
+        let recent = self.recent[place];
+        if self.is_number(recent, &origin) {
+            return Ok(recent);
         }
         let number = self.number_in_map(origin)?;
-        self.last = number;
+        self.recent[place] = number;
         Ok(number)
     }
 

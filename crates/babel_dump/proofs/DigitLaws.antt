@@ -47,6 +47,43 @@ ten_three n large small =
     ∙ last 10 61 (n / 10 / 10) (middle ∷ low ∷ []) (omega arith)
     ∙ ap (λ d. digit_glyph false d ∷ middle ∷ low ∷ []) same
 
+ten_four : (n : ℕ) → 1000 ≤ n → n < 10000
+    → decimal n ≡ digit_glyph false (n / 1000) ∷ digit_glyph false (n / 100 % 10) ∷ digit_glyph false (n / 10 % 10) ∷ digit_glyph false (n % 10) ∷ []
+unfolding digits
+ten_four n large small =
+    let low = digit_glyph false (n % 10) in
+    let third = digit_glyph false (n / 10 % 10) in
+    let second = digit_glyph false (n / 10 / 10 % 10) in
+    let first : n / 10 / 10 / 10 % 10 ≡ n / 1000 = omega arith in
+    let same : n / 10 / 10 ≡ n / 100 = omega arith in
+    step 10 63 n [] (omega arith)
+    ∙ step 10 62 (n / 10) (low ∷ []) (omega arith)
+    ∙ step 10 61 (n / 10 / 10) (third ∷ low ∷ []) (omega arith)
+    ∙ last 10 60 (n / 10 / 10 / 10) (second ∷ third ∷ low ∷ []) (omega arith)
+    ∙ ap (λ d. digit_glyph false d ∷ second ∷ third ∷ low ∷ []) first
+    ∙ ap (λ d. digit_glyph false (n / 1000) ∷ digit_glyph false (d % 10) ∷ third ∷ low ∷ []) same
+
+ten_five : (n : ℕ) → 10000 ≤ n → n < 100000
+    → decimal n ≡ digit_glyph false (n / 10000) ∷ digit_glyph false (n / 1000 % 10) ∷ digit_glyph false (n / 100 % 10) ∷ digit_glyph false (n / 10 % 10)
+    ∷ digit_glyph false (n % 10) ∷ []
+unfolding digits
+ten_five n large small =
+    let low = digit_glyph false (n % 10) in
+    let fourth = digit_glyph false (n / 10 % 10) in
+    let third = digit_glyph false (n / 10 / 10 % 10) in
+    let second = digit_glyph false (n / 10 / 10 / 10 % 10) in
+    let first : n / 10 / 10 / 10 / 10 % 10 ≡ n / 10000 = omega arith in
+    let thousands : n / 10 / 10 / 10 ≡ n / 1000 = omega arith in
+    let hundreds : n / 10 / 10 ≡ n / 100 = omega arith in
+    step 10 63 n [] (omega arith)
+    ∙ step 10 62 (n / 10) (low ∷ []) (omega arith)
+    ∙ step 10 61 (n / 10 / 10) (fourth ∷ low ∷ []) (omega arith)
+    ∙ step 10 60 (n / 10 / 10 / 10) (third ∷ fourth ∷ low ∷ []) (omega arith)
+    ∙ last 10 59 (n / 10 / 10 / 10 / 10) (second ∷ third ∷ fourth ∷ low ∷ []) (omega arith)
+    ∙ ap (λ d. digit_glyph false d ∷ second ∷ third ∷ fourth ∷ low ∷ []) first
+    ∙ ap (λ d. digit_glyph false (n / 10000) ∷ digit_glyph false (d % 10) ∷ third ∷ fourth ∷ low ∷ []) thousands
+    ∙ ap (λ d. digit_glyph false (n / 10000) ∷ digit_glyph false (n / 1000 % 10) ∷ digit_glyph false (d % 10) ∷ fourth ∷ low ∷ []) hundreds
+
 hex_one : (n : ℕ) → n < 16 → digits 16 false n ≡ digit_glyph false n ∷ []
 hex_one = hex_one_digit false
 
@@ -92,6 +129,17 @@ decimal_two before n large small = rw (ten_two n large small) (simp append_assoc
 pub decimal_three : (before : List ℕ) (n : ℕ) → 100 ≤ n → n < 1000
     → before ++ digit_glyph false (n / 100) ∷ [] ++ digit_glyph false (n / 10 % 10) ∷ [] ++ digit_glyph false (n % 10) ∷ [] ≡ before ++ decimal n
 decimal_three before n large small = rw (ten_three n large small) (simp append_assoc refl)
+
+pub decimal_four : (before : List ℕ) (n : ℕ) → 1000 ≤ n → n < 10000
+    → before ++ digit_glyph false (n / 1000) ∷ [] ++ digit_glyph false (n / 100 % 10) ∷ [] ++ digit_glyph false (n / 10 % 10) ∷ [] ++ digit_glyph false (n % 10) ∷ []
+    ≡ before ++ decimal n
+decimal_four before n large small = rw (ten_four n large small) (simp append_assoc refl)
+
+pub decimal_five : (before : List ℕ) (n : ℕ) → 10000 ≤ n → n < 100000
+    → before ++ digit_glyph false (n / 10000) ∷ [] ++ digit_glyph false (n / 1000 % 10) ∷ [] ++ digit_glyph false (n / 100 % 10) ∷ [] ++ digit_glyph false (n / 10 % 10) ∷ []
+    ++ digit_glyph false (n % 10) ∷ []
+    ≡ before ++ decimal n
+decimal_five before n large small = rw (ten_five n large small) (simp append_assoc refl)
 
 pub group_one : (before : List ℕ) (n : ℕ) → n < 16 → before ++ digit_glyph false n ∷ [] ≡ before ++ digits 16 false n
 group_one before n small = rw (hex_one n small) refl

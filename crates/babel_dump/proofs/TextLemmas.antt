@@ -1,5 +1,5 @@
 -- Hexadecimal digits are text.
-use Rattle.std.proofs.Common.{ℕ, ◌<◌, List, [], ◌∷◌, refl, rules, ◌≡◌, Bool, true, false, if◌then◌else◌, Some}
+use Rattle.std.proofs.Common.{ℕ, ◌<◌, List, [], ◌∷◌, ◌++◌, ◌∙◌, ap, append_assoc, refl, rules, ◌≡◌, Bool, true, false, if◌then◌else◌, Some}
 use Rattle.std.proofs.lemmas.Str.{IsUtf8-from_ascii}
 use Rattle.std.proofs.lemmas.Str.Ascii.{IsAscii-nil, IsAscii-cons}
 use Rattle.std.specs.List.{AllByRecursion}
@@ -30,3 +30,7 @@ at_ok P (Err e) holds ok = absurd cc
 pub either_text : (b : Bool) (x y : List ℕ) → (if b then Some x else Some y) ≡ Some (if b then x else y)
 either_text true x y = refl
 either_text false x y = refl
+
+-- two pieces that were appended one after the other
+pub appended : (a b c x y : List ℕ) → b ≡ a ++ x → c ≡ b ++ y → c ≡ a ++ (x ++ y)
+appended a b c x y first next = next ∙ ap (λ (l : List ℕ). l ++ y) first ∙ append_assoc a x y

@@ -10,7 +10,7 @@ use crate::reason_text::{REASONS, name};
 use crate::text::RouterId;
 use babel_canon::Verdict;
 use babel_table::Report;
-use babel_tlv::{Ann, Held, Key, Reason, View};
+use babel_tlv::{Ann, Held, Reason, View};
 use std::alloc::{AllocError, Global};
 use std::fmt;
 
@@ -104,23 +104,6 @@ impl<A: fmt::Display> fmt::Display for Addressed<A> {
         let dst = &self.0;
         let src = &self.1;
         write!(f, r#""destination":"{dst}","source":"{src}""#)
-    }
-}
-
-/// A row of a table: a line.
-#[derive(Clone, Copy)]
-pub(crate) struct PairJson(pub View, pub Key, pub Held);
-
-impl fmt::Display for PairJson {
-    ghost use Rattle.std.specs.Prelude.{Some};
-    ghost use Rattle.babel_dump.specs.JsonText.{pair_json};
-
-    ghost output = { λ line. Some (pair_json line.0 (line.1, line.2)) };
-
-    fn fmt<W: fmt::Write>(&self, f: &mut fmt::Formatter<W>) -> fmt::Result {
-        let addressed = Addressed(self.1.dst(), self.1.src());
-        let answer = Answer(self.0, Some(self.2));
-        writeln!(f, r#"{{{addressed},"answer":{answer}}}"#)
     }
 }
 

@@ -1,24 +1,22 @@
 //! What the runs write, in the format that is asked for.
-ghost use Rattle.std.specs.Prelude.{◌≡◌, ◌++◌, IfOk, OnOk, string_bytes};
-ghost use Rattle.babel_tlv.specs.Views.{keeps_all};
-ghost use Rattle.babel_dump.specs.InFormat.{counts_in, differences_in, line_in, lookup_in, pairs_in, show_in, verdict_in};
+ghost use Rattle.std.specs.Prelude.{◌≡◌, IfOk, string_bytes};
+ghost use Rattle.babel_dump.specs.InFormat.{counts_in, differences_in, lookup_in, report_in, verdict_in};
 ghost use Rattle.babel_dump.specs.TextParts.{difference_count_in, difference_lines_in, same_in};
 
 use crate::addr_pair::AddrPair;
 use crate::differ::Differ;
 use crate::format::Format;
 use crate::json::{
-    DifferJson, LookupJson, PairJson, counts_json, difference_count_json, push_report_json,
-    same_json, verdict_json,
+    DifferJson, LookupJson, counts_json, difference_count_json, push_report_json, same_json,
+    verdict_json,
 };
-use crate::push::push_pair_line;
 use crate::reason_text::push_report;
 use crate::text::{
     DifferLines, EachLine, counts_text, difference_count_text, lookup_text, same_text, verdict_text,
 };
 use babel_canon::{Difference, Verdict};
-use babel_table::Table;
-use babel_tlv::{Held, Key, View};
+use babel_table::Report;
+use babel_tlv::{Held, View};
 use std::alloc::{AllocError, Global};
 use std::fmt;
 
@@ -67,14 +65,6 @@ impl fmt::Display for DifferenceLines {
 }
 
 impl Format {
-    /// The longest line of an IPv4 route, in octets. Room for so many is taken for each row at once.
-    fn line_room(self) -> usize {
-        match self {
-            Format::Text => 108,
-            Format::Json => 167,
-        }
-    }
-
     /// The longest lines of a difference between two IPv4 routes, in octets. Room for so many is taken for each difference
     /// at once.
     fn difference_room(self) -> usize {
@@ -85,66 +75,18 @@ impl Format {
     }
 }
 
-/// Appends a row of a table: a line in a format.
-fn push_line(
-    text: &mut String,
-    format: Format,
-    view: View,
-    key: Key,
-    held: Held,
-) -> Result<(), AllocError>
-    ensures { OnOk result (string_bytes text.new
-        ≡ string_bytes text.old ++ line_in format view (key, held)) }
-{
-    match format {
-        Format::Text => push_pair_line(text, view, key, held),
-        Format::Json => {
-            let line = PairJson(view, key, held);
-            write!(text, "{line}")
-        }
-    }
-}
-
-/// The lines of pairs.
-pub(crate) fn pairs_output(
+/// The lines of a report.
+pub(crate) fn report_output(
     alloc: Global,
     format: Format,
-    view: View,
-    pairs: &[(Key, Held)],
+    report: &Report,
 ) -> Result<String, AllocError>
-    ensures { IfOk result (λ text. string_bytes text ≡ pairs_in format view pairs.now) }
+    ensures { IfOk result (λ text. string_bytes text ≡ report_in format report.now) }
 {
-    let mut text = String::with_capacity(alloc, pairs.len().saturating_mul(format.line_room()))?;
-    for pair in pairs {
-        push_line(&mut text, format, view, pair.0, pair.1)?;
-    }
-    Ok(text)
-}
-
-/// The lines of the rows.
-fn rows_output(alloc: Global, format: Format, table: &Table) -> Result<String, AllocError>
-    ensures { IfOk result (λ text. string_bytes text ≡ pairs_in format keeps_all table.now.rows) }
-{
-    let rows = table.rows();
-    let mut text = String::with_capacity(alloc, rows.len().saturating_mul(format.line_room()))?;
-    for (key, held) in rows {
-        push_line(&mut text, format, View::all(), key, held)?;
-    }
-    Ok(text)
-}
-
-/// The lines of the rows, and of the report.
-pub(crate) fn show_output(
-    alloc: Global,
-    format: Format,
-    table: &Table,
-) -> Result<String, AllocError>
-    ensures { IfOk result (λ text. string_bytes text ≡ show_in format table.now) }
-{
-    let mut text = rows_output(alloc, format, table)?;
+    let mut text = String::new(alloc);
     match format {
-        Format::Text => push_report(&mut text, table.report())?,
-        Format::Json => push_report_json(alloc, &mut text, table.report())?,
+        Format::Text => push_report(&mut text, report)?,
+        Format::Json => push_report_json(alloc, &mut text, report)?,
     }
     Ok(text)
 }

@@ -1,26 +1,29 @@
-ghost use Rattle.std.specs.Prelude.{◌^◌, ◌<◌, None, IfOk, IfErr, string_bytes};
+ghost use Rattle.std.specs.Prelude.{◌^◌, ◌<◌, ◌++◌, None, IfOk, IfErr, string_bytes};
 ghost use Rattle.babel_table.specs.Seen.{seen_rows};
 ghost use Rattle.babel_canon.specs.Canonical.{CanonicalFault};
 ghost use Rattle.babel_dump.specs.Command.{ListsPairs, RanPairs};
 ghost use Rattle.babel_dump.specs.Given.{IsFaultOfForm, input, read_from};
-ghost use Rattle.babel_dump.specs.Parts.{Gathered, SaysPairs, SaysSo};
+ghost use Rattle.babel_dump.specs.Parts.{Gathered, SaysPairs};
 ghost use Rattle.babel_dump.specs.Run.{Reports, output, run_status};
+ghost use Rattle.babel_dump.specs.InFormat.{pairs_in};
+ghost use Rattle.babel_dump.specs.SlicedRows.{RowsSaySo};
 ghost use Rattle.babel_dump.specs.declared.format.Format.TheVariants as formats;
 
 use crate::byte_in::ByteIn;
 use crate::byte_out::ByteOut;
-use crate::finish::{Found, finish};
 use crate::format::Format;
 use crate::input::read_table;
 use crate::outcome::Outcome;
-use crate::output::{counts_output, pairs_output};
+use crate::output::counts_output;
 use crate::reading::Reading;
 use crate::run_fault::RunFault;
+use crate::slice_buffer::SliceBuffer;
+use crate::slices::{FoundRows, Rows, finish_rows};
 use babel_canon::laws::text_is_one;
 use babel_canon::{canonical_pairs, pair_count};
 use babel_prefix::Addr;
 use babel_table::{Limits, Table};
-use babel_tlv::{Fault, Mode, View};
+use babel_tlv::{Fault, Held, Key, Mode, View};
 use std::alloc::Global;
 
 /// Reads a dump that this sender sent, and writes a line for each of its canonical pairs, or, with
@@ -81,48 +84,57 @@ pub(crate) fn pairs<R: ByteIn, W: ByteOut>(
         IfOk result (Reports dump None) }
 {
     let found = read_pairs(alloc, reading, count, format, reader);
-    finish(writer, found)
+    finish_rows(writer, found)
 }
 
-/// Reads a dump to its end, or to its first fault, and makes the lines of its canonical pairs, or
-/// of their count.
+/// Reads a dump to its end, or to its first fault, and finds its canonical pairs, or how many
+/// there are.
 fn read_pairs<R: ByteIn>(
     alloc: Global,
     reading: Reading,
     count: bool,
     format: Format,
     reader: &mut R,
-) -> Result<Found, RunFault>
+) -> Result<FoundRows, RunFault>
     requires failures { (R.state reader.old).failures < 2 ^ 63 }
     requires reads { (R.state reader.old).reads < 2 ^ 63 }
     requires ends { (R.state reader.old).ends < 2 ^ 63 }
     ensures { let dump = read_from (R.state reader.old) (R.state reader.new) reading in
         Gathered dump None (IsFaultOfForm dump)
-        (SaysSo dump None (ListsPairs dump count format)) result }
+        (RowsSaySo dump None (ListsPairs dump count format)) result }
 {
+    let (limits, view) = (reading.limits, reading.view);
     let table = read_table(alloc, reading, reader)?;
     let report = *table.report();
-    let text = lines(alloc, reading.limits, reading.view, count, format, table)?.into_bytes();
+    let (pairs, after) = found_pairs(alloc, limits, view, count, format, table)?;
+    let buffer = SliceBuffer::new(alloc)?;
     let outcome = Outcome {
         status: 0,
         report,
         other: None,
     };
-    Ok(Found { text, outcome })
+    let rows = Rows::Pairs(view, pairs);
+    Ok(FoundRows {
+        format,
+        rows,
+        after,
+        buffer,
+        outcome,
+    })
 }
 
-/// The lines of a table's canonical pairs under a view, or of how many rows and pairs there are,
-/// for which no pair is made. The table is gone before the lines of pairs are made.
-fn lines(
+/// A table's canonical pairs under a view, whose lines are the text, or no pair, and the line of how
+/// many rows and pairs there are. The table is gone before the pairs are written.
+fn found_pairs(
     alloc: Global,
     limits: Limits,
     view: View,
     count: bool,
     format: Format,
     table: Table,
-) -> Result<String, Fault>
-    ensures ok { IfOk result (λ text. SaysPairs limits view count format table.rows
-        (string_bytes text)) }
+) -> Result<(Vec<(Key, Held)>, String), Fault>
+    ensures ok { IfOk result (λ found. SaysPairs limits view count format table.rows
+        (pairs_in format view found.0.items ++ string_bytes found.1)) }
     ensures err { IfErr result (CanonicalFault limits (seen_rows view table.rows)) }
 {
     text_is_one();
@@ -131,10 +143,8 @@ fn lines(
     if count {
         let pairs = pair_count(alloc, limits, &seen)?;
         let text = counts_output(alloc, format, rows, pairs)?;
-        return Ok(text);
+        return Ok((Vec::new(alloc), text));
     }
     let pairs = canonical_pairs(alloc, limits, &seen)?;
-    drop(seen);
-    let text = pairs_output(alloc, format, view, &pairs)?;
-    Ok(text)
+    Ok((pairs, String::new(alloc)))
 }

@@ -1,151 +1,161 @@
-//! A row's line, appended to a text octet by octet, with no formatter between.
+//! A row's line, appended octet by octet to a buffer that has room for it, with no formatter between.
 ghost use Rattle.std.specs.Prelude.{◌≡◌, false, ◌∷◌, [], ◌++◌, ◌*◌, ◌/◌, ◌%◌, ◌^◌};
-ghost use Rattle.std.specs.Prelude.{◌<◌, ◌≤◌, map, OnOk, string_bytes};
+ghost use Rattle.std.specs.Prelude.{◌<◌, ◌≤◌, if◌then◌else◌, length, map};
 ghost use Rattle.std.specs.List.{join_with_byte};
 ghost use Rattle.std.specs.Fmt.{decimal, digits, digit_glyph};
 ghost use Rattle.babel_prefix.specs.declared.family.Family.TheVariants.{V6};
 ghost use Rattle.babel_prefix.specs.Text.{printed, printed_bits, printed_prefix};
 ghost use Rattle.babel_dump.specs.RunText.{announcement_text, held_text, kept_text, pair_line};
+ghost use Rattle.babel_dump.specs.Slices.{HasRoom, TookRoom};
 ghost use Rattle.babel_dump.specs.TextParts.{hex_digits};
 
-use crate::text::RouterId;
 use babel_prefix::{Addr, Family, Prefix};
 use babel_tlv::{Ann, Held, Key, View};
-use std::alloc::AllocError;
 
 /// Appends a row of a table, as the runs show it under a view.
-pub(crate) fn push_pair_line(
-    text: &mut String,
-    view: View,
-    key: Key,
-    held: Held,
-) -> Result<(), AllocError>
-    ensures { OnOk result (string_bytes text.new
-        ≡ string_bytes text.old ++ pair_line view (key, held)) }
+pub(crate) fn push_pair_line(buffer: &mut Vec<u8>, view: View, key: Key, held: Held)
+    requires { HasRoom buffer.old 186 }
+    ensures text { buffer.new.items ≡ buffer.old.items ++ pair_line view (key, held) }
+    ensures room { TookRoom buffer.old buffer.new 186 }
 {
-    push_prefix(text, key.dst())?;
-    text.push_str(" from ")?;
-    push_prefix(text, key.src())?;
-    text.push(' ')?;
-    push_held(text, view, held)?;
-    text.push('\n')
+    push_prefix(buffer, key.dst());
+    push_text(buffer, " from ");
+    push_prefix(buffer, key.src());
+    push_octet(buffer, b' ');
+    push_held(buffer, view, held);
+    push_octet(buffer, b'\n');
 }
 
 /// Appends what stands for a key, under a view.
-fn push_held(text: &mut String, view: View, held: Held) -> Result<(), AllocError>
-    ensures { OnOk result (string_bytes text.new ≡ string_bytes text.old ++ held_text view held) }
+fn push_held(buffer: &mut Vec<u8>, view: View, held: Held)
+    requires { HasRoom buffer.old 88 }
+    ensures text { buffer.new.items ≡ buffer.old.items ++ held_text view held }
+    ensures room { TookRoom buffer.old buffer.new 88 }
 {
     match held {
-        Held::Route(ann) => push_announcement(text, view, ann),
-        Held::Unreachable => text.push_str("unreachable"),
+        Held::Route(ann) => push_announcement(buffer, view, ann),
+        Held::Unreachable => push_text(buffer, "unreachable"),
     }
 }
 
 /// Appends the route that is announced, under a view.
-fn push_announcement(text: &mut String, view: View, ann: Ann) -> Result<(), AllocError>
-    ensures { OnOk result (string_bytes text.new
-        ≡ string_bytes text.old ++ announcement_text view ann) }
+fn push_announcement(buffer: &mut Vec<u8>, view: View, ann: Ann)
+    requires { HasRoom buffer.old 88 }
+    ensures text { buffer.new.items ≡ buffer.old.items ++ announcement_text view ann }
+    ensures room { TookRoom buffer.old buffer.new 88 }
 {
-    text.push_str("via ")?;
-    push_next_hop(text, view.next_hop, ann.next_hop())?;
-    text.push_str(" id ")?;
-    push_router_id(text, view.router_id, ann.router_id())?;
-    text.push_str(" seqno ")?;
-    push_number(text, view.seqno, ann.seqno())?;
-    text.push_str(" metric ")?;
-    push_number(text, view.metric, ann.metric())
+    push_text(buffer, "via ");
+    push_next_hop(buffer, view.next_hop, ann.next_hop());
+    push_text(buffer, " id ");
+    push_kept_id(buffer, view.router_id, ann.router_id());
+    push_text(buffer, " seqno ");
+    push_number(buffer, view.seqno, "-", ann.seqno());
+    push_text(buffer, " metric ");
+    push_number(buffer, view.metric, "-", ann.metric());
 }
 
 /// Appends the next hop where it is kept, or `-`.
-fn push_next_hop(text: &mut String, kept: bool, next_hop: Addr) -> Result<(), AllocError>
-    ensures { OnOk result (string_bytes text.new
-        ≡ string_bytes text.old ++ kept_text kept (printed next_hop)) }
+fn push_next_hop(buffer: &mut Vec<u8>, kept: bool, next_hop: Addr)
+    requires { HasRoom buffer.old 39 }
+    ensures text { buffer.new.items ≡ buffer.old.items ++ kept_text kept (printed next_hop) }
+    ensures room { TookRoom buffer.old buffer.new 39 }
 {
     if kept {
-        push_addr(text, next_hop)
+        push_addr(buffer, next_hop);
     } else {
-        text.push('-')
+        push_octet(buffer, b'-');
     }
 }
 
 /// Appends the router-id where it is kept, or `-`.
-fn push_router_id(text: &mut String, kept: bool, router_id: [u8; 8]) -> Result<(), AllocError>
-    ensures { OnOk result (string_bytes text.new
-        ≡ string_bytes text.old ++ kept_text kept (hex_digits router_id)) }
+fn push_kept_id(buffer: &mut Vec<u8>, kept: bool, router_id: [u8; 8])
+    requires { HasRoom buffer.old 16 }
+    ensures text { buffer.new.items ≡ buffer.old.items ++ kept_text kept (hex_digits router_id) }
+    ensures room { TookRoom buffer.old buffer.new 16 }
 {
     if kept {
-        let id = RouterId(router_id);
-        write!(text, "{id}")
+        push_router_id(buffer, router_id);
     } else {
-        text.push('-')
+        push_octet(buffer, b'-');
     }
 }
 
-/// Appends a number where it is kept, or `-`.
-fn push_number(text: &mut String, kept: bool, number: u16) -> Result<(), AllocError>
-    ensures { OnOk result (string_bytes text.new
-        ≡ string_bytes text.old ++ kept_text kept (decimal number)) }
+/// Appends a number where it is kept, or what stands for one that is ignored.
+pub(crate) fn push_number(buffer: &mut Vec<u8>, kept: bool, ignored: &str, number: u16)
+    requires room { HasRoom buffer.old 5 }
+    requires short { length ignored.now ≤ 5 }
+    ensures text { buffer.new.items
+        ≡ buffer.old.items ++ (if kept then decimal number else ignored.now) }
+    ensures room { TookRoom buffer.old buffer.new 5 }
 {
     if kept {
-        push_decimal(text, number)
+        push_decimal(buffer, number);
     } else {
-        text.push('-')
+        push_text(buffer, ignored);
     }
 }
 
 /// Appends the address, `/`, and the length in decimal.
-fn push_prefix(text: &mut String, prefix: Prefix) -> Result<(), AllocError>
-    ensures { OnOk result (string_bytes text.new ≡ string_bytes text.old ++ printed_prefix prefix) }
+pub(crate) fn push_prefix(buffer: &mut Vec<u8>, prefix: Prefix)
+    requires { HasRoom buffer.old 45 }
+    ensures text { buffer.new.items ≡ buffer.old.items ++ printed_prefix prefix }
+    ensures room { TookRoom buffer.old buffer.new 45 }
 {
-    push_addr(text, prefix.addr())?;
-    text.push('/')?;
-    push_octet(text, prefix.len())
+    push_addr(buffer, prefix.addr());
+    push_octet(buffer, b'/');
+    push_octet_number(buffer, prefix.len());
 }
 
 /// Appends the address.
-fn push_addr(text: &mut String, addr: Addr) -> Result<(), AllocError>
-    ensures { OnOk result (string_bytes text.new ≡ string_bytes text.old ++ printed addr) }
+pub(crate) fn push_addr(buffer: &mut Vec<u8>, addr: Addr)
+    requires { HasRoom buffer.old 39 }
+    ensures text { buffer.new.items ≡ buffer.old.items ++ printed addr }
+    ensures room { TookRoom buffer.old buffer.new 39 }
 {
     match addr.family() {
-        Family::V4 => push_dotted(text, (addr.bits() as u32).to_be_bytes()),
-        Family::V6 => push_groups(text, addr.bits()),
+        Family::V4 => push_dotted(buffer, (addr.bits() as u32).to_be_bytes()),
+        Family::V6 => push_groups(buffer, addr.bits()),
     }
 }
 
 /// Appends the four octets in decimal, joined by `.`.
-fn push_dotted(text: &mut String, octets: [u8; 4]) -> Result<(), AllocError>
-    ensures { OnOk result (string_bytes text.new
-        ≡ string_bytes text.old ++ join_with_byte 46 (map decimal octets)) }
+fn push_dotted(buffer: &mut Vec<u8>, octets: [u8; 4])
+    requires { HasRoom buffer.old 23 }
+    ensures text { buffer.new.items
+        ≡ buffer.old.items ++ join_with_byte 46 (map decimal octets) }
+    ensures room { TookRoom buffer.old buffer.new 23 }
 {
     let [a, b, c, d] = octets;
-    push_octet(text, a)?;
-    text.push('.')?;
-    push_octet(text, b)?;
-    text.push('.')?;
-    push_octet(text, c)?;
-    text.push('.')?;
-    push_octet(text, d)
+    push_octet_number(buffer, a);
+    push_octet(buffer, b'.');
+    push_octet_number(buffer, b);
+    push_octet(buffer, b'.');
+    push_octet_number(buffer, c);
+    push_octet(buffer, b'.');
+    push_octet_number(buffer, d);
 }
 
 /// Appends the eight groups in hexadecimal, joined by `:`.
-fn push_groups(text: &mut String, bits: u128) -> Result<(), AllocError>
-    ensures { OnOk result (string_bytes text.new ≡ string_bytes text.old ++ printed_bits V6 bits) }
+fn push_groups(buffer: &mut Vec<u8>, bits: u128)
+    requires { HasRoom buffer.old 39 }
+    ensures text { buffer.new.items ≡ buffer.old.items ++ printed_bits V6 bits }
+    ensures room { TookRoom buffer.old buffer.new 39 }
 {
     push_four_groups(
-        text,
+        buffer,
         group(bits, 7),
         group(bits, 6),
         group(bits, 5),
         group(bits, 4),
-    )?;
-    text.push(':')?;
+    );
+    push_octet(buffer, b':');
     push_four_groups(
-        text,
+        buffer,
         group(bits, 3),
         group(bits, 2),
         group(bits, 1),
         group(bits, 0),
-    )
+    );
 }
 
 /// The group of 16 bits at a place, the lowest at place 0.
@@ -157,77 +167,132 @@ fn group(bits: u128, place: u8) -> u16
 }
 
 /// Appends four groups in hexadecimal, joined by `:`.
-fn push_four_groups(text: &mut String, a: u16, b: u16, c: u16, d: u16) -> Result<(), AllocError>
-    ensures { OnOk result (string_bytes text.new
-        ≡ string_bytes text.old ++ join_with_byte 58 (map (digits 16 false) (a ∷ b ∷ c ∷ d ∷ []))) }
+fn push_four_groups(buffer: &mut Vec<u8>, a: u16, b: u16, c: u16, d: u16)
+    requires { HasRoom buffer.old 19 }
+    ensures text { buffer.new.items ≡ buffer.old.items
+        ++ join_with_byte 58 (map (digits 16 false) (a ∷ b ∷ c ∷ d ∷ [])) }
+    ensures room { TookRoom buffer.old buffer.new 19 }
 {
-    push_group(text, a)?;
-    text.push(':')?;
-    push_group(text, b)?;
-    text.push(':')?;
-    push_group(text, c)?;
-    text.push(':')?;
-    push_group(text, d)
+    push_group(buffer, a);
+    push_octet(buffer, b':');
+    push_group(buffer, b);
+    push_octet(buffer, b':');
+    push_group(buffer, c);
+    push_octet(buffer, b':');
+    push_group(buffer, d);
 }
 
 /// Appends an octet in decimal.
-fn push_octet(text: &mut String, octet: u8) -> Result<(), AllocError>
-    ensures { OnOk result (string_bytes text.new ≡ string_bytes text.old ++ decimal octet) }
+fn push_octet_number(buffer: &mut Vec<u8>, octet: u8)
+    requires { HasRoom buffer.old 5 }
+    ensures text { buffer.new.items ≡ buffer.old.items ++ decimal octet }
+    ensures room { TookRoom buffer.old buffer.new 5 }
 {
-    push_decimal(text, u16::from(octet))
+    push_decimal(buffer, u16::from(octet));
 }
 
 /// Appends a number in decimal.
-fn push_decimal(text: &mut String, n: u16) -> Result<(), AllocError>
-    ensures { OnOk result (string_bytes text.new ≡ string_bytes text.old ++ decimal n) }
+fn push_decimal(buffer: &mut Vec<u8>, n: u16)
+    requires { HasRoom buffer.old 5 }
+    ensures text { buffer.new.items ≡ buffer.old.items ++ decimal n }
+    ensures room { TookRoom buffer.old buffer.new 5 }
 {
     if n < 10 {
-        return push_digit(text, n as u8);
+        push_digit(buffer, n as u8);
+        return;
     }
     if n < 100 {
-        push_digit(text, (n / 10) as u8)?;
-        return push_digit(text, (n % 10) as u8);
+        push_digit(buffer, (n / 10) as u8);
+        push_digit(buffer, (n % 10) as u8);
+        return;
     }
     if n < 1_000 {
-        push_digit(text, (n / 100) as u8)?;
-        push_digit(text, (n / 10 % 10) as u8)?;
-        return push_digit(text, (n % 10) as u8);
+        push_digit(buffer, (n / 100) as u8);
+        push_digit(buffer, (n / 10 % 10) as u8);
+        push_digit(buffer, (n % 10) as u8);
+        return;
     }
-    write!(text, "{n}")
+    if n < 10_000 {
+        push_digit(buffer, (n / 1_000) as u8);
+        push_digit(buffer, (n / 100 % 10) as u8);
+        push_digit(buffer, (n / 10 % 10) as u8);
+        push_digit(buffer, (n % 10) as u8);
+        return;
+    }
+    push_digit(buffer, (n / 10_000) as u8);
+    push_digit(buffer, (n / 1_000 % 10) as u8);
+    push_digit(buffer, (n / 100 % 10) as u8);
+    push_digit(buffer, (n / 10 % 10) as u8);
+    push_digit(buffer, (n % 10) as u8);
 }
 
 /// Appends a group of 16 bits in hexadecimal.
-fn push_group(text: &mut String, group: u16) -> Result<(), AllocError>
-    ensures { OnOk result (string_bytes text.new ≡ string_bytes text.old ++ digits 16 false group) }
+fn push_group(buffer: &mut Vec<u8>, group: u16)
+    requires { HasRoom buffer.old 4 }
+    ensures text { buffer.new.items ≡ buffer.old.items ++ digits 16 false group }
+    ensures room { TookRoom buffer.old buffer.new 4 }
 {
     if group < 0x10 {
-        return push_digit(text, group as u8);
+        push_digit(buffer, group as u8);
+        return;
     }
     if group < 0x100 {
-        push_digit(text, (group / 0x10) as u8)?;
-        return push_digit(text, (group % 0x10) as u8);
+        push_digit(buffer, (group / 0x10) as u8);
+        push_digit(buffer, (group % 0x10) as u8);
+        return;
     }
     if group < 0x1000 {
-        push_digit(text, (group / 0x100) as u8)?;
-        push_digit(text, (group / 0x10 % 0x10) as u8)?;
-        return push_digit(text, (group % 0x10) as u8);
+        push_digit(buffer, (group / 0x100) as u8);
+        push_digit(buffer, (group / 0x10 % 0x10) as u8);
+        push_digit(buffer, (group % 0x10) as u8);
+        return;
     }
-    push_digit(text, (group / 0x1000) as u8)?;
-    push_digit(text, (group / 0x100 % 0x10) as u8)?;
-    push_digit(text, (group / 0x10 % 0x10) as u8)?;
-    push_digit(text, (group % 0x10) as u8)
+    push_digit(buffer, (group / 0x1000) as u8);
+    push_digit(buffer, (group / 0x100 % 0x10) as u8);
+    push_digit(buffer, (group / 0x10 % 0x10) as u8);
+    push_digit(buffer, (group % 0x10) as u8);
+}
+
+/// Appends a router-id as 16 lower-case hexadecimal digits.
+pub(crate) fn push_router_id(buffer: &mut Vec<u8>, router_id: [u8; 8])
+    requires { HasRoom buffer.old 16 }
+    ensures text { buffer.new.items ≡ buffer.old.items ++ hex_digits router_id }
+    ensures room { TookRoom buffer.old buffer.new 16 }
+{
+    let mut digits = [0; 16];
+    hex::encode_to_slice(router_id, &mut digits).unwrap();
+    buffer.extend_from_slice(&digits).unwrap();
 }
 
 /// Appends a digit.
-fn push_digit(text: &mut String, digit: u8) -> Result<(), AllocError>
-    requires { digit < 16 }
-    ensures { OnOk result (string_bytes text.new
-        ≡ string_bytes text.old ++ digit_glyph false digit ∷ []) }
+fn push_digit(buffer: &mut Vec<u8>, digit: u8)
+    requires digit { digit < 16 }
+    requires room { HasRoom buffer.old 1 }
+    ensures text { buffer.new.items ≡ buffer.old.items ++ digit_glyph false digit ∷ [] }
+    ensures room { TookRoom buffer.old buffer.new 1 }
 {
     let glyph = if digit < 10 {
         b'0' + digit
     } else {
         b'a' + (digit - 10)
     };
-    text.push(char::from(glyph))
+    push_octet(buffer, glyph);
+}
+
+/// Appends an octet.
+fn push_octet(buffer: &mut Vec<u8>, octet: u8)
+    requires { HasRoom buffer.old 1 }
+    ensures text { buffer.new.items ≡ buffer.old.items ++ octet ∷ [] }
+    ensures room { TookRoom buffer.old buffer.new 1 }
+{
+    buffer.push(octet).unwrap();
+}
+
+/// Appends a text.
+pub(crate) fn push_text(buffer: &mut Vec<u8>, text: &str)
+    requires { HasRoom buffer.old (length text.now) }
+    ensures text { buffer.new.items ≡ buffer.old.items ++ text.now }
+    ensures room { TookRoom buffer.old buffer.new (length text.now) }
+{
+    buffer.extend_from_slice(text.as_bytes()).unwrap();
 }

@@ -1,19 +1,21 @@
 ghost use Rattle.std.specs.Prelude.{◌^◌, ◌<◌, None, IfOk};
 ghost use Rattle.babel_dump.specs.Command.{RanShow, Shows};
 ghost use Rattle.babel_dump.specs.Given.{IsFaultOfGiven, input, read_from};
-ghost use Rattle.babel_dump.specs.Parts.{Gathered, SaysSo};
+ghost use Rattle.babel_dump.specs.Parts.{Gathered};
 ghost use Rattle.babel_dump.specs.Run.{Reports, output, run_status};
+ghost use Rattle.babel_dump.specs.SlicedRows.{RowsSaySo};
 ghost use Rattle.babel_dump.specs.declared.format.Format.TheVariants as formats;
 
 use crate::byte_in::ByteIn;
 use crate::byte_out::ByteOut;
-use crate::finish::{Found, finish};
 use crate::format::Format;
 use crate::input::read_table;
 use crate::outcome::Outcome;
-use crate::output::show_output;
+use crate::output::report_output;
 use crate::reading::Reading;
 use crate::run_fault::RunFault;
+use crate::slice_buffer::SliceBuffer;
+use crate::slices::{FoundRows, Rows, finish_rows};
 use babel_prefix::Addr;
 use babel_table::Limits;
 use babel_tlv::{Mode, View};
@@ -74,28 +76,36 @@ pub(crate) fn show<R: ByteIn, W: ByteOut>(
         IfOk result (Reports dump None) }
 {
     let found = read_rows(alloc, reading, format, reader);
-    finish(writer, found)
+    finish_rows(writer, found)
 }
 
-/// Reads a dump to its end, or to its first fault, and makes the lines of its table.
+/// Reads a dump to its end, or to its first fault, and finds the rows and the report of its table.
 fn read_rows<R: ByteIn>(
     alloc: Global,
     reading: Reading,
     format: Format,
     reader: &mut R,
-) -> Result<Found, RunFault>
+) -> Result<FoundRows, RunFault>
     requires failures { (R.state reader.old).failures < 2 ^ 63 }
     requires reads { (R.state reader.old).reads < 2 ^ 63 }
     requires ends { (R.state reader.old).ends < 2 ^ 63 }
     ensures { let dump = read_from (R.state reader.old) (R.state reader.new) reading in
-        Gathered dump None (IsFaultOfGiven dump) (SaysSo dump None (Shows dump format)) result }
+        Gathered dump None (IsFaultOfGiven dump) (RowsSaySo dump None (Shows dump format)) result }
 {
     let table = read_table(alloc, reading, reader)?;
-    let text = show_output(alloc, format, &table)?.into_bytes();
+    let after = report_output(alloc, format, table.report())?;
+    let buffer = SliceBuffer::new(alloc)?;
     let outcome = Outcome {
         status: 0,
         report: *table.report(),
         other: None,
     };
-    Ok(Found { text, outcome })
+    let rows = Rows::Table(table);
+    Ok(FoundRows {
+        format,
+        rows,
+        after,
+        buffer,
+        outcome,
+    })
 }

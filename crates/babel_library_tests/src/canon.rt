@@ -1,63 +1,46 @@
-//! Worked dumps, by the public calls. Expected values are those of RFC 8966 and RFC 9079, worked by hand.
+//! The canonical form of worked dumps, by the public calls. Expected values are those of RFC 8966 and RFC 9079, worked by
+//! hand. What else dumps are normalised to, and how they compare, the runs show, which write just that.
 mod changed;
-mod faults;
-mod forms;
-mod pairs;
 mod refused_memory;
+mod sinks;
 mod sizes;
-mod verdicts;
 
-use crate::dumps::octets;
-use babel_canon::{Body, normalise};
-use babel_prefix::{Addr, Prefix, parse_addr};
+use crate::dumps::{
+    ALL_RETRACTED, MERGED, NESTED_SOURCES, NESTED_SOURCES_FORM, ONE_HELD_FORM, ONE_ROUTE_FORM, V4,
+    octets,
+};
+use babel_canon::{Body, canonical};
+use babel_prefix::{Addr, parse_addr};
 use babel_table::{Limits, Table, read_dump};
-use babel_tlv::{Ann, Held, Key, Mode};
-use std::alloc::{AllocError, Global};
-use std::process::Abort;
+use babel_tlv::Mode;
+use std::alloc::Global;
 use std::test::Fail;
 
-/// Whom canonical octets are read from.
-const SENDERS: [&str; 3] = ["192.0.2.1", "198.51.100.7", "fe80::1"];
-
-fn addr(rt: &impl Abort, text: &str) -> Addr {
-    parse_addr(text).expect(rt, "an address")
+/// The address that a text spells.
+fn addr(text: &str) -> Result<Addr, Fail> {
+    Ok(parse_addr(text).ok_or("no address")?)
 }
 
-fn table(rt: &impl Abort, alloc: Global, mode: Mode, sender: &str, dump: &str) -> Table {
-    let dump = octets(alloc, dump).expect(rt, "memory");
-    read_dump(alloc, Limits::usual(), mode, addr(rt, sender), &dump).expect(rt, "no fault")
+/// The table of a dump of this sender.
+fn table(alloc: Global, mode: Mode, sender: &str, dump: &[u8]) -> Result<Table, Fail> {
+    Ok(read_dump(alloc, Limits::usual(), mode, addr(sender)?, dump)?)
 }
 
-/// A route of seqno 1 with this metric by this next hop.
-fn route_by(rt: &impl Abort, hop: &str, metric: u16) -> Held {
-    let ann = Ann::new([2, 0, 0, 0, 0, 0, 0, 1], 1, metric, addr(rt, hop));
-    Held::Route(ann.expect(rt, "an announcement"))
-}
+/// The mode, a dump from 192.0.2.1, how many canonical pairs it has, and its canonical octets.
+static FORMS: [(Mode, &str, usize, &str); 3] = [
+    (Mode::Plain, MERGED, 1, ONE_ROUTE_FORM),
+    (Mode::Plain, NESTED_SOURCES, 9, NESTED_SOURCES_FORM),
+    (Mode::Hold, ALL_RETRACTED, 2, ONE_HELD_FORM),
+];
 
-/// A route of seqno 1 with this metric by 192.0.2.1.
-fn route(rt: &impl Abort, metric: u16) -> Held {
-    route_by(rt, "192.0.2.1", metric)
-}
-
-fn key(rt: &impl Abort, dst: &str, dst_len: u8, src: &str, src_len: u8) -> Key {
-    let dst = Prefix::new(addr(rt, dst), dst_len).expect(rt, "a destination");
-    let src = Prefix::new(addr(rt, src), src_len).expect(rt, "a source");
-    Key::new(dst, src).expect(rt, "one family")
-}
-
-/// Canonical octets are their own canonical form, whoever sends them.
-fn check_stays(rt: &impl Abort, alloc: Global, mode: Mode, text: &[u8]) -> Result<(), Fail> {
-    for sender in SENDERS {
-        let again = normalise(
-            alloc,
-            Limits::usual(),
-            mode,
-            Body::usual(),
-            addr(rt, sender),
-            text,
-        )
-        .expect(rt, "no fault");
-        assert_eq!(rt; again.as_slice(), text);
+#[test]
+fn pairs_and_octets(rt: HostRuntime) -> Result<(), Fail> {
+    for (mode, dump, pairs, form) in &FORMS {
+        let table = table(rt.alloc(), *mode, V4, &octets(rt.alloc(), dump)?)?;
+        let canon = canonical(rt.alloc(), Limits::usual(), Body::usual(), &table)?;
+        assert_eq!(rt; canon.pairs().len(), *pairs, "of {dump}");
+        let octets = octets(rt.alloc(), form)?;
+        assert_eq!(rt; canon.bytes(), octets.as_slice(), "of {dump}");
     }
     Ok(())
 }

@@ -4,7 +4,7 @@
 
 ghost use Rattle.std.specs.Prelude.{◌≤◌};
 
-use babel_capture::{Capture, Origin, Tally, Wanted};
+use babel_capture::{Capture, Wanted};
 use babel_prefix::{Addr, Family};
 use std::alloc::Global;
 use std::test::Fail;
@@ -165,53 +165,11 @@ static CAPTURES: [(&[&str], u64, &str); 14] = [
 fn reads_captures(rt: HostRuntime) -> Result<(), Fail> {
     for (parts, limit, told) in &CAPTURES {
         let octets = joined(rt.alloc(), parts)?;
-        for step in [1, 5, 4096] {
-            let read = read(rt.alloc(), *limit, octets.as_slice(), step)?;
-            assert_eq!(rt; read.as_str(), *told);
+        for step in &[1, 5, 4096] {
+            let read = read(rt.alloc(), *limit, octets.as_slice(), *step)?;
+            assert_eq!(rt; read.as_str(), *told, "in pieces of {step}");
         }
     }
-    Ok(())
-}
-
-/// A section of two interfaces: a packet of fe80::5eff:fe00:c602 on the other one, and then two of
-/// fe80::5eff:fe00:c601 on the first.
-const TWO_SENDERS: [&str; 12] = [
-    "0a0d0d0a0000001c1a2b3c4d00010000ffffffffffffffff0000001c",
-    "0000000100000014000100000000000000000014",
-    "0000000100000014000100000000000000000014",
-    "00000006000000700000000100000000000000000000004e0000004e",
-    OTHER,
-    "000000000070",
-    "00000006000000700000000000000000000000000000004e0000004e",
-    FIRST,
-    "000000000070",
-    "00000006000000780000000000000000000000000000005600000056",
-    SECOND,
-    "000000000078",
-];
-
-#[test]
-fn counts_senders(rt: HostRuntime) -> Result<(), Fail> {
-    let octets = joined(rt.alloc(), &TWO_SENDERS)?;
-    let mut capture = Capture::new(rt.alloc(), 4096, Wanted::Everyone);
-    let Ok(()) = capture.feed(octets.as_slice()) else {
-        return Err(Fail::from("the capture is refused"));
-    };
-    let Ok(gathered) = capture.finish() else {
-        return Err(Fail::from("the capture is refused"));
-    };
-    let mut text = String::new(rt.alloc());
-    for (Origin { interface, sender }, Tally { packets, octets }) in gathered.senders().iter() {
-        write!(
-            text,
-            "{sender} interface {interface} packets {packets} octets {octets}\n"
-        )?;
-    }
-    let told = concat!(
-        "fe80:0:0:0:0:5eff:fe00:c601 interface 0 packets 2 octets 40\n",
-        "fe80:0:0:0:0:5eff:fe00:c602 interface 1 packets 1 octets 16\n"
-    );
-    assert_eq!(rt; text.as_str(), told);
     Ok(())
 }
 

@@ -1,63 +1,71 @@
-use babel_prefix::{Prefix, parse_addr};
+use babel_prefix::{Addr, Prefix, parse_addr};
 use std::fmt;
 use std::fmt::Write;
 use std::test::Fail;
 
+/// Texts of addresses, and how the addresses are printed.
+static ADDRESSES: [(&str, &str); 7] = [
+    ("2001:DB8::1", "2001:db8:0:0:0:0:0:1"),
+    ("::", "0:0:0:0:0:0:0:0"),
+    ("1:2:3:4:5:6:7::", "1:2:3:4:5:6:7:0"),
+    ("::2:3:4:5:6:7:8", "0:2:3:4:5:6:7:8"),
+    ("00ff:0:0:0:aBcD:0:0:0001", "ff:0:0:0:abcd:0:0:1"),
+    ("255.255.255.255", "255.255.255.255"),
+    ("0.0.0.0", "0.0.0.0"),
+];
+
+/// Texts of no address.
+static NO_ADDRESSES: [&str; 16] = [
+    "",
+    "01.2.3.4",
+    "1.2.3",
+    "1.2.3.256",
+    "1.2.3.4.5",
+    "+1.2.3.4",
+    " 1.2.3.4",
+    "1::2::3",
+    "1:2:3:4:5:6:7::8",
+    "1:2:3:4:5:6:7:8:9",
+    "1:2:3:4:5:6:7:",
+    ":::",
+    "12345::",
+    "+1::",
+    "::ffff:192.0.2.1",
+    "fe80::1%eth0",
+];
+
 #[test]
 fn addresses_read_and_printed(rt: HostRuntime) -> Result<(), Fail> {
-    for (text, printed) in [
-        ("2001:DB8::1", "2001:db8:0:0:0:0:0:1"),
-        ("::", "0:0:0:0:0:0:0:0"),
-        ("1:2:3:4:5:6:7::", "1:2:3:4:5:6:7:0"),
-        ("::2:3:4:5:6:7:8", "0:2:3:4:5:6:7:8"),
-        ("00ff:0:0:0:aBcD:0:0:0001", "ff:0:0:0:abcd:0:0:1"),
-        ("255.255.255.255", "255.255.255.255"),
-        ("0.0.0.0", "0.0.0.0"),
-    ] {
-        let addr = parse_addr(text).ok_or("no address")?;
-        let again = addr.to_string(rt.alloc())?;
-        assert_eq!(rt; again.as_str(), printed, "at {text}");
+    for (text, printed) in &ADDRESSES {
+        let again = addr(text)?.to_string(rt.alloc())?;
+        assert_eq!(rt; again.as_str(), *printed, "at {text}");
+    }
+    for text in &NO_ADDRESSES {
+        assert_eq!(rt; parse_addr(text), None, "at {text:?}");
     }
     Ok(())
 }
 
-#[test]
-fn texts_of_no_address(rt: HostRuntime) {
-    for text in [
-        "",
-        "01.2.3.4",
-        "1.2.3",
-        "1.2.3.256",
-        "1.2.3.4.5",
-        "+1.2.3.4",
-        " 1.2.3.4",
-        "1::2::3",
-        "1:2:3:4:5:6:7::8",
-        "1:2:3:4:5:6:7:8:9",
-        "1:2:3:4:5:6:7:",
-        ":::",
-        "12345::",
-        "+1::",
-        "::ffff:192.0.2.1",
-        "fe80::1%eth0",
-    ] {
-        assert_eq!(rt; parse_addr(text), None, "at {text:?}");
-    }
+/// The address that a text spells.
+fn addr(text: &str) -> Result<Addr, Fail> {
+    Ok(parse_addr(text).ok_or("no address")?)
 }
+
+/// An address, a length, and the prefix that they give, as it is printed.
+static PREFIXES: [(&str, u8, &str); 5] = [
+    ("10.1.2.3", 0, "0.0.0.0/0"),
+    ("10.1.2.3", 9, "10.0.0.0/9"),
+    ("10.1.2.3", 32, "10.1.2.3/32"),
+    ("2001:db8:ffff::1", 33, "2001:db8:8000:0:0:0:0:0/33"),
+    ("2001:db8::1", 128, "2001:db8:0:0:0:0:0:1/128"),
+];
 
 #[test]
 fn prefixes_printed(rt: HostRuntime) -> Result<(), Fail> {
-    for (text, len, printed) in [
-        ("10.1.2.3", 0, "0.0.0.0/0"),
-        ("10.1.2.3", 9, "10.0.0.0/9"),
-        ("10.1.2.3", 32, "10.1.2.3/32"),
-        ("2001:db8:ffff::1", 33, "2001:db8:8000:0:0:0:0:0/33"),
-        ("2001:db8::1", 128, "2001:db8:0:0:0:0:0:1/128"),
-    ] {
-        let addr = parse_addr(text).ok_or("no address")?;
-        let prefix = Prefix::new(addr, len).ok_or("no prefix")?;
+    for (text, len, printed) in &PREFIXES {
+        let prefix = Prefix::new(addr(text)?, *len).ok_or("no prefix")?;
         let again = prefix.to_string(rt.alloc())?;
-        assert_eq!(rt; again.as_str(), printed, "at {text} and {len}");
+        assert_eq!(rt; again.as_str(), *printed, "at {text} and {len}");
     }
     Ok(())
 }
@@ -91,8 +99,8 @@ impl Write for Refusing {
 
 #[test]
 fn display_fails_exactly_where_its_writer_does(rt: HostRuntime) -> Result<(), Fail> {
-    for text in ["192.0.2.1", "2001:db8::1"] {
-        let addr = parse_addr(text).ok_or("no address")?;
+    for text in &["192.0.2.1", "2001:db8::1"] {
+        let addr = addr(text)?;
         let prefix = Prefix::new(addr, 24).ok_or("no prefix")?;
         for left in 0..24 {
             let mut writer = Refusing::after(left);

@@ -1,9 +1,9 @@
-//! Worked dumps, by the public calls. Expected values are those of RFC 8966 and RFC 9079, worked by hand.
+//! How dumps are read, by the public calls: in pieces, cut off, with an octet changed, with a fault. Expected values are those
+//! of RFC 8966 and RFC 9079, worked by hand. Which rows and reports whole dumps give the runs show, which print just these.
 mod changes;
 mod faults;
 mod pieces;
 mod refused_memory;
-mod rows;
 
 ghost use Rattle.std.specs.Prelude.{◌≡◌, ◌<◌, ◌^◌};
 ghost use Rattle.babel_prefix.specs.declared.family.Family.TheVariants.{V4, V6};

@@ -13,26 +13,30 @@ use Rattle.babel_table.specs.Holds.{HoldsAtMost, HoldsMoreThan, AreRowsOf}
 use Rattle.babel_table.specs.Rows.{Routes}
 use Rattle.babel_table.specs.Counts.{counts_of}
 
--- the sayings are these events, one each, and no more than so many keys hold behind any of them
+-- none of the sayings refuses the dump: each is an event, `said` is `before` and then these events,
+-- and after each of them something is held for at most so many keys
 abbrev pub AreFine : Mode → ℕ → List Event → List Saying → List Event → Type 0
 AreFine mode entries before [] said = said ≡ before
 AreFine mode entries before (saying ∷ later) said =
     (event : Event) × (saying.what ≡ Ok event) × HoldsAtMost mode entries (before ++ event ∷ [])
     × AreFine mode entries (before ++ event ∷ []) later said
 
--- behind these events, the TLV refuses the dump, or makes more than so many keys hold
+-- after the events `before`, the saying of the TLV at this offset refuses the dump with this fault:
+-- its own, or TooManyRoutes, since after its event something is held for more than so many keys
 abbrev pub Refuses : Mode → ℕ → List Event → ℕ → Result Event Fault → Fault → Type 0
 Refuses mode entries before at (Err refused) fault = fault ≡ refused
-Refuses mode entries before at (Ok event) fault = (fault ≡ faults.TooManyRoutes at) × HoldsMoreThan mode entries (before ++ event ∷ [])
+Refuses mode entries before at (Ok event) fault =
+    (fault ≡ faults.TooManyRoutes at) × HoldsMoreThan mode entries (before ++ event ∷ [])
 
 -- the fault of the first TLV that refuses the dump
 abbrev pub RefusedBy : Mode → ℕ → List Saying → Fault → Type 0
-RefusedBy mode entries said fault =
+RefusedBy mode entries told fault =
     (front : List Saying) × (saying : Saying) × (later : List Saying) × (before : List Event)
-    × (said ≡ front ++ saying ∷ later) × AreFine mode entries [] front before × Refuses mode entries before saying.at saying.what fault
+    × (told ≡ front ++ saying ∷ later) × AreFine mode entries [] front before
+    × Refuses mode entries before saying.at saying.what fault
 
--- The octets are packets whose TLVs are fine, and then octets that aren't none and begin with no packet; or they begin
--- with packets of which a TLV refuses the dump.
+-- The octets are packets whose TLVs are fine, and then octets that aren't none and begin with no
+-- packet; or they begin with packets of which a TLV refuses the dump.
 abbrev pub StreamFault : Mode → ℕ → Address → List ℕ → Fault → Type 0
 StreamFault mode entries sender octets fault =
     (packets : List (List TlvAt)) × (rest : List ℕ) × ReadsAs octets packets rest
@@ -40,28 +44,34 @@ StreamFault mode entries sender octets fault =
     × PacketFault (length (flat_map packet_octets packets)) rest fault)
     ⊎ RefusedBy mode entries (sayings sender packets) fault)
 
+-- the dump ends within a packet
 abbrev pub IsTruncated : Fault → Type 0
 IsTruncated (faults.Truncated at) = Unit {0}
 IsTruncated fault = ⊥
 
--- The fault of a dump. Octets past the limit are never looked at: if there are any, it is that of the octets up to the
--- limit unless these have none or are only truncated, and then TooLong.
+-- The fault of a dump. Octets past the limit are never looked at: if there are any, it is that of
+-- the octets up to the limit unless these have none or are only truncated, and then TooLong.
 abbrev pub DumpFault : Bounds → Mode → Address → List ℕ → Fault → Type 0
 DumpFault limits mode sender dump fault =
     ((length dump ≤ limits.bytes) × StreamFault mode limits.entries sender dump fault)
-    ⊎ ((limits.bytes < length dump) × StreamFault mode limits.entries sender (take limits.bytes dump) fault × ¬ IsTruncated fault)
+    ⊎ ((limits.bytes < length dump)
+    × StreamFault mode limits.entries sender (take limits.bytes dump) fault × ¬ IsTruncated fault)
     ⊎ ((limits.bytes < length dump) × (fault ≡ faults.TooLong)
-    × ((other : Fault) → StreamFault mode limits.entries sender (take limits.bytes dump) other → IsTruncated other))
+    × ((other : Fault) → StreamFault mode limits.entries sender (take limits.bytes dump) other
+    → IsTruncated other))
 
 abbrev pub HasNoFault : Bounds → Mode → Address → List ℕ → Type 0
 HasNoFault limits mode sender dump = (fault : Fault) → DumpFault limits mode sender dump fault → ⊥
 
 -- no fault, or the dump may still go on
 abbrev pub MayGoOn : Bounds → Mode → Address → List ℕ → Type 0
-MayGoOn limits mode sender dump = (fault : Fault) → DumpFault limits mode sender dump fault → IsTruncated fault
+MayGoOn limits mode sender dump =
+    (fault : Fault) → DumpFault limits mode sender dump fault → IsTruncated fault
 
--- the table of a dump: its rows are what holds behind its events, and its report counts its TLVs
-pub record IsTableOf (limits : Bounds) (mode : Mode) (sender : Address) (dump : List ℕ) (table : Routes) : Type 0 where
+-- the table of a dump, which is whole packets whose TLVs do not refuse it: its rows are what is
+-- held after its events, and its report counts its TLVs. The limit on octets is no part of this.
+pub record IsTableOf (limits : Bounds) (mode : Mode) (sender : Address) (dump : List ℕ)
+    (table : Routes) : Type 0 where
   pub packets : List (List TlvAt)
   pub said : List Event
   pub reads : Framed dump packets

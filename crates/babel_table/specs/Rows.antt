@@ -1,5 +1,5 @@
--- The rows of a table, by destination and source prefix: the route table of RFC 8966, 3.2.6, and RFC 9079, 3.2, of one
--- neighbour. Their order is this project's own.
+-- The rows of a table, by destination and source prefix: the route table of RFC 8966, 3.2.6, and
+-- RFC 9079, 3.2, of one neighbour. Their order is this project's own.
 use Rattle.std.specs.Prelude.{List, filter, map}
 use Rattle.std.specs.List.{AllByRecursion}
 use Rattle.std.specs.List.Sorted.{IsStrictlySortedBy}
@@ -12,7 +12,7 @@ use Rattle.babel_tlv.specs.Route.{RouteKey, key_cmp}
 use Rattle.babel_tlv.specs.Pair.{IsPair}
 use Rattle.babel_table.specs.Counts.{Counts}
 
--- the keys rise
+-- the keys rise, so that none is there twice
 abbrev pub IsRising : {V : Type 0} → List (RouteKey × V) → Type 0
 IsRising rows = IsStrictlySortedBy key_cmp (keys_of rows)
 
@@ -21,7 +21,7 @@ pub record AreRows (rows : List (RouteKey × Held)) : Type 0 where
   pub rising : IsRising rows
   pub each : AllByRecursion IsPair rows
 
--- a table: its rows, and what was seen on the way
+-- a table (`Table` in the code): its rows, and its report, which counts the TLVs
 pub record Routes : Type 0 where
   pub rows : List (RouteKey × Held)
   pub report : Counts

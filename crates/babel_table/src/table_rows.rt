@@ -1,4 +1,5 @@
-ghost use Rattle.std.specs.Prelude.{◌≡◌, length};
+ghost use Rattle.std.specs.Prelude.{◌≡◌, ◌∷◌, [], MatchOption, length};
+ghost use Rattle.babel_tlv.specs.declared.held.Held.{Held};
 
 use crate::compact_row::CompactRow;
 use crate::halves::Halves;
@@ -19,6 +20,23 @@ impl<'a> TableRows<'a> {
         ensures { result ≡ length (rows_left self.now) }
     {
         self.v4.len() + self.v6.len()
+    }
+
+    /// The key of the next row, which is passed by with what it holds; `None` where no row is left.
+    pub fn next_key(&mut self) -> Option<Key>
+        ensures { MatchOption result
+            ((rows_left self.old ≡ []) × (rows_left self.new ≡ []))
+            (λ key. (held : Held) × (rows_left self.old ≡ (key, held) ∷ rows_left self.new)) }
+    {
+        if let [(key, _), rest @ ..] = self.v4 {
+            self.v4 = rest;
+            return Some(key.key());
+        }
+        let [(key, _), rest @ ..] = self.v6 else {
+            return None;
+        };
+        self.v6 = rest;
+        Some(key.key())
     }
 }
 

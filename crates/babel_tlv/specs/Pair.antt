@@ -9,7 +9,7 @@ use Rattle.babel_tlv.specs.declared.event.Event.{Event}
 use Rattle.babel_tlv.specs.declared.event.Event.TheVariants as events
 use Rattle.babel_tlv.specs.Route.{RouteKey, AreOfOneFamily, IsAnnouncement, announcement_cmp}
 
--- a key and what is held for it
+-- a row of a table or a canonical pair: two prefixes, and a route or unreachable (`Held`)
 abbrev pub Pair : Type 0
 Pair = RouteKey × Held
 

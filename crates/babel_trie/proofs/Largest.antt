@@ -5,14 +5,14 @@ use Rattle.std.proofs.lemmas.Nat.{pow_pos}
 use Rattle.std.proofs.Math.Nat.{mul-mod_left, pow-suc}
 use Rattle.babel_prefix.specs.Block.{Block, BlockCovers, IsBlock, parent}
 use Rattle.babel_prefix.proofs.BlockLaws.{parent_wider, same_block}
-use Rattle.babel_prefix.proofs.Members.{Listed, Listed-append_left, Listed-append_right, Listed-append_cases}
-use Rattle.babel_trie.specs.Cut.{block_from, IsInside, StartsBefore, AreLargestIn, block_or, blocks_in, largest_in}
+use Rattle.babel_prefix.proofs.Members.{Listed, Contains-from_Listed, Listed-append_left, Listed-append_right, Listed-append_cases}
+use Rattle.babel_trie.specs.Cut.{block_from, IsInside, IsLargestIn, StartsBefore, AreLargestIn, block_or, blocks_in, largest_in}
 use Rattle.babel_trie.specs.Rows.{IsPlace}
-use Rattle.babel_trie.proofs.Cuts.{largest_from_cover}
+use Rattle.babel_trie.proofs.Cuts.{IsCutTo, largest_from_cover}
 use Rattle.babel_trie.proofs.Lists.{InOrder, InOrder-append}
 use Rattle.babel_trie.proofs.OneList.{largest_are_one_list}
 use Rattle.babel_trie.proofs.PlaceLaws.{place_low, place_high}
-use Rattle.babel_trie.proofs.Ranges.{size, range_covers, inside_range, range_inside, parent_is, start_covered}
+use Rattle.babel_trie.proofs.Ranges.{size, covers_range, range_covers, inside_range, range_inside, parent_is, start_covered}
 
 -- a place is a prefix
 pub place_is_block : (w bits start : ℕ) → IsPlace w bits start → IsBlock w (block_from w start bits)
@@ -171,3 +171,43 @@ module _ (w from last : ℕ) where
     -- there is no other list of them
     pub largest_is : (blocks : List Block) → AreLargestIn w from last blocks → blocks ≡ largest_in w from last
     largest_is blocks are = largest_are_one_list w from last blocks (largest_in w from last) are largest_are_in
+
+-- a cut up to an address, and the largest blocks from there on
+pub cut_goes_on : (w from last at : ℕ) (blocks : List Block) → from ≤ at → last < 2 ^ w → IsCutTo w from last at blocks → blocks ++ largest_in w at last ≡ largest_in w from last
+cut_goes_on w from last at blocks low last_in cut =
+    largest_is w from last last_in (blocks ++ rest) (largest_from_cover w from last (blocks ++ rest)
+    (InOrder-append StartsBefore blocks rest cut.in_order (largest_in_order w at last last_in) (λ x y s t. let lt : x.start < at = cut.below x s in omega (arith, (from_here y t).0)))
+    (λ b t. elim (Listed-append_cases blocks rest b t) [ inl s ↦ cut.largest b s | inr s ↦ still_largest b s ])
+    (λ a low high. elim (cases_lt a at) [
+      | inl before ↦ let c = cut.covered a low before in (c.0, Listed-append_left blocks rest c.0 c.1, c.2)
+      | inr after ↦ let c = largest_cover w at last last_in a after high in (c.0, Listed-append_right blocks rest c.0 c.1, c.2)
+    ]))
+  where
+    rest : List Block
+    rest = largest_in w at last
+
+    is_largest : (b : Block) → Listed rest b → IsLargestIn w at last b
+    is_largest b t = ((largest_are_in w at last last_in).exact b).0 (Contains-from_Listed rest b t)
+
+    from_here : (b : Block) → Listed rest b → (at ≤ b.start) × (b.start + size w b ≤ last + 1)
+    from_here b t = inside_range w at last b (is_largest b t).is_prefix (is_largest b t).inside
+
+    still_largest : (b : Block) → Listed rest b → IsLargestIn w from last b
+    still_largest b t =
+        let is = is_largest b t in
+        let range = from_here b t in
+        record {
+          is_prefix = is.is_prefix;
+          inside = range_inside w from last b is.is_prefix (omega (arith, range.0)) range.1;
+          largest = λ some inside.
+              let p : Block = parent w b in
+              let p_is : IsBlock w p = parent_is w b is.is_prefix in
+              let p_range = inside_range w from last p p_is inside in
+              let in_p = covers_range w p b.start p_is (parent_wider w b b.start (start_covered w b)) in
+              elim (cases_lt p.start at) [
+                | inl below ↦
+                    let crossed : p.start + 2 ^ (w - p.len) ≤ at = cut.none_crosses p.start (w - p.len) p_range.0 below p_is.rest_is_zero p_range.1 in
+                    omega (arith, range.0, in_p.1)
+                | inr above ↦ is.largest some (range_inside w at last p p_is above p_range.1)
+              ];
+        }

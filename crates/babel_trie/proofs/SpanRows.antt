@@ -24,6 +24,12 @@ module _ {V : Type 0} (w : ℕ) where
   each_with-push t (c ∷ bs) b =
       ap (λ rows. rows_at c (leaves w w 0 t) ++ rows) (each_with-push t bs b) ∙ sym (append_assoc (rows_at c (leaves w w 0 t)) (rows_of w (each_with t bs)) (rows_at b (leaves w w 0 t)))
 
+  -- the rows of some blocks, and then of others
+  pub each_with-append : (t : Shape (Option V)) (bs cs : List Block) → rows_of w (each_with t (bs ++ cs)) ≡ rows_of w (each_with t bs) ++ rows_of w (each_with t cs)
+  each_with-append t [] cs = refl
+  each_with-append t (b ∷ bs) cs =
+      ap (λ rows. rows_at b (leaves w w 0 t) ++ rows) (each_with-append t bs cs) ∙ sym (append_assoc (rows_at b (leaves w w 0 t)) (rows_of w (each_with t bs)) (rows_of w (each_with t cs)))
+
   -- blocks on which nothing is answered have no rows
   pub no_rows : (t : Shape (Option V)) → t ≡ leaf None → (bs : List Block) → rows_of w (each_with t bs) ≡ []
   no_rows t is [] = refl

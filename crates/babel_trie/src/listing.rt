@@ -1,5 +1,5 @@
 //! The rows of a list of changes.
-ghost use Rattle.std.specs.Prelude.{◌≡◌, ◌+◌, ◌-◌, ◌*◌, ◌^◌, ◌<◌, ◌≤◌, ◌++◌, List, map, length, OnOk, Option, None, true, false};
+ghost use Rattle.std.specs.Prelude.{◌≡◌, ◌+◌, ◌-◌, ◌*◌, ◌^◌, ◌<◌, ◌≤◌, ◌++◌, List, map, length, OnOk, OnErr, Option, None, true, false};
 ghost use Rattle.babel_prefix.specs.Address.{IsAddressPrefix, block_of};
 ghost use Rattle.babel_prefix.specs.Block.{IsBlock};
 ghost use Rattle.babel_prefix.specs.Entries.{Entry};
@@ -11,6 +11,7 @@ ghost use Rattle.babel_trie.specs.Interned.{Stands, IsTrie, HasTrie};
 ghost use Rattle.babel_trie.specs.Nested.{HasRowsOf, entry_at, node_block, leaves, rows_at, rows_of};
 ghost use Rattle.babel_trie.specs.Runs.{AreRuns, StartBelow};
 ghost use Rattle.babel_trie.specs.Shape.{Shape};
+ghost use Rattle.babel_trie.specs.Sinks.{StopsAmong};
 ghost use Rattle.babel_trie.specs.Spans.{each_with, run_rows};
 ghost use Rattle.babel_trie.specs.declared.runs.Change.{Change};
 ghost use Rattle.babel_trie.specs.declared.table.Node.{Node};
@@ -25,7 +26,6 @@ use crate::runs::Change;
 use crate::sink::Sink;
 use crate::table::{Loose, Sources, Table, bit_at, fork};
 use babel_prefix::{Addr, Family, Prefix};
-use std::alloc::AllocError;
 
 /// The place, shifted by this many bits.
 #[tactic(auto, using(crate::proofs::ListLaws::no_place, crate::proofs::ListLaws::place_shifted))]
@@ -126,14 +126,20 @@ impl<V: LawfulOrd> Table<Option<V>> {
         bits: u8,
         place: u128,
         out: &mut S,
-    ) -> Result<(), AllocError>
+    ) -> Result<(), S::Error>
         requires trie { IsTrie bits self.now.nodes.items whole }
         requires dst_family { dst.address.family ≡ family }
         requires bits { bits ≤ width_of family }
         requires place { place < 2 ^ (width_of family - bits) }
-        ensures { OnOk result ((t : Shape (Option V)) (rows : List (Entry V))
-            → Stands self.now.nodes.items whole t → S.has out.old rows
-            → S.has out.new (rows ++ map (entry_at family)
+        requires can { S.can_put out.old }
+        ensures can { OnOk result (S.can_put out.new) }
+        ensures ok { OnOk result ((t : Shape (Option V)) (start : S) (rows : List (Entry V))
+            → Stands self.now.nodes.items whole t → S.has start out.old rows
+            → S.has start out.new (rows ++ map (entry_at family)
+            (rows_at (block_of dst) (leaves (width_of family) bits place t)))) }
+        ensures err { OnErr result ((t : Shape (Option V)) (start : S) (rows : List (Entry V))
+            → Stands self.now.nodes.items whole t → S.has start out.old rows
+            → StopsAmong (S.stopped start out.new) rows (map (entry_at family)
             (rows_at (block_of dst) (leaves (width_of family) bits place t)))) }
     {
         let (block, bits, place) = block_with_rows(whole, family, bits, place);
@@ -144,9 +150,10 @@ impl<V: LawfulOrd> Table<Option<V>> {
             self.push_rows(high, family, dst, bits - 1, high_place, out)?;
             return Ok(());
         };
-        if let Some(value) = constant {
-            out.put((dst, node_prefix(family, bits, place), value))?;
-        }
+        let Some(value) = constant else {
+            return Ok(());
+        };
+        out.put((dst, node_prefix(family, bits, place), value))?;
         Ok(())
     }
 
@@ -159,12 +166,19 @@ impl<V: LawfulOrd> Table<Option<V>> {
         from: u128,
         last: u128,
         out: &mut S,
-    ) -> Result<(), AllocError>
+    ) -> Result<(), S::Error>
         requires trie { HasTrie (width_of family) self.now.nodes.items sources }
         requires some { from ≤ last }
         requires fits { last < 2 ^ width_of family }
-        ensures { OnOk result ((rows : List (Entry V)) → S.has out.old rows
-            → S.has out.new (rows ++ map (entry_at family) (rows_of (width_of family) (each_with
+        requires can { S.can_put out.old }
+        ensures can { OnOk result (S.can_put out.new) }
+        ensures ok { OnOk result ((start : S) (rows : List (Entry V)) → S.has start out.old rows
+            → S.has start out.new (rows ++ map (entry_at family) (rows_of (width_of family)
+            (each_with (sources_at (width_of family) self.now.nodes.items sources)
+            (largest_in (width_of family) from last))))) }
+        ensures err { OnErr result ((start : S) (rows : List (Entry V)) → S.has start out.old rows
+            → StopsAmong (S.stopped start out.new) rows (map (entry_at family)
+            (rows_of (width_of family) (each_with
             (sources_at (width_of family) self.now.nodes.items sources)
             (largest_in (width_of family) from last))))) }
     {
@@ -189,13 +203,18 @@ impl<V: LawfulOrd> Table<Option<V>> {
         runs: &[Change<Sources<Option<V>>>],
         family: Family,
         out: &mut S,
-    ) -> Result<(), AllocError>
+    ) -> Result<(), S::Error>
         requires runs { AreRuns runs.now }
         requires below { StartBelow (2 ^ width_of family) runs.now }
         requires each { (x : Change (Sources (Option V))) → Listed runs.now x
             → HasTrie (width_of family) self.now.nodes.items x.sources }
-        ensures { OnOk result ((rows : List (Entry V)) → S.has out.old rows
-            → S.has out.new (rows ++ map (entry_at family)
+        requires can { S.can_put out.old }
+        ensures can { OnOk result (S.can_put out.new) }
+        ensures ok { OnOk result ((start : S) (rows : List (Entry V)) → S.has start out.old rows
+            → S.has start out.new (rows ++ map (entry_at family)
+            (run_rows (width_of family) self.now.nodes.items runs.now))) }
+        ensures err { OnErr result ((start : S) (rows : List (Entry V)) → S.has start out.old rows
+            → StopsAmong (S.stopped start out.new) rows (map (entry_at family)
             (run_rows (width_of family) self.now.nodes.items runs.now))) }
     {
         let top = last_address(0, family.width());

@@ -1,9 +1,9 @@
 //! The rows of one destination, laid over a trie of sources.
-ghost use Rattle.std.specs.Prelude.{◌≡◌, ◌+◌, ◌-◌, ◌^◌, ◌<◌, ◌≤◌, List, map, length, IfOk, OnOk, Option};
+ghost use Rattle.std.specs.Prelude.{◌≡◌, ◌+◌, ◌-◌, ◌^◌, ◌<◌, ◌≤◌, ◌∷◌, List, [], map, length, IfOk, IfSome, OnOk, Option};
 ghost use Rattle.babel_trie.specs.Shape.{Shape};
 ghost use Rattle.babel_trie.specs.Interned.{Stands, IsNormalLoose, IsTrie, Represents, HasTrie};
 ghost use Rattle.babel_trie.specs.Laid.{HasOneDestination, IsSet, IsLaid, IsOverlaid};
-ghost use Rattle.babel_prefix.specs.Entries.{row_of};
+ghost use Rattle.babel_prefix.specs.Entries.{Entry, row_of};
 ghost use Rattle.babel_trie.specs.Rows.{source_block, InBlock, IsPlace};
 ghost use Rattle.babel_trie.specs.Sound.{IsSound, KeepsNodes};
 ghost use Rattle.babel_trie.specs.declared.table.Node.{Node};
@@ -23,6 +23,17 @@ fn set<V: Copy>(rows: &[Row<V>], old: Loose<Option<V>>) -> Loose<Option<V>>
     match rows.first() {
         None => old,
         Some(row) => Loose::Same(Some(row.2)),
+    }
+}
+
+/// The value of the row from all sources, where that is the only row.
+fn only_value<V: Copy>(rows: &[Row<V>]) -> Option<V>
+    ensures { IfSome result (λ value. (row : Entry V) × (rows.now ≡ row ∷ [])
+        × ((source_block row).len ≡ 0) × (row.2 ≡ value)) }
+{
+    match rows {
+        [row] if row.1.len() == 0 => Some(row.2),
+        _ => None,
     }
 }
 
@@ -71,7 +82,8 @@ impl<V: LawfulOrd> Table<Option<V>> {
         Ok(whole)
     }
 
-    /// The trie with rows of one destination laid over it.
+    /// The trie with rows of one destination laid over it. Of one row from all sources nothing is
+    /// stored.
     pub fn overlaid(
         &mut self,
         rows: &[Row<V>],
@@ -91,6 +103,9 @@ impl<V: LawfulOrd> Table<Option<V>> {
             → Represents self.old.nodes.items old t
             → IsOverlaid width width 0 (map row_of rows.now) self.new.nodes.items new t) }
     {
+        if let Some(value) = only_value(rows) {
+            return Ok(Sources::Constant(Some(value)));
+        }
         let old = self.opened(old);
         let new = self.laid(rows, width, width, 0, old)?;
         let sources = self.stored(new)?;

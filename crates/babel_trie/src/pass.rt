@@ -7,6 +7,7 @@ ghost use Rattle.babel_prefix.specs.Entries.{row_of};
 ghost use Rattle.babel_prefix.specs.Members.{Listed};
 ghost use Rattle.babel_trie.specs.Held.{RowOrder};
 ghost use Rattle.babel_trie.specs.Pass.{IsFilled, IsOpen, ahead_of, coming, all_changes};
+ghost use Rattle.babel_trie.specs.Split.{rows_of_split};
 ghost use Rattle.babel_trie.specs.Rows.{InOrder};
 ghost use Rattle.babel_trie.specs.Runs.{said_at, AreRuns, StartBelow, StartBehind, HasRuns};
 ghost use Rattle.babel_trie.specs.Sound.{IsSound, KeepsNodes};
@@ -58,30 +59,32 @@ struct Leading<R> {
     others: R,
 }
 
-/// Copies the rows of the first destination, if there are rows.
+/// Copies the rows of the first destination, if there are rows. They are split already, so that
+/// each row is asked for once.
 fn first_destination<V: Copy, R: Rows<V>>(
-    rows: R,
+    split: Option<(Row<V>, R)>,
     own: &mut Vec<Row<V>>,
-) -> Result<Option<Leading<R>>, AllocError>
-    ensures none { IfOk result (λ r. IfNone r (R.rows rows ≡ [])) }
-    ensures parts { IfOk result (λ r. IfSome r (λ first. R.rows rows
-        ≡ own.new.items ++ R.rows first.others)) }
+) -> Result<Option<Leading<Option<(Row<V>, R)>>>, AllocError>
+    ensures none { IfOk result (λ r. IfNone r (rows_of_split R.rows split ≡ [])) }
+    ensures parts { IfOk result (λ r. IfSome r (λ first. rows_of_split R.rows split
+        ≡ own.new.items ++ rows_of_split R.rows first.others)) }
     ensures some { IfOk result (λ r. IfSome r (λ _. 0 < length own.new.items)) }
     ensures one { IfOk result (λ r. IfSome r (λ first. (x : _) → Listed own.new.items x
         → block_of x.0 ≡ block_of first.destination)) }
 {
-    let Some((first, mut others)) = rows.split() else {
+    let Some((first, behind)) = split else {
         return Ok(None);
     };
     let destination = first.0;
     own.clear();
     own.push(first)?;
-    while let Some((row, behind)) = others.split() {
+    let mut others = behind.split();
+    while let Some((row, behind)) = &others {
         if row.0 != destination {
             break;
         }
-        own.push(row)?;
-        others = behind;
+        own.push(*row)?;
+        others = behind.split();
     }
     Ok(Some(Leading {
         destination,
@@ -208,7 +211,7 @@ impl<V: LawfulOrd> Table<Option<V>> {
             ahead: Vec::new(alloc),
         };
         let mut own = Vec::new(alloc);
-        let mut rest = rows;
+        let mut rest = rows.split();
         while let Some(next) = first_destination(rest, &mut own)? {
             let start = next.destination.addr().bits();
             let end = last_address(start, width - next.destination.len());

@@ -13,27 +13,6 @@ use std::alloc::{AllocError, Global};
 /// A row: a destination, a source and what they are given.
 pub type Row<V> = (Prefix, Prefix, V);
 
-/// Rows one after another, which can be gone through more than once: a slice of them, or what each
-/// row is made of.
-pub trait Rows<V>: Copy {
-    // The rows.
-    ghost rows: { Self → List (Entry V) };
-
-    /// The first row, and the others; `None` where there are none.
-    fn split(self) -> Option<(Row<V>, Self)>
-        ensures { MatchOption result (rows self ≡ []) (λ parts. rows self
-            ≡ parts.0 ∷ rows parts.1) };
-}
-
-impl<'a, V: Copy> Rows<V> for &'a [Row<V>] {
-    ghost rows = { λ slice. slice.now };
-
-    fn split(self) -> Option<(Row<V>, &'a [Row<V>])> {
-        let (first, others) = self.split_first()?;
-        Some((*first, others))
-    }
-}
-
 /// The place of a row in the order of rows: by destination, then by source; a prefix stands before
 /// those inside it.
 fn place<V>(row: &Row<V>) -> ((u128, u8), (u128, u8))
@@ -47,22 +26,43 @@ fn place<V>(row: &Row<V>) -> ((u128, u8), (u128, u8))
     )
 }
 
-/// Whether the rows stand in order.
-pub fn are_in_order<V: Copy, R: Rows<V>>(rows: R) -> bool
-    ensures in_order { result ≡ true → InOrder RowOrder (R.rows rows) }
-    ensures prefixes { result ≡ true → All HasPrefixes (R.rows rows) }
-{
-    let mut before = ((0, 0), (0, 0));
-    let mut left = rows;
-    while let Some((row, others)) = left.split() {
-        let here = place(&row);
-        if here.cmp(&before).is_lt() {
-            return false;
+/// Rows one after another, which can be gone through more than once: a slice of them, or what each
+/// row is made of.
+pub trait Rows<V: Copy>: Copy {
+    // The rows.
+    ghost rows: { Self → List (Entry V) };
+
+    /// The first row, and the others; `None` where there are none.
+    fn split(self) -> Option<(Row<V>, Self)>
+        ensures { MatchOption result (rows self ≡ []) (λ parts. rows self
+            ≡ parts.0 ∷ rows parts.1) };
+
+    /// Whether the rows stand in order: they are gone through, unless it is known.
+    fn are_in_order(self) -> bool
+        ensures in_order { result ≡ true → InOrder RowOrder (rows self) }
+        ensures prefixes { result ≡ true → All HasPrefixes (rows self) }
+    {
+        let mut before = ((0, 0), (0, 0));
+        let mut left = self;
+        while let Some((row, others)) = left.split() {
+            let here = place(&row);
+            if here.cmp(&before).is_lt() {
+                return false;
+            }
+            before = here;
+            left = others;
         }
-        before = here;
-        left = others;
+        true
     }
-    true
+}
+
+impl<'a, V: Copy> Rows<V> for &'a [Row<V>] {
+    ghost rows = { λ slice. slice.now };
+
+    fn split(self) -> Option<(Row<V>, &'a [Row<V>])> {
+        let (first, others) = self.split_first()?;
+        Some((*first, others))
+    }
 }
 
 /// The rows in order: a prefix stands before those inside it.

@@ -8,7 +8,7 @@ ghost use Rattle.babel_trie.specs.Spans.{start_or};
 ghost use Rattle.babel_trie.specs.declared.table.Sources.{Sources};
 
 use crate::lawful::LawfulOrd;
-use crate::rows::{Rows, are_in_order, sorted_rows};
+use crate::rows::{Rows, sorted_rows};
 use crate::table::{Node, Sources, Table};
 use babel_prefix::Family;
 use std::alloc::{AllocError, Global};
@@ -50,7 +50,7 @@ impl<V: LawfulOrd> Table<Option<V>> {
             list.items (answers_in family (R.rows rows))) }
         ensures few { IfOk result (λ list. length list.items ≤ 2 * length (R.rows rows) + 1) }
     {
-        if are_in_order(rows) {
+        if rows.are_in_order() {
             let list = self.table_runs(alloc, family.width(), rows)?;
             return Ok(list);
         }

@@ -1,5 +1,5 @@
 //! What takes rows one after another.
-ghost use Rattle.std.specs.Prelude.{◌≡◌, ◌∷◌, ◌++◌, List, [], OnOk};
+ghost use Rattle.std.specs.Prelude.{◌≡◌, ◌∷◌, ◌++◌, ⊤, List, [], OnOk, OnErr};
 ghost use Rattle.babel_prefix.specs.Entries.{Entry};
 
 use crate::rows::Row;
@@ -8,23 +8,40 @@ use std::alloc::AllocError;
 
 /// What takes rows one after another: a list of them, or what is made of each row at once.
 pub trait Sink<V> {
-    // It has what these rows make of it.
-    ghost has: { Self → List (Entry V) → Type 0 };
+    /// Why a row is not taken.
+    type Error;
 
-    /// Takes one row more, whose prefixes are of one family. `Err` for want of memory; what the
-    /// sink has is then not said.
-    fn put(&mut self, row: Row<V>) -> Result<(), AllocError>
-        requires { row.0.address.family ≡ row.1.address.family }
-        ensures { OnOk result ((rows : List (Entry V)) → has self.old rows
-            → has self.new (rows ++ row ∷ [])) };
+    // It takes rows, as long as this holds.
+    ghost can_put: { Self → Type 0 } = { λ _. ⊤ };
+
+    // These rows made the second of the first.
+    ghost has: { Self → Self → List (Entry V) → Type 0 };
+
+    // The same, but that the last of these rows was not taken.
+    ghost stopped: { Self → Self → List (Entry V) → Type 0 };
+
+    /// Takes one row more, whose prefixes are of one family.
+    fn put(&mut self, row: Row<V>) -> Result<(), Self::Error>
+        requires family { row.0.address.family ≡ row.1.address.family }
+        requires can { can_put self.old }
+        ensures can { OnOk result (can_put self.new) }
+        ensures ok { OnOk result ((start : Self) (rows : List (Entry V))
+            → has start self.old rows → has start self.new (rows ++ row ∷ [])) }
+        ensures err { OnErr result ((start : Self) (rows : List (Entry V))
+            → has start self.old rows → stopped start self.new (rows ++ row ∷ [])) };
 }
 
 impl<V: Copy> Sink<V> for Vec<Row<V>> {
-    ghost has = { λ list rows. list.items ≡ rows };
+    type Error = AllocError;
+
+    ghost has = { λ _ list rows. list.items ≡ rows };
+
+    ghost stopped = { λ _ _ _. ⊤ };
 
     fn put(&mut self, row: Row<V>) -> Result<(), AllocError>
-        ensures { OnOk result ((rows : List (Entry V)) → self.old.items ≡ rows
-            → self.new.items ≡ rows ++ row ∷ []) }
+        ensures ok { OnOk result ((rows : List (Entry V))
+            → self.old.items ≡ rows → self.new.items ≡ rows ++ row ∷ []) }
+        ensures err { ⊤ }
     {
         self.push(row)?;
         Ok(())

@@ -150,6 +150,50 @@ fn expect_write_faults(
     Ok(())
 }
 
+/// A dump of 2,000 routes, and the text that `show` writes of it, which is several slices.
+fn many_routes(alloc: Global) -> Result<(Vec<u8>, String), Fail> {
+    let mut dump = octets(alloc, "2a02753c060a00000200000000000001")?;
+    let mut text = String::new(alloc);
+    for route in 0..2_000_u16 {
+        let [high, low] = route.to_be_bytes();
+        dump.extend_from_slice(&[8, 13, 1, 0, 24, 0, 6, 64, 0, 1, 1, 0, 10, high, low])?;
+        write!(
+            text,
+            "10.{high}.{low}.0/24 from 0.0.0.0/0 via 192.0.2.1 id 0200000000000001 seqno 1 metric 256\n"
+        )?;
+    }
+    write!(text, "tlvs 2001\n")?;
+    Ok((dump, text))
+}
+
+/// Each write of several slices, and the flush behind them, is answered where it fails, and what was written is a part of
+/// the whole that grows with each write.
+#[test]
+fn each_write_of_several_slices(rt: HostRuntime) -> Result<(), Fail> {
+    let (dump, text) = many_routes(rt.alloc())?;
+    let whole = text.as_bytes();
+    let job = job(rt.alloc(), Mode::Plain, V4, "show")?;
+    let mut written = 0;
+    for call in 1..100 {
+        let script = Script {
+            read: 4_096,
+            written: 20_000,
+            failing_call: call,
+            ..ONE_BY_ONE
+        };
+        let ran = failing_run(rt.alloc(), &job, (&dump, &[]), script)?;
+        assert!(rt; whole.starts_with(ran.taken.as_slice()));
+        if ran.outcome.is_ok() {
+            assert_eq!(rt; ran.taken.len(), whole.len());
+            return Ok(());
+        }
+        assert_eq!(rt; ran.status(), Err(RunFault::Write));
+        assert!(rt; call == 1 || written < ran.taken.len() || ran.taken.len() == whole.len());
+        written = ran.taken.len();
+    }
+    Err(Fail::from("a call of the writer fails without end"))
+}
+
 #[test]
 fn a_write_that_takes_nothing(rt: HostRuntime) -> Result<(), Fail> {
     let dump = octets(rt.alloc(), ONE_ROUTE)?;

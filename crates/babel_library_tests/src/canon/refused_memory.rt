@@ -1,14 +1,14 @@
 //! Each allocation refused in turn, by `./check memory`, which runs each test here once for each of its allocations.
 //! A test here passes where nothing was refused, and fails with `REFUSED` where a refusal was answered with `Memory`.
-use super::{addr, route};
+use super::addr;
 use crate::dumps::{
     BY_FLAG_FORM, NESTED_SOURCES, NESTED_SOURCES_FORM, ONE_FAMILY, ONE_ROUTE, ONE_ROUTE_FORM,
-    ROUTER_ID_BY_FLAG, TWO_FAMILIES, octets,
+    ROUTER_ID_BY_FLAG, TWO_FAMILIES, V4, V6, octets,
 };
 use babel_canon::{Body, Verdict, compare, normalise};
 use babel_prefix::Addr;
 use babel_table::{Limits, Table, read_dump};
-use babel_tlv::{Fault, Mode};
+use babel_tlv::{Ann, Fault, Held, Mode};
 use hex::FromHexError;
 use std::alloc::{AllocError, Global};
 use std::test::Fail;
@@ -55,43 +55,28 @@ fn verdict_of(alloc: Global, sender: Addr, one: &str, other: &str) -> Result<Ver
 
 #[test]
 fn refused_memory_of_one_route(rt: HostRuntime) -> Result<(), Fail> {
-    form_is(
-        rt.alloc(),
-        addr(&rt, "192.0.2.1"),
-        ONE_ROUTE,
-        ONE_ROUTE_FORM,
-    )
+    form_is(rt.alloc(), addr(V4)?, ONE_ROUTE, ONE_ROUTE_FORM)
 }
 
 #[test]
 fn refused_memory_of_two_sources(rt: HostRuntime) -> Result<(), Fail> {
-    form_is(
-        rt.alloc(),
-        addr(&rt, "192.0.2.1"),
-        NESTED_SOURCES,
-        NESTED_SOURCES_FORM,
-    )
+    form_is(rt.alloc(), addr(V4)?, NESTED_SOURCES, NESTED_SOURCES_FORM)
 }
 
 #[test]
 fn refused_memory_of_a_router_id_set_by_a_flag(rt: HostRuntime) -> Result<(), Fail> {
-    form_is(
-        rt.alloc(),
-        addr(&rt, "fe80::1"),
-        ROUTER_ID_BY_FLAG,
-        BY_FLAG_FORM,
-    )
+    form_is(rt.alloc(), addr(V6)?, ROUTER_ID_BY_FLAG, BY_FLAG_FORM)
 }
 
 #[test]
 fn refused_memory_of_a_comparison(rt: HostRuntime) -> Result<(), Fail> {
     let differ = Verdict::Differ {
-        dst: addr(&rt, "255.255.255.255"),
-        src: addr(&rt, "0.0.0.1"),
-        left: Some(route(&rt, 256)),
+        dst: addr("255.255.255.255")?,
+        src: addr("0.0.0.1")?,
+        left: Ann::new([2, 0, 0, 0, 0, 0, 0, 1], 1, 256, addr(V4)?).map(Held::Route),
         right: None,
     };
-    match verdict_of(rt.alloc(), addr(&rt, "fe80::1"), TWO_FAMILIES, ONE_FAMILY) {
+    match verdict_of(rt.alloc(), addr(V6)?, TWO_FAMILIES, ONE_FAMILY) {
         Ok(verdict) if verdict == differ => Ok(()),
         Err(Fault::Memory) => Err(Fail::from(REFUSED)),
         _ => Err(Fail::from(OTHER)),

@@ -1,12 +1,11 @@
 //! How pairs are packed.
-use super::addr;
-use crate::dumps::octets;
+use super::{addr, table};
+use crate::dumps::{V4, octets};
 use babel_canon::{Body, normalise};
-use babel_table::{Limits, read_dump};
+use babel_table::Limits;
 use babel_tlv::Mode;
 use hex::FromHexError;
-use std::alloc::{AllocError, Global};
-use std::process::Abort;
+use std::alloc::Global;
 use std::test::Fail;
 
 /// Routes n.0.0.0 for n from 1 to 77, of length 16 up to this n, and 8 above.
@@ -28,8 +27,7 @@ fn many_routes(alloc: Global, long: u8) -> Result<Vec<u8>, FromHexError> {
 }
 
 /// How long the body of each packet is, and how many pairs the packet has.
-fn packets(rt: &impl Abort, alloc: Global, text: &[u8]) -> Result<Vec<(usize, usize)>, AllocError> {
-    let sender = addr(rt, "192.0.2.1");
+fn packets(alloc: Global, text: &[u8]) -> Result<Vec<(usize, usize)>, Fail> {
     let mut packets = Vec::new(alloc);
     let mut rest = text;
     for _ in 0..text.len() {
@@ -38,17 +36,15 @@ fn packets(rt: &impl Abort, alloc: Global, text: &[u8]) -> Result<Vec<(usize, us
         }
         let len = u16::from_be_bytes([rest[2], rest[3]]) as usize;
         let packet = rest.get(..4 + len).unwrap_or(rest);
-        let table = read_dump(alloc, Limits::usual(), Mode::Plain, sender, packet);
-        packets.push((len, table.expect(rt, "no fault").rows().len()))?;
+        packets.push((len, table(alloc, Mode::Plain, V4, packet)?.rows().len()))?;
         rest = rest.get(4 + len..).unwrap_or(&[]);
     }
     Ok(packets)
 }
 
 /// The canonical octets of a dump from 192.0.2.1, in packets of this size.
-fn form(rt: &impl Abort, alloc: Global, body: Body, dump: &[u8]) -> Vec<u8> {
-    let sender = addr(rt, "192.0.2.1");
-    normalise(alloc, Limits::usual(), Mode::Plain, body, sender, dump).expect(rt, "no fault")
+fn form(alloc: Global, body: Body, dump: &[u8]) -> Result<Vec<u8>, Fail> {
+    Ok(normalise(alloc, Limits::usual(), Mode::Plain, body, addr(V4)?, dump)?)
 }
 
 /// With so many routes of length 16 and bodies of this size: the length of each packet's body and how many pairs it has, and
@@ -79,32 +75,18 @@ static SIZES: [(u8, u16, &[(usize, usize)], usize); 5] = [
 
 #[test]
 fn packet_sizes(rt: HostRuntime) -> Result<(), Fail> {
-    for (long, size, wanted, total) in SIZES {
-        let body = Body::new(size).expect(&rt, "a size");
-        let dump = many_routes(rt.alloc(), long)?;
-        let text = form(&rt, rt.alloc(), body, &dump);
-        assert_eq!(rt; text.len(), total, "with {size}");
-        assert_eq!(rt;
-            packets(&rt, rt.alloc(), &text)?.as_slice(),
-            wanted,
-            "with {size}"
-        );
-        let again = form(&rt, rt.alloc(), body, &text);
+    for (long, size, wanted, total) in &SIZES {
+        let body = Body::new(*size).ok_or("no size of a body")?;
+        let dump = many_routes(rt.alloc(), *long)?;
+        let text = form(rt.alloc(), body, &dump)?;
+        assert_eq!(rt; text.len(), *total, "with {size}");
+        let packets = packets(rt.alloc(), &text)?;
+        assert_eq!(rt; packets.as_slice(), *wanted, "with {size}");
+        let again = form(rt.alloc(), body, &text)?;
         assert_eq!(rt; again.as_slice(), text.as_slice(), "with {size}");
-        let usual = form(&rt, rt.alloc(), Body::usual(), &text);
-        let whole = form(&rt, rt.alloc(), Body::usual(), &dump);
+        let usual = form(rt.alloc(), Body::usual(), &text)?;
+        let whole = form(rt.alloc(), Body::usual(), &dump)?;
         assert_eq!(rt; usual.as_slice(), whole.as_slice(), "with {size}");
     }
-    Ok(())
-}
-
-#[test]
-fn sizes_of_a_body(rt: HostRuntime) -> Result<(), Fail> {
-    assert!(rt; Body::new(127).is_none());
-    for octets in [128, 65535] {
-        let body = Body::new(octets).expect(&rt, "a size");
-        assert_eq!(rt; body.octets(), octets);
-    }
-    assert_eq!(rt; Body::usual().octets(), 1024);
     Ok(())
 }

@@ -1,13 +1,12 @@
 //! Each allocation refused in turn, by `./check memory`, which runs each test here once for each of its allocations.
 //! A test here passes where nothing was refused, and fails with `REFUSED` where a refusal was answered with `Memory`.
-use super::rows::{key_v6, route_v6};
-use super::{are, key, route, router, router_v6};
+use super::{are, key, route, router, router_v6, v6};
 use crate::dumps::{
     ALL_RETRACTED, NESTED_SOURCES, ROUTER_ID_BY_FLAG, TWO_ROUTES, TWO_ROUTES_FORM, octets,
 };
-use babel_prefix::Addr;
+use babel_prefix::{Addr, Prefix};
 use babel_table::{Feeder, Limits, Table, read_dump};
-use babel_tlv::{Fault, Held, Key, Mode};
+use babel_tlv::{Ann, Fault, Held, Key, Mode};
 use hex::FromHexError;
 use std::alloc::{AllocError, Global};
 use std::test::Fail;
@@ -115,10 +114,10 @@ fn refused_memory_of_omitted_octets(rt: HostRuntime) -> Result<(), Fail> {
 
 #[test]
 fn refused_memory_of_a_router_id_set_by_a_flag(rt: HostRuntime) -> Result<(), Fail> {
-    let row = (
-        key_v6(0x2001_0db8_0000_0000_0200_0000_0000_0007),
-        route_v6(7),
-    );
+    let host = Prefix::new(v6(0x2001_0db8_0000_0000_0200_0000_0000_0007), 128).ok_or(OTHER)?;
+    let all = Prefix::new(v6(0), 0).ok_or(OTHER)?;
+    let ann = Ann::new([2, 0, 0, 0, 0, 0, 0, 7], 1, 256, router_v6());
+    let row = (Key::new(host, all), ann.map(Held::Route));
     read_whole(
         rt.alloc(),
         Mode::Plain,

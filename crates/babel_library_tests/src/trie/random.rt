@@ -167,8 +167,11 @@ fn among_v6(alloc: Global, lines: &[Line]) -> Result<Vec<Line>, AllocError> {
         .collect(alloc)
 }
 
+/// A thousand lists of rows, by their family and the generator's seed.
+static LISTS: [(Family, u64); 3] = [(Family::V4, 1), (Family::V4, 3), (Family::V6, 4)];
+
 /// The pairs of a thousand lists of rows are the boxes by definition.
-fn check_boxes(rt: &impl Abort, alloc: Global, family: Family, seed: u64) -> Result<(), Fail> {
+fn expect_boxes(rt: &impl Abort, alloc: Global, family: Family, seed: u64) -> Result<(), Fail> {
     let mut random = Random { state: seed };
     for _ in 0..1000 {
         let mut lines = random.lines(alloc)?;
@@ -187,17 +190,10 @@ fn check_boxes(rt: &impl Abort, alloc: Global, family: Family, seed: u64) -> Res
 
 #[test]
 fn boxes_by_definition(rt: HostRuntime) -> Result<(), Fail> {
-    check_boxes(&rt, rt.alloc(), Family::V4, 1)
-}
-
-#[test]
-fn more_boxes_by_definition(rt: HostRuntime) -> Result<(), Fail> {
-    check_boxes(&rt, rt.alloc(), Family::V4, 3)
-}
-
-#[test]
-fn boxes_of_ipv6_by_definition(rt: HostRuntime) -> Result<(), Fail> {
-    check_boxes(&rt, rt.alloc(), Family::V6, 4)
+    for (family, seed) in &LISTS {
+        expect_boxes(&rt, rt.alloc(), *family, *seed)?;
+    }
+    Ok(())
 }
 
 #[test]

@@ -1,9 +1,13 @@
-use Rattle.babel_canon.proofs.SinkLaws.{boxes_canonical}
+use Rattle.std.proofs.Common.{[], ℕ, sym, subst}
+use Rattle.babel_canon.specs.Writing.{IsTextOf}
 use Rattle.babel_canon.proofs.canon.canonical_octets.Goals as goal
 
 pub returns-clause-ok : goal.returns-clause-ok
-returns-clause-ok c = record {
-  pairs = _;
-  are_canonical = boxes_canonical c.counted_grids.new.values.list.items c.args.limits c.args.table.now.rows c.in_ok-grids.grids.v4.boxes c.in_ok-grids.grids.v6.boxes c.in_ok-grids.ensures.boxes c.in_ok-grids.ensures.few;
-  text = c.in_ok-octets.ensures;
-}
+returns-clause-ok c =
+    let begun = c.in_ok-text.ensures in
+    let written = c.in_ok-put.ensures.ok c.in_ok-text.text [] (subst (λ (b : ℕ). IsTextOf b c.in_ok-text.text []) (sym begun.limit) begun) in
+    record {
+      pairs = _;
+      are_canonical = c.in_ok-pairs.ensures.ok;
+      text = c.into_octets.ensures c.args.body _ (subst (λ (b : ℕ). IsTextOf b c.put.new.out c.in_ok-pairs.pairs) begun.limit written);
+    }

@@ -12,7 +12,7 @@ loop-key-preserved c =
     let pair = c.loop-key-item.result in
     let more : take (c.loop-key.key-index + 1) pairs ≡ done ++ pair ∷ [] =
     take_more pairs c.loop-key.key-index pair c.loop-key-test.true ∙ ap (λ (p : Pair). done ++ p ∷ []) (sym c.loop-key-item.is) in
-    subst (λ (ps : List Pair). IsTextOf c.args.body c.put.new.self ps) (sym more) (c.in_ok-put.ensures c.args.body done c.loop-key.invariant)
+    subst (λ (ps : List Pair). IsTextOf c.args.body c.push.new.self ps) (sym more) (c.in_ok-push.ensures c.args.body done c.loop-key.invariant)
 
 pub returns : goal.returns
 returns c =

@@ -15,7 +15,7 @@ use Rattle.babel_trie.proofs.grid.Grid.pairs.Goals as goal
 pub returns-clause-family : goal.returns-clause-family
 returns-clause-family g c =
     let t = c.args.self.now in
-    subst (All (AreOfFamily t.family)) (sym (c.in_ok-put_boxes.ensures [] c.in_ok-pairs.ensures.items))
+    subst (All (AreOfFamily t.family)) (sym (c.in_ok-put_boxes.ensures.ok c.in_ok-pairs.pairs [] c.in_ok-pairs.ensures.items))
     (All-map (AreOfFamily t.family) (entry_at t.family) t.boxes (λ k d k_in. (refl, refl)))
 
 pub returns-clause-prefixes : goal.returns-clause-prefixes
@@ -23,11 +23,11 @@ returns-clause-prefixes g c =
     let inside = c.self.inside in
     let w = width_of inside.family in
     let rows = run_rows w inside.sources.nodes.items inside.runs.items in
-    subst (All HasPrefixes) (ap (λ (t : BoxTable g.row.V.Denot). map (entry_at t.family) t.boxes) c.self.view_is ∙ sym (c.in_ok-put_boxes.ensures [] c.in_ok-pairs.ensures.items))
+    subst (All HasPrefixes) (ap (λ (t : BoxTable g.row.V.Denot). map (entry_at t.family) t.boxes) c.self.view_is ∙ sym (c.in_ok-put_boxes.ensures.ok c.in_ok-pairs.pairs [] c.in_ok-pairs.ensures.items))
     (All-map HasPrefixes (entry_at inside.family) rows
     (λ k d k_in. rows_prefixes w inside.sources.nodes.items inside.runs.items (answer w rows) c.self.invariant.runs (get_or rows k d) (Listed-get_or rows k d k_in)))
 
 pub returns-clause-boxes : goal.returns-clause-boxes
 returns-clause-boxes g c =
     let t = c.args.self.now in
-    ap (map row_of) (c.in_ok-put_boxes.ensures [] c.in_ok-pairs.ensures.items) ∙ rows_back t.family t.boxes
+    ap (map row_of) (c.in_ok-put_boxes.ensures.ok c.in_ok-pairs.pairs [] c.in_ok-pairs.ensures.items) ∙ rows_back t.family t.boxes

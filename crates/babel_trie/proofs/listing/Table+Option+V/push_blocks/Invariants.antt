@@ -15,7 +15,8 @@ invariant-loop-end g l = record {
   at_in : l.at ≤ l.last;
   blocks : List Block;
   cut : IsCutTo (width_of l.family) l.from l.last l.at blocks;
-  put : (rows : List (Entry g.row.V.Denot)) → g.S.Sink.has l.fn.out rows → g.S.Sink.has l.out (rows ++ map (entry_at l.family) (rows_of (width_of l.family) (each_with (sources_at (width_of l.family) l.self.nodes.items l.fn.sources) blocks)));
+  can : g.S.Sink.can_put l.out;
+  put : (start : g.row.S.Denot) (rows : List (Entry g.row.V.Denot)) → g.S.Sink.has start l.fn.out rows → g.S.Sink.has start l.out (rows ++ map (entry_at l.family) (rows_of (width_of l.family) (each_with (sources_at (width_of l.family) l.self.nodes.items l.fn.sources) blocks)));
 }
 
 abbrev pub decreases-loop-end : goal.decreases-loop-end

@@ -1,5 +1,6 @@
 -- One change's rows after another's.
-use Rattle.std.proofs.Common.{◌≡◌, inl, inr, ℕ, ◌+◌, ◌^◌, true, List, [], ◌∷◌, ◌++◌, map, refl, ap, subst, arith, rules, Option}
+use Rattle.std.proofs.Common.{◌≡◌, inl, inr, ℕ, ◌+◌, ◌^◌, true, List, [], ◌∷◌, ◌++◌, map, refl, sym, ap, subst, arith, rules, Option}
+use Rattle.std.proofs.lemmas.Result.{err_from_is_err_and}
 use Rattle.babel_prefix.specs.Width.{width_of}
 use Rattle.babel_prefix.proofs.Members.{Listed}
 use Rattle.babel_trie.specs.Interned.{HasTrie}
@@ -9,7 +10,7 @@ use Rattle.babel_trie.specs.Nested.{entry_at, rows_of}
 use Rattle.babel_trie.specs.Spans.{start_or, each_with, spans, span_rows, run_rows}
 use Rattle.babel_trie.specs.declared.runs.Change.{Change}
 use Rattle.babel_trie.specs.declared.table.Sources.{Sources}
-use Rattle.babel_trie.proofs.PutLaws.{put_none, put_both}
+use Rattle.babel_trie.proofs.PutLaws.{put_none, put_both, stop_first, stop_then}
 use Rattle.babel_trie.proofs.SpanBlocks.{start_within}
 use Rattle.babel_trie.proofs.SpanLaws.{IsRising, rising_runs}
 use Rattle.babel_trie.proofs.SpanRows.{rows_more, rows_none}
@@ -21,7 +22,8 @@ loop-run-init g c =
       rising = rising_runs (2 ^ width_of c.args.family) c.args.runs.now c.requires.runs c.requires.below;
       each = c.requires.each;
       done = [];
-      put = λ given has. put_none c.args.family (g.S.Sink.has c.args.out.now) given [] refl has;
+      can = c.requires.can;
+      put = λ start given has. put_none c.args.family (g.S.Sink.has start c.args.out.now) given [] refl has;
       rows = refl;
     }
 
@@ -81,8 +83,9 @@ loop-run-preserved-in_ok-push_blocks g c =
       rising = rising.1;
       each = λ x t. each x (inr t);
       done = done ++ more;
-      put = λ given has. put_both c.args.family (g.S.Sink.has c.push_blocks.new.out) given done more (done ++ more) refl
-          (c.in_ok-push_blocks.ensures (given ++ map (entry_at c.args.family) done) (c.loop-run.invariant.put given has));
+      can = c.in_ok-push_blocks.ensures.can;
+      put = λ start given has. put_both c.args.family (g.S.Sink.has start c.push_blocks.new.out) given done more (done ++ more) refl
+          (c.in_ok-push_blocks.ensures.ok start (given ++ map (entry_at c.args.family) done) (c.loop-run.invariant.put start given has));
       rows = rows_more w sources (2 ^ w) c.run_last.result run later done (done ++ more) all (omega (arith, c.run_last.ensures)) refl rows;
     }
 
@@ -102,6 +105,28 @@ loop-run-preserved g c =
       rising = rising.1;
       each = λ x t. each x (inr t);
       done = done;
+      can = c.loop-run.invariant.can;
       put = c.loop-run.invariant.put;
       rows = rows_none w sources (2 ^ w) run later done all (each run (inl refl)) (c.answers_nothing.ensures.yes nothing) rows;
     }
+
+pub returns-in_err-push_blocks-clause-err : goal.returns-in_err-push_blocks-clause-err
+returns-in_err-push_blocks-clause-err g c =
+    let w = width_of c.args.family in
+    let run = c.in-Some.run'.now in
+    let later = c.in-Some.later.now in
+    let rising : IsRising (2 ^ w) (run ∷ later) = subst (IsRising (2 ^ w)) c.in-Some.ensures.cases.0 c.loop-run.invariant.rising in
+    let top_is : c.last_address-top.result + 1 ≡ 2 ^ w = omega (arith, c.last_address-top.ensures, ap (λ (n : ℕ). 2 ^ n) c.width.ensures) in
+    let same : start_or (c.last_address-top.result + 1) later ≡ start_or (2 ^ w) later = ap (λ (e : ℕ). start_or e later) top_is in
+    let sources = c.args.self.now.nodes.items in
+    let all = run_rows w sources c.args.runs.now in
+    let done = c.loop-run.invariant.done in
+    let rows = subst (λ (xs : List (Change (Sources (Option g.row.V.Denot)))). done ++ span_rows w sources (spans (2 ^ w) xs) ≡ all) c.in-Some.ensures.cases.0 c.loop-run.invariant.rows in
+    let more = rows_of w (each_with (sources_at w sources run.sources) (largest_in w run.start c.run_last.result)) in
+    let whole = rows_more w sources (2 ^ w) c.run_last.result run later done (done ++ more) all (omega (arith, c.run_last.ensures)) refl rows in
+    let exit = err_from_is_err_and c.from_residual.result c.from_residual.ensures.1 in
+    rw exit.1 (λ start given has.
+    let Stopped = g.S.Sink.stopped start c.push_blocks.new.out in
+    stop_first c.args.family Stopped given (done ++ more) (span_rows w sources (spans (2 ^ w) later)) all (sym whole)
+    (stop_then c.args.family Stopped given done more (done ++ more) refl
+    (c.in_err-push_blocks.ensures.err start (given ++ map (entry_at c.args.family) done) (c.loop-run.invariant.put start given has))))

@@ -17,7 +17,8 @@ invariant-loop-run g l = record {
   rising : IsRising (2 ^ width_of l.family) l.rest;
   each : (x : Change (Sources (Option g.row.V.Denot))) → Listed l.rest x → HasTrie (width_of l.family) l.self.nodes.items x.sources;
   done : List (Row g.row.V.Denot);
-  put : (rows : List (Entry g.row.V.Denot)) → g.S.Sink.has l.fn.out rows → g.S.Sink.has l.out (rows ++ map (entry_at l.family) done);
+  can : g.S.Sink.can_put l.out;
+  put : (start : g.row.S.Denot) (rows : List (Entry g.row.V.Denot)) → g.S.Sink.has start l.fn.out rows → g.S.Sink.has start l.out (rows ++ map (entry_at l.family) done);
   rows : done ++ span_rows (width_of l.family) l.self.nodes.items (spans (2 ^ width_of l.family) l.rest) ≡ run_rows (width_of l.family) l.self.nodes.items l.runs;
 }
 

@@ -1,4 +1,7 @@
--- What is laid over what the sources are, stored.
+-- What is laid over what the sources are, stored; one row from all sources is a constant.
+use Rattle.std.proofs.Common.{Some, refl}
+use Rattle.babel_trie.specs.declared.table.Loose.TheVariants.{Same}
+use Rattle.babel_trie.proofs.SourceLaws.{overlaid_one}
 use Rattle.babel_trie.proofs.NumberLaws.{Stands-grows, opened-normal, form_from_sound}
 use Rattle.babel_trie.proofs.FormLaws.{opened_trie, opened_stands, Represents-in}
 use Rattle.babel_trie.proofs.PathLaws.{loose_below}
@@ -34,6 +37,18 @@ returns-clause-overlaid g c t p =
     record {
       new = laid.new;
       stands = (c.in_ok-new.new, c.in_ok-sources.ensures.opens, Stands-grows mid new c.in_ok-sources.ensures.keeps c.in_ok-new.new laid.new laid.stands);
+      fits = laid.fits;
+      reduced = laid.reduced;
+      values = laid.values;
+    }
+
+pub returns-in-Some-clause-overlaid : goal.returns-in-Some-clause-overlaid
+returns-in-Some-clause-overlaid g c t p =
+    let one = c.in-Some.ensures in
+    let laid = overlaid_one c.args.width c.args.rows.now one.0 c.args.self.now.nodes.items t c.in-Some.value c.requires.rows c.requires.one one.1 one.2 one.3 in
+    record {
+      new = laid.new;
+      stands = (Same (Some c.in-Some.value), refl, laid.stands);
       fits = laid.fits;
       reduced = laid.reduced;
       values = laid.values;

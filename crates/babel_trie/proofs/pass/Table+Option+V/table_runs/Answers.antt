@@ -19,8 +19,10 @@ use Rattle.babel_trie.specs.declared.table.Loose.TheVariants.{Same}
 use Rattle.babel_trie.specs.declared.table.Node.{Node}
 use Rattle.babel_trie.specs.declared.table.Sources.{Sources}
 use Rattle.babel_trie.specs.declared.table.Sources.TheVariants.{Constant, Stored}
+use Rattle.babel_trie.specs.Split.{rows_of_split}
 use Rattle.babel_trie.proofs.NodeLaws.{sound_by}
 use Rattle.babel_trie.proofs.PassLaws.{AreSoFar, IsNext, is_next, open-first, so_far-first, so_far-reached, so_far-entered, so_far-all, block, rest_from, sources_in, starts_before, now_held, ends_ahead}
+use Rattle.babel_trie.proofs.SplitLaws.{rows-split}
 use Rattle.babel_trie.proofs.Ranges.{size, block_ends}
 use Rattle.babel_trie.proofs.pass.Table+Option+V.table_runs.Goals as goal
 
@@ -44,11 +46,11 @@ loop-own-init g c =
     let now : Change (Sources (Option g.row.V.Denot)) = record { start = 0; sources = Constant None } in
     (record {
       gone = [];
-      parts = refl;
+      parts = rows-split g.R.Rows.rows (g.R.Rows.rows a.rows) c.split-rest.result c.split-rest.ensures;
       sound = sound_by c.args.self.now.nodes.items c.args.self.now.numbers (elim [ Constant v ↦ elim [ Constant u ↦ refl | Stored m ↦ refl ] | Stored k ↦ elim [ Constant v ↦ refl | Stored m ↦ refl ] ]) c.requires.sound;
       keeps = λ k node e. e;
       is_open = open-first c.new.result.items c.new-2.result.items now c.new.ensures.items c.new-2.ensures.items;
-      so_far = so_far-first a.width (g.R.Rows.rows a.rows) c.args.self.now.nodes.items c.new.result.items c.new-2.result.items now c.new.ensures.items c.new-2.ensures.items refl (Same None, refl, refl);
+      so_far = so_far-first a.width (rows_of_split g.R.Rows.rows c.split-rest.result) c.args.self.now.nodes.items c.new.result.items c.new-2.result.items now c.new.ensures.items c.new-2.ensures.items refl (Same None, refl, refl);
       few = omega (arith, ap length c.new.ensures.items, ap length c.new-2.ensures.items);
     })
 
@@ -56,7 +58,7 @@ pub overflow_sub-width : goal.overflow_sub-width
 overflow_sub-width g c =
     let i = c.loop-own.invariant in
     let next = c.in-Some.next in
-    let l = leads i.gone g.R.Rows.rows c.first_destination.new.own.items c.first_destination.new.own.items refl c.in_ok-next.field-0 next c.in-Some.is c.requires.table c.requires.order i.parts c.in_ok-next.ensures.parts c.in_ok-next.ensures.some c.in_ok-next.ensures.one in
+    let l = leads i.gone (rows_of_split g.R.Rows.rows) c.first_destination.new.own.items c.first_destination.new.own.items refl c.in_ok-next.field-0 next c.in-Some.is c.requires.table c.requires.order i.parts c.in_ok-next.ensures.parts c.in_ok-next.ensures.some c.in_ok-next.ensures.one in
     let n = l.0 in
     omega (arith, (block n).len_in_range, c.len.ensures.value)
 
@@ -65,7 +67,7 @@ last_address-end-requires g c =
     let w = c.args.width in
     let i = c.loop-own.invariant in
     let next = c.in-Some.next in
-    let l = leads i.gone g.R.Rows.rows c.first_destination.new.own.items c.first_destination.new.own.items refl c.in_ok-next.field-0 next c.in-Some.is c.requires.table c.requires.order i.parts c.in_ok-next.ensures.parts c.in_ok-next.ensures.some c.in_ok-next.ensures.one in
+    let l = leads i.gone (rows_of_split g.R.Rows.rows) c.first_destination.new.own.items c.first_destination.new.own.items refl c.in_ok-next.field-0 next c.in-Some.is c.requires.table c.requires.order i.parts c.in_ok-next.ensures.parts c.in_ok-next.ensures.some c.in_ok-next.ensures.one in
     let n = l.0 in
     let start_is = c.bits-start.ensures.value ∙ ap (λ (x : Address). x.bits) c.addr.ensures.value in
     omega (arith, block_ends w (block_of c.in-Some.next.destination) (block n), start_is, ap (λ k. 2 ^ (w - k)) c.len.ensures.value, pow_mono {i = w} {j = 128} c.requires.width)
@@ -75,7 +77,7 @@ reach-requires-clause-order g c =
     let i = c.loop-own.invariant in
     let self = c.loop-own.pass in
     let next = c.in-Some.next in
-    let l = leads i.gone g.R.Rows.rows c.first_destination.new.own.items c.first_destination.new.own.items refl c.in_ok-next.field-0 next c.in-Some.is c.requires.table c.requires.order i.parts c.in_ok-next.ensures.parts c.in_ok-next.ensures.some c.in_ok-next.ensures.one in
+    let l = leads i.gone (rows_of_split g.R.Rows.rows) c.first_destination.new.own.items c.first_destination.new.own.items refl c.in_ok-next.field-0 next c.in-Some.is c.requires.table c.requires.order i.parts c.in_ok-next.ensures.parts c.in_ok-next.ensures.some c.in_ok-next.ensures.one in
     let n = l.0 in
     let before = subst (λ (xs : List (Entry g.row.V.Denot)). AreSoFar c.args.width i.gone xs c.loop-own.self.nodes.items self.list.items self.now (ahead_of self)) l.1 i.so_far in
     let start_is = c.bits-start.ensures.value ∙ ap (λ (x : Address). x.bits) c.addr.ensures.value in
@@ -99,7 +101,7 @@ overlaid-requires-clause-trie g c =
     let new = c.reach.new.self in
     let reach = c.in_ok-reach.ensures in
     let next = c.in-Some.next in
-    let l = leads i.gone g.R.Rows.rows c.deref.result.now c.first_destination.new.own.items c.deref.ensures.value c.in_ok-next.field-0 next c.in-Some.is c.requires.table c.requires.order i.parts c.in_ok-next.ensures.parts c.in_ok-next.ensures.some c.in_ok-next.ensures.one in
+    let l = leads i.gone (rows_of_split g.R.Rows.rows) c.deref.result.now c.first_destination.new.own.items c.deref.ensures.value c.in_ok-next.field-0 next c.in-Some.is c.requires.table c.requires.order i.parts c.in_ok-next.ensures.parts c.in_ok-next.ensures.some c.in_ok-next.ensures.one in
     let n = l.0 in
     let start_is = c.bits-start.ensures.value ∙ ap (λ (x : Address). x.bits) c.addr.ensures.value in
     let p = so_far-near n l.1 c.loop-own.self.nodes.items c.loop-own.pass new c.bits-start.result start_is reach.reached reach.left reach.same i.so_far in
@@ -109,7 +111,7 @@ pub overlaid-requires-clause-rows : goal.overlaid-requires-clause-rows
 overlaid-requires-clause-rows g c =
     let i = c.loop-own.invariant in
     let next = c.in-Some.next in
-    let l = leads i.gone g.R.Rows.rows c.deref.result.now c.first_destination.new.own.items c.deref.ensures.value c.in_ok-next.field-0 next c.in-Some.is c.requires.table c.requires.order i.parts c.in_ok-next.ensures.parts c.in_ok-next.ensures.some c.in_ok-next.ensures.one in
+    let l = leads i.gone (rows_of_split g.R.Rows.rows) c.deref.result.now c.first_destination.new.own.items c.deref.ensures.value c.in_ok-next.field-0 next c.in-Some.is c.requires.table c.requires.order i.parts c.in_ok-next.ensures.parts c.in_ok-next.ensures.some c.in_ok-next.ensures.one in
     let n = l.0 in
     sources_in n
 
@@ -120,7 +122,7 @@ enter-requires-clause-behind g c x t =
     let new = c.reach.new.self in
     let reach = c.in_ok-reach.ensures in
     let next = c.in-Some.next in
-    let l = leads i.gone g.R.Rows.rows c.deref.result.now c.first_destination.new.own.items c.deref.ensures.value c.in_ok-next.field-0 next c.in-Some.is c.requires.table c.requires.order i.parts c.in_ok-next.ensures.parts c.in_ok-next.ensures.some c.in_ok-next.ensures.one in
+    let l = leads i.gone (rows_of_split g.R.Rows.rows) c.deref.result.now c.first_destination.new.own.items c.deref.ensures.value c.in_ok-next.field-0 next c.in-Some.is c.requires.table c.requires.order i.parts c.in_ok-next.ensures.parts c.in_ok-next.ensures.some c.in_ok-next.ensures.one in
     let n = l.0 in
     let start_is = c.bits-start.ensures.value ∙ ap (λ (x : Address). x.bits) c.addr.ensures.value in
     let p = so_far-near n l.1 c.loop-own.self.nodes.items c.loop-own.pass new c.bits-start.result start_is reach.reached reach.left reach.same i.so_far in
@@ -139,7 +141,7 @@ loop-own-preserved g c =
     let enter = c.in_ok-enter.ensures in
     let here = c.in_ok-here.ensures in
     let next = c.in-Some.next in
-    let l = leads i.gone g.R.Rows.rows c.deref.result.now c.first_destination.new.own.items c.deref.ensures.value c.in_ok-next.field-0 next c.in-Some.is c.requires.table c.requires.order i.parts c.in_ok-next.ensures.parts c.in_ok-next.ensures.some c.in_ok-next.ensures.one in
+    let l = leads i.gone (rows_of_split g.R.Rows.rows) c.deref.result.now c.first_destination.new.own.items c.deref.ensures.value c.in_ok-next.field-0 next c.in-Some.is c.requires.table c.requires.order i.parts c.in_ok-next.ensures.parts c.in_ok-next.ensures.some c.in_ok-next.ensures.one in
     let n = l.0 in
     let start_is = c.bits-start.ensures.value ∙ ap (λ (x : Address). x.bits) c.addr.ensures.value in
     let p = so_far-near n l.1 old c.loop-own.pass mid c.bits-start.result start_is reach.reached reach.left reach.same i.so_far in
@@ -151,7 +153,7 @@ loop-own-preserved g c =
     (λ none d low high. enter.inside none d (omega (arith, start_is, low)) high) (λ none d out within. enter.outside none d (elim out [ inl lt ↦ inl (omega (arith, lt, start_is)) | inr gt ↦ inr gt ]) within) enter.ahead in
     (record {
       gone = i.gone ++ c.deref.result.now;
-      parts = i.parts ∙ ap (λ xs. i.gone ++ xs) l.1 ∙ sym (append_assoc i.gone c.deref.result.now (g.R.Rows.rows next.others));
+      parts = i.parts ∙ ap (λ xs. i.gone ++ xs) l.1 ∙ sym (append_assoc i.gone c.deref.result.now (rows_of_split g.R.Rows.rows next.others));
       sound = sound_by c.overlaid.new.self.nodes.items c.overlaid.new.self.numbers (elim [ Constant v ↦ elim [ Constant u ↦ refl | Stored m ↦ refl ] | Stored k ↦ elim [ Constant v ↦ refl | Stored m ↦ refl ] ]) here.sound;
       keeps = λ k node e. here.keeps k node (i.keeps k node e);
       is_open = enter.is_open;
@@ -175,7 +177,7 @@ returns-clause-runs g c =
     let new = c.reach-2.new.self in
     let sources = c.loop-own.self.nodes.items in
     let reach = c.in_ok-reach-2.ensures in
-    let none : g.R.Rows.rows c.loop-own.rest ≡ [] = subst (λ r. IfNone r (g.R.Rows.rows c.loop-own.rest ≡ [])) c.in_default.is c.in_ok-next.ensures.none in
+    let none : rows_of_split g.R.Rows.rows c.loop-own.rest ≡ [] = subst (λ r. IfNone r (rows_of_split g.R.Rows.rows c.loop-own.rest ≡ [])) c.in_default.is c.in_ok-next.ensures.none in
     let all : i.gone ≡ (g.R.Rows.rows a.rows) = sym (i.parts ∙ ap (λ xs. i.gone ++ xs) none ∙ append-nil i.gone) in
     let before = subst (λ (xs : List (Entry g.row.V.Denot)). AreSoFar w xs [] sources old.list.items old.now (ahead_of old)) all
     (subst (λ (xs : List (Entry g.row.V.Denot)). AreSoFar w i.gone xs sources old.list.items old.now (ahead_of old)) none i.so_far) in

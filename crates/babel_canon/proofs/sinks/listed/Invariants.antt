@@ -1,4 +1,0 @@
-use Rattle.babel_canon.proofs.sinks.listed.Given as goal
-
-abbrev pub ghosts-listed_by : goal.ghosts-listed_by
-ghosts-listed_by a = record { values = a.values.now.list.items; body = 0 }

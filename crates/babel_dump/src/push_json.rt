@@ -1,0 +1,99 @@
+//! A row's line as JSON (RFC 8259), appended to a buffer that has room for it. No text of an address
+//! or a router-id has a character that JSON escapes.
+ghost use Rattle.std.specs.Prelude.{◌≡◌, ◌++◌, Some};
+ghost use Rattle.hex.specs.Hex.{encode_lower};
+ghost use Rattle.babel_prefix.specs.Text.{printed, printed_prefix};
+ghost use Rattle.babel_dump.specs.JsonText.{addressed_json, announcement_json, answer_json, kept_json, pair_json, quoted};
+ghost use Rattle.babel_dump.specs.Slices.{HasRoom, TookRoom};
+
+use crate::push::{push_addr, push_number, push_prefix, push_router_id, push_text};
+use babel_prefix::{Addr, Prefix};
+use babel_tlv::{Ann, Held, Key, View};
+
+/// Appends a row of a table, as the runs show it under a view.
+pub(crate) fn push_pair_json(buffer: &mut Vec<u8>, view: View, key: Key, held: Held)
+    requires { HasRoom buffer.old 245 }
+    ensures text { buffer.new.items ≡ buffer.old.items ++ pair_json view (key, held) }
+    ensures room { TookRoom buffer.old buffer.new 245 }
+{
+    push_text(buffer, "{");
+    push_addressed(buffer, key.dst(), key.src());
+    push_text(buffer, r#","answer":"#);
+    push_held_json(buffer, view, held);
+    push_text(buffer, "}\n");
+}
+
+/// Appends a destination and a source: two members of an object.
+fn push_addressed(buffer: &mut Vec<u8>, dst: Prefix, src: Prefix)
+    requires { HasRoom buffer.old 118 }
+    ensures text { buffer.new.items
+        ≡ buffer.old.items ++ addressed_json (printed_prefix dst) (printed_prefix src) }
+    ensures room { TookRoom buffer.old buffer.new 118 }
+{
+    push_text(buffer, r#""destination":""#);
+    push_prefix(buffer, dst);
+    push_text(buffer, r#"","source":""#);
+    push_prefix(buffer, src);
+    push_text(buffer, "\"");
+}
+
+/// Appends what stands for a key, under a view: an object, or `"unreachable"`.
+fn push_held_json(buffer: &mut Vec<u8>, view: View, held: Held)
+    requires { HasRoom buffer.old 114 }
+    ensures text { buffer.new.items ≡ buffer.old.items ++ answer_json view (Some held) }
+    ensures room { TookRoom buffer.old buffer.new 114 }
+{
+    match held {
+        Held::Route(ann) => push_announcement_json(buffer, view, ann),
+        Held::Unreachable => push_text(buffer, r#""unreachable""#),
+    }
+}
+
+/// Appends the route that is announced, under a view: an object.
+fn push_announcement_json(buffer: &mut Vec<u8>, view: View, ann: Ann)
+    requires { HasRoom buffer.old 114 }
+    ensures text { buffer.new.items ≡ buffer.old.items ++ announcement_json view ann }
+    ensures room { TookRoom buffer.old buffer.new 114 }
+{
+    push_text(buffer, r#"{"next_hop":"#);
+    push_next_hop(buffer, view.next_hop, ann.next_hop());
+    push_text(buffer, r#","router_id":"#);
+    push_kept_id(buffer, view.router_id, ann.router_id());
+    push_text(buffer, r#","seqno":"#);
+    push_number(buffer, view.seqno, "null", ann.seqno());
+    push_text(buffer, r#","metric":"#);
+    push_number(buffer, view.metric, "null", ann.metric());
+    push_text(buffer, "}");
+}
+
+/// Appends the next hop where it is kept, or `null`.
+fn push_next_hop(buffer: &mut Vec<u8>, kept: bool, next_hop: Addr)
+    requires { HasRoom buffer.old 41 }
+    ensures text { buffer.new.items
+        ≡ buffer.old.items ++ kept_json kept (quoted (printed next_hop)) }
+    ensures room { TookRoom buffer.old buffer.new 41 }
+{
+    if kept {
+        push_text(buffer, "\"");
+        push_addr(buffer, next_hop);
+        push_text(buffer, "\"");
+    } else {
+        push_text(buffer, "null");
+    }
+}
+
+/// Appends the router-id where it is kept, or `null`.
+fn push_kept_id(buffer: &mut Vec<u8>, kept: bool, router_id: [u8; 8])
+    requires { HasRoom buffer.old 18 }
+    ensures text { buffer.new.items
+        ≡ buffer.old.items ++ kept_json kept (quoted (encode_lower router_id)) }
+    ensures room { TookRoom buffer.old buffer.new 18 }
+{
+    if kept {
+        push_text(buffer, "\"");
+        push_router_id(buffer, router_id);
+        push_text(buffer, "\"");
+    } else {
+        push_text(buffer, "null");
+    }
+}

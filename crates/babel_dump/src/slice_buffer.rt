@@ -1,0 +1,31 @@
+ghost use Rattle.std.specs.Prelude.{◌≡◌, ◌≤◌, [], IfOk, vec_capacity};
+
+use std::alloc::{AllocError, Global};
+
+/// So many octets are written at once, or fewer by less than a line.
+const SLICE: usize = 65_536;
+
+/// No line of a row is longer, in octets.
+pub(crate) const LONGEST_LINE: usize = 256;
+
+/// An empty buffer that has room for a slice of a text, and so for a line.
+#[derive(Drop)]
+pub(crate) struct SliceBuffer {
+    octets: Vec<u8>,
+    ghost empty: { octets.items ≡ [] },
+    ghost room: { 256 ≤ vec_capacity octets },
+}
+
+impl SliceBuffer {
+    pub fn new(alloc: Global) -> Result<SliceBuffer, AllocError> {
+        let octets = Vec::with_capacity(alloc, SLICE)?;
+        Ok(SliceBuffer { octets })
+    }
+
+    pub fn into_octets(self) -> Vec<u8>
+        ensures empty { result.items ≡ [] }
+        ensures room { 256 ≤ vec_capacity result }
+    {
+        self.octets
+    }
+}

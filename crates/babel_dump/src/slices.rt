@@ -1,0 +1,170 @@
+//! Lines that are written in slices: a buffer takes them, and is written out where it has no room
+//! for one more. So a text of any length takes no more memory than the buffer, which is there before
+//! the first octet is written.
+ghost use Rattle.std.specs.Prelude.{◌≡◌, ◌++◌, ◌-◌, ◌^◌, ◌<◌, ◌≤◌, [], OnOk, vec_capacity};
+ghost use Rattle.babel_tlv.specs.Views.{keeps_all};
+ghost use Rattle.babel_dump.specs.InFormat.{line_in, pairs_in};
+ghost use Rattle.babel_dump.specs.Parts.{WroteText};
+ghost use Rattle.babel_dump.specs.Run.{output};
+ghost use Rattle.babel_dump.specs.SlicedRows.{FinishedRows, lines_of};
+ghost use Rattle.babel_dump.specs.Slices.{WroteFront, HasRoom, TookRoom};
+
+use crate::byte_out::ByteOut;
+use crate::format::Format;
+use crate::outcome::Outcome;
+use crate::push::{push_pair_line, push_text};
+use crate::push_json::push_pair_json;
+use crate::run_fault::RunFault;
+use crate::slice_buffer::{LONGEST_LINE, SliceBuffer};
+use crate::write::{WriteFailed, write_all, write_text};
+use babel_table::Table;
+use babel_tlv::{Held, Key, View};
+
+/// Rows of which each has a line.
+#[derive(Drop)]
+pub(crate) enum Rows {
+    /// The rows of a table.
+    Table(Table),
+    /// Pairs, as a view shows them.
+    Pairs(View, Vec<(Key, Held)>),
+}
+
+/// What a run found: rows, whose lines are written in a format, a text after these, and what it
+/// answers. The buffer is for the slices of the lines.
+#[derive(Drop)]
+pub(crate) struct FoundRows {
+    pub format: Format,
+    pub rows: Rows,
+    pub after: String,
+    pub buffer: SliceBuffer,
+    pub outcome: Outcome,
+}
+
+/// Writes the lines that a run found, if it did, and the text after them, and answers its outcome.
+pub(crate) fn finish_rows<W: ByteOut>(
+    writer: &mut W,
+    found: Result<FoundRows, RunFault>,
+) -> Result<Outcome, RunFault>
+    requires few_failures { (W.state writer.old).failures < 2 ^ 64 - 1 }
+    requires few_flushes { (W.state writer.old).flushes < 2 ^ 64 - 1 }
+    ensures { FinishedRows (output (W.state writer.old) (W.state writer.new)) found result }
+{
+    let FoundRows {
+        format,
+        rows,
+        after,
+        buffer,
+        outcome,
+    } = found?;
+    let mut buffer = buffer.into_octets();
+    write_rows(writer, format, &rows, &mut buffer)?;
+    write_last(writer, &mut buffer, after.as_str())?;
+    Ok(outcome)
+}
+
+/// Writes the lines of rows, but for the last of them, which the buffer has.
+fn write_rows<W: ByteOut>(
+    writer: &mut W,
+    format: Format,
+    rows: &Rows,
+    buffer: &mut Vec<u8>,
+) -> Result<(), WriteFailed>
+    requires few_failures { (W.state writer.old).failures < 2 ^ 64 - 1 }
+    requires empty { buffer.old.items ≡ [] }
+    requires room { 256 ≤ vec_capacity buffer.old }
+    ensures { WroteFront (output (W.state writer.old) (W.state writer.new))
+        (lines_of format rows.now) buffer.new.items result }
+{
+    match rows {
+        Rows::Table(table) => write_table(writer, format, table, buffer),
+        Rows::Pairs(view, pairs) => write_pairs(writer, format, *view, pairs, buffer),
+    }
+}
+
+/// Writes the lines of a table, but for the last of them, which the buffer has.
+fn write_table<W: ByteOut>(
+    writer: &mut W,
+    format: Format,
+    table: &Table,
+    buffer: &mut Vec<u8>,
+) -> Result<(), WriteFailed>
+    requires few_failures { (W.state writer.old).failures < 2 ^ 64 - 1 }
+    requires empty { buffer.old.items ≡ [] }
+    requires room { 256 ≤ vec_capacity buffer.old }
+    ensures { WroteFront (output (W.state writer.old) (W.state writer.new))
+        (pairs_in format keeps_all table.now.rows) buffer.new.items result }
+{
+    for (key, held) in table.rows() {
+        make_room(writer, buffer)?;
+        push_line(buffer, format, View::all(), key, held);
+    }
+    Ok(())
+}
+
+/// Writes the lines of pairs, but for the last of them, which the buffer has.
+fn write_pairs<W: ByteOut>(
+    writer: &mut W,
+    format: Format,
+    view: View,
+    pairs: &[(Key, Held)],
+    buffer: &mut Vec<u8>,
+) -> Result<(), WriteFailed>
+    requires few_failures { (W.state writer.old).failures < 2 ^ 64 - 1 }
+    requires empty { buffer.old.items ≡ [] }
+    requires room { 256 ≤ vec_capacity buffer.old }
+    ensures { WroteFront (output (W.state writer.old) (W.state writer.new))
+        (pairs_in format view pairs.now) buffer.new.items result }
+{
+    for (key, held) in pairs {
+        make_room(writer, buffer)?;
+        push_line(buffer, format, view, *key, *held);
+    }
+    Ok(())
+}
+
+/// Writes what the buffer has where it has no room for a line more.
+fn make_room<W: ByteOut>(writer: &mut W, buffer: &mut Vec<u8>) -> Result<(), WriteFailed>
+    requires few_failures { (W.state writer.old).failures < 2 ^ 64 - 1 }
+    requires room { 256 ≤ vec_capacity buffer.old }
+    ensures front { WroteFront (output (W.state writer.old) (W.state writer.new))
+        buffer.old.items buffer.new.items result }
+    ensures room { OnOk result (HasRoom buffer.new 256) }
+{
+    if buffer.capacity() - buffer.len() >= LONGEST_LINE {
+        return Ok(());
+    }
+    let written = write_all(writer, buffer);
+    buffer.clear();
+    written
+}
+
+/// Writes what the buffer has and the text after it, as one slice where there is room, and flushes.
+fn write_last<W: ByteOut>(
+    writer: &mut W,
+    buffer: &mut Vec<u8>,
+    after: &str,
+) -> Result<(), WriteFailed>
+    requires few_failures { (W.state writer.old).failures < 2 ^ 64 - 1 }
+    requires few_flushes { (W.state writer.old).flushes < 2 ^ 64 - 1 }
+    ensures { WroteText (output (W.state writer.old) (W.state writer.new))
+        (buffer.old.items ++ after.now) result }
+{
+    if buffer.capacity() - buffer.len() >= after.len() {
+        push_text(buffer, after);
+        return write_text(writer, buffer);
+    }
+    write_all(writer, buffer)?;
+    write_text(writer, after.as_bytes())
+}
+
+/// Appends a row of a table: a line in a format.
+fn push_line(buffer: &mut Vec<u8>, format: Format, view: View, key: Key, held: Held)
+    requires { HasRoom buffer.old 256 }
+    ensures text { buffer.new.items ≡ buffer.old.items ++ line_in format view (key, held) }
+    ensures room { TookRoom buffer.old buffer.new 256 }
+{
+    match format {
+        Format::Text => push_pair_line(buffer, view, key, held),
+        Format::Json => push_pair_json(buffer, view, key, held),
+    }
+}
