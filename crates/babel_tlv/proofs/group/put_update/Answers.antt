@@ -25,11 +25,11 @@ returns-clause-items c =
     let source = source_sub key.src in
     let body = update_body c.args.omit key c.args.seqno c.args.metric in
     let len : 10 + (c.octets_needed.result - c.args.omit) + c.source_len.result ≡ length body =
-        let valid : IsAddressPrefix key.dst = search rules in
-        let needed : c.octets_needed.result ≡ octets_for key.dst.len = search rules in
-        let behind : c.source_len.result ≡ length source = search rules in
-        omega (arith, needed, behind, length-prefix_octets key.dst valid, length-drop c.args.omit (prefix_octets key.dst), length-append field source) in
+    let valid : IsAddressPrefix key.dst = search rules in
+    let needed : c.octets_needed.result ≡ octets_for key.dst.len = search rules in
+    let behind : c.source_len.result ≡ length source = search rules in
+    omega (arith, needed, behind, length-prefix_octets key.dst valid, length-drop c.args.omit (prefix_octets key.dst), length-append field source) in
     let head : List ℕ = 8 ∷ length body ∷ encoding key.dst.address.family ∷ 128 ∷ key.dst.len ∷ c.args.omit ∷ [] in
     let octets : c.put_source.new.group.items
-        ≡ old ++ head ++ to_be_bytes w16 1600 ++ to_be_bytes w16 c.args.seqno ++ to_be_bytes w16 c.args.metric ++ field ++ source = search rules in
+    ≡ old ++ head ++ to_be_bytes w16 1600 ++ to_be_bytes w16 c.args.seqno ++ to_be_bytes w16 c.args.metric ++ field ++ source = search rules in
     octets ∙ joined old head (to_be_bytes w16 1600) (to_be_bytes w16 c.args.seqno) (to_be_bytes w16 c.args.metric) field source
