@@ -4,6 +4,7 @@ use Rattle.std.specs.Borrow.{MutBor}
 use Rattle.babel_prefix.specs.Entries.{Entry}
 use Rattle.babel_tlv.specs.declared.held.Held.{Held}
 use Rattle.babel_tlv.specs.Pair.{Pair}
+pub use Rattle.babel_trie.specs.Sinks.{StopsAmong}
 use Rattle.babel_canon.specs.declared.values.PackedValue.{PackedValue}
 use Rattle.babel_canon.specs.Grids.{pair_of}
 use Rattle.babel_canon.specs.Values.{valued_entry}
