@@ -1,6 +1,6 @@
 -- The rows of one family stand in order, with whatever packed values.
-use Rattle.std.proofs.Common.{◌≡◌, ◌∷◌, suc, Bool, true, List, [], length, get_or, inl, inr, refl, sym, ap, ◌∙◌, subst, arith}
-use Rattle.std.specs.List.{All, AllByRecursion, AllPairs, filter}
+use Rattle.std.proofs.Common.{◌≡◌, ◌∷◌, suc, Bool, List, [], inl, inr, refl, sym, ap, ◌∙◌, arith}
+use Rattle.std.specs.List.{All, AllByRecursion, AllPairs}
 use Rattle.std.specs.Ordering.{nat_cmp, ordering_then, ordering_reverse, is_lt}
 use Rattle.std.specs.declared.cmp.Ordering.TheVariants.{Less, Greater}
 use Rattle.std.proofs.lemmas.List.Elements.{All-filter, All-from_recursion, filter_passes}
@@ -14,7 +14,7 @@ use Rattle.babel_prefix.specs.Width.{same_family}
 use Rattle.babel_prefix.proofs.EntryLaws.{same_family-is}
 use Rattle.babel_prefix.proofs.OrderLaws.{family_equality}
 use Rattle.babel_tlv.specs.Pair.{Pair, IsPair}
-use Rattle.babel_tlv.specs.Route.{RouteKey, key_cmp}
+use Rattle.babel_tlv.specs.Route.{key_cmp}
 use Rattle.babel_tlv.proofs.OrderLaws.{key_total}
 use Rattle.babel_table.specs.Rows.{AreRows, family_rows}
 use Rattle.babel_table.proofs.EntryLaws.{rising_rows}

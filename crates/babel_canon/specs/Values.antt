@@ -9,6 +9,8 @@ use Rattle.babel_tlv.specs.declared.held.Held.{Held}
 use Rattle.babel_tlv.specs.declared.held.Held.TheVariants as helds
 use Rattle.babel_tlv.specs.Group.{held_seqno, held_metric}
 use Rattle.babel_tlv.specs.Pair.{Pair, held_cmp}
+use Rattle.babel_table.specs.declared.table_rows.TableRows.{TableRows}
+use Rattle.babel_table.specs.Left.{rows_left}
 use Rattle.babel_table.specs.Rows.{entries_of}
 use Rattle.babel_canon.specs.declared.values.PackedValue.{PackedValue}
 use Rattle.babel_canon.specs.Grids.{AreFamilyBoxes, both_families}
@@ -72,6 +74,10 @@ abbrev pub packed_entries : List Pair → List PackedValue → List (Entry Packe
 packed_entries (row ∷ rows) (value ∷ values) = (row.0.dst, row.0.src, value) ∷ packed_entries rows values
 packed_entries (row ∷ rows) [] = []
 packed_entries [] values = []
+
+-- the same of the rows that are left
+abbrev pub entries_left : TableRows → List PackedValue → List (Entry PackedValue)
+entries_left rows values = packed_entries (rows_left rows) values
 
 -- an entry with the value that its own stands for
 abbrev pub valued_entry : List Held → Entry PackedValue → Entry Held

@@ -2,14 +2,13 @@ ghost use Rattle.std.specs.Prelude.{◌≡◌, ◌+◌, ◌-◌, ◌^◌, ◌++�
 ghost use Rattle.std.specs.Prelude.{map, min};
 ghost use Rattle.babel_prefix.specs.declared.family.Family.TheVariants.{V4, V6};
 ghost use Rattle.babel_prefix.specs.Entries.{Entry, HasPrefixes, HasDistinctPrefixes};
-ghost use Rattle.babel_table.specs.Left.{rows_left};
 ghost use Rattle.babel_table.specs.Rows.{AreRows, family_rows};
 ghost use Rattle.babel_trie.specs.Held.{RowOrder};
 ghost use Rattle.babel_trie.specs.Nested.{entry_at};
 ghost use Rattle.babel_trie.specs.OneOrder.{rows_in_order-prop};
 ghost use Rattle.babel_trie.specs.Rows.{InOrder};
 ghost use Rattle.babel_trie.specs.Sinks.{StopsAmong};
-ghost use Rattle.babel_canon.specs.Values.{AreNumbered, AreNumberedBoxes, AreNumberedEntries, KeepsValues, packed_entries};
+ghost use Rattle.babel_canon.specs.Values.{AreNumbered, AreNumberedBoxes, AreNumberedEntries, KeepsValues, entries_left, packed_entries};
 ghost use Rattle.babel_canon.specs.declared.values.PackedValue.{PackedValue};
 
 use crate::values::{PackedValue, Values};
@@ -35,14 +34,14 @@ pub(crate) struct Grids<V: LawfulOrd> {
 pub(crate) struct PackedRows<'a> {
     rows: TableRows<'a>,
     values: &'a [PackedValue],
-    ghost in_order: { InOrder RowOrder (packed_entries (rows_left rows) values.now) } by { rows_in_order-prop _ },
-    ghost prefixes: { All HasPrefixes (packed_entries (rows_left rows) values.now) },
+    ghost in_order: { InOrder RowOrder (entries_left rows values.now) } by { rows_in_order-prop _ },
+    ghost prefixes: { All HasPrefixes (entries_left rows values.now) },
 }
 
 impl<'a> PackedRows<'a> {
     /// The rows of a family of the table, with these values.
     pub(crate) fn of(family: Family, table: &'a Table, values: &'a [PackedValue]) -> PackedRows<'a>
-        ensures { packed_entries (rows_left result.rows) result.values.now
+        ensures { entries_left result.rows result.values.now
             ≡ packed_entries (family_rows family table.now.rows) values.now }
     {
         PackedRows {
@@ -53,10 +52,7 @@ impl<'a> PackedRows<'a> {
 }
 
 impl<'a> Rows<PackedValue> for PackedRows<'a> {
-    ghost use Rattle.babel_table.specs.Left.{rows_left};
-    ghost use Rattle.babel_canon.specs.Values.{packed_entries};
-
-    ghost rows = { λ r. packed_entries (rows_left r.rows) r.values.now };
+    ghost rows = { λ r. entries_left r.rows r.values.now };
 
     fn split(self) -> Option<(Row, PackedRows<'a>)> {
         let PackedRows { mut rows, values } = self;

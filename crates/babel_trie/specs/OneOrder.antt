@@ -1,5 +1,5 @@
 -- Rows stand in order in one way at most, so a type may keep that they do: this project's own.
-use Rattle.std.specs.Prelude.{◌≡◌, ◌⊎◌, ℕ, ◌<◌, List, [], ◌∷◌}
+use Rattle.std.specs.Prelude.{◌≡◌, ℕ, ◌<◌, List, [], ◌∷◌}
 use Rattle.std.specs.Coded.{Coded-set, coded_ℕ, le_prop, ×_prop, Π_prop, →_prop, Unit-prop}
 use Rattle.std.proofs.Common.{inl, inr, ap, subst}
 use Rattle.std.proofs.Math.Nat.{lt_irrefl}
