@@ -1,10 +1,10 @@
 //! The runs over captures, over devices that follow a script, and the words that ask for them.
 use super::devices::{ScriptedIn, ScriptedOut};
 use super::split;
+use super::words::expect_file;
 use babel_capture::Fault;
 use babel_dump::{
-    CaptureOrder, CaptureOutcome, CaptureRunFault, DumpFile, Request, read_order, read_request,
-    run_capture_job,
+    CaptureOrder, CaptureRunFault, DumpFile, Request, read_order, read_request, run_capture_job,
 };
 use std::alloc::Global;
 use std::process::Abort;
@@ -50,62 +50,52 @@ const TAKEN: usize = 7;
 fn order(alloc: Global, line: &str) -> Result<CaptureOrder, Fail> {
     match read_request(alloc, &split(alloc, line)?) {
         Ok(Request::Capture(order)) => Ok(order),
-        _ => Err(Fail::from("no job over a capture")),
+        Ok(Request::Dumps(_order)) => Err(Fail::from("a job over dumps")),
+        Err(_refusal) => Err(Fail::from("no job")),
     }
 }
 
-/// What a run gave, and what it wrote.
-#[derive(Drop)]
-struct Ran {
-    outcome: Result<CaptureOutcome, CaptureRunFault>,
-    taken: Vec<u8>,
-}
-
-/// The run of an order over octets that come one by one, of which this read and this call of the writer fail, from 1.
-fn run(
-    alloc: Global,
-    order: &CaptureOrder,
-    octets: &[u8],
-    failing_read: u64,
-    failing_call: u64,
-) -> Ran {
-    let mut reader = ScriptedIn::new(octets, 1, failing_read);
-    let mut writer = ScriptedOut::new(alloc, TAKEN, failing_call);
-    let outcome = run_capture_job(alloc, order.limit, &order.job, &mut reader, &mut writer);
-    Ran {
-        outcome,
-        taken: writer.into_taken(),
-    }
-}
-
-/// The run ended in this fault, whose status this is, and these octets were written before.
-fn expect_fault(
+/// What is asked of these octets, which come one by one, of which this read and this call of the writer fail, from 1. It
+/// ends in this fault, if any, with this status, and writes these octets.
+fn expect_run(
     rt: &impl Abort,
+    alloc: Global,
     line: &str,
-    ran: Ran,
-    fault: CaptureRunFault,
+    octets: &[u8],
+    failing: (u64, u64),
+    fault: Option<CaptureRunFault>,
     status: u8,
     written: &[u8],
-) {
-    let Ran { outcome, taken } = ran;
-    assert_eq!(rt; fault.status(), status);
-    assert_eq!(rt; taken.as_slice(), written, "{line}");
-    match outcome {
-        Err(found) => assert_eq!(rt; found, fault, "{line}"),
-        Ok(_) => panic!(rt; "{line} answered no fault"),
-    }
+) -> Result<(), Fail> {
+    let CaptureOrder { job, limit, .. } = order(alloc, line)?;
+    let mut reader = ScriptedIn::new(octets, 1, failing.0);
+    let mut writer = ScriptedOut::new(alloc, TAKEN, failing.1);
+    let (found, ended) = match run_capture_job(alloc, limit, &job, &mut reader, &mut writer) {
+        Ok(outcome) => (None, outcome.status),
+        Err(fault) => {
+            let status = fault.status();
+            (Some(fault), status)
+        }
+    };
+    assert_eq!(rt; found, fault, "{line}, {failing:?}");
+    assert_eq!(rt; ended, status, "{line}, {failing:?}");
+    assert_eq!(rt; writer.taken(), written, "{line}, {failing:?}");
+    Ok(())
 }
 
 #[test]
 fn octets_come_one_by_one(rt: HostRuntime) -> Result<(), Fail> {
     for (line, text) in &WRITTEN {
-        let order = order(rt.alloc(), line)?;
-        let Ran { outcome, taken } = run(rt.alloc(), &order, &CAPTURE, 0, 0);
-        assert_eq!(rt; taken.as_slice(), text.as_bytes(), "{line}");
-        match outcome {
-            Ok(outcome) => assert_eq!(rt; outcome.status, 0, "{line}"),
-            Err(fault) => panic!(rt; "{line}: {fault}"),
-        }
+        expect_run(
+            &rt,
+            rt.alloc(),
+            line,
+            &CAPTURE,
+            (0, 0),
+            None,
+            0,
+            text.as_bytes(),
+        )?;
     }
     Ok(())
 }
@@ -113,10 +103,9 @@ fn octets_come_one_by_one(rt: HostRuntime) -> Result<(), Fail> {
 #[test]
 fn each_read_that_fails(rt: HostRuntime) -> Result<(), Fail> {
     for (line, _text) in &WRITTEN {
-        let order = order(rt.alloc(), line)?;
         for failing in 1..CAPTURE.len() as u64 + 2 {
-            let ran = run(rt.alloc(), &order, &CAPTURE, failing, 0);
-            expect_fault(&rt, line, ran, CaptureRunFault::Read, 4, &[]);
+            let fault = Some(CaptureRunFault::Read);
+            expect_run(&rt, rt.alloc(), line, &CAPTURE, (failing, 0), fault, 4, &[])?;
         }
     }
     Ok(())
@@ -125,49 +114,62 @@ fn each_read_that_fails(rt: HostRuntime) -> Result<(), Fail> {
 #[test]
 fn each_write_that_fails(rt: HostRuntime) -> Result<(), Fail> {
     for (line, text) in &WRITTEN {
-        let order = order(rt.alloc(), line)?;
+        let whole = text.as_bytes();
         // As many writes as the text takes, and the flush.
-        for failing in 0..text.len().div_ceil(TAKEN) + 1 {
-            let ran = run(rt.alloc(), &order, &CAPTURE, 0, failing as u64 + 1);
-            let whole = text.as_bytes();
+        for failing in 0..whole.len().div_ceil(TAKEN) + 1 {
             let written = whole.get(..failing * TAKEN).unwrap_or(whole);
-            expect_fault(&rt, line, ran, CaptureRunFault::Write, 4, written);
+            let failing = (0, failing as u64 + 1);
+            let fault = Some(CaptureRunFault::Write);
+            expect_run(&rt, rt.alloc(), line, &CAPTURE, failing, fault, 4, written)?;
         }
     }
     Ok(())
+}
+
+/// Where a capture that is cut after so many octets is at fault, if it is.
+fn fault_of_cut(len: usize) -> Option<Fault> {
+    match len {
+        0..24 => Some(Fault::NotCapture),
+        24 | 72 => None,
+        25..72 => Some(Fault::CutShort { at: 24 }),
+        _ => Some(Fault::CutShort { at: 72 }),
+    }
 }
 
 #[test]
 fn a_capture_cut_at_each_octet(rt: HostRuntime) -> Result<(), Fail> {
-    let order = order(rt.alloc(), "senders")?;
     for len in 0..CAPTURE.len() {
-        let fault = match len {
-            0..24 => Some(Fault::NotCapture),
-            24 | 72 => None,
-            25..72 => Some(Fault::CutShort { at: 24 }),
-            _ => Some(Fault::CutShort { at: 72 }),
-        };
-        if let Some(fault) = fault {
-            let ran = run(rt.alloc(), &order, &CAPTURE[..len], 0, 0);
-            expect_fault(&rt, "senders", ran, CaptureRunFault::Capture(fault), 3, &[]);
+        if let Some(fault) = fault_of_cut(len) {
+            let fault = Some(CaptureRunFault::Capture(fault));
+            expect_run(
+                &rt,
+                rt.alloc(),
+                "senders",
+                &CAPTURE[..len],
+                (0, 0),
+                fault,
+                3,
+                &[],
+            )?;
         }
     }
     Ok(())
 }
 
+/// Words, how many octets they allow, whether they ask for no notes, and the file; standard input where there is none.
+static WORDS: [(&str, u32, bool, Option<&str>); 2] = [
+    ("senders x.pcap", 1_073_741_824, false, Some("x.pcap")),
+    ("extract --from :: --quiet --max-octets 7 -", 7, true, None),
+];
+
 #[test]
 fn words_of_captures(rt: HostRuntime) -> Result<(), Fail> {
-    let usual = order(rt.alloc(), "senders x.pcap")?;
-    assert_eq!(rt; usual.limit, 1_073_741_824);
-    assert!(rt; !usual.quiet);
-    match usual.job.file() {
-        DumpFile::Named(name) => assert_eq!(rt; name.as_str(), "x.pcap"),
-        DumpFile::StandardInput => panic!(rt; "the file is not named"),
+    for (line, limit, quiet, file) in &WORDS {
+        let asked = order(rt.alloc(), line)?;
+        assert_eq!(rt; asked.limit, *limit, "of {line}");
+        assert_eq!(rt; asked.quiet, *quiet, "of {line}");
+        expect_file(&rt, line, asked.job.file(), *file);
     }
-    let asked = order(rt.alloc(), "extract --from :: --quiet --max-octets 7 -")?;
-    assert_eq!(rt; asked.limit, 7);
-    assert!(rt; asked.quiet);
-    assert!(rt; matches!(asked.job.file(), DumpFile::StandardInput));
     assert!(rt; read_order(rt.alloc(), &["senders"]).is_err());
     Ok(())
 }

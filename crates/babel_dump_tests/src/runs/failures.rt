@@ -1,8 +1,8 @@
 //! Each read and each write that fails, in turn.
 ghost use Rattle.std.specs.Prelude.{◌<◌};
 
-use super::{ONE_BY_ONE, Ran, Script, all_asked, expect_fault, job, scripted_run};
-use babel_dump::{Job, RunFault};
+use super::{Case, ONE_BY_ONE, Script, all_asked, expect_run, run};
+use babel_dump::RunFault;
 use babel_library_tests::dumps::{
     NESTED_SOURCES, ONE_FAMILY, ONE_ROUTE, TWO_FAMILIES, TWO_SOURCES, V4, V6, octets,
 };
@@ -35,49 +35,60 @@ const SCRIPT: Script = Script {
     ..ONE_BY_ONE
 };
 
-/// A run whose script may fail, under the usual limits.
-fn failing_run(alloc: Global, job: &Job, dumps: (&[u8], &[u8]), script: Script) -> Result<Ran, Fail>
-    requires { 0 < script.read }
+/// What is asked of two dumps, octet by octet.
+fn case<'a>(
+    sender: &'a str,
+    asked: &'a str,
+    text: &'a str,
+    dump: &'a [u8],
+    other: &'a [u8],
+) -> Case<'a>
+    ensures { 0 < result.script.read }
 {
-    scripted_run(alloc, Limits::usual(), job, dumps, script)
-}
-
-/// The run read the dump, and the other, as often.
-fn expect_reads(rt: &impl Abort, job: &Job, ran: &Ran, reads: u64, other_reads: u64) {
-    assert_eq!(rt; ran.reads, reads, "{job:?}");
-    assert_eq!(rt; ran.other_reads, other_reads, "{job:?}");
+    Case {
+        asked,
+        mode: Mode::Plain,
+        sender,
+        limits: Limits::usual(),
+        text,
+        dump,
+        other,
+        script: SCRIPT,
+    }
 }
 
 #[test]
 fn each_read(rt: HostRuntime) -> Result<(), Fail> {
     for (sender, dump, other, lookup) in &GIVEN {
         for asked in &all_asked(lookup) {
-            let job = job(rt.alloc(), Mode::Plain, sender, asked)?;
-            expect_read_faults(&rt, rt.alloc(), &job, dump, other)?;
+            expect_read_faults(&rt, rt.alloc(), sender, asked, dump, other)?;
         }
     }
     Ok(())
 }
 
 /// Each read of the dump, also the one that meets its end, is answered where it fails, before the other dump is read.
-fn expect_read_faults(
+fn expect_read_faults<'a>(
     rt: &impl Abort,
     alloc: Global,
-    job: &Job,
-    text: &str,
-    other: &str,
+    sender: &'a str,
+    asked: &'a str,
+    text: &'a str,
+    other: &'a str,
 ) -> Result<(), Fail> {
-    let dump = octets(alloc, text)?;
-    let other = octets(alloc, other)?;
+    let (dump, other) = (octets(alloc, text)?, octets(alloc, other)?);
     for failing in 1..dump.len() as u64 + 2 {
         let script = Script {
             failing_read: failing,
             failing_other_read: 1,
             ..SCRIPT
         };
-        let ran = failing_run(alloc, job, (&dump, &other), script)?;
-        expect_fault(rt, text, job, &ran, RunFault::Read, 4, &[]);
-        expect_reads(rt, job, &ran, failing, 0);
+        let case = Case {
+            script,
+            ..case(sender, asked, text, &dump, &other)
+        };
+        let reads = expect_run(rt, alloc, &case, Some(RunFault::Read), 4, &[])?;
+        assert_eq!(rt; reads, (failing, 0), "{asked} of {text}");
     }
     Ok(())
 }
@@ -85,31 +96,32 @@ fn expect_read_faults(
 #[test]
 fn each_read_of_the_other_dump(rt: HostRuntime) -> Result<(), Fail> {
     for (sender, dump, other, _lookup) in &GIVEN {
-        let asked = format!(in rt.alloc(); "compare a b --other-from {sender}")?;
-        let job = job(rt.alloc(), Mode::Plain, sender, asked.as_str())?;
-        expect_other_read_faults(&rt, rt.alloc(), &job, dump, other)?;
+        expect_other_read_faults(&rt, rt.alloc(), sender, dump, other)?;
     }
     Ok(())
 }
 
-/// Each read of the other dump, also the one that meets its end, is answered where it fails, behind all of the dump.
-fn expect_other_read_faults(
+/// Each read of the other dump, also the one that meets its end, is answered where it fails, after all of the dump.
+fn expect_other_read_faults<'a>(
     rt: &impl Abort,
     alloc: Global,
-    job: &Job,
-    text: &str,
-    other: &str,
+    sender: &'a str,
+    text: &'a str,
+    other: &'a str,
 ) -> Result<(), Fail> {
-    let dump = octets(alloc, text)?;
-    let other = octets(alloc, other)?;
+    let (dump, other) = (octets(alloc, text)?, octets(alloc, other)?);
+    let asked = format!(in alloc; "compare a b --other-from {sender}")?;
     for failing in 1..other.len() as u64 + 2 {
         let script = Script {
             failing_other_read: failing,
             ..SCRIPT
         };
-        let ran = failing_run(alloc, job, (&dump, &other), script)?;
-        expect_fault(rt, text, job, &ran, RunFault::OtherRead, 4, &[]);
-        expect_reads(rt, job, &ran, dump.len() as u64 + 1, failing);
+        let case = Case {
+            script,
+            ..case(sender, asked.as_str(), text, &dump, &other)
+        };
+        let reads = expect_run(rt, alloc, &case, Some(RunFault::OtherRead), 4, &[])?;
+        assert_eq!(rt; reads, (dump.len() as u64 + 1, failing), "of {text}");
     }
     Ok(())
 }
@@ -118,34 +130,36 @@ fn expect_other_read_faults(
 fn each_write_and_the_flush(rt: HostRuntime) -> Result<(), Fail> {
     for (sender, dump, other, lookup) in &GIVEN {
         for asked in &all_asked(lookup) {
-            let job = job(rt.alloc(), Mode::Plain, sender, asked)?;
-            expect_write_faults(&rt, rt.alloc(), &job, dump, other)?;
+            expect_write_faults(&rt, rt.alloc(), sender, asked, dump, other)?;
         }
     }
     Ok(())
 }
 
-/// Each write, and the flush behind them, is answered where it fails, and what was written is a part of the whole.
-fn expect_write_faults(
+/// Each write, and the flush after them, is answered where it fails, and what was written is a part of the whole.
+fn expect_write_faults<'a>(
     rt: &impl Abort,
     alloc: Global,
-    job: &Job,
-    text: &str,
-    other: &str,
+    sender: &'a str,
+    asked: &'a str,
+    text: &'a str,
+    other: &'a str,
 ) -> Result<(), Fail> {
-    let dump = octets(alloc, text)?;
-    let other = octets(alloc, other)?;
-    let whole = failing_run(alloc, job, (&dump, &other), SCRIPT)?;
-    assert!(rt; whole.outcome.is_ok(), "{job:?} of {text}");
+    let (dump, other) = (octets(alloc, text)?, octets(alloc, other)?);
+    let whole = run(alloc, &case(sender, asked, text, &dump, &other))?;
+    assert!(rt; whole.outcome.is_ok(), "{asked} of {text}");
     let whole = whole.taken.as_slice();
     for call in 0..whole.len().div_ceil(TAKEN).saturating_add(1) {
         let script = Script {
             failing_call: call as u64 + 1,
             ..SCRIPT
         };
-        let ran = failing_run(alloc, job, (&dump, &other), script)?;
+        let case = Case {
+            script,
+            ..case(sender, asked, text, &dump, &other)
+        };
         let part = whole.len().min(call.saturating_mul(TAKEN));
-        expect_fault(rt, text, job, &ran, RunFault::Write, 4, &whole[..part]);
+        expect_run(rt, alloc, &case, Some(RunFault::Write), 4, &whole[..part])?;
     }
     Ok(())
 }
@@ -203,49 +217,46 @@ fn a_write_that_takes_nothing(rt: HostRuntime) -> Result<(), Fail> {
         ..ONE_BY_ONE
     };
     for asked in &all_asked(LOOKUP) {
-        let job = job(rt.alloc(), Mode::Plain, V4, asked)?;
-        let ran = failing_run(rt.alloc(), &job, (&dump, &[]), script)?;
-        expect_fault(&rt, ONE_ROUTE, &job, &ran, RunFault::Write, 4, &[]);
+        let case = Case {
+            script,
+            ..case(V4, asked, ONE_ROUTE, &dump, &[])
+        };
+        expect_run(&rt, rt.alloc(), &case, Some(RunFault::Write), 4, &[])?;
     }
     Ok(())
 }
 
-#[test]
-fn a_read_behind_octets(rt: HostRuntime) -> Result<(), Fail> {
-    expect_second_read(&rt, rt.alloc(), ONE_ROUTE, 20, RunFault::Read, 4, 2)
-}
+/// A dump in pieces of so many octets, of which the second read fails, the fault and its status, and how often it is read:
+/// a read that fails after octets, and a fault of octets before a read that would fail.
+static SECOND_READS: [(&str, usize, RunFault, u8, u64); 2] = [
+    (ONE_ROUTE, 20, RunFault::Read, 4, 2),
+    (
+        "2a030000",
+        100,
+        RunFault::Dump(Fault::BadVersion { at: 0 }),
+        3,
+        1,
+    ),
+];
 
 #[test]
-fn a_fault_of_octets_before_a_read_that_would_fail(rt: HostRuntime) -> Result<(), Fail> {
-    let bad_version = RunFault::Dump(Fault::BadVersion { at: 0 });
-    expect_second_read(&rt, rt.alloc(), "2a030000", 100, bad_version, 3, 1)
-}
-
-/// Of a dump in pieces of this many octets whose second read fails, all that can be asked ends in this fault behind as
-/// many reads.
-fn expect_second_read(
-    rt: &impl Abort,
-    alloc: Global,
-    text: &str,
-    piece: usize,
-    fault: RunFault,
-    status: u8,
-    reads: u64,
-) -> Result<(), Fail>
-    requires { 0 < piece }
-{
-    let dump = octets(alloc, text)?;
-    let script = Script {
-        read: piece,
-        failing_read: 2,
-        failing_other_read: 1,
-        ..SCRIPT
-    };
-    for asked in &all_asked(LOOKUP) {
-        let job = job(alloc, Mode::Plain, V4, asked)?;
-        let ran = failing_run(alloc, &job, (&dump, &dump), script)?;
-        expect_fault(rt, text, &job, &ran, fault, status, &[]);
-        expect_reads(rt, &job, &ran, reads, 0);
+fn a_second_read_that_fails(rt: HostRuntime) -> Result<(), Fail> {
+    for (text, piece, fault, status, reads) in &SECOND_READS {
+        let dump = octets(rt.alloc(), text)?;
+        let script = Script {
+            read: (*piece).max(1),
+            failing_read: 2,
+            failing_other_read: 1,
+            ..SCRIPT
+        };
+        for asked in &all_asked(LOOKUP) {
+            let case = Case {
+                script,
+                ..case(V4, asked, text, &dump, &dump)
+            };
+            let found = expect_run(&rt, rt.alloc(), &case, Some(*fault), *status, &[])?;
+            assert_eq!(rt; found, (*reads, 0), "{asked} of {text}");
+        }
     }
     Ok(())
 }

@@ -2,7 +2,7 @@
 ghost use Rattle.std.specs.Prelude.{◌^◌, ◌<◌};
 
 use super::devices::{EndlessIn, ScriptedIn, ScriptedOut};
-use super::{COMPARE_V4, all_asked, answer, expect_fault, expect_outcome, job};
+use super::{COMPARE_V4, Case, ONE_BY_ONE, Script, all_asked, expect_run, job};
 use babel_dump::{ByteIn, IgnoredTlv, Job, RunFault, run_job, status_of};
 use babel_library_tests::dumps::{HELD_AFTER_ONE, ONE_ROUTE, V4, octets};
 use babel_table::Limits;
@@ -24,17 +24,61 @@ fn expect_refusals(
     mode: Mode,
     rows: &[(&str, Fault)],
 ) -> Result<(), Fail> {
-    for (dump, fault) in rows {
-        for asked in &all_asked(LOOKUP) {
-            let job = job(alloc, mode, V4, asked)?;
-            let ran = answer(alloc, limits, &job, (dump, ONE_ROUTE), 1)?;
-            expect_fault(rt, dump, &job, &ran, RunFault::Dump(*fault), 3, &[]);
-        }
-        let job = job(alloc, mode, V4, COMPARE_V4)?;
-        let ran = answer(alloc, limits, &job, (ONE_ROUTE, dump), 2)?;
-        let fault = RunFault::OtherDump(*fault);
-        expect_fault(rt, dump, &job, &ran, fault, 3, &[]);
+    let route = octets(alloc, ONE_ROUTE)?;
+    for (text, fault) in rows {
+        expect_refusal(rt, alloc, limits, mode, text, &route, *fault)?;
     }
+    Ok(())
+}
+
+/// Whatever is asked of this dump, it is refused with this fault, and so is a comparison of another with it.
+fn expect_refusal<'a>(
+    rt: &impl Abort,
+    alloc: Global,
+    limits: Limits,
+    mode: Mode,
+    text: &'a str,
+    route: &'a [u8],
+    fault: Fault,
+) -> Result<(), Fail> {
+    let dump = octets(alloc, text)?;
+    for asked in &all_asked(LOOKUP) {
+        let (dumps, fault) = ((dump.as_slice(), route), RunFault::Dump(fault));
+        expect_refused(rt, alloc, limits, mode, asked, text, dumps, 1, fault)?;
+    }
+    let (dumps, fault) = ((route, dump.as_slice()), RunFault::OtherDump(fault));
+    expect_refused(rt, alloc, limits, mode, COMPARE_V4, text, dumps, 2, fault)
+}
+
+/// What is asked of these dumps, in pieces of so many octets, is refused with this fault.
+fn expect_refused<'a>(
+    rt: &impl Abort,
+    alloc: Global,
+    limits: Limits,
+    mode: Mode,
+    asked: &'a str,
+    text: &'a str,
+    dumps: (&'a [u8], &'a [u8]),
+    piece: usize,
+    fault: RunFault,
+) -> Result<(), Fail>
+    requires { 0 < piece }
+{
+    let case = Case {
+        asked,
+        mode,
+        sender: V4,
+        limits,
+        text,
+        dump: dumps.0,
+        other: dumps.1,
+        script: Script {
+            read: piece,
+            written: piece,
+            ..ONE_BY_ONE
+        },
+    };
+    expect_run(rt, alloc, &case, Some(fault), 3, &[])?;
     Ok(())
 }
 
@@ -72,7 +116,7 @@ fn dumps_that_are_refused(rt: HostRuntime) -> Result<(), Fail> {
 }
 
 /// Dumps past 83 octets or one route, or with another fault there, and their faults.
-static PAST_LIMITS: [(&str, Fault); 4] = [
+static PAST_LIMITS: [(&str, Fault); 5] = [
     (
         "2a020050 0000000000000000000000000000000000000000000000000000000000000000000000000000000000000000000000000000000000000000000000000000000000000000000000000000000000000000",
         Fault::TooLong,
@@ -84,6 +128,10 @@ static PAST_LIMITS: [(&str, Fault); 4] = [
     (
         "2a020027 060a0000 0200000000000001 080b010008000640000101000a 080b0100080006400001020014 04",
         Fault::TlvPastEnd { at: 42 },
+    ),
+    (
+        "2a020026 060a0000 0200000000000001 080b010008000640000101000a 080b0100080006400001020014",
+        Fault::TooManyRoutes { at: 29 },
     ),
     (
         "2a020026 060a0000 0200000000000001 080b010008000640000101000a 080b0100080006400001020014 2b020000",
@@ -116,10 +164,19 @@ static AT_LIMITS: [(&str, &str); 2] = [
 #[test]
 fn dumps_at_their_limits(rt: HostRuntime) -> Result<(), Fail> {
     let limits = Limits::new(83, 1).ok_or("limits")?;
-    let job = job(rt.alloc(), Mode::Plain, V4, "show")?;
-    for (dump, lines) in &AT_LIMITS {
-        let ran = answer(rt.alloc(), limits, &job, (dump, ""), 1)?;
-        expect_outcome(&rt, dump, &job, &ran, Ok(0), lines.as_bytes());
+    for (text, lines) in &AT_LIMITS {
+        let dump = octets(rt.alloc(), text)?;
+        let case = Case {
+            asked: "show",
+            mode: Mode::Plain,
+            sender: V4,
+            limits,
+            text,
+            dump: &dump,
+            other: &[],
+            script: ONE_BY_ONE,
+        };
+        expect_run(&rt, rt.alloc(), &case, None, 0, lines.as_bytes())?;
     }
     Ok(())
 }

@@ -219,7 +219,7 @@ fn expect_address(
 }
 
 /// The file of a job is the one that is wanted; standard input where none is.
-fn expect_file(rt: &impl Abort, line: &str, given: &DumpFile, wanted: Option<&str>) {
+pub fn expect_file(rt: &impl Abort, line: &str, given: &DumpFile, wanted: Option<&str>) {
     let name = match given {
         DumpFile::StandardInput => None,
         DumpFile::Named(name) => Some(name.as_str()),
