@@ -1,5 +1,5 @@
 -- What the runs write, in the format that is asked for: this project's own.
-use Rattle.std.specs.Prelude.{ℕ, Bool, if◌then◌else◌, List, [], ◌∷◌, ◌++◌, length, Option}
+use Rattle.std.specs.Prelude.{ℕ, Bool, if◌then◌else◌, List, [], ◌++◌, length, Option}
 use Rattle.std.specs.List.{flat_map}
 use Rattle.babel_prefix.specs.Address.{Address}
 use Rattle.babel_tlv.specs.declared.held.Held.{Held}

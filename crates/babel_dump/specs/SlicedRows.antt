@@ -1,5 +1,5 @@
 -- What a run over rows writes of what it found. These are this project's own.
-use Rattle.std.specs.Prelude.{ℕ, ◌≡◌, List, ◌++◌, Option, Result, Ok, Err, IfOk, IfErr, string_bytes}
+use Rattle.std.specs.Prelude.{ℕ, ◌≡◌, List, [], ◌++◌, Option, Result, Ok, Err, IfOk, IfErr, string_bytes}
 use Rattle.babel_tlv.specs.Views.{keeps_all}
 use Rattle.babel_dump.specs.InFormat.{pairs_in}
 use Rattle.babel_dump.specs.Parts.{WroteText}
@@ -16,7 +16,8 @@ use Rattle.babel_dump.specs.declared.slices.Rows.TheVariants as rows
 -- a line for each row
 abbrev pub lines_of : Format → Rows → List ℕ
 lines_of format (rows.Table table) = pairs_in format keeps_all table.rows
-lines_of format (rows.Pairs view pairs) = pairs_in format view pairs.items
+lines_of format (rows.Pairs view pairs) = pairs_in format view pairs
+lines_of format rows.Empty = []
 
 -- the whole text of what was found
 abbrev pub found_text : FoundRows → List ℕ

@@ -5,8 +5,7 @@ ghost use Rattle.babel_dump.specs.Command.{ListsPairs, RanPairs};
 ghost use Rattle.babel_dump.specs.Given.{IsFaultOfForm, input, read_from};
 ghost use Rattle.babel_dump.specs.Parts.{Gathered, SaysPairs};
 ghost use Rattle.babel_dump.specs.Run.{Reports, output, run_status};
-ghost use Rattle.babel_dump.specs.InFormat.{pairs_in};
-ghost use Rattle.babel_dump.specs.SlicedRows.{RowsSaySo};
+ghost use Rattle.babel_dump.specs.SlicedRows.{RowsSaySo, lines_of};
 ghost use Rattle.babel_dump.specs.declared.format.Format.TheVariants as formats;
 
 use crate::byte_in::ByteIn;
@@ -20,10 +19,10 @@ use crate::run_fault::RunFault;
 use crate::slice_buffer::SliceBuffer;
 use crate::slices::{FoundRows, Rows, finish_rows};
 use babel_canon::laws::text_is_one;
-use babel_canon::{canonical_pairs, pair_count};
+use babel_canon::{CanonicalPairs, pair_count};
 use babel_prefix::Addr;
 use babel_table::{Limits, Table};
-use babel_tlv::{Fault, Held, Key, Mode, View};
+use babel_tlv::{Fault, Mode, View};
 use std::alloc::Global;
 
 /// Reads a dump that this sender sent, and writes a line for each of its canonical pairs, or, with
@@ -106,14 +105,13 @@ fn read_pairs<R: ByteIn>(
     let (limits, view) = (reading.limits, reading.view);
     let table = read_table(alloc, reading, reader)?;
     let report = *table.report();
-    let (pairs, after) = found_pairs(alloc, limits, view, count, format, table)?;
+    let (rows, after) = found_pairs(alloc, limits, view, count, format, table)?;
     let buffer = SliceBuffer::new(alloc)?;
     let outcome = Outcome {
         status: 0,
         report,
         other: None,
     };
-    let rows = Rows::Pairs(view, pairs);
     Ok(FoundRows {
         format,
         rows,
@@ -132,9 +130,9 @@ fn found_pairs(
     count: bool,
     format: Format,
     table: Table,
-) -> Result<(Vec<(Key, Held)>, String), Fault>
+) -> Result<(Rows, String), Fault>
     ensures ok { IfOk result (λ found. SaysPairs limits view count format table.rows
-        (pairs_in format view found.0.items ++ string_bytes found.1)) }
+        (lines_of format found.0 ++ string_bytes found.1)) }
     ensures err { IfErr result (CanonicalFault limits (seen_rows view table.rows)) }
 {
     text_is_one();
@@ -143,8 +141,8 @@ fn found_pairs(
     if count {
         let pairs = pair_count(alloc, limits, &seen)?;
         let text = counts_output(alloc, format, rows, pairs)?;
-        return Ok((Vec::new(alloc), text));
+        return Ok((Rows::Empty, text));
     }
-    let pairs = canonical_pairs(alloc, limits, &seen)?;
-    Ok((pairs, String::new(alloc)))
+    let pairs = CanonicalPairs::of(alloc, limits, &seen)?;
+    Ok((Rows::Pairs(view, pairs), String::new(alloc)))
 }

@@ -12,11 +12,13 @@ ghost use Rattle.babel_dump.specs.Slices.{WroteFront, HasRoom, TookRoom};
 use crate::byte_out::ByteOut;
 use crate::format::Format;
 use crate::outcome::Outcome;
+use crate::pair_lines::PairLines;
 use crate::push::{push_pair_line, push_text};
 use crate::push_json::push_pair_json;
 use crate::run_fault::RunFault;
 use crate::slice_buffer::{LONGEST_LINE, SliceBuffer};
 use crate::write::{WriteFailed, write_all, write_text};
+use babel_canon::CanonicalPairs;
 use babel_table::Table;
 use babel_tlv::{Held, Key, View};
 
@@ -26,7 +28,9 @@ pub(crate) enum Rows {
     /// The rows of a table.
     Table(Table),
     /// Pairs, as a view shows them.
-    Pairs(View, Vec<(Key, Held)>),
+    Pairs(View, CanonicalPairs),
+    /// None.
+    Empty,
 }
 
 /// What a run found: rows, whose lines are written in a format, a text after these, and what it
@@ -57,7 +61,7 @@ pub(crate) fn finish_rows<W: ByteOut>(
         outcome,
     } = found?;
     let mut buffer = buffer.into_octets();
-    write_rows(writer, format, &rows, &mut buffer)?;
+    write_rows(writer, format, rows, &mut buffer)?;
     write_last(writer, &mut buffer, after.as_str())?;
     Ok(outcome)
 }
@@ -66,18 +70,19 @@ pub(crate) fn finish_rows<W: ByteOut>(
 fn write_rows<W: ByteOut>(
     writer: &mut W,
     format: Format,
-    rows: &Rows,
+    rows: Rows,
     buffer: &mut Vec<u8>,
 ) -> Result<(), WriteFailed>
     requires few_failures { (W.state writer.old).failures < 2 ^ 64 - 1 }
     requires empty { buffer.old.items ≡ [] }
     requires room { 256 ≤ vec_capacity buffer.old }
     ensures { WroteFront (output (W.state writer.old) (W.state writer.new))
-        (lines_of format rows.now) buffer.new.items result }
+        (lines_of format rows) buffer.new.items result }
 {
     match rows {
-        Rows::Table(table) => write_table(writer, format, table, buffer),
-        Rows::Pairs(view, pairs) => write_pairs(writer, format, *view, pairs, buffer),
+        Rows::Table(table) => write_table(writer, format, &table, buffer),
+        Rows::Pairs(view, pairs) => write_pairs(writer, format, view, pairs, buffer),
+        Rows::Empty => Ok(()),
     }
 }
 
@@ -106,24 +111,26 @@ fn write_pairs<W: ByteOut>(
     writer: &mut W,
     format: Format,
     view: View,
-    pairs: &[(Key, Held)],
+    pairs: CanonicalPairs,
     buffer: &mut Vec<u8>,
 ) -> Result<(), WriteFailed>
     requires few_failures { (W.state writer.old).failures < 2 ^ 64 - 1 }
     requires empty { buffer.old.items ≡ [] }
     requires room { 256 ≤ vec_capacity buffer.old }
     ensures { WroteFront (output (W.state writer.old) (W.state writer.new))
-        (pairs_in format view pairs.now) buffer.new.items result }
+        (pairs_in format view pairs) buffer.new.items result }
 {
-    for (key, held) in pairs {
-        make_room(writer, buffer)?;
-        push_line(buffer, format, view, *key, *held);
-    }
-    Ok(())
+    let mut lines = PairLines {
+        writer,
+        buffer,
+        format,
+        view,
+    };
+    pairs.put(&mut lines)
 }
 
 /// Writes what the buffer has where it has no room for a line more.
-fn make_room<W: ByteOut>(writer: &mut W, buffer: &mut Vec<u8>) -> Result<(), WriteFailed>
+pub(crate) fn make_room<W: ByteOut>(writer: &mut W, buffer: &mut Vec<u8>) -> Result<(), WriteFailed>
     requires few_failures { (W.state writer.old).failures < 2 ^ 64 - 1 }
     requires room { 256 ≤ vec_capacity buffer.old }
     ensures front { WroteFront (output (W.state writer.old) (W.state writer.new))
@@ -158,7 +165,7 @@ fn write_last<W: ByteOut>(
 }
 
 /// Appends a row of a table: a line in a format.
-fn push_line(buffer: &mut Vec<u8>, format: Format, view: View, key: Key, held: Held)
+pub(crate) fn push_line(buffer: &mut Vec<u8>, format: Format, view: View, key: Key, held: Held)
     requires { HasRoom buffer.old 256 }
     ensures text { buffer.new.items ≡ buffer.old.items ++ line_in format view (key, held) }
     ensures room { TookRoom buffer.old buffer.new 256 }
