@@ -152,6 +152,7 @@ fn expect_run(
     let Case {
         asked,
         mode,
+        sender,
         text,
         script,
         ..
@@ -159,17 +160,17 @@ fn expect_run(
     assert_eq!(rt;
         ran.outcome.err(),
         fault,
-        "{asked}, {mode:?}, of {text}, {script:?}"
+        "{asked} from {sender}, {mode:?}, of {text}, {script:?}"
     );
     assert_eq!(rt;
         status_of(&ran.outcome),
         status,
-        "{asked}, {mode:?}, of {text}, {script:?}"
+        "{asked} from {sender}, {mode:?}, of {text}, {script:?}"
     );
     assert_eq!(rt;
         ran.taken.as_slice(),
         written,
-        "{asked}, {mode:?}, of {text}, {script:?}"
+        "{asked} from {sender}, {mode:?}, of {text}, {script:?}"
     );
     Ok(ran.reads)
 }

@@ -8,7 +8,6 @@ mod refused_memory;
 ghost use Rattle.std.specs.Prelude.{◌≡◌, ◌<◌, ◌^◌};
 ghost use Rattle.babel_prefix.specs.declared.family.Family.TheVariants.{V4, V6};
 
-use crate::dumps::octets;
 use babel_prefix::{Addr, Family, Prefix};
 use babel_table::{Feeder, Limits, Table, read_dump};
 use babel_tlv::{Ann, Fault, Held, Key, Mode};
@@ -61,17 +60,6 @@ fn are(table: &Table, want: &[(Option<Key>, Option<Held>)]) -> bool {
 
 fn limits(bytes: u32, entries: u32) -> Limits {
     Limits::new(bytes, entries).unwrap_or(Limits::usual())
-}
-
-/// The answer of a dump, fed whole.
-fn read(
-    alloc: Global,
-    limits: Limits,
-    mode: Mode,
-    text: &str,
-) -> Result<Result<Table, Fault>, Fail> {
-    let dump = octets(alloc, text)?;
-    Ok(read_dump(alloc, limits, mode, router(), &dump))
 }
 
 fn fed(

@@ -228,6 +228,13 @@ fn framed(rt: &impl Abort, alloc: Global, text: &str, at: u64) -> Result<Option<
     }
 }
 
+/// Whether a body at the offset 4 is TLVs to its end.
+fn checked(rt: &impl Abort, alloc: Global, text: &str) -> Result<Result<(), Fault>, Fail> {
+    let body = octets(alloc, text)?;
+    assert!(rt; body.len() < 65536);
+    Ok(check_body(&body, 4))
+}
+
 #[test]
 fn where_packets_and_tlvs_end(rt: HostRuntime) -> Result<(), Fail> {
     for (text, fault) in &NO_PACKETS {
@@ -241,9 +248,7 @@ fn where_packets_and_tlvs_end(rt: HostRuntime) -> Result<(), Fail> {
         assert_eq!(rt; framed(&rt, rt.alloc(), text, 0)?, None, "at {text}");
     }
     for (text, answer) in &BODIES {
-        let body = octets(rt.alloc(), text)?;
-        assert!(rt; body.len() < 65536);
-        assert_eq!(rt; check_body(&body, 4), *answer, "at {text}");
+        assert_eq!(rt; checked(&rt, rt.alloc(), text)?, *answer, "at {text}");
     }
     Ok(())
 }

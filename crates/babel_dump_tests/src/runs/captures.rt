@@ -4,7 +4,7 @@ use super::split;
 use super::words::expect_file;
 use babel_capture::Fault;
 use babel_dump::{
-    CaptureOrder, CaptureRunFault, DumpFile, Request, read_order, read_request, run_capture_job,
+    CaptureOrder, CaptureRunFault, Request, read_order, read_request, run_capture_job,
 };
 use std::alloc::Global;
 use std::process::Abort;
@@ -55,8 +55,36 @@ fn order(alloc: Global, line: &str) -> Result<CaptureOrder, Fail> {
     }
 }
 
-/// What is asked of these octets, which come one by one, of which this read and this call of the writer fail, from 1. It
-/// ends in this fault, if any, with this status, and writes these octets.
+/// How a run ended, with which fault, if any, and what it wrote.
+#[derive(Drop)]
+struct Ran {
+    fault: Option<CaptureRunFault>,
+    status: u8,
+    taken: Vec<u8>,
+}
+
+/// The run of what is asked of octets that come one by one, of which this read and this call of the writer fail, from 1.
+fn run(alloc: Global, line: &str, octets: &[u8], failing: (u64, u64)) -> Result<Ran, Fail> {
+    let order = order(alloc, line)?;
+    let mut reader = ScriptedIn::new(octets, 1, failing.0);
+    let mut writer = ScriptedOut::new(alloc, TAKEN, failing.1);
+    let outcome = run_capture_job(alloc, order.limit, &order.job, &mut reader, &mut writer);
+    let taken = writer.into_taken();
+    match outcome {
+        Ok(outcome) => Ok(Ran {
+            fault: None,
+            status: outcome.status,
+            taken,
+        }),
+        Err(fault) => Ok(Ran {
+            status: fault.status(),
+            fault: Some(fault),
+            taken,
+        }),
+    }
+}
+
+/// What is asked of these octets ends in this fault, if any, with this status, and writes these octets.
 fn expect_run(
     rt: &impl Abort,
     alloc: Global,
@@ -67,19 +95,19 @@ fn expect_run(
     status: u8,
     written: &[u8],
 ) -> Result<(), Fail> {
-    let CaptureOrder { job, limit, .. } = order(alloc, line)?;
-    let mut reader = ScriptedIn::new(octets, 1, failing.0);
-    let mut writer = ScriptedOut::new(alloc, TAKEN, failing.1);
-    let (found, ended) = match run_capture_job(alloc, limit, &job, &mut reader, &mut writer) {
-        Ok(outcome) => (None, outcome.status),
-        Err(fault) => {
-            let status = fault.status();
-            (Some(fault), status)
-        }
-    };
-    assert_eq!(rt; found, fault, "{line}, {failing:?}");
-    assert_eq!(rt; ended, status, "{line}, {failing:?}");
-    assert_eq!(rt; writer.taken(), written, "{line}, {failing:?}");
+    let ran = run(alloc, line, octets, failing)?;
+    let length = octets.len();
+    assert_eq!(rt; ran.fault, fault, "{line} of {length} octets, {failing:?}");
+    assert_eq!(rt;
+        ran.status,
+        status,
+        "{line} of {length} octets, {failing:?}"
+    );
+    assert_eq!(rt;
+        ran.taken.as_slice(),
+        written,
+        "{line} of {length} octets, {failing:?}"
+    );
     Ok(())
 }
 

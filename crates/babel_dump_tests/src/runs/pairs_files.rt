@@ -6,8 +6,6 @@ use babel_dump::{PairsFault, RunFault};
 use babel_library_tests::dumps::{TWO_ROUTES, V4, octets};
 use babel_table::Limits;
 use babel_tlv::Mode;
-use std::alloc::Global;
-use std::process::Abort;
 use std::test::Fail;
 
 /// The pairs that are looked up in a dump of 10.1.0.0/24 and 10.1.2.0/24, the fault, the status, and what is answered.

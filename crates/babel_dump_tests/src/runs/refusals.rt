@@ -149,25 +149,34 @@ fn dumps_past_their_limits(rt: HostRuntime) -> Result<(), Fail> {
     expect_refusals(&rt, rt.alloc(), limits, Mode::Hold, &HELD_PAST_LIMITS)
 }
 
-/// Dumps of 83 octets and of one route, and their lines.
-static AT_LIMITS: [(&str, &str); 2] = [
+/// A dump of 83 octets.
+const LONGEST: &str =
+    "2a02004f 00000000000000000000000000000000000000000000000000000000000000000000000000000000000000000000000000000000000000000000000000000000000000000000000000000000000000";
+
+/// What is asked of dumps of 83 octets and of one route, and what is written.
+#[rattlefmt::skip]
+static AT_LIMITS: [(&str, &str, &str); 4] = [
+    ("show", LONGEST, "tlvs 79\n"),
+    ("normalise", LONGEST, ""),
     (
-        "2a02004f 00000000000000000000000000000000000000000000000000000000000000000000000000000000000000000000000000000000000000000000000000000000000000000000000000000000000000",
-        "tlvs 79\n",
-    ),
-    (
+        "show",
         HELD_AFTER_ONE,
         "10.0.0.0/8 from 0.0.0.0/0 via 192.0.2.1 id 0200000000000001 seqno 1 metric 256\ntlvs 3\n",
+    ),
+    (
+        "normalise --hex",
+        HELD_AFTER_ONE,
+        "2a020021060a0000020000000000000107060100c0000201080b018008000640000101000a\n",
     ),
 ];
 
 #[test]
 fn dumps_at_their_limits(rt: HostRuntime) -> Result<(), Fail> {
     let limits = Limits::new(83, 1).ok_or("limits")?;
-    for (text, lines) in &AT_LIMITS {
+    for (asked, text, written) in &AT_LIMITS {
         let dump = octets(rt.alloc(), text)?;
         let case = Case {
-            asked: "show",
+            asked,
             mode: Mode::Plain,
             sender: V4,
             limits,
@@ -176,7 +185,7 @@ fn dumps_at_their_limits(rt: HostRuntime) -> Result<(), Fail> {
             other: &[],
             script: ONE_BY_ONE,
         };
-        expect_run(&rt, rt.alloc(), &case, None, 0, lines.as_bytes())?;
+        expect_run(&rt, rt.alloc(), &case, None, 0, written.as_bytes())?;
     }
     Ok(())
 }

@@ -2,6 +2,7 @@
 use super::{address, split};
 use babel_dump::{DumpFile, Format, Job, OneDump, Refusal, TwoDumps, read_order, read_words};
 use babel_prefix::Addr;
+use babel_table::Limits;
 use babel_tlv::Mode;
 use std::alloc::Global;
 use std::process::Abort;
@@ -312,57 +313,57 @@ static REFUSED: [(&str, &str); 27] = [
     ),
 ];
 
-/// Words, and the octets and the routes that they limit a dump to.
-static LIMITS: [(&str, u32, u32); 6] = [
-    ("show --from ::", 33_554_432, 262_144),
-    ("pairs --from :: --max-routes 1", 33_554_432, 1),
+/// Words, the octets and the routes that they limit a dump to, and whether nothing is said of ignored TLVs.
+static ORDERS: [(&str, u32, u32, bool); 9] = [
+    ("show --from ::", 33_554_432, 262_144, true),
+    ("show --from :: --quiet", 33_554_432, 262_144, true),
+    ("pairs --from ::", 33_554_432, 262_144, false),
+    (
+        "compare --from :: --other-from :: --quiet a b",
+        33_554_432,
+        262_144,
+        true,
+    ),
+    ("pairs --from :: --max-routes 1", 33_554_432, 1, false),
     (
         "normalise --from :: --max-routes 404271",
         33_554_493,
         404_271,
+        false,
     ),
     (
         "show --from :: --max-routes 51746593",
         4_294_967_219,
         51_746_593,
+        true,
     ),
-    ("show --from :: --max-octets 83 --max-routes 1", 83, 1),
+    ("show --from :: --max-octets 83 --max-routes 1", 83, 1, true),
     (
         "compare --from :: --other-from :: --max-octets 4294967295 a b",
         4_294_967_295,
         262_144,
+        false,
     ),
 ];
 
-/// Words, and whether nothing is said of ignored TLVs.
-static QUIET: [(&str, bool); 4] = [
-    ("show --from ::", true),
-    ("show --from :: --quiet", true),
-    ("pairs --from ::", false),
-    ("compare --from :: --other-from :: --quiet a b", true),
-];
-
-#[test]
-fn words_of_quiet(rt: HostRuntime) -> Result<(), Fail> {
-    for (line, quiet) in &QUIET {
-        match read_order(rt.alloc(), &split(rt.alloc(), line)?) {
-            Ok(order) => assert_eq!(rt; order.quiet, *quiet, "of {line}"),
-            Err(_refusal) => assert!(rt; false, "no job of {line}"),
+/// The limits that words ask for, and whether they ask for no notes.
+fn asked(rt: &impl Abort, alloc: Global, line: &str) -> Result<(Limits, bool), Fail> {
+    match read_order(alloc, &split(alloc, line)?) {
+        Ok(order) => Ok((order.limits, order.quiet)),
+        Err(_refusal) => {
+            assert!(rt; false, "no job of {line}");
+            Err(Fail::from("no job"))
         }
     }
-    Ok(())
 }
 
 #[test]
-fn words_of_limits(rt: HostRuntime) -> Result<(), Fail> {
-    for (line, octets, routes) in &LIMITS {
-        match read_order(rt.alloc(), &split(rt.alloc(), line)?) {
-            Ok(order) => {
-                assert_eq!(rt; order.limits.bytes(), *octets, "of {line}");
-                assert_eq!(rt; order.limits.entries(), *routes, "of {line}");
-            }
-            Err(_refusal) => assert!(rt; false, "no job of {line}"),
-        }
+fn words_of_limits_and_of_quiet(rt: HostRuntime) -> Result<(), Fail> {
+    for (line, octets, routes, quiet) in &ORDERS {
+        let (limits, is_quiet) = asked(&rt, rt.alloc(), line)?;
+        assert_eq!(rt; limits.bytes(), *octets, "of {line}");
+        assert_eq!(rt; limits.entries(), *routes, "of {line}");
+        assert_eq!(rt; is_quiet, *quiet, "of {line}");
     }
     Ok(())
 }

@@ -26,18 +26,26 @@ fn many_routes(alloc: Global, long: u8) -> Result<Vec<u8>, FromHexError> {
     Ok(dump)
 }
 
+/// The first packet of a dump, and what comes after it.
+fn split_packet(dump: &[u8]) -> Option<(&[u8], &[u8])> {
+    if dump.len() < 4 {
+        return None;
+    }
+    let body = u16::from_be_bytes([dump[2], dump[3]]) as usize;
+    dump.split_at_checked(4 + body)
+}
+
 /// How long the body of each packet is, and how many pairs the packet has.
-fn packets(alloc: Global, text: &[u8]) -> Result<Vec<(usize, usize)>, Fail> {
+fn packets(alloc: Global, dump: &[u8]) -> Result<Vec<(usize, usize)>, Fail> {
     let mut packets = Vec::new(alloc);
-    let mut rest = text;
-    for _ in 0..text.len() {
-        if rest.len() < 4 {
+    let mut rest = dump;
+    for _ in 0..dump.len() {
+        let Some((packet, after)) = split_packet(rest) else {
             break;
-        }
-        let len = u16::from_be_bytes([rest[2], rest[3]]) as usize;
-        let packet = rest.get(..4 + len).unwrap_or(rest);
-        packets.push((len, table(alloc, Mode::Plain, V4, packet)?.rows().len()))?;
-        rest = rest.get(4 + len..).unwrap_or(&[]);
+        };
+        let pairs = table(alloc, Mode::Plain, V4, packet)?.rows().len();
+        packets.push((packet.len().saturating_sub(4), pairs))?;
+        rest = after;
     }
     Ok(packets)
 }

@@ -1,9 +1,10 @@
 //! A dump with one octet changed.
-use super::{are, key, route, router};
+use super::{are, key, router};
 use crate::dumps::{ONE_ROUTE, octets};
 use babel_table::{Limits, Table, read_dump};
 use babel_tlv::{Ann, Fault, Held, Mode, Reason};
 use std::alloc::Global;
+use std::process::Abort;
 use std::test::Fail;
 
 /// A place, the octet that is put there, and the fault that the dump then has.
@@ -37,23 +38,41 @@ fn changed(alloc: Global, place: usize, octet: u8) -> Result<Result<Table, Fault
     Ok(read_dump(alloc, Limits::usual(), Mode::Plain, router(), &dump))
 }
 
+/// With this octet at this place the Update is ignored for this reason.
+fn expect_ignored(
+    rt: &impl Abort,
+    alloc: Global,
+    place: usize,
+    octet: u8,
+    reason: Reason,
+) -> Result<(), Fail> {
+    let table = changed(alloc, place, octet)??;
+    assert!(rt; are(&table, &[]), "{octet} at {place}");
+    let ignored = table.report().ignored(reason);
+    assert_eq!(rt; ignored, Some((1, 16)), "{octet} at {place}");
+    Ok(())
+}
+
+/// A place, the octet that is put there, and the router-id and the metric of the route.
+static ROUTES: [(usize, u8, [u8; 8], u16); 2] = [
+    (19, 0x40, [0, 0, 0, 0, 10, 0, 0, 0], 256),
+    (26, 0xff, [2, 0, 0, 0, 0, 0, 0, 1], 65280),
+];
+
 #[test]
 fn one_changed_octet(rt: HostRuntime) -> Result<(), Fail> {
     for (place, octet, fault) in &FAULTS {
-        let table = changed(rt.alloc(), *place, *octet)?;
-        assert_eq!(rt; table.err(), Some(*fault), "{octet} at {place}");
+        let found = changed(rt.alloc(), *place, *octet)?.err();
+        assert_eq!(rt; found, Some(*fault), "{octet} at {place}");
     }
     for (place, octet, reason) in &IGNORED {
-        let table = changed(rt.alloc(), *place, *octet)??;
-        assert!(rt; are(&table, &[]), "{octet} at {place}");
-        let ignored = table.report().ignored(*reason);
-        assert_eq!(rt; ignored, Some((1, 16)), "{octet} at {place}");
+        expect_ignored(&rt, rt.alloc(), *place, *octet, *reason)?;
     }
-    let from_prefix = Ann::new([0, 0, 0, 0, 10, 0, 0, 0], 1, 256, router()).map(Held::Route);
-    for (place, octet, held) in &[(19, 0x40, from_prefix), (26, 0xff, route(65280))] {
-        let table = changed(rt.alloc(), *place, *octet)??;
-        let row = (key(0x0a00_0000, 8, 0, 0), *held);
-        assert!(rt; are(&table, &[row]), "{octet} at {place}");
+    for (place, octet, router_id, metric) in &ROUTES {
+        let ann = Ann::new(*router_id, 1, *metric, router());
+        let row = (key(0x0a00_0000, 8, 0, 0), ann.map(Held::Route));
+        let is_row = are(&changed(rt.alloc(), *place, *octet)??, &[row]);
+        assert!(rt; is_row, "{octet} at {place}");
     }
     Ok(())
 }

@@ -58,27 +58,29 @@ pub static CUT: [(&str, Fault); 3] = [
     ("2a", Fault::Truncated { at: 0 }),
 ];
 
-/// Whether the dump has the fault, and so has all that comes behind it.
-fn stays(alloc: Global, dump: &[u8], more: &[u8], fault: Fault) -> Result<bool, Fault> {
+/// Whether the dump has the fault, and so has all that comes after it.
+fn stays(alloc: Global, text: &str, fault: Fault) -> Result<bool, Fail> {
+    let (dump, more) = (octets(alloc, text)?, octets(alloc, ONE_ROUTE)?);
     let mut feeder = Feeder::new(alloc, Limits::usual(), Mode::Plain, router())?;
-    let stayed = feeder.feed(dump) == Err(fault)
-        && feeder.feed(more) == Err(fault)
+    let stayed = feeder.feed(&dump) == Err(fault)
+        && feeder.feed(&more) == Err(fault)
         && feeder.feed(&[]) == Err(fault);
-    Ok(stayed && feeder.finish().is_err_and(|f| f == fault))
+    Ok(stayed && feeder.finish().err() == Some(fault))
+}
+
+/// The fault of a whole dump, if it has one.
+fn fault_of(alloc: Global, text: &str) -> Result<Option<Fault>, Fail> {
+    let dump = octets(alloc, text)?;
+    Ok(read_dump(alloc, Limits::usual(), Mode::Plain, router(), &dump).err())
 }
 
 #[test]
 fn faults_stay(rt: HostRuntime) -> Result<(), Fail> {
-    let alloc = rt.alloc();
-    let route = octets(alloc, ONE_ROUTE)?;
     for (text, fault) in &FAULTY {
-        let dump = octets(alloc, text)?;
-        assert_eq!(rt; stays(alloc, &dump, &route, *fault), Ok(true), "{text}");
+        assert!(rt; stays(rt.alloc(), text, *fault)?, "{text}");
     }
     for (text, fault) in &CUT {
-        let dump = octets(alloc, text)?;
-        let table = read_dump(alloc, Limits::usual(), Mode::Plain, router(), &dump);
-        assert_eq!(rt; table.err(), Some(*fault), "{text}");
+        assert_eq!(rt; fault_of(rt.alloc(), text)?, Some(*fault), "{text}");
     }
     Ok(())
 }

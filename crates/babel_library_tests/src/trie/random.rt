@@ -153,46 +153,74 @@ fn difference_by_definition(lines: &[Line], others: &[Line]) -> Option<(u128, u1
     None
 }
 
-/// The same rows with longer prefixes, at the lowest addresses of IPv6.
-fn among_v6(alloc: Global, lines: &[Line]) -> Result<Vec<Line>, AllocError> {
+/// A thousand lists of rows, by their family and the generator's seed.
+static LISTS: [(Family, u64); 3] = [(Family::V4, 1), (Family::V4, 3), (Family::V6, 4)];
+
+/// The same rows in a family; of IPv6 with longer prefixes, at the lowest addresses.
+fn in_family(alloc: Global, family: Family, lines: &[Line]) -> Result<Vec<Line>, AllocError> {
+    let more = family.width().saturating_sub(32);
     lines
         .iter()
         .map(|line| (
             line.0,
-            line.1.wrapping_add(96),
+            line.1.wrapping_add(more),
             line.2,
-            line.3.wrapping_add(96),
+            line.3.wrapping_add(more),
             line.4,
         ))
         .collect(alloc)
 }
 
-/// A thousand lists of rows, by their family and the generator's seed.
-static LISTS: [(Family, u64); 3] = [(Family::V4, 1), (Family::V4, 3), (Family::V6, 4)];
-
-/// The pairs of a thousand lists of rows are the boxes by definition.
-fn expect_boxes(rt: &impl Abort, alloc: Global, family: Family, seed: u64) -> Result<(), Fail> {
-    let mut random = Random { state: seed };
-    for _ in 0..1000 {
-        let mut lines = random.lines(alloc)?;
-        let mut wanted = boxes(alloc, answers(&lines))?;
-        if family == Family::V6 {
-            lines = among_v6(alloc, &lines)?;
-            wanted = among_v6(alloc, &wanted)?;
-        }
-        let grid = Rows::of(alloc, family, &lines)?.grid(alloc)?;
-        let pairs = Rows::lines(alloc, &grid.pairs(alloc)?)?;
-        assert_eq!(rt; pairs.as_slice(), wanted.as_slice());
-        assert_eq!(rt; grid.count(), wanted.len() as u64);
-    }
+/// The pairs of these rows are these boxes.
+fn expect_boxes(
+    rt: &impl Abort,
+    alloc: Global,
+    family: Family,
+    lines: &[Line],
+    wanted: &[Line],
+) -> Result<(), Fail> {
+    let grid = Rows::of(alloc, family, lines)?.grid(alloc)?;
+    let pairs = Rows::lines(alloc, &grid.pairs(alloc)?)?;
+    assert_eq!(rt; pairs.as_slice(), wanted, "of {lines:?}");
+    assert_eq!(rt; grid.count(), wanted.len() as u64, "of {lines:?}");
     Ok(())
 }
 
 #[test]
 fn boxes_by_definition(rt: HostRuntime) -> Result<(), Fail> {
     for (family, seed) in &LISTS {
-        expect_boxes(&rt, rt.alloc(), *family, *seed)?;
+        let mut random = Random { state: *seed };
+        for _ in 0..1000 {
+            let lines = random.lines(rt.alloc())?;
+            let wanted = boxes(rt.alloc(), answers(&lines))?;
+            let lines = in_family(rt.alloc(), *family, &lines)?;
+            let wanted = in_family(rt.alloc(), *family, &wanted)?;
+            expect_boxes(&rt, rt.alloc(), *family, &lines, &wanted)?;
+        }
     }
+    Ok(())
+}
+
+/// The first pair of addresses at which these lists of rows answer differently is the one by definition.
+fn expect_difference(
+    rt: &impl Abort,
+    alloc: Global,
+    lines: &[Line],
+    others: &[Line],
+) -> Result<(), Fail> {
+    let wanted = difference_by_definition(lines, others);
+    let left = Rows::of(alloc, Family::V4, lines)?;
+    let right = Rows::of(alloc, Family::V4, others)?;
+    assert_eq!(rt;
+        left.difference(alloc, &right)?,
+        wanted,
+        "of {lines:?} and {others:?}"
+    );
+    let found = left
+        .grid(alloc)?
+        .first_difference(&right.grid(alloc)?)
+        .map(|(dst, src)| (dst.bits(), src.bits()));
+    assert_eq!(rt; found, wanted, "of {lines:?} and {others:?}");
     Ok(())
 }
 
@@ -206,16 +234,28 @@ fn least_differences(rt: HostRuntime) -> Result<(), Fail> {
             others.pop();
             others.push((7, 32, u128::from(random.below(8)), 32, 1))?;
         }
-        let wanted = difference_by_definition(&lines, &others);
-        let left = Rows::of(rt.alloc(), Family::V4, &lines)?;
-        let right = Rows::of(rt.alloc(), Family::V4, &others)?;
-        assert_eq!(rt; left.difference(rt.alloc(), &right)?, wanted);
-        let found = left
-            .grid(rt.alloc())?
-            .first_difference(&right.grid(rt.alloc())?)
-            .map(|(dst, src)| (dst.bits(), src.bits()));
-        assert_eq!(rt; found, wanted);
+        expect_difference(&rt, rt.alloc(), &lines, &others)?;
     }
+    Ok(())
+}
+
+/// The differences of these lists of rows are the boxes by definition.
+fn expect_differences(
+    rt: &impl Abort,
+    alloc: Global,
+    lines: &[Line],
+    others: &[Line],
+) -> Result<(), Fail> {
+    let wanted = boxes(alloc, differing(lines, others))?;
+    let left = Rows::of(alloc, Family::V4, lines)?;
+    let right = Rows::of(alloc, Family::V4, others)?;
+    let (found, count) = left.differences(alloc, &right)?;
+    assert_eq!(rt;
+        found.as_slice(),
+        wanted.as_slice(),
+        "of {lines:?} and {others:?}"
+    );
+    assert_eq!(rt; count, wanted.len() as u64, "of {lines:?} and {others:?}");
     Ok(())
 }
 
@@ -225,12 +265,7 @@ fn differences_by_definition(rt: HostRuntime) -> Result<(), Fail> {
     for _ in 0..1000 {
         let lines = random.lines(rt.alloc())?;
         let others = random.lines(rt.alloc())?;
-        let wanted = boxes(rt.alloc(), differing(&lines, &others))?;
-        let left = Rows::of(rt.alloc(), Family::V4, &lines)?;
-        let right = Rows::of(rt.alloc(), Family::V4, &others)?;
-        let (found, count) = left.differences(rt.alloc(), &right)?;
-        assert_eq!(rt; found.as_slice(), wanted.as_slice());
-        assert_eq!(rt; count, wanted.len() as u64);
+        expect_differences(&rt, rt.alloc(), &lines, &others)?;
     }
     Ok(())
 }
