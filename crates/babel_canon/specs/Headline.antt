@@ -19,15 +19,16 @@ pub record Sent : Type 0 where
 abbrev pub sent : Address → List ℕ → Sent
 sent sender dump = record { sender = sender; dump = dump }
 
--- the tables of two dumps answer the same (a dump has one table at most)
+-- each table of the one dump and each of the other answer the same (a dump has one table at most,
+-- and a dump of which octets are made has one)
 abbrev pub DumpsAnswer : (Same : List Pair → List Pair → Type 0) → Bounds → Mode → Sent → Sent
     → Type 0
 DumpsAnswer Same limits mode one other =
     (table other_table : Routes) → IsTableOf limits mode one.sender one.dump table
     → IsTableOf limits mode other.sender other.dump other_table → Same table.rows other_table.rows
 
--- these octets (made of one dump, by *ok*) are equal to octets that are made of any other exactly
--- where both dumps answer the same
+-- `octets` (made of `one`, by *ok*) are equal to octets made of any dump `other` exactly where
+-- both dumps answer the same
 abbrev pub TellsApart : (Same : List Pair → List Pair → Type 0) → (Made : Sent → List ℕ → Type 0)
     → Bounds → Mode → Sent → List ℕ → Type 0
 TellsApart Same Made limits mode one octets =
