@@ -186,7 +186,6 @@ fn many_routes(alloc: Global) -> Result<(Vec<u8>, String), Fail> {
 fn each_write_of_several_slices(rt: HostRuntime) -> Result<(), Fail> {
     let (dump, text) = many_routes(rt.alloc())?;
     let whole = text.as_bytes();
-    let job = job(rt.alloc(), Mode::Plain, V4, "show")?;
     let mut written = 0;
     for call in 1..100 {
         let script = Script {
@@ -195,14 +194,21 @@ fn each_write_of_several_slices(rt: HostRuntime) -> Result<(), Fail> {
             failing_call: call,
             ..ONE_BY_ONE
         };
-        let ran = failing_run(rt.alloc(), &job, (&dump, &[]), script)?;
-        assert!(rt; whole.starts_with(ran.taken.as_slice()));
+        let case = Case {
+            script,
+            ..case(V4, "show", "2,000 routes", &dump, &[])
+        };
+        let ran = run(rt.alloc(), &case)?;
+        assert!(rt; whole.starts_with(ran.taken.as_slice()), "call {call}");
         if ran.outcome.is_ok() {
             assert_eq!(rt; ran.taken.len(), whole.len());
             return Ok(());
         }
-        assert_eq!(rt; ran.status(), Err(RunFault::Write));
-        assert!(rt; call == 1 || written < ran.taken.len() || ran.taken.len() == whole.len());
+        assert_eq!(rt; ran.outcome.err(), Some(RunFault::Write), "call {call}");
+        assert!(rt;
+            call == 1 || written < ran.taken.len() || ran.taken.len() == whole.len(),
+            "call {call}"
+        );
         written = ran.taken.len();
     }
     Err(Fail::from("a call of the writer fails without end"))

@@ -2,7 +2,7 @@
 ghost use Rattle.std.specs.Prelude.{⊤};
 
 use super::table;
-use crate::dumps::NESTED_SOURCES;
+use crate::dumps::{NESTED_SOURCES, V4, octets};
 use babel_canon::{CanonicalPairs, PairSink};
 use babel_table::Limits;
 use babel_tlv::{Held, Key, Mode};
@@ -37,10 +37,10 @@ impl PairSink for Room {
 
 #[test]
 fn stops_at_the_pair_that_is_not_taken(rt: HostRuntime) -> Result<(), Fail> {
-    let table = table(&rt, rt.alloc(), Mode::Plain, "192.0.2.1", NESTED_SOURCES);
+    let dump = octets(rt.alloc(), NESTED_SOURCES)?;
+    let table = table(rt.alloc(), Mode::Plain, V4, &dump)?;
     for (pairs, result, given) in [(9, Ok(()), 9), (4, Err(Full), 5), (0, Err(Full), 1)] {
-        let canonical = CanonicalPairs::of(rt.alloc(), Limits::usual(), &table);
-        let canonical = canonical.expect(&rt, "pairs");
+        let canonical = CanonicalPairs::of(rt.alloc(), Limits::usual(), &table)?;
         assert_eq!(rt; canonical.count(), 9);
         let mut sink = Room { pairs, given: 0 };
         assert!(rt; canonical.put(&mut sink) == result, "{pairs}");
