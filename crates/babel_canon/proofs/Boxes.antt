@@ -13,7 +13,8 @@ use Rattle.babel_prefix.specs.declared.family.Family.{Family}
 use Rattle.babel_prefix.specs.Width.{width_of}
 use Rattle.babel_prefix.specs.Address.{prefix_of}
 use Rattle.babel_prefix.specs.Best.{Row}
-use Rattle.babel_prefix.specs.Entries.{Entry, AreOfFamily, row_of, rows_in, answers_in}
+use Rattle.babel_prefix.specs.Entries.{Entry, row_of, rows_in, answers_in}
+use Rattle.babel_prefix.specs.BestRow.{AreOfFamily}
 use Rattle.babel_prefix.proofs.AnswerLaws.{top-from_answer}
 use Rattle.babel_prefix.proofs.Members.{Listed, Listed-from_Contains, Contains-from_Listed}
 use Rattle.babel_prefix.proofs.EntryLaws.{IsFrom-row, row-from_entry, Listed-map, map-Listed}
@@ -24,7 +25,8 @@ use Rattle.babel_tlv.specs.declared.event.Event.{Event}
 use Rattle.babel_tlv.specs.declared.held.Held.{Held}
 use Rattle.babel_tlv.specs.declared.held.Held.TheVariants as helds
 use Rattle.babel_tlv.specs.declared.mode.Mode.TheVariants as modes
-use Rattle.babel_tlv.specs.Pair.{Pair, IsPair, held_cmp}
+use Rattle.babel_tlv.specs.Pair.{Pair}
+use Rattle.babel_tlv.specs.Pairs.{IsPair, held_cmp}
 use Rattle.babel_tlv.specs.Group.{pair_family}
 use Rattle.babel_tlv.specs.News.{spoken, pair_event}
 use Rattle.babel_tlv.proofs.OrderLaws.{held_exact}

@@ -2,7 +2,8 @@
 use Rattle.std.proofs.Common.{◌≡◌, inl, inr, ◌^◌, ◌<◌, Option, List, [], ◌∷◌, ◌++◌, length, map, refl, sym, ◌∙◌, ap, subst, arith}
 use Rattle.babel_prefix.specs.declared.family.Family.{Family}
 use Rattle.babel_prefix.specs.declared.family.Family.TheVariants.{V4, V6}
-use Rattle.babel_prefix.specs.Width.{width_of, family_rank}
+use Rattle.babel_prefix.specs.Width.{width_of}
+use Rattle.babel_prefix.specs.Order.{family_rank}
 use Rattle.babel_prefix.specs.Address.{Address}
 use Rattle.babel_prefix.specs.Best.{Row}
 use Rattle.babel_prefix.specs.Entries.{answers_in}

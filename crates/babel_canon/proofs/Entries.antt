@@ -8,7 +8,8 @@ use Rattle.std.proofs.lemmas.List.Elements.{filter-append}
 use Rattle.std.proofs.lemmas.List.Kept.{AllPairs-filter}
 use Rattle.babel_prefix.specs.declared.family.Family.{Family}
 use Rattle.babel_prefix.specs.Width.{same_family}
-use Rattle.babel_prefix.specs.Entries.{Entry, are_of_family, HasDistinctPrefixes}
+use Rattle.babel_prefix.specs.Entries.{Entry, are_of_family}
+use Rattle.babel_prefix.specs.BestRow.{HasDistinctPrefixes}
 use Rattle.babel_prefix.proofs.EntryLaws.{same_family-is, same_family-refl}
 use Rattle.babel_tlv.specs.declared.held.Held.{Held}
 use Rattle.babel_tlv.specs.Pair.{Pair}

@@ -14,11 +14,14 @@ use Rattle.std.proofs.lemmas.List.Kept.{AllPairs-cons}
 use Rattle.std.proofs.lemmas.Map.Keys.{sorted_from_all_adjacent}
 use Rattle.babel_prefix.specs.declared.family.Family.{Family}
 use Rattle.babel_prefix.specs.declared.family.Family.TheVariants.{V4, V6}
-use Rattle.babel_prefix.specs.Width.{width_of, family_rank}
-use Rattle.babel_prefix.specs.Block.{Block, BlockCovers, IsBlock, parent}
+use Rattle.babel_prefix.specs.Width.{width_of}
+use Rattle.babel_prefix.specs.Order.{family_rank}
+use Rattle.babel_prefix.specs.Block.{Block}
+use Rattle.babel_prefix.specs.Covers.{BlockCovers, IsBlock, parent}
 use Rattle.babel_prefix.specs.Address.{block_of, prefix_of}
 use Rattle.babel_prefix.specs.Best.{Row}
-use Rattle.babel_prefix.specs.Entries.{Entry, AreOfFamily, are_of_family, row_of, rows_in, answers_in}
+use Rattle.babel_prefix.specs.Entries.{Entry, are_of_family, row_of, rows_in, answers_in}
+use Rattle.babel_prefix.specs.BestRow.{AreOfFamily}
 use Rattle.babel_prefix.proofs.AnswerLaws.{top-from_answer}
 use Rattle.babel_prefix.proofs.BlockLaws.{same_block, parent_within}
 use Rattle.babel_prefix.proofs.EntryLaws.{rows_in-all, map-Listed}
@@ -27,9 +30,12 @@ use Rattle.babel_trie.specs.Boxes.{Answers, IsBox, IsBefore, IsBoxList}
 use Rattle.babel_trie.proofs.BoxLaws.{IsUniform-narrower}
 use Rattle.babel_tlv.specs.declared.held.Held.{Held}
 use Rattle.babel_tlv.specs.declared.held.Held.TheVariants as helds
-use Rattle.babel_tlv.specs.Route.{RouteKey, key_cmp}
-use Rattle.babel_tlv.specs.Pair.{Pair, FitsKey, IsPair}
-use Rattle.babel_table.specs.Rows.{AreRows, entries_of}
+use Rattle.babel_tlv.specs.Route.{RouteKey}
+use Rattle.babel_tlv.specs.Keys.{key_cmp}
+use Rattle.babel_tlv.specs.Pair.{Pair}
+use Rattle.babel_tlv.specs.Pairs.{FitsKey, IsPair}
+use Rattle.babel_table.specs.Rows.{entries_of}
+use Rattle.babel_table.specs.TableRows.{AreRows}
 use Rattle.babel_tlv.proofs.OrderLaws.{key_total}
 use Rattle.babel_canon.specs.Boxes.{AreBoxes}
 use Rattle.babel_canon.specs.Grids.{pair_at, pair_of, both_families, AreFamilyBoxes}

@@ -10,10 +10,12 @@ use Rattle.std.proofs.lemmas.List.Kept.{AllPairs-cons}
 use Rattle.babel_prefix.specs.declared.family.Family.{Family}
 use Rattle.babel_prefix.specs.declared.family.Family.TheVariants.{V4, V6}
 use Rattle.babel_prefix.specs.Width.{width_of, same_family}
-use Rattle.babel_prefix.specs.Block.{Block, BlockCovers, IsBlock}
-use Rattle.babel_prefix.specs.Address.{AddressPrefix, Covers, block_of, prefix_of}
+use Rattle.babel_prefix.specs.Block.{Block}
+use Rattle.babel_prefix.specs.Address.{AddressPrefix, block_of, prefix_of}
+use Rattle.babel_prefix.specs.Covers.{BlockCovers, IsBlock, Covers}
 use Rattle.babel_prefix.specs.Best.{Row}
-use Rattle.babel_prefix.specs.Entries.{Entry, AreOfFamily, are_of_family, row_of, rows_in, answers_in}
+use Rattle.babel_prefix.specs.Entries.{Entry, are_of_family, row_of, rows_in, answers_in}
+use Rattle.babel_prefix.specs.BestRow.{AreOfFamily}
 use Rattle.babel_prefix.proofs.Members.{any_two, Listed-get_or, Listed-from_Contains, Contains-from_Listed}
 use Rattle.babel_prefix.proofs.EntryLaws.{same_family-is}
 use Rattle.babel_trie.specs.Tables.{IsDisjointTable}
@@ -22,8 +24,10 @@ use Rattle.babel_trie.proofs.TableLaws.{box_list_is_shortest}
 use Rattle.babel_trie.proofs.DisjointLaws.{box_list_is_disjoint}
 use Rattle.babel_tlv.specs.declared.held.Held.{Held}
 use Rattle.babel_tlv.specs.declared.mode.Mode.{Mode}
-use Rattle.babel_tlv.specs.Route.{RouteKey, IsKey}
-use Rattle.babel_tlv.specs.Pair.{Pair, IsPair}
+use Rattle.babel_tlv.specs.Route.{RouteKey}
+use Rattle.babel_tlv.specs.Keys.{IsKey}
+use Rattle.babel_tlv.specs.Pair.{Pair}
+use Rattle.babel_tlv.specs.Pairs.{IsPair}
 use Rattle.babel_table.specs.Bounds.{Bounds}
 use Rattle.babel_table.specs.Rows.{entries_of}
 use Rattle.babel_canon.specs.Boxes.{AreBoxes}

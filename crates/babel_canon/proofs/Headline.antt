@@ -16,8 +16,9 @@ use Rattle.babel_tlv.specs.Says.{sayings}
 use Rattle.babel_tlv.specs.News.{spoken, pair_event}
 use Rattle.babel_tlv.proofs.Telling.{what_of}
 use Rattle.babel_table.specs.Bounds.{Bounds, AreBounds}
-use Rattle.babel_table.specs.Rows.{Routes, AreRows}
-use Rattle.babel_table.specs.DumpFault.{IsTableOf}
+use Rattle.babel_table.specs.Rows.{Routes}
+use Rattle.babel_table.specs.TableRows.{AreRows}
+use Rattle.babel_table.specs.TableOf.{IsTableOf}
 use Rattle.babel_canon.specs.Sizes.{IsBodySize}
 use Rattle.babel_canon.specs.RoundTrip.{IsRoute, AreReadableIn, TellsPairs, ReadsBack}
 use Rattle.babel_canon.specs.Boxes.{AreBoxes}

@@ -14,7 +14,8 @@ use Rattle.babel_tlv.specs.News.{spoken, pair_event}
 use Rattle.babel_tlv.proofs.Telling.{as_ok, what_of}
 use Rattle.babel_tlv.proofs.OneReading.{go_on, packets_fine}
 use Rattle.babel_table.specs.Bounds.{Bounds}
-use Rattle.babel_table.specs.DumpFault.{AreFine, Refuses, RefusedBy, StreamFault, HasNoFault}
+use Rattle.babel_table.specs.TableOf.{AreFine}
+use Rattle.babel_table.specs.DumpFault.{Refuses, RefusedBy, StreamFault, HasNoFault}
 use Rattle.babel_canon.specs.RoundTrip.{TellsPairs}
 use Rattle.babel_canon.proofs.PairRows.{few_hold}
 

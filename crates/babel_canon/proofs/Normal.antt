@@ -6,9 +6,10 @@ use Rattle.babel_tlv.specs.declared.fault.Fault.TheVariants as faults
 use Rattle.babel_tlv.specs.declared.mode.Mode.{Mode}
 use Rattle.babel_tlv.specs.declared.view.View.{View}
 use Rattle.babel_table.specs.Bounds.{Bounds}
-use Rattle.babel_table.specs.DumpFault.{DumpFault, HasNoFault, IsTableOf}
+use Rattle.babel_table.specs.DumpFault.{DumpFault, HasNoFault}
 use Rattle.babel_table.specs.Rows.{Routes}
 use Rattle.babel_table.specs.Seen.{seen_rows, seen_table}
+use Rattle.babel_table.specs.TableOf.{IsTableOf}
 use Rattle.babel_canon.specs.Canonical.{CanonicalFault, HasManyBoxes}
 use Rattle.babel_canon.specs.Headline.{Sent}
 use Rattle.babel_canon.specs.Normalises.{NormaliseFault}

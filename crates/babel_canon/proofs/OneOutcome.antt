@@ -9,7 +9,7 @@ use Rattle.babel_tlv.specs.Group.{IsCanonicalText}
 use Rattle.babel_tlv.proofs.TextOnce.{text_one}
 use Rattle.babel_table.specs.Bounds.{Bounds}
 use Rattle.babel_table.specs.Rows.{Routes}
-use Rattle.babel_table.specs.DumpFault.{IsTableOf}
+use Rattle.babel_table.specs.TableOf.{IsTableOf}
 use Rattle.babel_table.proofs.OutcomeLaws.{fault_is_one, table_is_one}
 use Rattle.babel_canon.specs.Boxes.{AreBoxes}
 use Rattle.babel_canon.specs.Answers.{AnswerTheSame}

@@ -10,7 +10,8 @@ use Rattle.babel_prefix.specs.Entries.{Entry, are_of_family}
 use Rattle.babel_prefix.proofs.EntryLaws.{same_family-is}
 use Rattle.babel_tlv.specs.declared.held.Held.{Held}
 use Rattle.babel_tlv.specs.Pair.{Pair}
-use Rattle.babel_table.specs.Rows.{entries_of, family_rows}
+use Rattle.babel_table.specs.Rows.{entries_of}
+use Rattle.babel_table.specs.TableRows.{family_rows}
 use Rattle.babel_canon.specs.declared.values.PackedValue.{PackedValue}
 use Rattle.babel_canon.specs.Values.{AreNumberedEntries, packed_entries}
 use Rattle.babel_canon.proofs.Boxes.{entry_of}

@@ -7,16 +7,18 @@ use Rattle.std.proofs.lemmas.List.Elements.{All-filter, All-from_recursion, filt
 use Rattle.std.proofs.lemmas.List.Kept.{AllPairs-filter}
 use Rattle.babel_prefix.specs.declared.family.Family.{Family}
 use Rattle.babel_prefix.specs.Address.{AddressPrefix, block_of}
-use Rattle.babel_prefix.specs.Entries.{Entry, HasPrefixes}
+use Rattle.babel_prefix.specs.BestRow.{HasPrefixes}
+use Rattle.babel_prefix.specs.Entries.{Entry}
 use Rattle.babel_prefix.specs.Members.{Listed}
 use Rattle.babel_prefix.specs.Order.{prefix_cmp}
 use Rattle.babel_prefix.specs.Width.{same_family}
 use Rattle.babel_prefix.proofs.EntryLaws.{same_family-is}
 use Rattle.babel_prefix.proofs.OrderLaws.{family_equality}
-use Rattle.babel_tlv.specs.Pair.{Pair, IsPair}
-use Rattle.babel_tlv.specs.Route.{key_cmp}
+use Rattle.babel_tlv.specs.Keys.{key_cmp}
+use Rattle.babel_tlv.specs.Pair.{Pair}
+use Rattle.babel_tlv.specs.Pairs.{IsPair}
 use Rattle.babel_tlv.proofs.OrderLaws.{key_total}
-use Rattle.babel_table.specs.Rows.{AreRows, family_rows}
+use Rattle.babel_table.specs.TableRows.{AreRows, family_rows}
 use Rattle.babel_table.proofs.EntryLaws.{rising_rows}
 use Rattle.babel_trie.specs.Held.{RowOrder}
 use Rattle.babel_trie.specs.Rows.{InOrder}

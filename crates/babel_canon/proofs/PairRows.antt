@@ -19,10 +19,12 @@ use Rattle.babel_tlv.specs.declared.held.Held.{Held}
 use Rattle.babel_tlv.specs.declared.held.Held.TheVariants as helds
 use Rattle.babel_tlv.specs.declared.mode.Mode.{Mode}
 use Rattle.babel_tlv.specs.declared.mode.Mode.TheVariants as modes
-use Rattle.babel_tlv.specs.Route.{RouteKey, key_cmp}
+use Rattle.babel_tlv.specs.Route.{RouteKey}
+use Rattle.babel_tlv.specs.Keys.{key_cmp}
 use Rattle.babel_tlv.specs.Pair.{Pair}
 use Rattle.babel_tlv.specs.News.{spoken, held_event, pair_event}
-use Rattle.babel_table.specs.Holds.{Names, Holds, HoldsMoreThan}
+use Rattle.babel_table.specs.Holds.{Names, Holds}
+use Rattle.babel_table.specs.DumpFault.{HoldsMoreThan}
 use Rattle.babel_table.specs.Rows.{IsRising}
 use Rattle.babel_tlv.proofs.OrderLaws.{key_total}
 use Rattle.babel_table.proofs.HoldsLaws.{same, same-is, same-of, next, stands, stands_from, Holds-stands, stands-Holds}

@@ -14,7 +14,7 @@ use Rattle.babel_table.proofs.ReadingLaws.{framed_one}
 use Rattle.babel_tlv.proofs.TextTold.{text_told, length-text}
 use Rattle.babel_table.specs.Bounds.{Bounds}
 use Rattle.babel_table.specs.Rows.{Routes}
-use Rattle.babel_table.specs.DumpFault.{IsTableOf}
+use Rattle.babel_table.specs.TableOf.{IsTableOf}
 use Rattle.babel_canon.specs.RoundTrip.{HaveDistinctKeys, AreReadableIn, TellsPairs, TextReadsBack}
 use Rattle.babel_canon.proofs.PairRows.{pairs_hold}
 use Rattle.babel_canon.proofs.NoFault.{AreFine-said, oks_one, no_fault}

@@ -17,7 +17,7 @@ use Rattle.babel_canon.specs.Grids.{pair_at}
 use Rattle.babel_canon.specs.Sinks.{HasUnpacked, numbered_pair}
 use Rattle.babel_canon.specs.Values.{AreNumberedBoxes, valued, valued_pairs}
 use Rattle.babel_table.specs.Bounds.{Bounds}
-use Rattle.babel_table.specs.Rows.{AreRows}
+use Rattle.babel_table.specs.TableRows.{AreRows}
 use Rattle.babel_canon.specs.Boxes.{AreBoxes}
 use Rattle.babel_canon.specs.Canonical.{AreCanonical}
 use Rattle.babel_canon.proofs.Families.{both_are_boxes, both-length}

@@ -12,7 +12,7 @@ use Rattle.babel_tlv.specs.Pair.{Pair}
 use Rattle.babel_tlv.proofs.Telling.{as_ok, what_of}
 use Rattle.babel_table.specs.Bounds.{Bounds}
 use Rattle.babel_table.specs.Counts.{counts_of}
-use Rattle.babel_table.specs.DumpFault.{AreFine, IsTableOf}
+use Rattle.babel_table.specs.TableOf.{AreFine, IsTableOf}
 use Rattle.babel_table.specs.Holds.{AreRowsOf, HoldsAtMost}
 use Rattle.babel_table.specs.Rows.{IsRising}
 use Rattle.babel_table.proofs.RowsLaws.{rows-none, rows-announce, rows-retract_hold, rows-retract_plain, rows-all_plain, rows-all_hold, rows_nothing, rows_ignored}

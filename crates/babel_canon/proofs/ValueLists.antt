@@ -13,16 +13,18 @@ use Rattle.std.proofs.lemmas.Option.{get_or_from_slice_get}
 use Rattle.babel_prefix.specs.declared.family.Family.{Family}
 use Rattle.babel_prefix.specs.Width.{width_of}
 use Rattle.babel_prefix.specs.Best.{Row, answer}
-use Rattle.babel_prefix.specs.Entries.{Entry, AreOfFamily, are_of_family, row_of, rows_in, answers_in, HasDistinctPrefixes}
+use Rattle.babel_prefix.specs.Entries.{Entry, are_of_family, row_of, rows_in, answers_in}
+use Rattle.babel_prefix.specs.BestRow.{AreOfFamily, HasDistinctPrefixes}
 use Rattle.babel_prefix.proofs.EntryLaws.{rows_in-all}
 use Rattle.babel_trie.specs.Boxes.{IsBoxList}
 use Rattle.babel_trie.proofs.NumberLaws.{slice_get-push, slice_get-kept, slice_get-push_cases}
 use Rattle.babel_tlv.specs.declared.held.Held.{Held}
 use Rattle.babel_tlv.specs.declared.held.Held.TheVariants as helds
 use Rattle.babel_tlv.specs.contracts.held.HeldOrd.TheImpl.{ghosts}
-use Rattle.babel_tlv.specs.Route.{AreOfOneFamily}
+use Rattle.babel_tlv.specs.Keys.{AreOfOneFamily}
 use Rattle.babel_tlv.specs.Group.{held_seqno, held_metric}
-use Rattle.babel_tlv.specs.Pair.{Pair, held_cmp}
+use Rattle.babel_tlv.specs.Pair.{Pair}
+use Rattle.babel_tlv.specs.Pairs.{held_cmp}
 use Rattle.babel_tlv.proofs.OrderLaws.{held_exact}
 use Rattle.babel_table.specs.Rows.{entries_of}
 use Rattle.babel_canon.specs.declared.values.PackedValue.{PackedValue}

@@ -3,7 +3,8 @@ use Rattle.std.proofs.Common.{◌≡◌, ◌<◌, ◌^◌, List, Option, Some, N
 use Rattle.std.specs.Prelude.{◌≢◌}
 use Rattle.babel_prefix.specs.declared.family.Family.{Family}
 use Rattle.babel_prefix.specs.declared.family.Family.TheVariants.{V4, V6}
-use Rattle.babel_prefix.specs.Width.{width_of, family_rank}
+use Rattle.babel_prefix.specs.Width.{width_of}
+use Rattle.babel_prefix.specs.Order.{family_rank}
 use Rattle.babel_prefix.specs.Address.{Address, IsAddress}
 use Rattle.babel_prefix.specs.Entries.{answers_in, answer_for}
 use Rattle.babel_trie.specs.Boxes.{IsLeastDifference as IsLeastPair}

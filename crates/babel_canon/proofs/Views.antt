@@ -15,13 +15,15 @@ use Rattle.babel_tlv.specs.declared.held.Held.TheVariants as helds
 use Rattle.babel_tlv.specs.declared.mode.Mode.{Mode}
 use Rattle.babel_tlv.specs.declared.mode.Mode.TheVariants as modes
 use Rattle.babel_tlv.specs.declared.view.View.{View}
-use Rattle.babel_tlv.specs.Pair.{Pair, FitsKey, IsPair}
+use Rattle.babel_tlv.specs.Pair.{Pair}
+use Rattle.babel_tlv.specs.Pairs.{FitsKey, IsPair}
 use Rattle.babel_tlv.specs.Route.{RouteKey}
 use Rattle.babel_tlv.specs.Views.{SameUnder, keeps_all, no_address, seen}
 use Rattle.babel_tlv.specs.ViewsTell.{HopIsOf}
 use Rattle.babel_tlv.proofs.ViewLaws.{seen_tells_apart, seen_twice_is_seen}
 use Rattle.babel_table.specs.Bounds.{Bounds, AreBounds}
-use Rattle.babel_table.specs.Rows.{AreRows, entries_of}
+use Rattle.babel_table.specs.Rows.{entries_of}
+use Rattle.babel_table.specs.TableRows.{AreRows}
 use Rattle.babel_table.specs.Seen.{seen_row, seen_rows}
 use Rattle.babel_table.proofs.SeenLaws.{all_rows, seen_are_rows}
 use Rattle.babel_canon.specs.Boxes.{AreBoxes}

@@ -6,7 +6,8 @@ use Rattle.babel_prefix.specs.Entries.{rows_in, answers_in}
 use Rattle.babel_trie.specs.Boxes.{Answers, IsBoxList}
 use Rattle.babel_tlv.specs.declared.held.Held.{Held}
 use Rattle.babel_tlv.specs.Pair.{Pair}
-use Rattle.babel_table.specs.Rows.{AreRows, entries_of}
+use Rattle.babel_table.specs.Rows.{entries_of}
+use Rattle.babel_table.specs.TableRows.{AreRows}
 
 -- what rows answer for the addresses of a family
 abbrev pub answers_of : Family → List Pair → Answers Held

@@ -2,8 +2,10 @@
 -- they can be: this project's own.
 use Rattle.std.specs.Prelude.{◌≡◌, ◌⊎◌, ◌≤◌, List, length, AllPairs}
 use Rattle.std.specs.List.{AllByRecursion}
-use Rattle.babel_prefix.specs.Address.{Address, AddressPrefix, IsAddress, Covers}
-use Rattle.babel_tlv.specs.Route.{RouteKey, IsKey}
+use Rattle.babel_prefix.specs.Address.{Address, AddressPrefix, IsAddress}
+use Rattle.babel_prefix.specs.Covers.{Covers}
+use Rattle.babel_tlv.specs.Route.{RouteKey}
+use Rattle.babel_tlv.specs.Keys.{IsKey}
 use Rattle.babel_tlv.specs.Pair.{Pair}
 use Rattle.babel_table.specs.BestMatch.{ContainsBoth}
 use Rattle.babel_canon.specs.Boxes.{AreBoxes}

@@ -9,7 +9,8 @@ use Rattle.babel_tlv.specs.declared.mode.Mode.{Mode}
 use Rattle.babel_tlv.specs.Pair.{Pair}
 use Rattle.babel_table.specs.Bounds.{Bounds}
 use Rattle.babel_table.specs.Rows.{Routes}
-use Rattle.babel_table.specs.DumpFault.{HasNoFault, IsTableOf}
+use Rattle.babel_table.specs.TableOf.{IsTableOf}
+use Rattle.babel_table.specs.DumpFault.{HasNoFault}
 
 -- a dump, and who sent it
 pub record Sent : Type 0 where

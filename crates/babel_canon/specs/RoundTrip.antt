@@ -10,7 +10,8 @@ use Rattle.babel_tlv.specs.declared.held.Held.TheVariants as helds
 use Rattle.babel_tlv.specs.declared.mode.Mode.{Mode}
 use Rattle.babel_tlv.specs.declared.mode.Mode.TheVariants as modes
 use Rattle.babel_tlv.specs.Route.{RouteKey}
-use Rattle.babel_tlv.specs.Pair.{Pair, IsPair}
+use Rattle.babel_tlv.specs.Pair.{Pair}
+use Rattle.babel_tlv.specs.Pairs.{IsPair}
 use Rattle.babel_tlv.specs.Framing.{TlvAt, Framed}
 use Rattle.babel_tlv.specs.Says.{sayings}
 use Rattle.babel_tlv.specs.Group.{IsCanonicalText}
@@ -18,7 +19,8 @@ use Rattle.babel_tlv.specs.News.{spoken, pair_event}
 use Rattle.babel_table.specs.Bounds.{Bounds}
 use Rattle.babel_table.specs.Holds.{Holds}
 use Rattle.babel_table.specs.Rows.{Routes}
-use Rattle.babel_table.specs.DumpFault.{HasNoFault, IsTableOf}
+use Rattle.babel_table.specs.TableOf.{IsTableOf}
+use Rattle.babel_table.specs.DumpFault.{HasNoFault}
 
 -- no two pairs have one key
 abbrev pub HaveDistinctKeys : List Pair → Type 0

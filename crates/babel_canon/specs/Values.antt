@@ -4,11 +4,13 @@ use Rattle.std.specs.Prelude.{filter, get_or, map, slice_get}
 use Rattle.std.specs.BTreeMap.{BTreeMap, get}
 use Rattle.babel_prefix.specs.declared.family.Family.{Family}
 use Rattle.babel_prefix.specs.Best.{Row}
-use Rattle.babel_prefix.specs.Entries.{Entry, AreOfFamily, are_of_family}
+use Rattle.babel_prefix.specs.BestRow.{AreOfFamily}
+use Rattle.babel_prefix.specs.Entries.{Entry, are_of_family}
 use Rattle.babel_tlv.specs.declared.held.Held.{Held}
 use Rattle.babel_tlv.specs.declared.held.Held.TheVariants as helds
 use Rattle.babel_tlv.specs.Group.{held_seqno, held_metric}
-use Rattle.babel_tlv.specs.Pair.{Pair, held_cmp}
+use Rattle.babel_tlv.specs.Pair.{Pair}
+use Rattle.babel_tlv.specs.Pairs.{held_cmp}
 use Rattle.babel_table.specs.declared.table_rows.TableRows.{TableRows}
 use Rattle.babel_table.specs.Left.{rows_left}
 use Rattle.babel_table.specs.Rows.{entries_of}

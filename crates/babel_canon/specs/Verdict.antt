@@ -1,6 +1,6 @@
 -- The least pair of addresses at which two tables answer (RFC 9079, 4) differently. Their order is this project's own.
 use Rattle.std.specs.Prelude.{◌≡◌, ◌≢◌, ◌⊎◌, ◌<◌, List, Option}
-use Rattle.babel_prefix.specs.Width.{family_rank}
+use Rattle.babel_prefix.specs.Order.{family_rank}
 use Rattle.babel_prefix.specs.Address.{Address, IsAddress}
 use Rattle.babel_prefix.specs.Entries.{answer_for}
 use Rattle.babel_tlv.specs.declared.held.Held.{Held}

@@ -5,8 +5,8 @@ use Rattle.babel_tlv.specs.declared.view.View.{View}
 use Rattle.babel_tlv.specs.Pair.{Pair}
 use Rattle.babel_tlv.specs.Views.{keeps_all}
 use Rattle.babel_table.specs.Bounds.{Bounds}
-use Rattle.babel_table.specs.Rows.{AreRows}
 use Rattle.babel_table.specs.Seen.{seen_rows}
+use Rattle.babel_table.specs.TableRows.{AreRows}
 use Rattle.babel_canon.specs.Answers.{AnswerTheSame}
 use Rattle.babel_canon.specs.Headline.{Sent}
 use Rattle.babel_canon.specs.Normalises.{Normalises, as_they_are}

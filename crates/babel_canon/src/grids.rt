@@ -1,8 +1,9 @@
 ghost use Rattle.std.specs.Prelude.{◌≡◌, ◌+◌, ◌-◌, ◌^◌, ◌++◌, List, All, IfOk, OnOk, OnErr, length};
 ghost use Rattle.std.specs.Prelude.{map, min};
 ghost use Rattle.babel_prefix.specs.declared.family.Family.TheVariants.{V4, V6};
-ghost use Rattle.babel_prefix.specs.Entries.{Entry, HasPrefixes, HasDistinctPrefixes};
-ghost use Rattle.babel_table.specs.Rows.{AreRows, family_rows};
+ghost use Rattle.babel_prefix.specs.BestRow.{HasPrefixes, HasDistinctPrefixes};
+ghost use Rattle.babel_prefix.specs.Entries.{Entry};
+ghost use Rattle.babel_table.specs.TableRows.{AreRows, family_rows};
 ghost use Rattle.babel_trie.specs.Held.{RowOrder};
 ghost use Rattle.babel_trie.specs.Nested.{entry_at};
 ghost use Rattle.babel_trie.specs.OneOrder.{rows_in_order-prop};

@@ -2,7 +2,8 @@
 use Rattle.std.proofs.Common.{◌≡◌, ℕ, ◌+◌, List, length, take, ap, ◌∙◌, inl, arith}
 use Rattle.std.proofs.lemmas.List.{take_at}
 use Rattle.babel_prefix.specs.Address.{Address}
-use Rattle.babel_tlv.specs.Framing.{BeginsPacket, framed}
+use Rattle.babel_tlv.specs.Framing.{framed}
+use Rattle.babel_tlv.specs.FrameFaults.{BeginsPacket}
 use Rattle.babel_capture.specs.Findings.{found, PayloadIs}
 
 pub packet_found : (interface : ℕ) (sender : Address) (payload body : List ℕ) (used : ℕ) → BeginsPacket payload body → used ≡ 4 + length body

@@ -5,7 +5,8 @@ use Rattle.std.proofs.lemmas.List.{length-append}
 use Rattle.std.proofs.lemmas.List.Elements.{All-head, All-tail}
 use Rattle.babel_tlv.specs.declared.fault.Fault.{Fault}
 use Rattle.babel_tlv.specs.declared.fault.Fault.TheVariants as faults
-use Rattle.babel_tlv.specs.Framing.{TlvAt, ArePackets as ArePlacedPackets, FrameFault, HeaderFault, IsBody, LacksBody, PacketFault, body_octets, framed, packet_octets}
+use Rattle.babel_tlv.specs.Framing.{TlvAt, ArePackets as ArePlacedPackets, IsBody, body_octets, framed, packet_octets}
+use Rattle.babel_tlv.specs.FrameFaults.{FrameFault, HeaderFault, LacksBody, PacketFault}
 use Rattle.babel_tlv.proofs.OneReading.{framed_one}
 use Rattle.babel_capture.specs.Packets.{ArePackets, IsPastEnd}
 

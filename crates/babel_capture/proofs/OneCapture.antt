@@ -4,7 +4,8 @@ use Rattle.std.specs.Prelude.{◌⊎◌, Some, None, Result, Ok, Err}
 use Rattle.std.specs.Result.{IsOkAnd}
 use Rattle.std.proofs.lemmas.List.{append-nil, drop_at, take-append-le, take_at}
 use Rattle.babel_prefix.specs.Address.{Address}
-use Rattle.babel_tlv.specs.Framing.{BeginsPacket, HasHeader, LacksBody, framed}
+use Rattle.babel_tlv.specs.FrameFaults.{BeginsPacket, HasHeader, LacksBody}
+use Rattle.babel_tlv.specs.Framing.{framed}
 use Rattle.babel_tlv.proofs.OneReading.{framed_one}
 use Rattle.babel_capture.specs.declared.fault.Fault.{Fault}
 use Rattle.babel_capture.specs.declared.layout.Layout.{Layout}

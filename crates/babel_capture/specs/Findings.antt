@@ -2,7 +2,8 @@
 -- is: RFC 8966, 4.2.
 use Rattle.std.specs.Prelude.{◌≡◌, ◌≢◌, ℕ, ◌<◌, List, length, slice_index, Option, Some, None, ◌⊎◌}
 use Rattle.babel_prefix.specs.Address.{Address}
-use Rattle.babel_tlv.specs.Framing.{BeginsPacket, HasHeader, LacksBody, framed}
+use Rattle.babel_tlv.specs.Framing.{framed}
+use Rattle.babel_tlv.specs.FrameFaults.{BeginsPacket, HasHeader, LacksBody}
 use Rattle.babel_capture.specs.declared.finding.Finding.{Finding}
 use Rattle.babel_capture.specs.declared.finding.Finding.TheVariants as findings
 use Rattle.babel_capture.specs.declared.reason.Reason.{Reason}

@@ -7,7 +7,7 @@ ghost use Rattle.babel_capture.specs.OneOrigin.{NamedIsOne};
 ghost use Rattle.babel_capture.specs.Packets.{ArePackets, IsPastEnd};
 ghost use Rattle.babel_capture.specs.Reading.{Stops};
 ghost use Rattle.babel_capture.specs.Senders.{AreSenders};
-ghost use Rattle.babel_tlv.specs.Framing.{FrameFault};
+ghost use Rattle.babel_tlv.specs.FrameFaults.{FrameFault};
 ghost use Rattle.babel_tlv.specs.declared.fault.Fault.{Fault as DumpFault};
 ghost use Rattle.babel_capture.specs.declared.fault.Fault.{Fault};
 ghost use Rattle.babel_capture.specs.declared.wanted.Wanted.{Wanted};

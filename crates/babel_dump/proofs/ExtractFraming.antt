@@ -10,7 +10,8 @@ use Rattle.babel_tlv.specs.declared.fault.Fault.TheVariants as faults
 use Rattle.babel_tlv.specs.declared.mode.Mode.{Mode}
 use Rattle.babel_tlv.specs.Context.{Context}
 use Rattle.babel_tlv.specs.Forming.{sets_router_id, update_encoding}
-use Rattle.babel_tlv.specs.Framing.{PacketFault, TlvAt, packet_octets}
+use Rattle.babel_tlv.specs.FrameFaults.{PacketFault}
+use Rattle.babel_tlv.specs.Framing.{TlvAt, packet_octets}
 use Rattle.babel_tlv.specs.Says.{Saying, said, sayings, sayings_behind, update_said}
 use Rattle.babel_table.specs.Bounds.{Bounds}
 use Rattle.babel_table.specs.DumpFault.{DumpFault, IsTruncated, RefusedBy, Refuses, StreamFault}

@@ -7,7 +7,8 @@ use Rattle.babel_tlv.specs.declared.fault.Fault.{Fault}
 use Rattle.babel_tlv.specs.declared.fault.Fault.TheVariants as faults
 use Rattle.babel_tlv.specs.Pair.{Pair}
 use Rattle.babel_table.specs.Bounds.{Bounds}
-use Rattle.babel_table.specs.DumpFault.{DumpFault, HasNoFault, IsTableOf, IsTruncated}
+use Rattle.babel_table.specs.TableOf.{IsTableOf}
+use Rattle.babel_table.specs.DumpFault.{DumpFault, HasNoFault, IsTruncated}
 use Rattle.babel_table.specs.Rows.{Routes}
 use Rattle.babel_table.specs.Seen.{seen_rows}
 use Rattle.babel_table.proofs.OutcomeLaws.{fault_is_one, fault_stays, table_is_one}

@@ -3,8 +3,7 @@
 use Rattle.std.specs.Cmp.{IsTotalOrder}
 use Rattle.std.proofs.lemmas.Cmp.{nat_cmp_total, on_total, then_total}
 use Rattle.babel_prefix.specs.Address.{Address, AddressPrefix}
-use Rattle.babel_prefix.specs.Order.{family_cmp, address_cmp, prefix_cmp}
-use Rattle.babel_prefix.specs.Width.{family_rank}
+use Rattle.babel_prefix.specs.Order.{family_cmp, address_cmp, prefix_cmp, family_rank}
 
 pub family_total : IsTotalOrder family_cmp
 family_total = on_total family_rank nat_cmp_total

@@ -11,11 +11,13 @@ use Rattle.babel_tlv.specs.declared.event.Event.{Event}
 use Rattle.babel_tlv.specs.declared.fault.Fault.{Fault}
 use Rattle.babel_tlv.specs.declared.fault.Fault.TheVariants as faults
 use Rattle.babel_tlv.specs.declared.mode.Mode.{Mode}
-use Rattle.babel_tlv.specs.Framing.{TlvAt, ArePackets, ArePlaced, IsBody, TlvPastEndAt, HasNoTlvAt, BeginsPacket, HasHeader, HeaderFault, PacketFault, ReadsAs, body_octets, body_len, framed, packet_octets, tlvs_of}
+use Rattle.babel_tlv.specs.FrameFaults.{TlvPastEndAt, HasNoTlvAt, BeginsPacket, HasHeader, HeaderFault, PacketFault, body_len}
+use Rattle.babel_tlv.specs.Framing.{TlvAt, ArePackets, ArePlaced, IsBody, ReadsAs, body_octets, framed, packet_octets, tlvs_of}
 use Rattle.babel_tlv.specs.Says.{Saying, sayings, sayings_behind}
-use Rattle.babel_table.specs.DumpFault.{AreFine, RefusedBy, StreamFault, IsTruncated}
+use Rattle.babel_table.specs.DumpFault.{RefusedBy, StreamFault, IsTruncated}
 use Rattle.babel_table.specs.Feeding.{StandsBehind, Takes, Fails, TookPackets, StopsAt, StopsBehind, IsPartial, IsReady, IsLasting, NeedsMemory}
 use Rattle.babel_table.specs.Rows.{Routes}
+use Rattle.babel_table.specs.TableOf.{AreFine}
 use Rattle.babel_table.proofs.FineLaws.{fine-not-refused}
 use Rattle.babel_table.proofs.ReadingLaws.{body_len-framed, length-framed, partial-no_packet, partial-stuck, placed-drop, one_body, placed-no_stop, packets_one}
 

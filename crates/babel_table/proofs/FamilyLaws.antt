@@ -6,7 +6,7 @@ use Rattle.babel_prefix.specs.declared.family.Family.TheVariants.{V4, V6}
 use Rattle.babel_prefix.specs.Width.{same_family}
 use Rattle.babel_tlv.specs.Pair.{Pair}
 use Rattle.babel_table.specs.Compact.{AreOf}
-use Rattle.babel_table.specs.Rows.{family_rows}
+use Rattle.babel_table.specs.TableRows.{family_rows}
 
 abbrev is_of : Family → Pair → Bool
 is_of family row = same_family row.0.dst.address.family family

@@ -14,7 +14,8 @@ use Rattle.babel_tlv.specs.Framing.{ReadsAs, packet_octets}
 use Rattle.babel_tlv.specs.Says.{sayings}
 use Rattle.babel_table.specs.Bounds.{Bounds}
 use Rattle.babel_table.specs.Counts.{Counts, counts_of}
-use Rattle.babel_table.specs.DumpFault.{DumpFault, HasNoFault, IsTableOf, IsTruncated, MayGoOn, StreamFault}
+use Rattle.babel_table.specs.TableOf.{IsTableOf}
+use Rattle.babel_table.specs.DumpFault.{DumpFault, HasNoFault, IsTruncated, MayGoOn, StreamFault}
 use Rattle.babel_table.specs.Feeding.{StandsBehind, TookPackets, StopsWithin, Progress, IsPartial, IsLasting, NeedsMemory, HasTaken, HasFailed, HasReadTo, HasRead, routes}
 use Rattle.babel_table.specs.Rows.{Routes}
 use Rattle.babel_table.proofs.FineLaws.{stands-none}

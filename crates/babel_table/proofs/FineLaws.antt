@@ -9,9 +9,10 @@ use Rattle.babel_tlv.specs.Route.{RouteKey}
 use Rattle.babel_tlv.specs.Says.{Saying}
 use Rattle.babel_table.specs.Counts.{Counts, counts_of}
 use Rattle.babel_table.specs.Counting.{counted_with}
-use Rattle.babel_table.specs.DumpFault.{AreFine, Refuses, RefusedBy}
+use Rattle.babel_table.specs.TableOf.{AreFine}
+use Rattle.babel_table.specs.DumpFault.{Refuses, RefusedBy, HoldsMoreThan}
 use Rattle.babel_table.specs.Feeding.{StandsBehind, Follows}
-use Rattle.babel_table.specs.Holds.{AreRowsOf, HoldsAtMost, HoldsMoreThan}
+use Rattle.babel_table.specs.Holds.{AreRowsOf, HoldsAtMost}
 use Rattle.babel_table.specs.Rows.{Routes}
 use Rattle.babel_table.proofs.CountLaws.{counts-push}
 use Rattle.babel_table.proofs.RowsLaws.{rows-none, not_more}

@@ -12,13 +12,15 @@ use Rattle.std.specs.Map.{keys_of, lookup, remove_entry}
 use Rattle.std.specs.BTreeMap.{insert_entry, is_at}
 use Rattle.babel_prefix.specs.declared.family.Family.{Family}
 use Rattle.babel_prefix.specs.declared.family.Family.TheVariants.{V4, V6}
-use Rattle.babel_tlv.specs.Route.{RouteKey, key_cmp}
+use Rattle.babel_tlv.specs.Route.{RouteKey}
+use Rattle.babel_tlv.specs.Keys.{key_cmp}
 use Rattle.babel_prefix.specs.Address.{Address}
 use Rattle.babel_tlv.specs.declared.held.Held.{Held}
-use Rattle.babel_tlv.specs.Pair.{Pair, IsPair}
+use Rattle.babel_tlv.specs.Pair.{Pair}
+use Rattle.babel_tlv.specs.Pairs.{IsPair}
 use Rattle.babel_table.specs.BestMatch.{ContainsBoth, HasBestMatch, HasNoMatch}
 use Rattle.babel_table.specs.Live.{Kept, current, live_rows}
-use Rattle.babel_table.specs.Rows.{AreRows}
+use Rattle.babel_table.specs.TableRows.{AreRows}
 use Rattle.babel_table.specs.Compact.{AreOf}
 
 abbrev IsOf : Family → RouteKey → Type 0

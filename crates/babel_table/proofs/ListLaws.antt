@@ -7,7 +7,8 @@ use Rattle.std.specs.List.Sorted.{IsPermutation, IsStrictlySortedBy}
 use Rattle.std.specs.Map.{keys_of}
 use Rattle.std.specs.BTreeMap.{is_at}
 use Rattle.babel_tlv.specs.declared.held.Held.{Held}
-use Rattle.babel_tlv.specs.Route.{RouteKey, key_cmp}
+use Rattle.babel_tlv.specs.Keys.{key_cmp}
+use Rattle.babel_tlv.specs.Route.{RouteKey}
 use Rattle.babel_table.specs.Live.{Kept, current, live_rows}
 use Rattle.babel_table.specs.Rows.{IsRising}
 use Rattle.babel_table.specs.Said.{Words, standing, AreDistinct}

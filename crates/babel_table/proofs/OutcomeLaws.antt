@@ -10,15 +10,17 @@ use Rattle.babel_tlv.specs.declared.fault.Fault.{Fault}
 use Rattle.babel_tlv.specs.declared.fault.Fault.TheVariants as faults
 use Rattle.babel_tlv.specs.declared.mode.Mode.{Mode}
 use Rattle.babel_tlv.specs.declared.mode.Mode.TheVariants as modes
-use Rattle.babel_tlv.specs.Framing.{TlvAt, ReadsAs, HeaderFault, PacketFault, HasNoTlvAt, BeginsPacket, packet_octets}
+use Rattle.babel_tlv.specs.FrameFaults.{HeaderFault, PacketFault, HasNoTlvAt, BeginsPacket}
+use Rattle.babel_tlv.specs.Framing.{TlvAt, ReadsAs, packet_octets}
 use Rattle.babel_tlv.specs.Route.{RouteKey, Announcement}
 use Rattle.babel_tlv.specs.Says.{Saying, sayings, sayings_behind}
 use Rattle.babel_table.specs.Bounds.{Bounds}
 use Rattle.babel_table.specs.Counts.{Counts, counts_of}
-use Rattle.babel_table.specs.DumpFault.{AreFine, Refuses, RefusedBy, StreamFault, DumpFault, IsTruncated}
+use Rattle.babel_table.specs.DumpFault.{Refuses, RefusedBy, StreamFault, DumpFault, IsTruncated}
 use Rattle.babel_table.specs.Feeding.{IsPartial, IsLasting, MayGrowAt}
 use Rattle.babel_table.specs.Holds.{HoldsAtMost, AreRowsOf, Names}
 use Rattle.babel_table.specs.OneOutcome.{FaultIsOne, FaultIsOfOctets, FaultStays, TableIsOne, RoutesNeedMemory, KeysNeedMemory}
+use Rattle.babel_table.specs.TableOf.{AreFine}
 use Rattle.babel_table.proofs.DumpLaws.{sayings-append, header-more, header-long, header-lasts, header-good, begins-more, packet-no_fault}
 use Rattle.babel_table.proofs.FeedLaws.{dump_fault}
 use Rattle.babel_table.proofs.FineLaws.{one_event, refuses-not, fine-not-refused, routes}

@@ -7,7 +7,8 @@ use Rattle.std.proofs.lemmas.List.Concat.{flat_map-append}
 use Rattle.babel_prefix.specs.Address.{Address}
 use Rattle.babel_tlv.specs.declared.fault.Fault.{Fault}
 use Rattle.babel_tlv.specs.declared.mode.Mode.{Mode}
-use Rattle.babel_tlv.specs.Framing.{TlvAt, ArePlaced, ArePackets, IsBody, BeginsPacket, AreTlvs, framed, body_octets, packet_octets, tlvs_of}
+use Rattle.babel_tlv.specs.FrameFaults.{BeginsPacket, AreTlvs}
+use Rattle.babel_tlv.specs.Framing.{TlvAt, ArePlaced, ArePackets, IsBody, framed, body_octets, packet_octets, tlvs_of}
 use Rattle.babel_tlv.specs.Says.{Saying, sayings, sayings_behind}
 use Rattle.babel_table.specs.Feeding.{StandsBehind, Takes, Fails, TookPackets}
 use Rattle.babel_table.specs.Rows.{Routes}

@@ -11,7 +11,8 @@ use Rattle.babel_table.specs.Live.{Kept}
 use Rattle.std.proofs.lemmas.Map.Entries.{length-keys_of}
 use Rattle.std.proofs.lemmas.Map.Keys.{apart_from_distinct}
 use Rattle.std.proofs.lemmas.List.{get_or_default, get_or-set_same, get_or-set_other, length-set}
-use Rattle.babel_tlv.specs.Route.{RouteKey, key_cmp}
+use Rattle.babel_tlv.specs.Route.{RouteKey}
+use Rattle.babel_tlv.specs.Keys.{key_cmp}
 use Rattle.babel_tlv.proofs.OrderLaws.{key_total}
 use Rattle.babel_table.specs.Said.{AreDistinct, AreListed, IsListed, IsPlace, IsTaken, IsUnlisted, Places, Words, start_of, tag_of}
 use Rattle.babel_table.proofs.Entries.{is_at-sym, lookup-insert}

@@ -4,7 +4,8 @@ use Rattle.std.specs.Prelude.{◌⊎◌}
 use Rattle.std.specs.List.{flat_map}
 use Rattle.std.proofs.lemmas.Bool.{lt-ltb}
 use Rattle.std.proofs.lemmas.List.{append-nil, append_cancel_left, length-append, take_at, drop_at}
-use Rattle.babel_tlv.specs.Framing.{TlvAt, ArePlaced, ArePackets, AreTlvs, ReadsAs, Framed, BeginsNoTlv, HasNoTlvAt, BeginsPacket, IsBody, body_len, body_octets, framed, packet_octets, tlv_octets, tlvs_of}
+use Rattle.babel_tlv.specs.Framing.{TlvAt, ArePlaced, ArePackets, ReadsAs, Framed, IsBody, body_octets, framed, packet_octets, tlv_octets, tlvs_of}
+use Rattle.babel_tlv.specs.FrameFaults.{AreTlvs, BeginsNoTlv, HasNoTlvAt, BeginsPacket, body_len}
 use Rattle.babel_tlv.proofs.Reading.{tlvs_of-append, tlvs_of-AreTlvs}
 use Rattle.babel_table.specs.Feeding.{IsPartial}
 

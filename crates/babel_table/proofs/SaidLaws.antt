@@ -23,7 +23,8 @@ use Rattle.std.proofs.lemmas.Map.Entries.{length-keys_of, lookup-filter-values, 
 use Rattle.std.proofs.lemmas.Map.Keys.{IsDistinct-IsPermutation, IsDistinct-from_sorted, apart_from_distinct}
 use Rattle.std.proofs.lemmas.Map.Made.{is_some-lookup}
 use Rattle.std.proofs.lemmas.Map.Views.{Contains-from_lookup, lookup-from_Contains}
-use Rattle.babel_tlv.specs.Route.{RouteKey, key_cmp}
+use Rattle.babel_tlv.specs.Keys.{key_cmp}
+use Rattle.babel_tlv.specs.Route.{RouteKey}
 use Rattle.babel_tlv.proofs.OrderLaws.{key_total, key_exact}
 use Rattle.babel_table.specs.Live.{Kept}
 use Rattle.babel_table.specs.Rows.{IsRising}

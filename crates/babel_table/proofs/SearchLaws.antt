@@ -17,8 +17,9 @@ use Rattle.std.proofs.lemmas.Map.Views.{lookup-from_Contains}
 use Rattle.babel_prefix.specs.Address.{AddressPrefix}
 use Rattle.babel_prefix.specs.Order.{prefix_cmp}
 use Rattle.babel_tlv.specs.declared.held.Held.{Held}
+use Rattle.babel_tlv.specs.Keys.{key_cmp}
 use Rattle.babel_tlv.specs.Pair.{Pair}
-use Rattle.babel_tlv.specs.Route.{RouteKey, key_cmp}
+use Rattle.babel_tlv.specs.Route.{RouteKey}
 use Rattle.babel_table.specs.Lookup.{StandsFor}
 use Rattle.babel_table.specs.Rows.{IsRising}
 use Rattle.babel_prefix.specs.TotalOrder.{prefix_total}

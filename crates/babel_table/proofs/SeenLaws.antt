@@ -6,13 +6,15 @@ use Rattle.babel_prefix.specs.declared.family.Family.{Family}
 use Rattle.babel_tlv.specs.declared.held.Held.{Held}
 use Rattle.babel_tlv.specs.declared.held.Held.TheVariants as helds
 use Rattle.babel_tlv.specs.declared.view.View.{View}
-use Rattle.babel_tlv.specs.Pair.{Pair, IsPair}
+use Rattle.babel_tlv.specs.Pair.{Pair}
+use Rattle.babel_tlv.specs.Pairs.{IsPair}
 use Rattle.babel_tlv.specs.Route.{RouteKey}
 use Rattle.babel_tlv.specs.Views.{seen, keeps_all}
 use Rattle.babel_tlv.proofs.ViewLaws.{seen_fits, all_is_seen}
 use Rattle.babel_table.specs.Compact.{AreOf, FitsFamily, key_in}
-use Rattle.babel_table.specs.Rows.{AreRows, Routes}
+use Rattle.babel_table.specs.Rows.{Routes}
 use Rattle.babel_table.specs.Seen.{seen_row, seen_rows, seen_table}
+use Rattle.babel_table.specs.TableRows.{AreRows}
 
 pub fits_family : (view : View) (family : Family) (held : Held) → FitsFamily family held → FitsFamily family (seen view held)
 fits_family view family (helds.Route ann) fits = seen_fits view (key_in family 0 0 0 0) (helds.Route ann) fits

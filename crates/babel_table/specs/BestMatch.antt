@@ -1,6 +1,7 @@
 -- The row that a destination and a source address are forwarded by, in addresses and prefixes: RFC 9079, 4.
 use Rattle.std.specs.Prelude.{◌≡◌, ◌⊎◌, ◌<◌, List, Contains}
-use Rattle.babel_prefix.specs.Address.{Address, Covers}
+use Rattle.babel_prefix.specs.Address.{Address}
+use Rattle.babel_prefix.specs.Covers.{Covers}
 use Rattle.babel_tlv.specs.declared.held.Held.{Held}
 use Rattle.babel_tlv.specs.Pair.{Pair}
 use Rattle.babel_tlv.specs.Route.{RouteKey}

@@ -8,7 +8,8 @@ use Rattle.babel_prefix.specs.Address.{AddressPrefix}
 use Rattle.babel_prefix.specs.TotalOrder.{prefix_total}
 use Rattle.babel_tlv.specs.declared.held.Held.{Held}
 use Rattle.babel_tlv.specs.declared.held.Held.TheVariants as helds
-use Rattle.babel_tlv.specs.Route.{RouteKey, key_cmp, Announcement, IsAnnouncement}
+use Rattle.babel_tlv.specs.Route.{RouteKey, Announcement}
+use Rattle.babel_tlv.specs.Keys.{key_cmp, IsAnnouncement}
 
 -- a prefix and a key of a family, of their numbers
 abbrev pub prefix_in : Family → ℕ → ℕ → AddressPrefix

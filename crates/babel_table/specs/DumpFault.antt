@@ -1,25 +1,25 @@
 -- Which fault a dump has: RFC 8966, 4.2 to 4.6, and the limits of a run.
-use Rattle.std.specs.Prelude.{◌≡◌, ◌≢◌, ℕ, ◌<◌, ◌≤◌, List, [], ◌∷◌, ◌++◌, length, take, Result, Ok, Err, ◌⊎◌}
+use Rattle.std.specs.Prelude.{◌≡◌, ◌≢◌, ℕ, ◌<◌, ◌≤◌, List, [], ◌∷◌, ◌++◌, length, take, Result, Ok}
+use Rattle.std.specs.Prelude.{Err, ◌⊎◌}
 use Rattle.std.specs.List.{flat_map}
 use Rattle.babel_prefix.specs.Address.{Address}
 use Rattle.babel_tlv.specs.declared.event.Event.{Event}
 use Rattle.babel_tlv.specs.declared.fault.Fault.{Fault}
 use Rattle.babel_tlv.specs.declared.fault.Fault.TheVariants as faults
 use Rattle.babel_tlv.specs.declared.mode.Mode.{Mode}
-use Rattle.babel_tlv.specs.Framing.{TlvAt, ReadsAs, Framed, PacketFault, packet_octets}
+use Rattle.babel_tlv.specs.declared.held.Held.{Held}
+use Rattle.babel_tlv.specs.Framing.{TlvAt, ReadsAs, packet_octets}
+use Rattle.babel_tlv.specs.FrameFaults.{PacketFault}
+use Rattle.babel_tlv.specs.Route.{RouteKey}
 use Rattle.babel_tlv.specs.Says.{Saying, sayings}
 use Rattle.babel_table.specs.Bounds.{Bounds}
-use Rattle.babel_table.specs.Holds.{HoldsAtMost, HoldsMoreThan, AreRowsOf}
-use Rattle.babel_table.specs.Rows.{Routes}
-use Rattle.babel_table.specs.Counts.{counts_of}
+use Rattle.babel_table.specs.Holds.{AreRowsOf}
+use Rattle.babel_table.specs.TableOf.{AreFine}
 
--- none of the sayings refuses the dump: each is an event, `said` is `before` and then these events,
--- and after each of them something is held for at most so many keys
-abbrev pub AreFine : Mode → ℕ → List Event → List Saying → List Event → Type 0
-AreFine mode entries before [] said = said ≡ before
-AreFine mode entries before (saying ∷ later) said =
-    (event : Event) × (saying.what ≡ Ok event) × HoldsAtMost mode entries (before ++ event ∷ [])
-    × AreFine mode entries (before ++ event ∷ []) later said
+-- something is held for more than so many keys
+abbrev pub HoldsMoreThan : Mode → ℕ → List Event → Type 0
+HoldsMoreThan mode entries said =
+    (rows : List (RouteKey × Held)) × AreRowsOf mode said rows × (entries < length rows)
 
 -- after the events `before`, the saying of the TLV at this offset refuses the dump with this fault:
 -- its own, or TooManyRoutes, since after its event something is held for more than so many keys
@@ -67,14 +67,3 @@ HasNoFault limits mode sender dump = (fault : Fault) → DumpFault limits mode s
 abbrev pub MayGoOn : Bounds → Mode → Address → List ℕ → Type 0
 MayGoOn limits mode sender dump =
     (fault : Fault) → DumpFault limits mode sender dump fault → IsTruncated fault
-
--- the table of a dump, which is whole packets whose TLVs do not refuse it: its rows are what is
--- held after its events, and its report counts its TLVs. The limit on octets is no part of this.
-pub record IsTableOf (limits : Bounds) (mode : Mode) (sender : Address) (dump : List ℕ)
-    (table : Routes) : Type 0 where
-  pub packets : List (List TlvAt)
-  pub said : List Event
-  pub reads : Framed dump packets
-  pub fine : AreFine mode limits.entries [] (sayings sender packets) said
-  pub rows : AreRowsOf mode said table.rows
-  pub report : table.report ≡ counts_of (sayings sender packets)

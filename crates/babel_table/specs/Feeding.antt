@@ -12,16 +12,17 @@ use Rattle.babel_tlv.specs.declared.fault.Fault.TheVariants as faults
 use Rattle.babel_tlv.specs.declared.held.Held.{Held}
 use Rattle.babel_tlv.specs.declared.mode.Mode.{Mode}
 use Rattle.babel_tlv.specs.declared.mode.Mode.TheVariants as modes
-use Rattle.babel_tlv.specs.Framing.{TlvAt, ReadsAs, LacksBody, packet_octets, ArePackets}
-use Rattle.babel_tlv.specs.Framing.{HeaderFault, BeginsPacket, TlvPastEndAt, AreTlvs, tlvs_of}
+use Rattle.babel_tlv.specs.Framing.{TlvAt, ReadsAs, packet_octets, ArePackets, tlvs_of}
+use Rattle.babel_tlv.specs.FrameFaults.{LacksBody, HeaderFault, BeginsPacket, TlvPastEndAt, AreTlvs}
 use Rattle.babel_tlv.specs.Route.{RouteKey}
 use Rattle.babel_tlv.specs.Says.{Saying, sayings, sayings_behind}
 use Rattle.babel_tlv.specs.Context.{Context, context_after}
 use Rattle.babel_table.specs.Bounds.{Bounds}
 use Rattle.babel_table.specs.Counts.{Counts, counts_of}
-use Rattle.babel_table.specs.Holds.{AreRowsOf, HoldsMoreThan}
+use Rattle.babel_table.specs.Holds.{AreRowsOf}
 use Rattle.babel_table.specs.Rows.{Routes}
-use Rattle.babel_table.specs.DumpFault.{AreFine, RefusedBy, DumpFault}
+use Rattle.babel_table.specs.TableOf.{AreFine}
+use Rattle.babel_table.specs.DumpFault.{RefusedBy, DumpFault, HoldsMoreThan}
 
 -- ---- the table so far
 

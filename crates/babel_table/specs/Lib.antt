@@ -3,7 +3,9 @@ pub mod Counts
 pub mod Counting
 pub mod Holds
 pub mod Rows
+pub mod TableRows
 pub mod Live
+pub mod TableOf
 pub mod DumpFault
 pub mod Feeding
 pub mod Streams

@@ -1,6 +1,7 @@
 -- What a lookup looks for among rows: RFC 9079, 4.
 use Rattle.std.specs.Prelude.{◌≡◌, ◌≤◌, ◌↔◌, List, Option, Some, Contains}
-use Rattle.babel_prefix.specs.Address.{Address, AddressPrefix, Covers}
+use Rattle.babel_prefix.specs.Address.{Address, AddressPrefix}
+use Rattle.babel_prefix.specs.Covers.{Covers}
 use Rattle.babel_tlv.specs.declared.held.Held.{Held}
 use Rattle.babel_tlv.specs.Pair.{Pair}
 use Rattle.babel_tlv.specs.Route.{RouteKey}

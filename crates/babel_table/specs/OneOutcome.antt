@@ -11,7 +11,8 @@ use Rattle.babel_tlv.specs.Framing.{TlvAt, ReadsAs}
 use Rattle.babel_tlv.specs.Route.{RouteKey, Announcement}
 use Rattle.babel_tlv.specs.Says.{sayings}
 use Rattle.babel_table.specs.Bounds.{Bounds}
-use Rattle.babel_table.specs.DumpFault.{DumpFault, IsTableOf, IsTruncated}
+use Rattle.babel_table.specs.TableOf.{IsTableOf}
+use Rattle.babel_table.specs.DumpFault.{DumpFault, IsTruncated}
 use Rattle.babel_table.specs.Feeding.{NeedsMemory, event_at}
 use Rattle.babel_table.specs.Holds.{Names}
 use Rattle.babel_table.specs.Rows.{Routes}

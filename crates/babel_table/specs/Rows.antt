@@ -1,34 +1,22 @@
 -- The rows of a table, by destination and source prefix: the route table of RFC 8966, 3.2.6, and
 -- RFC 9079, 3.2, of one neighbour. Their order is this project's own.
-use Rattle.std.specs.Prelude.{List, filter, map}
-use Rattle.std.specs.List.{AllByRecursion}
+use Rattle.std.specs.Prelude.{List, map}
 use Rattle.std.specs.List.Sorted.{IsStrictlySortedBy}
 use Rattle.std.specs.Map.{keys_of}
-use Rattle.babel_prefix.specs.declared.family.Family.{Family}
 use Rattle.babel_prefix.specs.Entries.{Entry}
-use Rattle.babel_prefix.specs.Width.{same_family}
 use Rattle.babel_tlv.specs.declared.held.Held.{Held}
-use Rattle.babel_tlv.specs.Route.{RouteKey, key_cmp}
-use Rattle.babel_tlv.specs.Pair.{IsPair}
+use Rattle.babel_tlv.specs.Route.{RouteKey}
+use Rattle.babel_tlv.specs.Keys.{key_cmp}
 use Rattle.babel_table.specs.Counts.{Counts}
 
 -- the keys rise, so that none is there twice
 abbrev pub IsRising : {V : Type 0} → List (RouteKey × V) → Type 0
 IsRising rows = IsStrictlySortedBy key_cmp (keys_of rows)
 
--- what every table keeps
-pub record AreRows (rows : List (RouteKey × Held)) : Type 0 where
-  pub rising : IsRising rows
-  pub each : AllByRecursion IsPair rows
-
 -- a table (`Table` in the code): its rows, and its report, which counts the TLVs
 pub record Routes : Type 0 where
   pub rows : List (RouteKey × Held)
   pub report : Counts
-
--- the rows of one family
-abbrev pub family_rows : {V : Type 0} → Family → List (RouteKey × V) → List (RouteKey × V)
-family_rows family rows = filter (λ row. same_family row.0.dst.address.family family) rows
 
 -- the rows as entries to look up
 abbrev pub entries_of : {V : Type 0} → List (RouteKey × V) → List (Entry V)

@@ -8,7 +8,8 @@ use Rattle.std.specs.Ordering.{eq_by_cmp}
 use Rattle.std.specs.declared.cmp.Ordering.TheVariants.{Less}
 use Rattle.std.specs.BTreeMap.{insert_entry, is_at}
 use Rattle.std.specs.Map.{keys_of, lookup, remove_entry}
-use Rattle.babel_tlv.specs.Route.{RouteKey, key_cmp}
+use Rattle.babel_tlv.specs.Route.{RouteKey}
+use Rattle.babel_tlv.specs.Keys.{key_cmp}
 use Rattle.babel_table.specs.Live.{Kept}
 
 -- what was last said of each key: nothing where it was retracted

@@ -4,7 +4,8 @@ use Rattle.std.specs.Prelude.{◌≡◌, ℕ, List, [], ◌∷◌, ◌⊎◌}
 use Rattle.babel_prefix.specs.Address.{Address}
 use Rattle.babel_tlv.specs.declared.fault.Fault.{Fault}
 use Rattle.babel_tlv.specs.Context.{Context}
-use Rattle.babel_tlv.specs.Framing.{TlvAt, AreTlvs, TlvPastEndAt, tlvs_of}
+use Rattle.babel_tlv.specs.Framing.{TlvAt, tlvs_of}
+use Rattle.babel_tlv.specs.FrameFaults.{AreTlvs, TlvPastEndAt}
 use Rattle.babel_tlv.specs.Says.{Saying, sayings_behind}
 use Rattle.babel_table.specs.declared.so_far.SoFar.{SoFar}
 use Rattle.babel_table.specs.declared.stream.Stream.{Stream}

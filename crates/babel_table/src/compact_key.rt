@@ -1,7 +1,7 @@
 ghost use Rattle.std.specs.Prelude.{◌≡◌};
 ghost use Rattle.std.specs.Cmp.Rules.{comparing};
 ghost use Rattle.std.proofs.Common.{rules};
-ghost use Rattle.babel_tlv.specs.Route.{IsKey};
+ghost use Rattle.babel_tlv.specs.Keys.{IsKey};
 ghost use Rattle.babel_table.specs.Said as said;
 
 use crate::compact_prefix::CompactPrefix;
@@ -21,7 +21,8 @@ pub struct CompactKey<W: Word> {
 
 impl<W: Word> Model for CompactKey<W> {
     ghost use Rattle.babel_table.specs.Compact.{key_in};
-    ghost use Rattle.babel_tlv.specs.Route.{RouteKey, IsKey};
+    ghost use Rattle.babel_tlv.specs.Route.{RouteKey};
+    ghost use Rattle.babel_tlv.specs.Keys.{IsKey};
 
     ghost Value = { RouteKey };
 
@@ -33,7 +34,7 @@ impl<W: Word> Model for CompactKey<W> {
 
 impl<W: Word> PartialEq for CompactKey<W> {
     ghost use Rattle.std.specs.Ordering.{eq_by_cmp};
-    ghost use Rattle.babel_tlv.specs.Route.{key_cmp};
+    ghost use Rattle.babel_tlv.specs.Keys.{key_cmp};
     ghost use Rattle.std.specs.Cmp.{partial_equiv_from_equiv, eq_by_cmp_equiv};
     ghost use Rattle.babel_table.specs.Compact.{key_total};
 
@@ -54,7 +55,7 @@ impl<W: Word> Eq for CompactKey<W> {
 }
 
 impl<W: Word> Ord for CompactKey<W> {
-    ghost use Rattle.babel_tlv.specs.Route.{key_cmp};
+    ghost use Rattle.babel_tlv.specs.Keys.{key_cmp};
     ghost use Rattle.babel_table.specs.Compact.{key_total};
 
     ghost cmp = { key_cmp };
@@ -76,7 +77,7 @@ impl<W: Word> Ord for CompactKey<W> {
 impl<W: Word> PartialOrd for CompactKey<W> {
     ghost use Rattle.std.specs.Ordering.{as_partial_cmp};
     ghost use Rattle.std.specs.Cmp.{partial_order_from_own_ties, partial_order_from_total};
-    ghost use Rattle.babel_tlv.specs.Route.{key_cmp};
+    ghost use Rattle.babel_tlv.specs.Keys.{key_cmp};
     ghost use Rattle.babel_table.specs.Compact.{key_total};
 
     ghost partial_cmp = { as_partial_cmp key_cmp };

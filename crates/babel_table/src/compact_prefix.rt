@@ -15,7 +15,8 @@ pub struct CompactPrefix<W: Word> {
 }
 
 impl<W: Word> Model for CompactPrefix<W> {
-    ghost use Rattle.babel_prefix.specs.Address.{AddressPrefix, IsAddressPrefix};
+    ghost use Rattle.babel_prefix.specs.Address.{AddressPrefix};
+    ghost use Rattle.babel_prefix.specs.Covers.{IsAddressPrefix};
     ghost use Rattle.babel_table.specs.Compact.{prefix_in};
 
     ghost Value = { AddressPrefix };

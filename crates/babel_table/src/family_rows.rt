@@ -2,7 +2,7 @@ ghost use Rattle.std.specs.Prelude.{◌≡◌, ◌<◌, ◌+◌, ◌^◌, ◌∷
 ghost use Rattle.std.specs.List.Sorted.{IsPermutation, IsStrictlySortedBy};
 ghost use Rattle.std.specs.BTreeMap.{insert_entry, is_at};
 ghost use Rattle.std.specs.Map.{keys_of, lookup, remove_entry};
-ghost use Rattle.babel_tlv.specs.Route.{key_cmp};
+ghost use Rattle.babel_tlv.specs.Keys.{key_cmp};
 ghost use Rattle.babel_table.specs.Compact.{FitsFamily};
 ghost use Rattle.babel_table.specs.Live.{kept, live_rows};
 ghost use Rattle.babel_table.specs.Rows.{IsRising};

@@ -2,10 +2,10 @@ ghost use Rattle.std.specs.Prelude.{◌≡◌, ◌<◌, ◌+◌, ◌^◌, if◌t
 ghost use Rattle.std.specs.List.Sorted.{IsStrictlySortedBy};
 ghost use Rattle.std.specs.BTreeMap.{insert_entry, is_at};
 ghost use Rattle.std.specs.Map.{keys_of, lookup, remove_entry};
-ghost use Rattle.babel_tlv.specs.Pair.{IsPair};
-ghost use Rattle.babel_tlv.specs.Route.{key_cmp};
+ghost use Rattle.babel_tlv.specs.Keys.{key_cmp};
+ghost use Rattle.babel_tlv.specs.Pairs.{IsPair};
 ghost use Rattle.babel_table.specs.Live.{kept, live_rows};
-ghost use Rattle.babel_table.specs.Rows.{AreRows};
+ghost use Rattle.babel_table.specs.TableRows.{AreRows};
 
 use crate::family_rows::FamilyRows;
 use crate::halves::Halves;

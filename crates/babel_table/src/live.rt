@@ -2,12 +2,12 @@ ghost use Rattle.std.specs.Prelude.{◌≡◌, ◌^◌, ◌<◌, ◌≤◌, ◌+
 ghost use Rattle.std.specs.BTreeMap.{insert_entry, is_at};
 ghost use Rattle.std.specs.Map.{remove_entry};
 ghost use Rattle.babel_tlv.specs.declared.held.Held.TheVariants as helds;
-ghost use Rattle.babel_tlv.specs.Pair.{EventFits, IsPair};
-ghost use Rattle.babel_tlv.specs.Route.{key_cmp};
+ghost use Rattle.babel_tlv.specs.Pairs.{EventFits, IsPair};
+ghost use Rattle.babel_tlv.specs.Keys.{key_cmp};
 ghost use Rattle.babel_tlv.specs.Verdicts.{event_of};
 ghost use Rattle.babel_tlv.specs.declared.event.Event.TheVariants as events;
 ghost use Rattle.babel_table.specs.Live.{IsNotHeld, KeepsAllButRows, unreachable};
-ghost use Rattle.babel_table.specs.Rows.{AreRows};
+ghost use Rattle.babel_table.specs.TableRows.{AreRows};
 ghost use Rattle.babel_table.specs.Feeding.{Follows, IsRefused};
 
 use crate::kept_rows::KeptRows;

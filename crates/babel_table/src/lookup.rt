@@ -1,7 +1,8 @@
 //! The best matching row among rows of one family in rising order, by binary search.
 ghost use Rattle.std.specs.Prelude.{◌≡◌, ◌↔◌, IsTrue, Any, MatchOption};
 ghost use Rattle.babel_table.specs.BestMatch.{HasBestMatch, HasNoMatch};
-ghost use Rattle.babel_table.specs.Rows.{AreRows, IsRising};
+ghost use Rattle.babel_table.specs.Rows.{IsRising};
+ghost use Rattle.babel_table.specs.TableRows.{AreRows};
 ghost use Rattle.babel_table.specs.Lookup.{HasLongestSource, HasNoSource, StandsFor};
 
 use crate::compact_key::CompactKey;

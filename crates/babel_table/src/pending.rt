@@ -1,5 +1,5 @@
 ghost use Rattle.std.specs.Prelude.{◌≡◌, ◌≢◌, ◌≤◌, ◌+◌, ◌++◌, [], length, IfOk};
-ghost use Rattle.babel_tlv.specs.Framing.{HasHeader, body_len};
+ghost use Rattle.babel_tlv.specs.FrameFaults.{HasHeader, body_len};
 ghost use Rattle.babel_table.specs.Feeding.{IsPartial};
 
 use byteorder::{ByteOrder, NetworkEndian};

@@ -1,9 +1,10 @@
 ghost use Rattle.std.specs.Prelude.{◌≡◌, ◌≤◌, ◌<◌, ◌+◌, ◌^◌, ◌∷◌, [], length, drop, OnOk, IfOk, IfErr};
 ghost use Rattle.babel_table.specs.Feeding.{IsRefused, IsPartial, event_at};
-ghost use Rattle.babel_tlv.specs.Pair.{EventFits};
+ghost use Rattle.babel_tlv.specs.Pairs.{EventFits};
 ghost use Rattle.babel_tlv.specs.Verdicts.{event_of};
 ghost use Rattle.babel_tlv.specs.Says.{sayings_behind};
-ghost use Rattle.babel_tlv.specs.Framing.{AreTlvs, tlvs_of};
+ghost use Rattle.babel_tlv.specs.Framing.{tlvs_of};
+ghost use Rattle.babel_tlv.specs.FrameFaults.{AreTlvs};
 ghost use Rattle.babel_tlv.specs.Frames.{tlv_value};
 
 use crate::live::LiveRows;

@@ -1,8 +1,8 @@
 ghost use Rattle.std.specs.Prelude.{◌≡◌, MatchOption};
 ghost use Rattle.babel_table.specs.BestMatch.{HasBestMatch, HasNoMatch};
 ghost use Rattle.babel_table.specs.Left.{rows_left};
-ghost use Rattle.babel_table.specs.Rows.{AreRows, family_rows};
 ghost use Rattle.babel_table.specs.Seen.{seen_rows};
+ghost use Rattle.babel_table.specs.TableRows.{AreRows, family_rows};
 
 use crate::compact_row::CompactRow;
 use crate::halves::Halves;
@@ -25,7 +25,7 @@ impl Model for SortedRows {
     ghost use Rattle.babel_prefix.specs.declared.family.Family.TheVariants.{V4, V6};
     ghost use Rattle.babel_tlv.specs.Pair.{Pair};
     ghost use Rattle.babel_table.specs.Compact.{AreOf};
-    ghost use Rattle.babel_table.specs.Rows.{AreRows};
+    ghost use Rattle.babel_table.specs.TableRows.{AreRows};
 
     ghost Value = { List Pair };
 

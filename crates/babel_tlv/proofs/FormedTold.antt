@@ -7,7 +7,8 @@ use Rattle.std.proofs.lemmas.Bool.{le-ltb}
 use Rattle.std.proofs.lemmas.Bool.Decides.{nat_tests}
 use Rattle.std.proofs.lemmas.List.{take_at, drop_at, drop-drop, take-take, take-append-drop, length-append}
 use Rattle.babel_prefix.specs.Width.{width_of, octet_count}
-use Rattle.babel_prefix.specs.Address.{Address, AddressPrefix, IsAddressPrefix, octets_of}
+use Rattle.babel_prefix.specs.Address.{Address, AddressPrefix, octets_of}
+use Rattle.babel_prefix.specs.Covers.{IsAddressPrefix}
 use Rattle.babel_tlv.specs.declared.reason.Reason.{Reason}
 use Rattle.babel_tlv.specs.Forming.{octets_for, default_octets, formed, prefix_from}
 use Rattle.babel_tlv.specs.Group.{prefix_octets, shared_octets}

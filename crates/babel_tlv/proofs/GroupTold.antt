@@ -13,7 +13,8 @@ use Rattle.babel_tlv.specs.declared.event.Event.{Event}
 use Rattle.babel_tlv.specs.declared.held.Held.{Held}
 use Rattle.babel_tlv.specs.declared.held.Held.TheVariants as helds
 use Rattle.babel_tlv.specs.Route.{RouteKey}
-use Rattle.babel_tlv.specs.Pair.{Pair, FitsKey, IsPair}
+use Rattle.babel_tlv.specs.Pair.{Pair}
+use Rattle.babel_tlv.specs.Pairs.{FitsKey, IsPair}
 use Rattle.babel_tlv.specs.Forming.{encoding}
 use Rattle.babel_tlv.specs.Context.{Context, next_hop_in_context}
 use Rattle.babel_tlv.specs.Updating.{default_in}

@@ -6,7 +6,8 @@ use Rattle.std.proofs.lemmas.List.{length-append}
 use Rattle.std.proofs.lemmas.List.Concat.{flat_map-append}
 use Rattle.babel_tlv.specs.declared.fault.Fault.{Fault}
 use Rattle.babel_tlv.specs.declared.tlvs.Tlvs.{Tlvs}
-use Rattle.babel_tlv.specs.Framing.{TlvAt, ArePlaced, AreTlvs, TlvPastEndAt, tlv_octets, tlvs_of}
+use Rattle.babel_tlv.specs.FrameFaults.{AreTlvs, TlvPastEndAt}
+use Rattle.babel_tlv.specs.Framing.{TlvAt, ArePlaced, tlv_octets, tlvs_of}
 use Rattle.babel_tlv.specs.Left.{BeginsTlv}
 use Rattle.babel_tlv.specs.Left.{HasRead}
 use Rattle.babel_tlv.proofs.Reading.{ReadSoFar, ReadSoFar-step, tlvs_of-AreTlvs}

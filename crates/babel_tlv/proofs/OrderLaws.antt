@@ -11,8 +11,9 @@ use Rattle.babel_prefix.specs.Order.{address_cmp, prefix_cmp}
 use Rattle.babel_prefix.proofs.OrderLaws.{address_total, prefix_total, address_equality, prefix_equality, then_parts}
 use Rattle.babel_tlv.specs.declared.held.Held.{Held}
 use Rattle.babel_tlv.specs.declared.held.Held.TheVariants as helds
-use Rattle.babel_tlv.specs.Pair.{held_cmp}
-use Rattle.babel_tlv.specs.Route.{RouteKey, key_cmp, Announcement, announcement_cmp}
+use Rattle.babel_tlv.specs.Keys.{key_cmp, announcement_cmp}
+use Rattle.babel_tlv.specs.Pairs.{held_cmp}
+use Rattle.babel_tlv.specs.Route.{RouteKey, Announcement}
 
 pub key_total : IsTotalOrder key_cmp
 key_total = then_total (on_total (λ (k : RouteKey). k.dst) prefix_total) (on_total (λ (k : RouteKey). k.src) prefix_total)

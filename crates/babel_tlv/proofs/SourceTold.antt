@@ -10,7 +10,8 @@ use Rattle.std.proofs.lemmas.List.{length-take-le, take_all, append-nil}
 use Rattle.babel_prefix.specs.declared.family.Family.{Family}
 use Rattle.babel_prefix.specs.declared.family.Family.TheVariants.{V4, V6}
 use Rattle.babel_prefix.specs.Width.{width_of, octet_count}
-use Rattle.babel_prefix.specs.Address.{AddressPrefix, IsAddressPrefix, whole_family}
+use Rattle.babel_prefix.specs.Address.{AddressPrefix, whole_family}
+use Rattle.babel_prefix.specs.Covers.{IsAddressPrefix}
 use Rattle.babel_tlv.specs.declared.place.Place.TheVariants as places
 use Rattle.babel_tlv.specs.declared.reason.Reason.{Reason}
 use Rattle.babel_tlv.specs.declared.reason.Reason.TheVariants as reasons

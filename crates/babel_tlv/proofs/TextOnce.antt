@@ -4,7 +4,8 @@ use Rattle.std.specs.Prelude.{◌≢◌, ◌⊎◌}
 use Rattle.std.specs.List.{AllByRecursion}
 use Rattle.std.proofs.lemmas.Bool.{cases_lt}
 use Rattle.std.proofs.lemmas.List.{length-append, drop_at}
-use Rattle.babel_tlv.specs.Pair.{Pair, IsPair}
+use Rattle.babel_tlv.specs.Pair.{Pair}
+use Rattle.babel_tlv.specs.Pairs.{IsPair}
 use Rattle.babel_tlv.specs.Group.{group, groups_behind, body_of, IsFull, ArePacked, IsCanonicalText}
 use Rattle.babel_tlv.proofs.TextTold.{packed, length-behind}
 

@@ -5,7 +5,8 @@ use Rattle.babel_prefix.specs.Address.{Address, IsAddress}
 use Rattle.babel_tlv.specs.declared.held.Held.{Held}
 use Rattle.babel_tlv.specs.declared.held.Held.TheVariants as helds
 use Rattle.babel_tlv.specs.declared.view.View.{View}
-use Rattle.babel_tlv.specs.Route.{Announcement, IsAnnouncement, is_reserved}
+use Rattle.babel_tlv.specs.Keys.{IsAnnouncement}
+use Rattle.babel_tlv.specs.Route.{Announcement, is_reserved}
 use Rattle.babel_tlv.specs.Views.{AgreeUnder, seen, seen_announcement, stated_id, no_address}
 use Rattle.babel_tlv.specs.ViewsTell.{SeenTellsApart, AllIsSeen, SeenTwiceIsSeen, SeenFits}
 

@@ -1,6 +1,9 @@
 pub mod Route
+pub mod Keys
 pub mod Pair
+pub mod Pairs
 pub mod Framing
+pub mod FrameFaults
 pub mod Frames
 pub mod Left
 pub mod Forming

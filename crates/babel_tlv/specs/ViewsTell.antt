@@ -5,7 +5,7 @@ use Rattle.babel_tlv.specs.declared.held.Held.{Held}
 use Rattle.babel_tlv.specs.declared.held.Held.TheVariants as helds
 use Rattle.babel_tlv.specs.declared.view.View.{View}
 use Rattle.babel_tlv.specs.Route.{RouteKey}
-use Rattle.babel_tlv.specs.Pair.{FitsKey}
+use Rattle.babel_tlv.specs.Pairs.{FitsKey}
 use Rattle.babel_tlv.specs.Views.{keeps_all, HeldSameUnder, seen}
 
 -- a route's next hop is of the family

@@ -3,9 +3,10 @@ ghost use Rattle.std.specs.Prelude.{◌≡◌, ◌↔◌};
 ghost use Rattle.std.specs.Cmp.{IsTotalOrder};
 ghost use Rattle.std.specs.declared.cmp.Ordering.TheVariants.{Equal};
 ghost use Rattle.babel_tlv.specs.declared.held.Held.{Held as HeldValue};
-ghost use Rattle.babel_tlv.specs.Pair.{held_cmp};
+ghost use Rattle.babel_tlv.specs.Pairs.{held_cmp};
 ghost use Rattle.babel_tlv.specs.ViewsTell.{AllIsSeen, SeenFits, SeenTellsApart, SeenTwiceIsSeen};
-ghost use Rattle.babel_tlv.specs.Route.{RouteKey, key_cmp, Announcement, announcement_cmp};
+ghost use Rattle.babel_tlv.specs.Route.{RouteKey, Announcement};
+ghost use Rattle.babel_tlv.specs.Keys.{key_cmp, announcement_cmp};
 
 use crate::ann::Ann;
 use crate::held::Held;

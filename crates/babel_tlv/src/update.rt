@@ -2,7 +2,7 @@ ghost use Rattle.std.specs.Prelude.{◌≡◌, ◌≤◌, ◌<◌, ◌+◌, leng
 ghost use Rattle.babel_prefix.specs.Width.{octet_count, width_of};
 ghost use Rattle.babel_tlv.specs.Kept.{IsOfFamily};
 ghost use Rattle.babel_tlv.specs.Forming.{field_len, formed, omitted, prefix_from, prefix_len, sets_default, sets_router_id, update_encoding};
-ghost use Rattle.babel_tlv.specs.Pair.{EventFits};
+ghost use Rattle.babel_tlv.specs.Pairs.{EventFits};
 ghost use Rattle.babel_tlv.specs.Says.{wildcard_event};
 ghost use Rattle.babel_tlv.specs.Encodings.{IsNamedBy};
 ghost use Rattle.babel_tlv.specs.Fields.{AreUpdateFields};

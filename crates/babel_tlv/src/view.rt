@@ -1,6 +1,6 @@
 ghost use Rattle.std.specs.Prelude.{◌≡◌, ◌↔◌, IsTrue};
 ghost use Rattle.babel_prefix.specs.Address.{IsAddress};
-ghost use Rattle.babel_tlv.specs.Route.{IsAnnouncement};
+ghost use Rattle.babel_tlv.specs.Keys.{IsAnnouncement};
 ghost use Rattle.babel_tlv.specs.Views.{keeps_all, no_address, seen, seen_announcement};
 
 use crate::ann::Ann;

@@ -1,7 +1,8 @@
 -- A range, cut block by block.
 use Rattle.std.proofs.Common.{◌≡◌, inl, inr, ℕ, ◌+◌, ◌^◌, ◌<◌, ◌≤◌, List, [], ◌∷◌, ◌++◌, refl, sym, subst, arith}
 use Rattle.std.proofs.lemmas.Bool.{cases_lt}
-use Rattle.babel_prefix.specs.Block.{Block, BlockCovers, IsBlock}
+use Rattle.babel_prefix.specs.Block.{Block}
+use Rattle.babel_prefix.specs.Covers.{BlockCovers, IsBlock}
 use Rattle.std.proofs.lemmas.Nat.{pow_pos}
 use Rattle.babel_prefix.proofs.Members.{Listed, Listed-from_Contains, Contains-from_Listed, Listed-append_left, Listed-append_right, Listed-append_cases}
 use Rattle.babel_trie.proofs.Lists.{InOrder, InOrder-append, AllPairs-from_order}

@@ -1,7 +1,7 @@
 -- Where two functions differ, a box of their difference is, and nowhere else.
 use Rattle.std.proofs.Common.{◌≡◌, ◌⊎◌, inl, inr, ℕ, zero, suc, ◌^◌, ◌<◌, List, [], ◌∷◌, length, slice_index_or, Option, Some, None, Contains, refl, sym, ◌∙◌, ap, subst, arith}
 use Rattle.std.proofs.lemmas.Bool.{cases_lt}
-use Rattle.babel_prefix.specs.Block.{BlockCovers}
+use Rattle.babel_prefix.specs.Covers.{BlockCovers}
 use Rattle.babel_prefix.specs.Best.{Row}
 use Rattle.babel_trie.specs.Boxes.{Answers, HasEqualityTest, IsBefore, IsBox, SameAnswers}
 use Rattle.babel_trie.specs.Differences.{TellsApart, AreDifferences}

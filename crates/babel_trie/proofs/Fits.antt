@@ -3,7 +3,8 @@ use Rattle.std.proofs.Common.{◌≡◌, inl, inr, ℕ, ◌+◌, ◌-◌, ◌%�
 use Rattle.std.proofs.lemmas.Bool.{cases_order, cases_lt}
 use Rattle.std.proofs.lemmas.Nat.{pow_below}
 use Rattle.std.proofs.Math.Nat.{pow-le-pow_right}
-use Rattle.babel_prefix.specs.Block.{Block, IsBlock, parent}
+use Rattle.babel_prefix.specs.Block.{Block}
+use Rattle.babel_prefix.specs.Covers.{IsBlock, parent}
 use Rattle.babel_prefix.proofs.BlockLaws.{parent_wider}
 use Rattle.babel_trie.specs.Cut.{block_from, IsLargestIn, IsLargestFit}
 use Rattle.babel_trie.proofs.Multiples.{next_multiple, fewer_zeros, power_added}

@@ -3,7 +3,8 @@ use Rattle.std.proofs.Common.{◌≡◌, inl, inr, ℕ, zero, suc, ◌+◌, ◌-
 use Rattle.std.proofs.lemmas.Bool.{cases_lt, cases_Bool, false≢true, and_parts, and_from, leb-true, le-leb}
 use Rattle.std.proofs.lemmas.Nat.{pow_pos}
 use Rattle.std.proofs.Math.Nat.{mul-mod_left, pow-suc}
-use Rattle.babel_prefix.specs.Block.{Block, BlockCovers, IsBlock, parent}
+use Rattle.babel_prefix.specs.Block.{Block}
+use Rattle.babel_prefix.specs.Covers.{BlockCovers, IsBlock, parent}
 use Rattle.babel_prefix.proofs.BlockLaws.{parent_wider, same_block}
 use Rattle.babel_prefix.proofs.Members.{Listed, Contains-from_Listed, Listed-append_left, Listed-append_right, Listed-append_cases}
 use Rattle.babel_trie.specs.Cut.{block_from, IsInside, IsLargestIn, StartsBefore, AreLargestIn, block_or, blocks_in, largest_in}

@@ -1,7 +1,7 @@
 -- Rows laid over an answer, part by part.
 use Rattle.std.proofs.Common.{◌≡◌, inl, inr, ℕ, List, [], ◌++◌, Option, Some, None, refl, sym, ◌∙◌, ap, subst}
-use Rattle.babel_prefix.specs.Best.{Row, Matches, IsNoLonger, answer}
-use Rattle.babel_prefix.specs.Best.{IsTable}
+use Rattle.babel_prefix.specs.Best.{Row, answer}
+use Rattle.babel_prefix.specs.BestRow.{Matches, IsNoLonger, IsTable}
 use Rattle.babel_prefix.proofs.Members.{Listed}
 use Rattle.babel_trie.specs.Rows.{NoneMatches, Overlays}
 use Rattle.babel_prefix.proofs.Members.{Listed-append_left, Listed-append_right, Listed-append_cases}

@@ -5,8 +5,10 @@ use Rattle.std.proofs.lemmas.Bool.{cases_order, false≢true}
 use Rattle.std.specs.List.{slice_get}
 use Rattle.std.specs.Option.{IfSome, IfNone}
 use Rattle.std.specs.List.Sorted.{IsPartitionedBy}
-use Rattle.babel_prefix.specs.Block.{Block, BlockCovers}
-use Rattle.babel_prefix.specs.Best.{Row, IsNoLonger}
+use Rattle.babel_prefix.specs.Block.{Block}
+use Rattle.babel_prefix.specs.Covers.{BlockCovers}
+use Rattle.babel_prefix.specs.Best.{Row}
+use Rattle.babel_prefix.specs.BestRow.{IsNoLonger}
 use Rattle.babel_prefix.specs.Entries.{Entry, row_of}
 use Rattle.babel_prefix.proofs.Members.{Listed}
 use Rattle.babel_trie.specs.Rows.{IsPlace, InBlock, AreParted, NoneMatches, Overlays}

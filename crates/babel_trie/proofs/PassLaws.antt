@@ -5,8 +5,10 @@ use Rattle.std.proofs.lemmas.List.{map-append, reverse-append}
 use Rattle.std.proofs.lemmas.Bool.{cases_lt}
 use Rattle.std.proofs.lemmas.Nat.{pow_pos}
 use Rattle.babel_prefix.specs.Address.{block_of}
-use Rattle.babel_prefix.specs.Best.{Row, Matches, IsNoLonger, IsTable, answer}
-use Rattle.babel_prefix.specs.Block.{Block, BlockCovers, IsBlock}
+use Rattle.babel_prefix.specs.Best.{Row, answer}
+use Rattle.babel_prefix.specs.BestRow.{Matches, IsNoLonger, IsTable}
+use Rattle.babel_prefix.specs.Block.{Block}
+use Rattle.babel_prefix.specs.Covers.{BlockCovers, IsBlock}
 use Rattle.babel_prefix.specs.Entries.{Entry, row_of}
 use Rattle.babel_prefix.proofs.BlockLaws.{within_shorter, same_block}
 use Rattle.babel_prefix.proofs.Members.{Listed, Listed-append_left, Listed-append_right, Listed-append_cases, Contains-from_Listed}

@@ -4,7 +4,8 @@ use Rattle.std.specs.List.Sorted.{IsPartitionedBy}
 use Rattle.std.proofs.lemmas.Nat.{pow_pos, shr_high}
 use Rattle.std.proofs.lemmas.Bool.{ltb-true, lt-ltb, cases_order}
 use Rattle.std.proofs.Math.Nat.{div-lt_iff_lt-mul, le-div_iff_mul-le, div-add-mod'}
-use Rattle.babel_prefix.specs.Block.{Block, BlockCovers, IsBlock}
+use Rattle.babel_prefix.specs.Block.{Block}
+use Rattle.babel_prefix.specs.Covers.{BlockCovers, IsBlock}
 use Rattle.babel_prefix.proofs.Members.{Listed}
 use Rattle.babel_trie.specs.Rows.{InOrder, IsNoLater, IsPlace, InBlock}
 use Rattle.babel_trie.proofs.BitLaws.{pow_twice}

@@ -3,7 +3,8 @@ use Rattle.std.proofs.Common.{◌≡◌, inl, inr, ℕ, ◌+◌, ◌-◌, ◌*�
 use Rattle.std.proofs.lemmas.Bool.{cases_order}
 use Rattle.std.proofs.lemmas.Nat.{pow_pos, mod_below, shr_high}
 use Rattle.std.proofs.Math.Nat.{div-add-mod'}
-use Rattle.babel_prefix.specs.Block.{Block, BlockCovers, IsBlock, parent}
+use Rattle.babel_prefix.specs.Block.{Block}
+use Rattle.babel_prefix.specs.Covers.{BlockCovers, IsBlock, parent}
 use Rattle.babel_prefix.proofs.BlockLaws.{IsBlock-block_at, parent_within, same_block}
 use Rattle.babel_trie.specs.Cut.{IsInside, IsLargestIn}
 use Rattle.babel_trie.proofs.Multiples.{next_multiple, power_added}

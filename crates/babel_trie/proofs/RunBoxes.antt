@@ -2,7 +2,8 @@
 use Rattle.std.proofs.Common.{◌≡◌, inl, inr, ℕ, ◌^◌, ◌<◌, ◌≤◌, List, [], ◌∷◌, length, Option, Some, sym, ◌∙◌, ap, subst, arith}
 use Rattle.std.proofs.lemmas.Bool.{cases_lt}
 use Rattle.std.proofs.lemmas.Nat.{pow_pos}
-use Rattle.babel_prefix.specs.Block.{Block, IsBlock, parent}
+use Rattle.babel_prefix.specs.Block.{Block}
+use Rattle.babel_prefix.specs.Covers.{IsBlock, parent}
 use Rattle.babel_prefix.specs.Best.{Row, answer}
 use Rattle.babel_prefix.proofs.Members.{Listed, Listed-from_Contains}
 use Rattle.babel_trie.specs.Boxes.{Answers, SameAnswers, IsUniform, IsBoxList}

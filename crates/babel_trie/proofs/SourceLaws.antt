@@ -2,9 +2,11 @@
 use Rattle.std.proofs.Common.{◌≡◌, ◌⊎◌, inl, inr, ℕ, ◌+◌, ◌-◌, ◌*◌, ◌^◌, ◌<◌, ◌≤◌, List, [], ◌∷◌, ◌++◌, Option, Some, map, refl, sym, ◌∙◌, ap, subst, arith}
 use Rattle.std.proofs.lemmas.List.{map-append}
 use Rattle.std.proofs.lemmas.Bool.{cases_lt}
-use Rattle.babel_prefix.specs.Block.{Block, BlockCovers}
+use Rattle.babel_prefix.specs.Block.{Block}
+use Rattle.babel_prefix.specs.Covers.{BlockCovers}
 use Rattle.babel_prefix.specs.Address.{block_of}
-use Rattle.babel_prefix.specs.Best.{Row, IsNoLonger}
+use Rattle.babel_prefix.specs.Best.{Row}
+use Rattle.babel_prefix.specs.BestRow.{IsNoLonger}
 use Rattle.babel_prefix.specs.Entries.{Entry, row_of}
 use Rattle.babel_trie.specs.Shape.{Shape, leaf, height, value_at, IsReduced}
 use Rattle.babel_trie.specs.Interned.{IsTrie, IsHalved, IsJoined}

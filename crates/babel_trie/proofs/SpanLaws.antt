@@ -1,7 +1,8 @@
 -- The largest uniform blocks of a function are the largest blocks of its runs.
 use Rattle.std.proofs.Common.{◌≡◌, ◌≢◌, inl, inr, ℕ, ◌+◌, ◌-◌, ◌^◌, ◌<◌, ◌≤◌, List, [], ◌∷◌, refl, sym, ◌∙◌, ap, subst, arith}
 use Rattle.std.proofs.lemmas.Bool.{cases_lt}
-use Rattle.babel_prefix.specs.Block.{Block, BlockCovers, IsBlock, parent}
+use Rattle.babel_prefix.specs.Block.{Block}
+use Rattle.babel_prefix.specs.Covers.{BlockCovers, IsBlock, parent}
 use Rattle.babel_prefix.specs.Members.{Listed}
 use Rattle.babel_prefix.proofs.BlockLaws.{parent_wider}
 use Rattle.babel_trie.specs.Cut.{IsInside, IsLargestIn}

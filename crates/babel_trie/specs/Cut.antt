@@ -2,7 +2,8 @@
 use Rattle.std.specs.Prelude.{◌≡◌, ◌↔◌, ℕ, zero, suc, ◌+◌, ◌-◌, ◌*◌, ◌/◌, ◌%◌, ◌^◌, ◌<◌, ◌≤◌, ◌&&◌}
 use Rattle.std.specs.Prelude.{nat_le, cond, List}
 use Rattle.std.specs.Prelude.{[], ◌∷◌, ◌++◌, Contains, AllPairs}
-use Rattle.babel_prefix.specs.Block.{Block, BlockCovers, IsBlock, parent}
+use Rattle.babel_prefix.specs.Block.{Block}
+use Rattle.babel_prefix.specs.Covers.{BlockCovers, IsBlock, parent}
 
 -- each address of the block is one of those from `from` to `last`
 abbrev pub IsInside : ℕ → ℕ → ℕ → Block → Type 0

@@ -1,7 +1,7 @@
 -- What follows of the boxes of a difference: when there are none, what the first one has, and that
 -- there are no fewer.
 use Rattle.std.specs.Prelude.{◌≡◌, ◌↔◌, ℕ, ◌≤◌, List, [], ◌∷◌, length}
-use Rattle.babel_prefix.specs.Block.{BlockCovers}
+use Rattle.babel_prefix.specs.Covers.{BlockCovers}
 use Rattle.babel_prefix.specs.Best.{Row}
 use Rattle.babel_trie.specs.Boxes.{Answers, HasEqualityTest, IsLeastDifference, SameAnswers}
 use Rattle.babel_trie.specs.Tables.{IsDisjointTable}

@@ -2,7 +2,7 @@
 use Rattle.std.specs.Prelude.{◌≡◌, ◌⊎◌, ℕ, ◌+◌, ◌^◌, ◌<◌, ◌≤◌, Bool, true, false, List, [], Option}
 use Rattle.std.specs.Prelude.{Some}
 use Rattle.babel_prefix.specs.Entries.{Entry}
-use Rattle.babel_prefix.specs.Block.{BlockCovers}
+use Rattle.babel_prefix.specs.Covers.{BlockCovers}
 use Rattle.babel_prefix.specs.Address.{block_of}
 use Rattle.babel_prefix.specs.Best.{Row}
 use Rattle.babel_trie.specs.Shape.{Shape, leaf, height, value_at, IsReduced}

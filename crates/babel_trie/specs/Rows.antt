@@ -2,9 +2,11 @@
 use Rattle.std.specs.Prelude.{◌≡◌, ◌⊎◌, ℕ, ◌+◌, ◌-◌, ◌*◌, ◌^◌, ◌<◌, ◌≤◌, List, [], ◌∷◌, ◌++◌}
 use Rattle.std.specs.Prelude.{Option, Some}
 use Rattle.babel_prefix.specs.Entries.{Entry}
-use Rattle.babel_prefix.specs.Block.{Block, IsBlock}
+use Rattle.babel_prefix.specs.Block.{Block}
+use Rattle.babel_prefix.specs.Covers.{IsBlock}
 use Rattle.babel_prefix.specs.Address.{block_of}
-use Rattle.babel_prefix.specs.Best.{Row, Matches, IsBest}
+use Rattle.babel_prefix.specs.Best.{Row}
+use Rattle.babel_prefix.specs.BestRow.{Matches, IsBest}
 use Rattle.babel_prefix.specs.Members.{Listed}
 
 module _ {X : Type 0} where

@@ -1,6 +1,7 @@
 ghost use Rattle.std.specs.Prelude.{◌≡◌, All, IfOk};
 ghost use Rattle.babel_prefix.specs.Width.{width_of};
-ghost use Rattle.babel_prefix.specs.Entries.{AreOfFamily, HasDistinctPrefixes, answers_in};
+ghost use Rattle.babel_prefix.specs.Entries.{answers_in};
+ghost use Rattle.babel_prefix.specs.BestRow.{AreOfFamily, HasDistinctPrefixes};
 ghost use Rattle.babel_trie.specs.Differences.{AreDifferences};
 
 use crate::comparison::Comparison;

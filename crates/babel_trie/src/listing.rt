@@ -1,7 +1,7 @@
 //! The rows of a list of changes.
 ghost use Rattle.std.specs.Prelude.{◌≡◌, ◌+◌, ◌-◌, ◌*◌, ◌^◌, ◌<◌, ◌≤◌, ◌++◌, List, map, length, OnOk, OnErr, Option, None, true, false};
-ghost use Rattle.babel_prefix.specs.Address.{IsAddressPrefix, block_of};
-ghost use Rattle.babel_prefix.specs.Block.{IsBlock};
+ghost use Rattle.babel_prefix.specs.Address.{block_of};
+ghost use Rattle.babel_prefix.specs.Covers.{IsAddressPrefix, IsBlock};
 ghost use Rattle.babel_prefix.specs.Entries.{Entry};
 ghost use Rattle.babel_prefix.specs.Members.{Listed};
 ghost use Rattle.babel_prefix.specs.Width.{width_of};

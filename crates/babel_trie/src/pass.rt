@@ -2,7 +2,8 @@
 //! over sorted rows.
 ghost use Rattle.std.specs.Prelude.{◌≡◌, ◌≢◌, ◌⊎◌, ℕ, ◌+◌, ◌-◌, ◌*◌, ◌^◌, ◌<◌, ◌≤◌, ◌++◌, List, [], map, length, slice_get, Option, Some, true, false, IfOk, IfSome, IfNone, OnOk};
 ghost use Rattle.babel_prefix.specs.Address.{block_of};
-ghost use Rattle.babel_prefix.specs.Best.{IsTable, answer};
+ghost use Rattle.babel_prefix.specs.Best.{answer};
+ghost use Rattle.babel_prefix.specs.BestRow.{IsTable};
 ghost use Rattle.babel_prefix.specs.Entries.{row_of};
 ghost use Rattle.babel_prefix.specs.Members.{Listed};
 ghost use Rattle.babel_trie.specs.Held.{RowOrder};

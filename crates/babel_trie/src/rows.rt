@@ -1,7 +1,8 @@
 //! Rows in order, and their parts.
 ghost use Rattle.std.specs.Prelude.{◌≡◌, ◌≢◌, ◌+◌, ◌-◌, ◌*◌, ◌/◌, ◌^◌, ◌++◌, ◌<◌, ◌≤◌, ◌==◌, ◌∷◌, nat_lt, List, [], All, IfOk, IfSome, IfNone, MatchOption, true, false, length};
 ghost use Rattle.std.specs.List.Sorted.{IsPartitionedBy, IsPartitionPoint, IsPermutation};
-ghost use Rattle.babel_prefix.specs.Entries.{Entry, HasPrefixes};
+ghost use Rattle.babel_prefix.specs.BestRow.{HasPrefixes};
+ghost use Rattle.babel_prefix.specs.Entries.{Entry};
 ghost use Rattle.babel_prefix.specs.Members.{Listed};
 ghost use Rattle.babel_trie.specs.Held.{RowOrder, row_place};
 ghost use Rattle.babel_trie.specs.Rows.{InOrder, InBlock, IsPlace, AreParted, source_block};

@@ -1,6 +1,7 @@
 //! The addresses at which the answers change from one destination to the next.
 ghost use Rattle.std.specs.Prelude.{◌≡◌, ℕ, ◌+◌, ◌*◌, ◌≤◌, length, Option, All, IfOk, OnOk};
-ghost use Rattle.babel_prefix.specs.Entries.{AreOfFamily, HasDistinctPrefixes, answers_in};
+ghost use Rattle.babel_prefix.specs.BestRow.{AreOfFamily, HasDistinctPrefixes};
+ghost use Rattle.babel_prefix.specs.Entries.{answers_in};
 ghost use Rattle.babel_prefix.specs.Width.{width_of};
 ghost use Rattle.babel_trie.specs.Runs.{said_at, AreRuns, HasRuns};
 ghost use Rattle.babel_trie.specs.Sound.{IsSound, KeepsNodes};

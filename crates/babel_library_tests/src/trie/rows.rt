@@ -1,6 +1,6 @@
 //! Rows as numbers, and the value of the best of them, found by looking at each.
 ghost use Rattle.std.specs.Prelude.{◌≡◌, All, IfOk, IsTrue};
-ghost use Rattle.babel_prefix.specs.Entries.{AreOfFamily, HasDistinctPrefixes};
+ghost use Rattle.babel_prefix.specs.BestRow.{AreOfFamily, HasDistinctPrefixes};
 
 use babel_prefix::{Addr, Family, Prefix};
 use babel_trie::{Grid, differences, least_difference};

@@ -4,12 +4,14 @@ use Rattle.std.specs.Option.{IfSome, MatchOption}
 use Rattle.babel_prefix.specs.declared.family.Family.{Family}
 use Rattle.babel_prefix.specs.Width.{width_of}
 use Rattle.babel_prefix.specs.Address.{Address}
-use Rattle.babel_prefix.specs.Entries.{Entry, AreOfFamily, HasDistinctPrefixes, answers_in}
+use Rattle.babel_prefix.specs.Entries.{Entry, answers_in}
+use Rattle.babel_prefix.specs.BestRow.{AreOfFamily, HasDistinctPrefixes}
 use Rattle.babel_trie.specs.Boxes.{SameAnswers, IsLeastDifference}
 use Rattle.babel_tlv.specs.declared.held.Held.{Held}
 use Rattle.babel_tlv.specs.Pair.{Pair}
 use Rattle.babel_table.specs.Left.{rows_left}
-use Rattle.babel_table.specs.Rows.{entries_of, family_rows}
+use Rattle.babel_table.specs.Rows.{entries_of}
+use Rattle.babel_table.specs.TableRows.{family_rows}
 use Rattle.babel_canon.specs.declared.values.PackedValue.{PackedValue}
 use Rattle.babel_canon.specs.Values.{AreNumberedEntries, packed_entries}
 use Rattle.babel_canon.specs.FirstDifference.{IsFirstInFamily}

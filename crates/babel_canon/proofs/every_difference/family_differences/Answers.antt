@@ -2,10 +2,11 @@
 use Rattle.std.proofs.Common.{List, ap, ◌∙◌, subst, sym}
 use Rattle.std.specs.List.{All}
 use Rattle.babel_prefix.specs.Width.{width_of}
-use Rattle.babel_prefix.specs.Entries.{Entry, AreOfFamily, HasDistinctPrefixes, answers_in}
+use Rattle.babel_prefix.specs.Entries.{Entry, answers_in}
+use Rattle.babel_prefix.specs.BestRow.{AreOfFamily, HasDistinctPrefixes}
 use Rattle.babel_trie.specs.Differences.{AreDifferences}
 use Rattle.babel_table.specs.Left.{rows_left}
-use Rattle.babel_table.specs.Rows.{family_rows}
+use Rattle.babel_table.specs.TableRows.{family_rows}
 use Rattle.babel_canon.specs.declared.values.PackedValue.{PackedValue}
 use Rattle.babel_canon.specs.Values.{packed_entries}
 use Rattle.babel_canon.proofs.ValueLists.{entries_still}

@@ -1,10 +1,10 @@
 -- Each row of the family has its value, and behind the last one the rows are those of the table.
 use Rattle.std.proofs.Common.{◌≡◌, ◌++◌, ◌∷◌, List, [], length, append_assoc, arith, ap, subst, sym, ◌∙◌}
 use Rattle.std.proofs.lemmas.List.{append-nil, length-append}
-use Rattle.babel_prefix.specs.Entries.{HasDistinctPrefixes}
+use Rattle.babel_prefix.specs.BestRow.{HasDistinctPrefixes}
 use Rattle.babel_tlv.specs.Pair.{Pair}
 use Rattle.babel_table.specs.Left.{rows_left}
-use Rattle.babel_table.specs.Rows.{family_rows}
+use Rattle.babel_table.specs.TableRows.{family_rows}
 use Rattle.babel_canon.specs.declared.values.PackedValue.{PackedValue}
 use Rattle.babel_canon.specs.Values.{AreNumberedEntries, packed_entries}
 use Rattle.babel_canon.proofs.Entries.{distinct_entries}

@@ -1,6 +1,6 @@
 use Rattle.std.proofs.Common.{◌≡◌, ◌++◌, length}
 use Rattle.babel_table.specs.Left.{rows_left}
-use Rattle.babel_table.specs.Rows.{family_rows}
+use Rattle.babel_table.specs.TableRows.{family_rows}
 use Rattle.babel_canon.specs.Values.{AreNumbered, AreNumberedEntries, KeepsValues, packed_entries}
 use Rattle.babel_canon.proofs.grids.family_values.Given as goal
 

@@ -1,7 +1,7 @@
 -- The next row is taken where its whole key is the one looked for.
 use Rattle.std.proofs.Common.{rules}
 use Rattle.std.proofs.lemmas.Fn.{always_returns_same}
-use Rattle.babel_tlv.specs.Route.{key_cmp}
+use Rattle.babel_tlv.specs.Keys.{key_cmp}
 use Rattle.babel_table.proofs.SaidLaws.{place-searched, searched-behind}
 use Rattle.babel_table.proofs.family_rows.find.Goals as goal
 

@@ -2,7 +2,7 @@
 use Rattle.std.proofs.Common.{◌≡◌, rules}
 use Rattle.std.specs.Ordering.{is_lt}
 use Rattle.std.proofs.lemmas.Fn.{always_returns_same}
-use Rattle.babel_tlv.specs.Route.{key_cmp}
+use Rattle.babel_tlv.specs.Keys.{key_cmp}
 use Rattle.babel_table.proofs.SaidLaws.{words_weak, rising-permuted}
 use Rattle.babel_table.proofs.family_rows.sort.Goals as goal
 

@@ -2,7 +2,8 @@
 use Rattle.std.proofs.Common.{ℕ, List, [], subst, ◌∙◌}
 use Rattle.std.proofs.lemmas.List.{append-nil}
 use Rattle.std.proofs.lemmas.Result.{err_from_is_err_and}
-use Rattle.babel_table.specs.DumpFault.{DumpFault, HasNoFault, IsTableOf}
+use Rattle.babel_table.specs.TableOf.{IsTableOf}
+use Rattle.babel_table.specs.DumpFault.{DumpFault, HasNoFault}
 use Rattle.babel_table.proofs.FeedLaws.{at-settings, each-table, each-fault}
 use Rattle.babel_table.proofs.feeder.read_dump.Goals as goal
 

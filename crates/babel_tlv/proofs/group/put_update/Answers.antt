@@ -2,7 +2,7 @@
 use Rattle.std.proofs.Common.{◌≡◌, ◌∙◌, ◌∷◌, ◌+◌, ◌-◌, ◌++◌, ℕ, List, [], drop, length, ap, append_assoc, rules, arith}
 use Rattle.std.proofs.lemmas.List.{length-append, length-drop}
 use Rattle.std.specs.Int.{w16, to_be_bytes}
-use Rattle.babel_prefix.specs.Address.{IsAddressPrefix}
+use Rattle.babel_prefix.specs.Covers.{IsAddressPrefix}
 use Rattle.babel_tlv.specs.Forming.{encoding, octets_for}
 use Rattle.babel_tlv.specs.Group.{prefix_octets, source_sub, update_body}
 use Rattle.babel_tlv.proofs.SourceTold.{length-prefix_octets}

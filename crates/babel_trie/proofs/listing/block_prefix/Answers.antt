@@ -2,7 +2,8 @@
 use Rattle.std.proofs.Common.{◌≡◌, ◌-◌, sym, ◌∙◌, ap, subst, rules}
 use Rattle.babel_prefix.specs.Address.{Address, block_of, prefix_at}
 use Rattle.babel_prefix.specs.Width.{width_of}
-use Rattle.babel_prefix.specs.Block.{Block, IsBlock}
+use Rattle.babel_prefix.specs.Block.{Block}
+use Rattle.babel_prefix.specs.Covers.{IsBlock}
 use Rattle.babel_prefix.proofs.BlockLaws.{block_at-itself}
 use Rattle.babel_trie.specs.Cut.{block_from}
 use Rattle.babel_trie.proofs.listing.block_prefix.Goals as goal

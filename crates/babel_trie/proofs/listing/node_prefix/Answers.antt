@@ -1,6 +1,6 @@
 -- The block starts at the place, shifted.
 use Rattle.std.proofs.Common.{ℕ, sym, ◌∙◌, ap, subst}
-use Rattle.babel_prefix.specs.Block.{IsBlock}
+use Rattle.babel_prefix.specs.Covers.{IsBlock}
 use Rattle.babel_prefix.specs.Width.{width_of}
 use Rattle.babel_trie.specs.Cut.{block_from}
 use Rattle.babel_trie.proofs.Leaves.{node_is_prefix}

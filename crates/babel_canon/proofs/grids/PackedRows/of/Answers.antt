@@ -1,7 +1,8 @@
 -- The rows of a family of a table are in order.
 use Rattle.std.proofs.Common.{List, ap, subst, sym}
 use Rattle.std.specs.List.{All}
-use Rattle.babel_prefix.specs.Entries.{Entry, HasPrefixes}
+use Rattle.babel_prefix.specs.BestRow.{HasPrefixes}
+use Rattle.babel_prefix.specs.Entries.{Entry}
 use Rattle.babel_tlv.specs.Pair.{Pair}
 use Rattle.babel_trie.specs.Held.{RowOrder}
 use Rattle.babel_trie.specs.Rows.{InOrder}

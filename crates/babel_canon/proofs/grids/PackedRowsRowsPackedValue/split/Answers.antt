@@ -1,7 +1,8 @@
 -- The others of rows in order are in order.
 use Rattle.std.proofs.Common.{◌≡◌, ◌∷◌, suc, List, ap, ◌∙◌, subst, arith, rules}
 use Rattle.std.specs.List.{All}
-use Rattle.babel_prefix.specs.Entries.{Entry, HasPrefixes}
+use Rattle.babel_prefix.specs.BestRow.{HasPrefixes}
+use Rattle.babel_prefix.specs.Entries.{Entry}
 use Rattle.babel_tlv.specs.Pair.{Pair}
 use Rattle.babel_table.specs.Left.{rows_left}
 use Rattle.babel_trie.specs.Held.{RowOrder}

@@ -2,8 +2,9 @@
 use Rattle.std.proofs.Common.{◌≡◌, ◌⊎◌, ℕ, List, Some, sym, ap, subst, ◌∙◌}
 use Rattle.std.specs.Prelude.{IfOk, IfErr}
 use Rattle.babel_tlv.specs.declared.fault.Fault.TheVariants as faults
-use Rattle.babel_table.specs.DumpFault.{HasNoFault, IsTableOf}
+use Rattle.babel_table.specs.DumpFault.{HasNoFault}
 use Rattle.babel_table.specs.Feeding.{Progress, HasRead}
+use Rattle.babel_table.specs.TableOf.{IsTableOf}
 use Rattle.babel_table.specs.contracts.feeder.Feeder.{the_view}
 use Rattle.babel_table.proofs.DumpLaws.{is_none}
 use Rattle.babel_table.proofs.FeedLaws.{finished, unfinished, failed-finish}

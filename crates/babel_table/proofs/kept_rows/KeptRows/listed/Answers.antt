@@ -2,7 +2,7 @@
 use Rattle.std.proofs.Common.{◌++◌}
 use Rattle.babel_prefix.specs.declared.family.Family.TheVariants.{V4, V6}
 use Rattle.babel_table.specs.Live.{live_rows}
-use Rattle.babel_table.specs.Rows.{AreRows}
+use Rattle.babel_table.specs.TableRows.{AreRows}
 use Rattle.babel_table.proofs.KeptLaws.{of-live_rows, live_rows-append}
 use Rattle.babel_table.proofs.kept_rows.KeptRows.listed.Goals as goal
 

@@ -1,7 +1,8 @@
 -- The place is in the first free slot, or where there is none in the map; what was listed is listed as before.
 use Rattle.std.proofs.Common.{◌≡◌, ℕ, ◌+◌, ◌-◌, ◌%◌, ◌<◌, ◌∙◌, List, length, set, sym, ap, subst, arith}
 use Rattle.std.specs.BTreeMap.{insert_entry}
-use Rattle.babel_tlv.specs.Route.{RouteKey, key_cmp}
+use Rattle.babel_tlv.specs.Route.{RouteKey}
+use Rattle.babel_tlv.specs.Keys.{key_cmp}
 use Rattle.babel_table.specs.Said.{AreTaken, IsFree, IsListed, Places, start_of}
 use Rattle.babel_table.proofs.PlaceLaws.{start_is, slot_others, map_listed, map_others}
 use Rattle.babel_table.proofs.places.Places.add.Goals.{in-Ok, in-Err}

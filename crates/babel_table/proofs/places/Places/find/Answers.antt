@@ -2,7 +2,7 @@
 use Rattle.std.proofs.Common.{◌≡◌, ℕ, ◌+◌, ◌-◌, ◌%◌, ◌<◌, ◌∙◌, None, Some, length, get_or, sym, ap, subst, arith}
 use Rattle.std.specs.BTreeMap.{is_at}
 use Rattle.std.specs.Map.{keys_of, lookup}
-use Rattle.babel_tlv.specs.Route.{key_cmp}
+use Rattle.babel_tlv.specs.Keys.{key_cmp}
 use Rattle.babel_table.specs.Said.{IsPlace, Places, start_of, tag_of}
 use Rattle.babel_table.proofs.PlaceLaws.{IsPassed, below_more, holds_at, start_is, ends_at_free, ends_at_map, ends_at_other}
 use Rattle.babel_table.proofs.places.Places.find.Goals.{else-other-tag-via-then-other-tag+else-has_key, else-other-tag-via-else-other-tag}

@@ -1,7 +1,8 @@
 -- The rows so far stay listed, since no other row has their keys.
 use Rattle.std.proofs.Common.{◌≡◌, ℕ, false, sym, subst, arith}
 use Rattle.std.specs.BTreeMap.{is_at}
-use Rattle.babel_tlv.specs.Route.{RouteKey, key_cmp}
+use Rattle.babel_tlv.specs.Route.{RouteKey}
+use Rattle.babel_tlv.specs.Keys.{key_cmp}
 use Rattle.babel_table.specs.Said.{IsListed}
 use Rattle.babel_table.proofs.PlaceLaws.{listed_more, place_here}
 use Rattle.babel_table.proofs.places.Places.of.Goals as goal

@@ -3,7 +3,7 @@ use Rattle.std.proofs.Common.{◌≡◌, List, [], ◌++◌, rules, ap, sym, ◌
 use Rattle.babel_prefix.specs.declared.family.Family.{Family}
 use Rattle.babel_prefix.specs.declared.family.Family.TheVariants.{V4, V6}
 use Rattle.babel_tlv.specs.Pair.{Pair}
-use Rattle.babel_table.specs.Rows.{family_rows}
+use Rattle.babel_table.specs.TableRows.{family_rows}
 use Rattle.babel_table.proofs.FamilyLaws.{of_v4, of_v6}
 use Rattle.babel_table.proofs.sorted_rows.SortedRows.of_family.Goals as goal
 

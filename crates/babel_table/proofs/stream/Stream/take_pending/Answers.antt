@@ -2,7 +2,7 @@
 use Rattle.std.proofs.Common.{◌≤◌, ◌+◌, ◌++◌, ℕ, List, length, drop, arith, sym, ap, subst, ◌∙◌}
 use Rattle.std.proofs.lemmas.List.{length-append}
 use Rattle.std.proofs.lemmas.Result.{err_from_is_err_and}
-use Rattle.babel_tlv.specs.Framing.{HasHeader, body_len}
+use Rattle.babel_tlv.specs.FrameFaults.{HasHeader, body_len}
 use Rattle.babel_table.specs.Feeding.{StopsBehind, TookPackets, routes}
 use Rattle.babel_table.proofs.DumpLaws.{took-more, stops-more, one-taken}
 use Rattle.babel_table.proofs.stream.Stream.take_pending.Goals as goal

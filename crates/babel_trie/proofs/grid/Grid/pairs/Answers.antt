@@ -3,7 +3,8 @@ use Rattle.std.proofs.Common.{[], get_or, map, refl, sym, ◌∙◌, ap, subst}
 use Rattle.std.specs.List.{All}
 use Rattle.std.proofs.lemmas.List.Elements.{All-map}
 use Rattle.babel_prefix.specs.Best.{answer}
-use Rattle.babel_prefix.specs.Entries.{row_of, AreOfFamily, HasPrefixes}
+use Rattle.babel_prefix.specs.BestRow.{AreOfFamily, HasPrefixes}
+use Rattle.babel_prefix.specs.Entries.{row_of}
 use Rattle.babel_prefix.specs.Width.{width_of}
 use Rattle.babel_prefix.proofs.Members.{Listed-get_or}
 use Rattle.babel_trie.specs.Nested.{BoxTable, entry_at}

@@ -4,7 +4,7 @@ use Rattle.std.proofs.Math.Pow.{pow_mono}
 use Rattle.std.proofs.lemmas.List.{length-append, append_assoc}
 use Rattle.babel_prefix.specs.Address.{Address, block_of}
 use Rattle.babel_prefix.specs.Block.{Block}
-use Rattle.babel_prefix.specs.Best.{IsTable}
+use Rattle.babel_prefix.specs.BestRow.{IsTable}
 use Rattle.babel_prefix.specs.Entries.{Entry, row_of}
 use Rattle.babel_prefix.proofs.Members.{Listed}
 use Rattle.babel_trie.specs.Held.{RowOrder}

@@ -4,7 +4,8 @@ use Rattle.std.proofs.Math.Seq.{get_or-append_seam}
 use Rattle.std.proofs.lemmas.Bool.{cases_lt}
 use Rattle.std.proofs.lemmas.List.{length-append}
 use Rattle.std.proofs.lemmas.List.Elements.{All-push}
-use Rattle.babel_prefix.specs.Entries.{Entry, HasPrefixes}
+use Rattle.babel_prefix.specs.Entries.{Entry}
+use Rattle.babel_prefix.specs.BestRow.{HasPrefixes}
 use Rattle.babel_trie.specs.Held.{RowOrder, row_place}
 use Rattle.babel_trie.proofs.Lists.{one_more}
 use Rattle.babel_trie.proofs.OrderLaws.{InOrder-from_adjacent, RowOrder-trans, order_from_places}

@@ -1,7 +1,8 @@
 -- Each row so far stands before the next, and the last one is known.
 use Rattle.std.proofs.Common.{◌≡◌, ℕ, ◌+◌, ◌<◌, List, ◌++◌, length, get_or}
 use Rattle.std.specs.List.{All}
-use Rattle.babel_prefix.specs.Entries.{Entry, HasPrefixes}
+use Rattle.babel_prefix.specs.Entries.{Entry}
+use Rattle.babel_prefix.specs.BestRow.{HasPrefixes}
 use Rattle.babel_trie.specs.Held.{RowOrder, row_place}
 use Rattle.babel_trie.proofs.rows.Rows.are_in_order.Given as goal
 

@@ -1,7 +1,8 @@
 -- The sorted rows are a table with the same answers.
 use Rattle.std.proofs.Common.{List, length, map, ap, arith, sym, subst}
 use Rattle.std.proofs.lemmas.List.Sorted.{length_permutation}
-use Rattle.babel_prefix.specs.Best.{Row, IsTable, answer}
+use Rattle.babel_prefix.specs.Best.{Row, answer}
+use Rattle.babel_prefix.specs.BestRow.{IsTable}
 use Rattle.babel_prefix.specs.Entries.{Entry, row_of}
 use Rattle.babel_prefix.specs.Width.{width_of}
 use Rattle.babel_prefix.proofs.EntryLaws.{rows_in-all}

@@ -3,7 +3,7 @@ use Rattle.std.proofs.Common.{◌≡◌, Bool, true, false, cond, [], ◌∷◌,
 use Rattle.std.specs.List.{All}
 use Rattle.std.proofs.lemmas.List.Elements.{All-push}
 use Rattle.std.proofs.lemmas.List.Quantifiers.{all_pairs_push}
-use Rattle.babel_prefix.specs.Entries.{AreOfFamily, HasDistinctPrefixes}
+use Rattle.babel_prefix.specs.BestRow.{AreOfFamily, HasDistinctPrefixes}
 use Rattle.babel_library_tests.proofs.trie.rows.Rows.add.Goals as goal
 
 either : {X : Type 0} (P : X → Type 0) (b : Bool) (x y : X) → P x → P y → P (cond b x y)
