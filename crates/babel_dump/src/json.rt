@@ -211,7 +211,8 @@ pub(crate) fn push_report_json(
     text: &mut String,
     report: &Report,
 ) -> Result<(), AllocError>
-    ensures { OnOk result (string_bytes text.new ≡ string_bytes text.old ++ report_json report.now) }
+    ensures { OnOk result
+        (string_bytes text.new ≡ string_bytes text.old ++ report_json report.now) }
 {
     let tlvs = report.tlvs();
     let ignored = ignored_json(alloc, report, &REASONS)?;
@@ -241,7 +242,8 @@ impl fmt::Display for Ignored {
 
 /// An object for each of these reasons that occurred, with a comma between each two.
 fn ignored_json(alloc: Global, report: &Report, reasons: &[Reason]) -> Result<String, AllocError>
-    ensures { IfOk result (λ text. string_bytes text ≡ comma_separated (ignored_objects report.now reasons.now)) }
+    ensures { IfOk result (λ text.
+        string_bytes text ≡ comma_separated (ignored_objects report.now reasons.now)) }
 {
     let mut text = String::new(alloc);
     let mut comma = "";
