@@ -1,5 +1,5 @@
 -- What is found by its slot stays found where a free slot is filled, and what fills it is found.
-use Rattle.std.proofs.Common.{◌≡◌, ◌⊎◌, inl, inr, ℕ, zero, suc, ◌+◌, ◌-◌, ◌/◌, ◌%◌, ◌^◌, ◌<◌, max, cond, List, [], ◌∷◌, ◌++◌, length, get_or, Option, Some, None, IfSome, IfNone, refl, sym, ◌∙◌, ap, subst, arith, length-append}
+use Rattle.std.proofs.Common.{◌≡◌, inl, inr, ℕ, zero, suc, ◌+◌, ◌-◌, ◌/◌, ◌%◌, ◌^◌, ◌<◌, max, cond, List, [], ◌∷◌, ◌++◌, length, take, get_or, Option, Some, None, IfSome, IfNone, refl, sym, ◌∙◌, ap, subst, arith, length-append}
 use Rattle.std.specs.List.{slice_get}
 use Rattle.std.specs.BTreeMap.{BTreeMap, get, is_at}
 use Rattle.std.specs.Ordering.{is_eq}
@@ -7,11 +7,12 @@ use Rattle.std.specs.declared.cmp.Ordering.{Ordering}
 use Rattle.std.specs.declared.cmp.Ordering.TheVariants.{Less, Equal, Greater}
 use Rattle.std.proofs.Math.ListN.{set}
 use Rattle.std.proofs.lemmas.Bool.{cases_lt}
+use Rattle.std.proofs.lemmas.Option.{slice_get_within}
 use Rattle.std.proofs.lemmas.List.{get_or-set_same, get_or-set_other, length-set}
-use Rattle.babel_trie.specs.Index.{IsAmong, IsFreeAmong, window, first_slot, IsFound, IsRight, IsIndexedTo, IsIndexed}
+use Rattle.babel_trie.specs.Index.{IsAmong, IsFreeAmong, window, first_slot, IsFound, IsIndexedTo, IsIndexed}
 use Rattle.babel_trie.specs.declared.index.Index.{Index}
 use Rattle.babel_trie.specs.declared.table.NodeNumber.{NodeNumber}
-use Rattle.babel_trie.proofs.NumberLaws.{slice_get-push, slice_get-kept, slice_get-push_cases}
+use Rattle.babel_trie.proofs.NumberLaws.{slice_get-push, slice_get-push_cases, slice_get-taken}
 
 -- the free slot is in the list
 pub free_place : (slots : List ℕ) (left at place : ℕ) → IsFreeAmong slots left at place →
@@ -115,18 +116,6 @@ module _ {K : Type 0} where
         by Equal is = ap Some (sym (same (sym (exact element x is))))
         by Greater is = there
 
-    -- and what it has afterwards was written or there
-    pub in_map : (map after : BTreeMap K NodeNumber) (element x : K) (number n : NodeNumber) →
-        ((q : K) → get cmp after q ≡ cond (is_at (cmp element) q) (Some number) (get cmp map q)) →
-        get cmp after x ≡ Some n → ((x ≡ element) × (n ≡ number)) ⊎ (get cmp map x ≡ Some n)
-    in_map map after element x number n update there = by (cmp element x) refl (sym (update x) ∙ there)
-      where
-        by : (o : Ordering) → cmp element x ≡ o → cond (is_eq o) (Some number) (get cmp map x) ≡ Some n →
-            ((x ≡ element) × (n ≡ number)) ⊎ (get cmp map x ≡ Some n)
-        by Less is was = inr was
-        by Equal is was = let one : number ≡ n = cc in inl (sym (exact element x is), sym one)
-        by Greater is was = inr was
-
 module _ {K : Type 0} (cmp : K → K → Ordering) (mark : K → ℕ) where
   -- with the number of one element more, so many more are found
   pub index_step : (list : List K) (old new : Index K) (element : K) (number : NodeNumber) →
@@ -134,10 +123,8 @@ module _ {K : Type 0} (cmp : K → K → Ordering) (mark : K → ℕ) where
       ((n : NodeNumber) → n.0 < number.0 → slice_get list n.0 ≡ Some element → ⊥) →
       IsFound cmp mark new element number →
       ((x : K) (n : NodeNumber) → (x ≡ element → n ≡ number) → IsFound cmp mark old x n → IsFound cmp mark new x n) →
-      ((x : K) (n : NodeNumber) → get cmp new.crowded x ≡ Some n →
-      ((x ≡ element) × (n ≡ number)) ⊎ (get cmp old.crowded x ≡ Some n)) →
       IsIndexedTo cmp mark (number.0 + 1) list new
-  index_step list old new element number indexed at before kept others crowded = record { found = found; right = right }
+  index_step list old new element number indexed at before kept others = record { found = found }
     where
       one_at : (n : NodeNumber) → n.0 ≡ number.0 → n ≡ number
       one_at n e = ap (λ (k : ℕ). let m : NodeNumber = record { 0 = k } in m) e
@@ -153,22 +140,14 @@ module _ {K : Type 0} (cmp : K → K → Ordering) (mark : K → ℕ) where
             (subst (λ (m : NodeNumber). IsFound cmp mark new element m) (sym (one_at n equal)) kept)
       ]
 
-      right : IsRight cmp mark list new
-      right x n e = elim (crowded x n e) [
-        | inl this ↦ ap (λ (m : NodeNumber). slice_get list m.0) this.1 ∙ at ∙ ap Some (sym this.0)
-        | inr was ↦ indexed.right x n was
-      ]
-
   -- a list with one element more, which it did not have
   pub index_push : (list : List K) (old new : Index K) (element : K) (number : NodeNumber) →
       IsIndexed cmp mark list old → number.0 ≡ length list →
       ((n : NodeNumber) → slice_get list n.0 ≡ Some element → ⊥) →
       IsFound cmp mark new element number →
       ((x : K) (n : NodeNumber) → (x ≡ element → n ≡ number) → IsFound cmp mark old x n → IsFound cmp mark new x n) →
-      ((x : K) (n : NodeNumber) → get cmp new.crowded x ≡ Some n →
-      ((x ≡ element) × (n ≡ number)) ⊎ (get cmp old.crowded x ≡ Some n)) →
       IsIndexed cmp mark (list ++ element ∷ []) new
-  index_push list old new element number indexed is_next absent kept others crowded =
+  index_push list old new element number indexed is_next absent kept others =
       let longer = list ++ element ∷ [] in
       let before : IsIndexedTo cmp mark number.0 longer old =
       record {
@@ -176,7 +155,6 @@ module _ {K : Type 0} (cmp : K → K → Ordering) (mark : K → ℕ) where
           | inl there ↦ indexed.found x n (omega arith) there
           | inr last ↦ absurd (let e = last.0 in omega arith)
         ];
-        right = λ x n e. slice_get-kept list element n.0 x (indexed.right x n e);
       } in
       let at : slice_get longer number.0 ≡ Some element = ap (slice_get longer) is_next ∙ slice_get-push list element in
       let none : (n : NodeNumber) → n.0 < number.0 → slice_get longer n.0 ≡ Some element → ⊥ =
@@ -184,9 +162,17 @@ module _ {K : Type 0} (cmp : K → K → Ordering) (mark : K → ℕ) where
         | inl there ↦ absent n there
         | inr last ↦ (let e = last.0 in omega arith)
       ] in
-      let all = index_step longer old new element number before at none kept others crowded in
+      let all = index_step longer old new element number before at none kept others in
       let count : number.0 + 1 ≡ length longer = omega (arith, is_next, length-append list (element ∷ [])) in
       subst (λ (k : ℕ). IsIndexedTo cmp mark k longer new) count all
+
+  -- the index of a list is one of what comes first in it
+  pub index_take : (list : List K) (len : ℕ) (index : Index K) → IsIndexed cmp mark list index → IsIndexed cmp mark (take len list) index
+  index_take list len index indexed = record {
+    found = λ x n below is.
+        let there = slice_get-taken list len n.0 x is in
+        indexed.found x n (slice_get_within list n.0 x there) there;
+  }
 
 -- the index of a list is that of an equal list
 pub indexed_as : {K : Type 0} {cmp : K → K → Ordering} {mark : K → ℕ} (list other : List K) (index : Index K) → list ≡ other →

@@ -49,18 +49,12 @@ module _ {K : Type 0} (cmp : K → K → Ordering) (mark : K → ℕ) where
       IsAmong index.slots.items window (first_slot index.slots.items (mark x)) number.0
       ⊎ (get cmp index.crowded x ≡ Some number)
 
-  -- what the map has is right
-  abbrev pub IsRight : List K → Index K → Type 0
-  IsRight list index = (x : K) (number : NodeNumber) → get cmp index.crowded x ≡ Some number →
-      slice_get list number.0 ≡ Some x
-
-  -- a search for each of so many elements comes to its number, and what the map has is right
+  -- a search for each of so many elements comes to its number
   pub record IsIndexedTo (count : ℕ) (list : List K) (index : Index K) : Type 0 where
     pub found : (x : K) (number : NodeNumber) → number.0 < count →
         slice_get list number.0 ≡ Some x → IsFound index x number
-    pub right : IsRight list index
 
-  -- a search for each element comes to its number, and what the map has is right
+  -- a search for each element comes to its number
   abbrev pub IsIndexed : List K → Index K → Type 0
   IsIndexed list index = IsIndexedTo (length list) list index
 
@@ -68,8 +62,3 @@ module _ {K : Type 0} (cmp : K → K → Ordering) (mark : K → ℕ) where
   abbrev pub KeepsFound : Index K → Index K → K → NodeNumber → Type 0
   KeepsFound old new element number = (x : K) (n : NodeNumber) → (x ≡ element → n ≡ number) →
       IsFound old x n → IsFound new x n
-
-  -- what the map has is this number of this element, or was there
-  abbrev pub AddsAtMost : Index K → Index K → K → NodeNumber → Type 0
-  AddsAtMost old new element number = (x : K) (n : NodeNumber) → get cmp new.crowded x ≡ Some n →
-      ((x ≡ element) × (n ≡ number)) ⊎ (get cmp old.crowded x ≡ Some n)

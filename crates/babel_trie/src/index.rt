@@ -1,7 +1,7 @@
 //! Where the elements of a list are found again.
-ghost use Rattle.std.specs.Prelude.{◌≡◌, ◌^◌, ◌<◌, ◌++◌, ◌∷◌, [], length, slice_get, Some, IfSome, IfNone, OnOk};
+ghost use Rattle.std.specs.Prelude.{◌≡◌, ◌^◌, ◌<◌, ◌↔◌, ◌++◌, ◌∷◌, [], length, slice_get, Some, IfSome, IfNone, IsTrue, OnOk};
 ghost use Rattle.babel_trie.specs.Index.{IsNotAmong, IsFreeAmong, first_slot, HasDistinct, IsAbsent};
-ghost use Rattle.babel_trie.specs.Index.{IsFound, KeepsFound, AddsAtMost, IsIndexed};
+ghost use Rattle.babel_trie.specs.Index.{IsFound, KeepsFound, IsIndexed};
 
 use crate::lawful::{LawfulOrd, are_same};
 use crate::table::NodeNumber;
@@ -13,12 +13,26 @@ const WINDOW: u8 = 16;
 
 /// Where the elements of a list are found again, in which none stands twice. Each has one of a few
 /// slots, from the one that its mark leads to on, or, where all of these are taken, a place in a
-/// map. So no choice of elements makes a search longer than one in that map.
+/// map. So no choice of elements makes a search longer than one in that map. A slot may also have a
+/// number that the list had once and has no more, or has for another element by now: each number
+/// that is found is looked up in the list.
 #[derive(Drop)]
 pub struct Index<K: Ord> {
     /// One more than an element's number, or 0 where the slot is free.
     slots: Vec<u32>,
     crowded: BTreeMap<K, NodeNumber>,
+    /// How many more numbers are kept before the slots are made anew.
+    room: usize,
+}
+
+/// Whether this is the number of an element in the list.
+fn is_number_of<K: LawfulOrd>(list: &[K], number: NodeNumber, element: K) -> bool
+    ensures { IsTrue result ↔ (slice_get list.now number.0 ≡ Some element) }
+{
+    match list.get(number.index()) {
+        None => false,
+        Some(other) => are_same(*other, element),
+    }
 }
 
 /// The number of an element that one of so many slots from this one on has, if none before it is
@@ -41,10 +55,8 @@ fn number_among<K: LawfulOrd>(
         return None;
     }
     let number = NodeNumber(slot - 1);
-    if let Some(other) = list.get(number.index()) {
-        if are_same(*other, element) {
-            return Some(number);
-        }
+    if is_number_of(list, number, element) {
+        return Some(number);
     }
     number_among(slots, list, element, at + 1, left - 1)
 }
@@ -69,6 +81,7 @@ impl<K: LawfulOrd> Index<K> {
         Index {
             slots: Vec::new(alloc),
             crowded: BTreeMap::new(alloc),
+            room: 0,
         }
     }
 
@@ -86,17 +99,21 @@ impl<K: LawfulOrd> Index<K> {
         ensures none { IfNone result (IsAbsent list.now element) }
     {
         let first = self.first_slot(element);
-        let Some(number) = number_among(&self.slots, list, element, first, WINDOW) else {
-            return self.crowded.get(&element).copied();
-        };
-        Some(number)
+        if let Some(number) = number_among(&self.slots, list, element, first, WINDOW) {
+            return Some(number);
+        }
+        let kept = *self.crowded.get(&element)?;
+        if is_number_of(list, kept, element) {
+            Some(kept)
+        } else {
+            None
+        }
     }
 
     /// Keeps the number of an element.
     fn keep(&mut self, element: K, number: NodeNumber) -> Result<(), AllocError>
         ensures kept { OnOk result (IsFound K.cmp K.mark self.new element number) }
         ensures others { OnOk result (KeepsFound K.cmp K.mark self.old self.new element number) }
-        ensures crowded { OnOk result (AddsAtMost K.cmp K.mark self.old self.new element number) }
     {
         let first = self.first_slot(element);
         if let Some(place) = free_among(&self.slots, first, WINDOW) {
@@ -109,22 +126,25 @@ impl<K: LawfulOrd> Index<K> {
         Ok(())
     }
 
-    /// Makes more slots where half of them are taken, and finds each element of the list its place
-    /// among them.
+    /// Makes the slots anew where half of them are taken, and finds each element of the list its
+    /// place among them.
     fn make_room(&mut self, list: &[K]) -> Result<(), AllocError>
         requires indexed { IsIndexed K.cmp K.mark list.now self.old }
         requires distinct { HasDistinct list.now }
         requires few { length list.now < 2 ^ 32 }
-        ensures { OnOk result (IsIndexed K.cmp K.mark list.now self.new) }
+        ensures indexed { OnOk result (IsIndexed K.cmp K.mark list.now self.new) }
+        ensures room { OnOk result (0 < self.new.room) }
     {
-        if list.len() < self.slots.len() / 2 {
+        if self.room > 0 {
             return Ok(());
         }
+        self.crowded.clear();
         self.slots.clear();
         self.slots.resize(4 * list.len() + 64, 0)?;
         for at in 0..list.len() {
             self.keep(list[at], NodeNumber(at as u32))?;
         }
+        self.room = list.len() + 32;
         Ok(())
     }
 
@@ -137,6 +157,7 @@ impl<K: LawfulOrd> Index<K> {
         ensures { OnOk result (IsIndexed K.cmp K.mark (list.now ++ element ∷ []) self.new) }
     {
         self.make_room(list)?;
+        self.room -= 1;
         self.keep(element, number)?;
         Ok(())
     }

@@ -1,7 +1,7 @@
 -- The free slot has the number, or the map has it; what was found stays found.
 use Rattle.std.proofs.Common.{ℕ, List, inl, inr, subst, arith}
 use Rattle.babel_trie.specs.Index.{IsFreeAmong, window}
-use Rattle.babel_trie.proofs.IndexLaws.{free_place, still_found, newly_found, kept_in_map, in_map}
+use Rattle.babel_trie.proofs.IndexLaws.{free_place, still_found, newly_found, kept_in_map}
 use Rattle.babel_trie.proofs.index.Index.keep.Goals as goal
 
 pub returns-in-Some-checked_add-clause-kept : goal.returns-in-Some-checked_add-clause-kept
@@ -25,7 +25,3 @@ returns-clause-others g c x n same found = elim found [
   | inl among ↦ inl among
   | inr there ↦ inr (kept_in_map g.K.Ord.cmp g.met.K.LawfulOrd.exact c.args.self.now.crowded c.insert.new.self c.args.element x c.args.number n c.in_ok-insert.ensures.updates.0 same there)
 ]
-
-pub returns-clause-crowded : goal.returns-clause-crowded
-returns-clause-crowded g c x n there =
-    in_map g.K.Ord.cmp g.met.K.LawfulOrd.exact c.args.self.now.crowded c.insert.new.self c.args.element x c.args.number n c.in_ok-insert.ensures.updates.0 there

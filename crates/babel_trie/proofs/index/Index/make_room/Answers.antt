@@ -7,7 +7,7 @@ use Rattle.babel_trie.proofs.NumberLaws.{slice_get_at}
 use Rattle.babel_trie.proofs.index.Index.make_room.Goals as goal
 
 pub loop-at-init : goal.loop-at-init
-loop-at-init g c = record { found = λ x n below is. absurd (omega arith); right = c.requires.indexed.right }
+loop-at-init g c = record { found = λ x n below is. absurd (omega arith) }
 
 pub loop-at-preserved : goal.loop-at-preserved
 loop-at-preserved g c =
@@ -17,4 +17,4 @@ loop-at-preserved g c =
     let at : slice_get list number.0 ≡ Some element = slice_get_at list c.loop-at.at element c.loop-at-test.true c.index-list-at.is in
     index_step g.K.Ord.cmp g.K.LawfulOrd.mark list c.loop-at.self c.keep.new.self element number c.loop-at.invariant at
     (λ n below is. (let same = c.requires.distinct n.0 number.0 element is at in omega (arith, same, below)))
-    c.in_ok-keep.ensures.kept c.in_ok-keep.ensures.others c.in_ok-keep.ensures.crowded
+    c.in_ok-keep.ensures.kept c.in_ok-keep.ensures.others
