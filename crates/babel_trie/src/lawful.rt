@@ -3,7 +3,6 @@ ghost use Rattle.std.specs.Prelude.{◌≡◌, ◌↔◌, ℕ, IsTrue};
 ghost use Rattle.babel_trie.specs.Marks.{stirred};
 ghost use Rattle.std.specs.declared.cmp.Ordering.TheVariants.{Equal};
 
-use std::cmp::Ordering;
 
 /// Values that a grid can hold: ordered, and equal by that order only where they are one.
 pub trait LawfulOrd: Ord + Copy {
@@ -58,5 +57,5 @@ impl<V: LawfulOrd> LawfulOrd for Option<V> {
 pub fn are_same<V: LawfulOrd>(left: V, right: V) -> bool
     ensures { IsTrue result ↔ (left ≡ right) }
 {
-    left.cmp(&right) == Ordering::Equal
+    left == right
 }
