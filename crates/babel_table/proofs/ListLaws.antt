@@ -16,7 +16,7 @@ use Rattle.babel_table.proofs.LiveLaws.{keys-live_rows, live_rows-lookup}
 use Rattle.babel_table.proofs.SaidLaws.{found, found-same, found-standing, same_entries, same_key, sorted-standing, word_of}
 
 -- with the row of a word, if there is one
-abbrev with_word : ℕ → RouteKey → Option Kept → List (RouteKey × Held) → List (RouteKey × Held)
+abbrev pub with_word : ℕ → RouteKey → Option Kept → List (RouteKey × Held) → List (RouteKey × Held)
 with_word wipes key (Some said) rows = (key, current wipes said) ∷ rows
 with_word wipes key None rows = rows
 
@@ -85,7 +85,7 @@ apart-listing wipes k (w ∷ ws) apart = by w.1 (apart-listing wipes k ws apart.
     by (Some v) again = (apart.0, again)
     by None again = again
 
-distinct-listing : (wipes : ℕ) (ws : Words) → AreDistinct (keys_of ws) → AreDistinct (keys_of (listing wipes ws))
+pub distinct-listing : (wipes : ℕ) (ws : Words) → AreDistinct (keys_of ws) → AreDistinct (keys_of (listing wipes ws))
 unfolding IsDistinct
 distinct-listing wipes [] distinct = tt
 distinct-listing wipes (w ∷ ws) distinct = by w.1 (distinct-listing wipes ws distinct.1)
@@ -93,6 +93,12 @@ distinct-listing wipes (w ∷ ws) distinct = by w.1 (distinct-listing wipes ws d
     by : (o : Option Kept) → AreDistinct (keys_of (listing wipes ws)) → AreDistinct (keys_of (with_word wipes w.0 o (listing wipes ws)))
     by (Some v) again = (apart-listing wipes w.0 ws distinct.0, again)
     by None again = again
+
+-- what is found in them is what is found in the rows that stand
+pub found-listed : (wipes : ℕ) (q : RouteKey) (ws : Words) → AreDistinct (keys_of ws) → found q (listing wipes ws) ≡ found q (live_rows wipes (standing ws))
+found-listed wipes q ws distinct =
+    found-listing wipes q ws distinct
+    ∙ sym (live_rows-lookup wipes (standing ws) (is_at (key_cmp q)) ∙ ap (option_map (current wipes)) (found-standing q ws))
 
 -- ---- all of them
 
@@ -108,6 +114,5 @@ module _ (wipes : ℕ) (rows : List (RouteKey × Held)) (rest : Words) (whole : 
       same_entries sorted (live_rows wipes (standing all.words)) rising (subst (λ ks. IsStrictlySortedBy key_cmp ks) (sym (keys-live_rows wipes (standing all.words))) (sorted-standing all.words))
       (λ q. found-same sorted rows q permuted distinct-listed
       ∙ ap (λ es. found q es) complete
-      ∙ found-listing wipes q all.words all.distinct
-      ∙ sym (live_rows-lookup wipes (standing all.words) (is_at (key_cmp q)) ∙ ap (option_map (current wipes)) (found-standing q all.words)))
+      ∙ found-listed wipes q all.words all.distinct)
       ∙ ap (live_rows wipes) all.stands

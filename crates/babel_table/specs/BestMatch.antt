@@ -1,5 +1,5 @@
 -- The row that a destination and a source address are forwarded by, in addresses and prefixes: RFC 9079, 4.
-use Rattle.std.specs.Prelude.{◌≡◌, ◌⊎◌, ◌<◌, List, Contains}
+use Rattle.std.specs.Prelude.{◌≡◌, ◌⊎◌, ◌<◌, List, Option, Contains, MatchOption}
 use Rattle.babel_prefix.specs.Address.{Address}
 use Rattle.babel_prefix.specs.Covers.{Covers}
 use Rattle.babel_tlv.specs.declared.held.Held.{Held}
@@ -24,3 +24,7 @@ pub record HasBestMatch (rows : List Pair) (dst src : Address) (held : Held) : T
   pub listed : Contains rows (key, held)
   pub matching : ContainsBoth dst src key
   pub best : (row : Pair) → Contains rows row → ContainsBoth dst src row.0 → ¬ IsMoreSpecific row.0 key
+
+-- what stands in the best match among the rows, or nothing where no row contains both addresses
+abbrev pub IsBestMatch : List Pair → Address → Address → Option Held → Type 0
+IsBestMatch rows dst src found = MatchOption found (HasNoMatch rows dst src) (HasBestMatch rows dst src)

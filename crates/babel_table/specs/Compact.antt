@@ -4,16 +4,19 @@ use Rattle.std.specs.Cmp.{IsTotalOrder}
 use Rattle.std.specs.List.{AllByRecursion}
 use Rattle.std.proofs.lemmas.Cmp.{on_total, then_total}
 use Rattle.babel_prefix.specs.declared.family.Family.{Family}
-use Rattle.babel_prefix.specs.Address.{AddressPrefix}
+use Rattle.babel_prefix.specs.Address.{Address, AddressPrefix}
 use Rattle.babel_prefix.specs.TotalOrder.{prefix_total}
 use Rattle.babel_tlv.specs.declared.held.Held.{Held}
 use Rattle.babel_tlv.specs.declared.held.Held.TheVariants as helds
 use Rattle.babel_tlv.specs.Route.{RouteKey, Announcement}
 use Rattle.babel_tlv.specs.Keys.{key_cmp, IsAnnouncement}
 
--- a prefix and a key of a family, of their numbers
+-- an address, a prefix and a key of a family, of their numbers
+abbrev pub address_in : Family → ℕ → Address
+address_in family bits = record { family = family; bits = bits }
+
 abbrev pub prefix_in : Family → ℕ → ℕ → AddressPrefix
-prefix_in family bits len = record { address = record { family = family; bits = bits }; len = len }
+prefix_in family bits len = record { address = address_in family bits; len = len }
 
 abbrev pub key_in : Family → ℕ → ℕ → ℕ → ℕ → RouteKey
 key_in family dst dst_len src src_len = record {

@@ -1,10 +1,11 @@
 -- What a lookup looks for among rows: RFC 9079, 4.
-use Rattle.std.specs.Prelude.{◌≡◌, ◌≤◌, ◌↔◌, List, Option, Some, Contains}
+use Rattle.std.specs.Prelude.{◌≡◌, ◌≤◌, ◌↔◌, List, Option, Some, Contains, IfSome}
 use Rattle.babel_prefix.specs.Address.{Address, AddressPrefix}
 use Rattle.babel_prefix.specs.Covers.{Covers}
 use Rattle.babel_tlv.specs.declared.held.Held.{Held}
 use Rattle.babel_tlv.specs.Pair.{Pair}
 use Rattle.babel_tlv.specs.Route.{RouteKey}
+use Rattle.babel_table.specs.BestMatch.{ContainsBoth, IsMoreSpecific}
 
 -- this stands for the key, or nothing does
 pub record StandsFor (rows : List Pair) (key : RouteKey) (found : Option Held) : Type 0 where
@@ -28,3 +29,7 @@ pub record HasLongestSource (rows : List Pair) (dst : AddressPrefix) (src : Addr
   pub leads : LeadsFrom dst src (key, held)
   pub longest : (other : Pair) → Contains rows other → LeadsFrom dst src other →
       other.0.src.len ≤ key.src.len
+
+-- the key contains both addresses, and is more specific than that of the best row so far
+abbrev pub IsBetter : Address → Address → RouteKey → Option Pair → Type 0
+IsBetter dst src key best = ContainsBoth dst src key × IfSome best (λ row. IsMoreSpecific key row.0)

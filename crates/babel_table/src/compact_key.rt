@@ -1,7 +1,9 @@
-ghost use Rattle.std.specs.Prelude.{◌≡◌};
+ghost use Rattle.std.specs.Prelude.{◌≡◌, ◌↔◌, IsTrue};
 ghost use Rattle.std.specs.Cmp.Rules.{comparing};
 ghost use Rattle.std.proofs.Common.{rules};
 ghost use Rattle.babel_tlv.specs.Keys.{IsKey};
+ghost use Rattle.babel_table.specs.BestMatch.{ContainsBoth, IsMoreSpecific};
+ghost use Rattle.babel_table.specs.Compact.{address_in};
 ghost use Rattle.babel_table.specs.Said as said;
 
 use crate::compact_prefix::CompactPrefix;
@@ -149,6 +151,23 @@ impl<W: Word> CompactKey<W> {
         let src = self.src().prefix();
         Key::new(dst, src).unwrap()
     }
+
+    /// Whether both prefixes have their address, of the two with these bits.
+    pub fn contains(&self, dst: W, src: W) -> bool
+        ensures { IsTrue result ↔ ContainsBoth (address_in W.family (W.number dst))
+            (address_in W.family (W.number src)) self.now }
+    {
+        self.dst().contains(dst) && self.src().contains(src)
+    }
+
+    /// Whether the destination prefix is longer, or is as long and the source prefix is longer.
+    pub fn is_more_specific(&self, other: &CompactKey<W>) -> bool
+        ensures { IsTrue result ↔ IsMoreSpecific self.now other.now }
+    {
+        self.dst_len > other.dst_len
+            || (self.dst_len == other.dst_len && self.src_len > other.src_len)
+    }
+
     /// 32 bits, each of which any bit of the key may change.
     pub fn tag(&self) -> u32
         ensures { result ≡ said.tag_of self.now }

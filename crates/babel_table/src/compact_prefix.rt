@@ -1,6 +1,8 @@
-ghost use Rattle.std.specs.Prelude.{◌≡◌};
+ghost use Rattle.std.specs.Prelude.{◌≡◌, ◌↔◌, IsTrue};
 ghost use Rattle.std.specs.Cmp.Rules.{comparing};
 ghost use Rattle.std.proofs.Common.{rules};
+ghost use Rattle.babel_prefix.specs.Covers.{Covers};
+ghost use Rattle.babel_table.specs.Compact.{address_in};
 
 use crate::word::Word;
 use babel_prefix::Prefix;
@@ -102,5 +104,12 @@ impl<W: Word> CompactPrefix<W> {
         ensures { result ≡ self.now }
     {
         Prefix::new(self.word.addr(), self.len).unwrap()
+    }
+
+    /// Whether the prefix has the address of its family with these bits.
+    pub fn contains(&self, addr: W) -> bool
+        ensures { IsTrue result ↔ Covers self.now (address_in W.family (W.number addr)) }
+    {
+        addr.agrees(self.word, self.len)
     }
 }

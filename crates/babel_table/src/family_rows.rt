@@ -3,10 +3,12 @@ ghost use Rattle.std.specs.List.Sorted.{IsPermutation, IsStrictlySortedBy};
 ghost use Rattle.std.specs.BTreeMap.{insert_entry, is_at};
 ghost use Rattle.std.specs.Map.{keys_of, lookup, remove_entry};
 ghost use Rattle.babel_tlv.specs.Keys.{key_cmp};
-ghost use Rattle.babel_table.specs.Compact.{FitsFamily};
+ghost use Rattle.babel_table.specs.BestMatch.{IsBestMatch};
+ghost use Rattle.babel_table.specs.Compact.{FitsFamily, address_in};
 ghost use Rattle.babel_table.specs.Live.{kept, live_rows};
+ghost use Rattle.babel_table.specs.Lookup.{IsBetter};
 ghost use Rattle.babel_table.specs.Rows.{IsRising};
-ghost use Rattle.babel_table.specs.Said.{AreDistinct, AreIndexed, IsPlace, AreAbove};
+ghost use Rattle.babel_table.specs.Said.{AreDistinct, AreIndexed, IsPlace, AreAbove, standing};
 
 use crate::compact_held::CompactHeld;
 use crate::compact_key::CompactKey;
@@ -14,6 +16,7 @@ use crate::compact_row::CompactRow;
 use crate::places::Places;
 use crate::stored::Stored;
 use crate::word::Word;
+use babel_prefix::Addr;
 use babel_tlv::{Held, Key};
 use std::alloc::{AllocError, Global};
 use std::marker::Model;
@@ -189,6 +192,53 @@ impl<W: Word> FamilyRows<W> {
         sort(&mut listed);
         Ok(listed)
     }
+
+    /// What the best matching row stands for behind so many wipes, for two addresses of the family.
+    pub fn best_match(&self, wipes: u64, dst: &Addr, src: &Addr) -> Option<Held>
+        requires dst_family { dst.now.family ≡ W.family }
+        requires src_family { src.now.family ≡ W.family }
+        ensures { IsBestMatch (live_rows wipes self.now) dst.now src.now result }
+    {
+        best_standing(&self.rows, wipes, W::of(*dst), W::of(*src))
+    }
+}
+
+/// The same among rows, for the addresses with these bits. The rows are gone through once, as they
+/// stand: RFC 9079, 4.
+fn best_standing<W: Word>(rows: &[WordRow<W>], wipes: u64, dst: W, src: W) -> Option<Held>
+    requires { AreDistinct (keys_of rows.now) }
+    ensures { IsBestMatch (live_rows wipes (standing rows.now))
+        (address_in W.family (W.number dst)) (address_in W.family (W.number src)) result }
+{
+    let mut best: Option<(CompactKey<W>, Held)> = None;
+    for (key, said) in rows {
+        if let Some(stored) = said {
+            if is_better(key, dst, src, &best) {
+                best = Some((key.copied(), stored.held(wipes)));
+            }
+        }
+    }
+    match best {
+        Some((_, held)) => Some(held),
+        None => None,
+    }
+}
+
+/// Whether the key contains both addresses, and is more specific than that of the best row so far.
+fn is_better<W: Word>(
+    key: &CompactKey<W>,
+    dst: W,
+    src: W,
+    best: &Option<(CompactKey<W>, Held)>,
+) -> bool
+    ensures { IsTrue result ↔ IsBetter (address_in W.family (W.number dst))
+        (address_in W.family (W.number src)) key.now best.now }
+{
+    key.contains(dst, src)
+        && match best {
+            Some((other, _)) => key.is_more_specific(other),
+            None => true,
+        }
 }
 
 /// The key's place among the rows; the next one is tried first.

@@ -1,7 +1,8 @@
 //! The bits of an IPv6 address as two numbers, which lie closer together than one of 128 bits does.
-ghost use Rattle.std.specs.Prelude.{◌≡◌, ◌+◌, ◌*◌, ◌^◌, refl};
+ghost use Rattle.std.specs.Prelude.{◌≡◌, ◌≤◌, ◌+◌, ◌*◌, ◌^◌, ◌↔◌, IsTrue, refl};
 ghost use Rattle.std.specs.Cmp.Rules.{comparing};
 ghost use Rattle.std.proofs.Common.{rules};
+ghost use Rattle.babel_prefix.specs.Block.{leading_bits};
 ghost use Rattle.babel_prefix.specs.declared.family.Family.TheVariants.{V6};
 
 use crate::compact_key::mixed;
@@ -114,5 +115,21 @@ impl Word for Halves {
         mixed(self.high, self.low)
     }
 
+    fn agrees(self, other: Halves, len: u8) -> bool {
+        if len <= 64 {
+            agree(self.high, other.high, len)
+        } else {
+            self.high == other.high && agree(self.low, other.low, len - 64)
+        }
+    }
+
     ghost ordered = { λ a b. refl };
+}
+
+/// Whether two numbers of 64 bits agree in their first bits, so many of them.
+fn agree(one: u64, other: u64, len: u8) -> bool
+    requires { len ≤ 64 }
+    ensures { IsTrue result ↔ (leading_bits 64 len one ≡ leading_bits 64 len other) }
+{
+    len == 0 || one >> (64 - len) == other >> (64 - len)
 }

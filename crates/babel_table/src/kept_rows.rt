@@ -4,13 +4,14 @@ ghost use Rattle.std.specs.BTreeMap.{insert_entry, is_at};
 ghost use Rattle.std.specs.Map.{keys_of, lookup, remove_entry};
 ghost use Rattle.babel_tlv.specs.Keys.{key_cmp};
 ghost use Rattle.babel_tlv.specs.Pairs.{IsPair};
+ghost use Rattle.babel_table.specs.BestMatch.{IsBestMatch};
 ghost use Rattle.babel_table.specs.Live.{kept, live_rows};
 ghost use Rattle.babel_table.specs.TableRows.{AreRows};
 
 use crate::family_rows::FamilyRows;
 use crate::halves::Halves;
 use crate::sorted_rows::SortedRows;
-use babel_prefix::Family;
+use babel_prefix::{Addr, Family};
 use babel_tlv::{Held, Key};
 use std::alloc::{AllocError, Global};
 use std::marker::Model;
@@ -107,5 +108,16 @@ impl KeptRows {
         let v4 = self.v4.listed(alloc, wipes)?;
         let v6 = self.v6.listed(alloc, wipes)?;
         Ok(SortedRows { v4, v6 })
+    }
+
+    /// What the best matching row stands for behind so many wipes, for two addresses of one family.
+    pub fn best_match(&self, wipes: u64, dst: &Addr, src: &Addr) -> Option<Held>
+        requires one_family { dst.now.family ≡ src.now.family }
+        ensures { IsBestMatch (live_rows wipes self.now) dst.now src.now result }
+    {
+        match dst.family() {
+            Family::V4 => self.v4.best_match(wipes, dst, src),
+            Family::V6 => self.v6.best_match(wipes, dst, src),
+        }
     }
 }

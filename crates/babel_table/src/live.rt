@@ -7,11 +7,15 @@ ghost use Rattle.babel_tlv.specs.Keys.{key_cmp};
 ghost use Rattle.babel_tlv.specs.Verdicts.{event_of};
 ghost use Rattle.babel_tlv.specs.declared.event.Event.TheVariants as events;
 ghost use Rattle.babel_table.specs.Live.{IsNotHeld, KeepsAllButRows, unreachable};
+ghost use Rattle.babel_prefix.specs.Entries.{answer_for};
+ghost use Rattle.babel_table.specs.BestMatch.{IsBestMatch};
+ghost use Rattle.babel_table.specs.Rows.{entries_of};
 ghost use Rattle.babel_table.specs.TableRows.{AreRows};
 ghost use Rattle.babel_table.specs.Feeding.{Follows, IsRefused};
 
 use crate::kept_rows::KeptRows;
 use crate::sorted_rows::SortedRows;
+use babel_prefix::Addr;
 use babel_tlv::{Ann, Fault, Held, Key, Mode, Route, Verdict};
 use std::alloc::{AllocError, Global};
 use std::marker::Model;
@@ -186,5 +190,16 @@ impl LiveRows {
     {
         self.are_rows();
         self.kept.listed(alloc, self.wipes)
+    }
+
+    /// What the best matching row holds, for two addresses of one family.
+    #[tactic(auto, using(crate::proofs::LookupLaws::match_answers))]
+    pub fn lookup(&self, dst: &Addr, src: &Addr) -> Option<Held>
+        requires one_family { dst.now.family ≡ src.now.family }
+        ensures best { IsBestMatch self.now.rows dst.now src.now result }
+        ensures answer { result ≡ answer_for (entries_of self.now.rows) dst.now src.now }
+    {
+        self.are_rows();
+        self.kept.best_match(self.wipes, dst, src)
     }
 }

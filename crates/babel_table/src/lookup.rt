@@ -1,6 +1,6 @@
 //! The best matching row among rows of one family in rising order, by binary search.
 ghost use Rattle.std.specs.Prelude.{◌≡◌, ◌↔◌, IsTrue, Any, MatchOption};
-ghost use Rattle.babel_table.specs.BestMatch.{HasBestMatch, HasNoMatch};
+ghost use Rattle.babel_table.specs.BestMatch.{IsBestMatch};
 ghost use Rattle.babel_table.specs.Rows.{IsRising};
 ghost use Rattle.babel_table.specs.TableRows.{AreRows};
 ghost use Rattle.babel_table.specs.Lookup.{HasLongestSource, HasNoSource, StandsFor};
@@ -19,8 +19,7 @@ pub(crate) fn best_match<W: Word>(rows: &[CompactRow<W>], dst: &Addr, src: &Addr
     requires rows { AreRows rows.now }
     requires family { dst.now.family ≡ W.family }
     requires one_family { dst.now.family ≡ src.now.family }
-    ensures { MatchOption result (HasNoMatch rows.now dst.now src.now)
-        (HasBestMatch rows.now dst.now src.now) }
+    ensures { IsBestMatch rows.now dst.now src.now result }
 {
     for len in (0..=dst.family().width()).rev() {
         let prefix = Prefix::new(*dst, len)?;

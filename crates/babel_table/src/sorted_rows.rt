@@ -1,5 +1,5 @@
-ghost use Rattle.std.specs.Prelude.{◌≡◌, MatchOption};
-ghost use Rattle.babel_table.specs.BestMatch.{HasBestMatch, HasNoMatch};
+ghost use Rattle.std.specs.Prelude.{◌≡◌};
+ghost use Rattle.babel_table.specs.BestMatch.{IsBestMatch};
 ghost use Rattle.babel_table.specs.Left.{rows_left};
 ghost use Rattle.babel_table.specs.Seen.{seen_rows};
 ghost use Rattle.babel_table.specs.TableRows.{AreRows, family_rows};
@@ -68,8 +68,7 @@ impl SortedRows {
     pub fn lookup(&self, dst: &Addr, src: &Addr) -> Option<Held>
         requires one_family { dst.now.family ≡ src.now.family }
         ensures valid { AreRows self.now }
-        ensures best { MatchOption result (HasNoMatch self.now dst.now src.now)
-            (HasBestMatch self.now dst.now src.now) }
+        ensures best { IsBestMatch self.now dst.now src.now result }
     {
         match dst.family() {
             Family::V4 => best_match(&self.v4, dst, src),

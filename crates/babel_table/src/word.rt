@@ -1,8 +1,10 @@
 //! The numbers that rows keep the addresses of a family in.
-ghost use Rattle.std.specs.Prelude.{◌≡◌, ℕ};
+ghost use Rattle.std.specs.Prelude.{◌≡◌, ◌≤◌, ◌↔◌, ℕ, IsTrue};
 ghost use Rattle.std.specs.Ordering.{nat_cmp};
 ghost use Rattle.babel_prefix.specs.declared.family.Family.{Family as AddressFamily};
 ghost use Rattle.babel_prefix.specs.declared.family.Family.TheVariants.{V4};
+ghost use Rattle.babel_prefix.specs.Block.{leading_bits};
+ghost use Rattle.babel_prefix.specs.Width.{width_of};
 ghost use Rattle.babel_table.specs.Said.{folded};
 
 use babel_prefix::{Addr, Family};
@@ -30,6 +32,12 @@ pub trait Word: Ord + Copy {
     fn fold(self) -> u64
         ensures { result ≡ folded (number self) };
 
+    /// Whether the two agree in their first bits, so many of them.
+    fn agrees(self, other: Self, len: u8) -> bool
+        requires { len ≤ width_of family }
+        ensures { IsTrue result ↔ (leading_bits (width_of family) len (number self)
+            ≡ leading_bits (width_of family) len (number other)) };
+
     // Words are ordered as the bits are.
     ghost ordered: { (a b : Self) → Self.cmp a b ≡ nat_cmp (number a) (number b) };
 }
@@ -55,6 +63,11 @@ impl Word for u32 {
 
     fn fold(self) -> u64 {
         u64::from(self)
+    }
+
+    fn agrees(self, other: u32, len: u8) -> bool {
+        let rest = 32 - len;
+        u64::from(self) >> rest == u64::from(other) >> rest
     }
 
     ghost ordered = { λ a b. refl };
