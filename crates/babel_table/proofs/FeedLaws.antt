@@ -5,6 +5,7 @@ use Rattle.std.specs.List.{flat_map}
 use Rattle.std.proofs.Math.Seq.{take-append-add}
 use Rattle.std.proofs.lemmas.List.{append-nil, length-append, length-take, take-append-drop, take_at}
 use Rattle.babel_prefix.specs.Address.{Address}
+use Rattle.babel_prefix.specs.Entries.{answer_for}
 use Rattle.babel_tlv.specs.declared.fault.Fault.{Fault}
 use Rattle.babel_tlv.specs.declared.fault.Fault.TheVariants as faults
 use Rattle.babel_tlv.specs.declared.held.Held.{Held}
@@ -12,12 +13,15 @@ use Rattle.babel_tlv.specs.declared.mode.Mode.{Mode}
 use Rattle.babel_tlv.specs.Route.{RouteKey}
 use Rattle.babel_tlv.specs.Framing.{ReadsAs, packet_octets}
 use Rattle.babel_tlv.specs.Says.{sayings}
+use Rattle.babel_table.specs.Answers.{IsAnswerOf}
+use Rattle.babel_table.specs.BestMatch.{IsBestMatch}
 use Rattle.babel_table.specs.Bounds.{Bounds}
 use Rattle.babel_table.specs.Counts.{Counts, counts_of}
 use Rattle.babel_table.specs.TableOf.{IsTableOf}
 use Rattle.babel_table.specs.DumpFault.{DumpFault, HasNoFault, IsTruncated, MayGoOn, StreamFault}
 use Rattle.babel_table.specs.Feeding.{StandsBehind, TookPackets, StopsWithin, Progress, IsPartial, IsLasting, NeedsMemory, HasTaken, HasFailed, HasReadTo, HasRead, routes}
-use Rattle.babel_table.specs.Rows.{Routes}
+use Rattle.babel_table.specs.Rows.{Routes, entries_of}
+use Rattle.babel_table.specs.declared.answer.Answer.{Answer}
 use Rattle.babel_table.proofs.FineLaws.{stands-none}
 use Rattle.babel_table.proofs.DumpLaws.{HasTakenTo, HasStopped, taken-then, stopped-then, only_truncated, truncated}
 
@@ -256,6 +260,13 @@ module _ (p : Progress) (none : p.fault ≡ None) (empty : p.pending ≡ []) whe
   finished (Err fault) is = tt
   finished (Ok table) is = λ fed read.
       (no_fault p fed (read-taken p fed none read) empty, subst (λ (t : Routes). IsTableOf p.limits p.mode p.sender fed t) (sym is) (table_of p fed (read-taken p fed none read) empty))
+
+  pub answered : (d s : Address) (answer : Answer) → IsBestMatch p.table.rows d s answer.held → answer.held ≡ answer_for (entries_of p.table.rows) d s → answer.report ≡ p.table.report
+      → (fed : List ℕ) → HasRead p fed → HasNoFault p.limits p.mode p.sender fed × IsAnswerOf p.limits p.mode p.sender fed d s answer
+  answered d s answer best same report fed read = (
+    no_fault p fed (read-taken p fed none read) empty,
+    record { table = p.table; is_table = table_of p fed (read-taken p fed none read) empty; best = best; same = same; report = report },
+  )
 
   pub unfinished : (r : Result Routes Fault) → IfErr r (λ fault. fault ≡ faults.Memory → (p.fault ≡ Some faults.Memory) ⊎ ((fed : List ℕ) → HasRead p fed → HasNoFault p.limits p.mode p.sender fed))
   unfinished (Ok table) = tt
