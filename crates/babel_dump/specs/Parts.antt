@@ -1,6 +1,7 @@
 -- What the two parts of a run promise, reading and writing. These are this project's own.
 use Rattle.std.specs.Prelude.{ℕ, Bool, Vec, ◌≡◌, ◌≢◌, ◌+◌, ◌<◌, ◌≤◌, List, length, Option, Result, Ok, Err, IfOk, IfErr, IfSome, OnOk, OnErr}
 use Rattle.std.specs.Io.KnownBytes.{Appends}
+use Rattle.babel_prefix.specs.Address.{Address}
 use Rattle.babel_tlv.specs.declared.fault.Fault.{Fault}
 use Rattle.babel_tlv.specs.declared.fault.Fault.TheVariants as faults
 use Rattle.babel_tlv.specs.declared.view.View.{View}
@@ -9,6 +10,7 @@ use Rattle.babel_table.specs.Bounds.{Bounds}
 use Rattle.babel_table.specs.Rows.{Routes}
 use Rattle.babel_table.specs.Seen.{seen_rows, seen_table}
 use Rattle.babel_table.specs.Feeding.{Progress, HasRead}
+use Rattle.babel_table.specs.declared.answer.Answer.{Answer}
 use Rattle.babel_canon.specs.Canonical.{Canonical, IsCanonical}
 use Rattle.babel_canon.specs.Differences.{AreDifferences}
 use Rattle.babel_canon.specs.Fewest.{AreFewest}
@@ -19,7 +21,7 @@ use Rattle.babel_dump.specs.Each.{GavePairsOf, GaveText, RefusesPairs}
 use Rattle.babel_dump.specs.Given.{GaveAll, GaveIgnored, GaveTable, Input, IsFaultOfGiven}
 use Rattle.babel_dump.specs.InFormat.{differences_or_count_in, pairs_or_counts_in}
 use Rattle.babel_dump.specs.Run.{FewCalls, HasCause, HasFailed, NoFailure, Output, Reports}
-use Rattle.babel_dump.specs.RunText.{differences_status}
+use Rattle.babel_dump.specs.RunText.{answer_in, differences_status}
 use Rattle.babel_dump.specs.declared.addr_pair.AddrPair.{AddrPair}
 use Rattle.babel_dump.specs.declared.both.SeenTables.{SeenTables}
 use Rattle.babel_dump.specs.declared.finish.Found.{Found}
@@ -34,6 +36,13 @@ pub record IsFedAll (feeder : Progress) (reader : Input) : Type 0 where
   pub given : List ℕ
   pub fed : HasRead feeder given
   pub gave : GaveAll reader given
+
+-- a dump was given, and this is what its table answers for the addresses, and its report
+pub record GaveAnswer (Gave : Routes → Type 0) (dst src : Address) (answer : Answer) : Type 0 where
+  pub table : Routes
+  pub gave : Gave table
+  pub held : answer.held ≡ answer_in table dst src
+  pub report : answer.report ≡ table.report
 
 -- what reading these dumps promises, of which something was made
 pub record Gathered {T : Type 0} (reader : Input) (other : Option Input) (Refuses : Fault → Type 0) (Made : T → Type 0) (result : Result T RunFault) : Type 0 where

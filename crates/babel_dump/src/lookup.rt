@@ -12,7 +12,7 @@ use crate::byte_in::ByteIn;
 use crate::byte_out::ByteOut;
 use crate::finish::{Found, finish};
 use crate::format::Format;
-use crate::input::read_table;
+use crate::input::look_up;
 use crate::outcome::Outcome;
 use crate::output::lookup_output;
 use crate::reading::Reading;
@@ -106,14 +106,13 @@ fn read_answer<R: ByteIn>(
         Gathered dump None (IsFaultOfGiven dump)
         (SaysSo dump None (LooksUp dump pair.dst pair.src format)) result }
 {
-    let table = read_table(alloc, reading, reader)?;
-    let answer = table.lookup(&pair.dst, &pair.src);
+    let answer = look_up(alloc, reading, pair, reader)?;
     let outcome = Outcome {
-        status: lookup_status(answer.as_ref()),
-        report: *table.report(),
+        status: lookup_status(answer.held.as_ref()),
+        report: answer.report,
         other: None,
     };
-    let text = lookup_output(alloc, format, pair, answer)?.into_bytes();
+    let text = lookup_output(alloc, format, pair, answer.held)?.into_bytes();
     Ok(Found { text, outcome })
 }
 

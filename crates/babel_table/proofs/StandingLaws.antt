@@ -1,5 +1,5 @@
 -- The best match among rows as they stand: the best of those so far, and then of all.
-use Rattle.std.proofs.Common.{◌≡◌, ℕ, ◌<◌, ◌≤◌, List, [], ◌∷◌, ◌++◌, Option, Some, None, MatchOption, inl, inr, refl, sym, ap, subst, ◌∙◌, arith, append-nil, length, take}
+use Rattle.std.proofs.Common.{◌≡◌, ℕ, ◌≤◌, List, [], ◌∷◌, ◌++◌, Option, Some, None, MatchOption, inl, inr, refl, sym, ap, subst, ◌∙◌, arith, append-nil, length, take}
 use Rattle.std.specs.Prelude.{IfSome}
 use Rattle.std.specs.List.{Contains}
 use Rattle.std.specs.Map.{keys_of}
@@ -11,12 +11,11 @@ use Rattle.std.proofs.lemmas.Map.Views.{Contains-from_lookup, lookup-from_Contai
 use Rattle.std.proofs.lemmas.List.{take_all}
 use Rattle.std.proofs.lemmas.List.Elements.{Contains-append_left, Contains-push, Contains-push_cases}
 use Rattle.babel_prefix.specs.Address.{Address}
-use Rattle.babel_tlv.specs.declared.held.Held.{Held}
 use Rattle.babel_tlv.specs.Keys.{key_cmp}
 use Rattle.babel_tlv.specs.Pair.{Pair}
 use Rattle.babel_tlv.specs.Route.{RouteKey}
 use Rattle.babel_tlv.proofs.OrderLaws.{key_exact, key_total}
-use Rattle.babel_table.specs.BestMatch.{ContainsBoth, HasBestMatch, HasNoMatch, IsBestMatch, IsMoreSpecific}
+use Rattle.babel_table.specs.BestMatch.{ContainsBoth, HasNoMatch, IsBestMatch, IsMoreSpecific}
 use Rattle.babel_table.specs.Live.{Kept, current, live_rows}
 use Rattle.babel_table.specs.Lookup.{IsBetter}
 use Rattle.babel_table.specs.Said.{Words, standing, AreDistinct}

@@ -1,9 +1,9 @@
 -- A row that is better is the best so far; each other row leaves it.
-use Rattle.std.proofs.Common.{◌≡◌, ◌+◌, ◌++◌, ◌∷◌, [], List, IsTrue, Option, Some, None, ◌∙◌, ap, arith, subst, sym, take}
+use Rattle.std.proofs.Common.{◌≡◌, ◌+◌, ◌++◌, ◌∷◌, [], None, ◌∙◌, ap, sym, take}
 use Rattle.std.proofs.lemmas.List.{take_more}
 use Rattle.babel_prefix.specs.Address.{Address}
 use Rattle.babel_table.specs.Compact.{address_in}
-use Rattle.babel_table.proofs.StandingLaws.{IsBestSaid, best-better, best-found, best-retracted, best-stays}
+use Rattle.babel_table.proofs.StandingLaws.{best-better, best-found, best-retracted, best-stays}
 use Rattle.babel_table.proofs.family_rows.best_standing.Goals.{in-Some+then-is_better, in-Some+else-is_better, in_default}
 use Rattle.babel_table.proofs.family_rows.best_standing.Goals as goal
 

@@ -1,5 +1,5 @@
 -- The first bits of an address are those of its high half, and then those of its low half.
-use Rattle.std.proofs.Common.{◌≡◌, ◌≢◌, ℕ, ◌+◌, ◌-◌, ◌*◌, ◌/◌, ◌%◌, ◌^◌, ◌<◌, ◌≤◌, ◌↔◌, ◌∙◌, ap, sym, arith}
+use Rattle.std.proofs.Common.{◌≡◌, ℕ, ◌+◌, ◌-◌, ◌*◌, ◌/◌, ◌%◌, ◌^◌, ◌<◌, ◌≤◌, ◌∙◌, ap, sym, arith}
 use Rattle.std.proofs.lemmas.Nat.{div-mul-add, field_of, mod-mul-add, shr-shr, shr_split}
 use Rattle.std.proofs.lemmas.Bool.Decides.{nat_tests}
 use Rattle.babel_prefix.specs.Block.{leading_bits}
@@ -61,8 +61,7 @@ returns-then-len-le64 c =
 pub returns-then-self-other : goal.returns-then-self-other
 returns-then-self-other c =
     let most : c.args.len ≤ 128 = omega (arith, c.requires) in
-    let highs : c.self.inside.high ≡ c.other.inside.high = grind (arith, nat_tests, c.if-self-other.true) in
-    (
+    let highs : c.self.inside.high ≡ c.other.inside.high = grind (arith, nat_tests, c.if-self-other.true) in (
       λ agree. same_both c.args.self c.args.other c.self.inside.high c.other.inside.high c.self.inside.low c.other.inside.low c.args.len c.self.view_is c.self.invariant.1 c.other.view_is c.other.invariant.1
           c.if-len-le64.false most highs (c.agree-then-self-other.ensures.0 agree),
       λ same. c.agree-then-self-other.ensures.1
