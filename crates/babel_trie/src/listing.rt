@@ -117,7 +117,7 @@ fn block_with_rows<V: LawfulOrd>(
 }
 
 impl<V: LawfulOrd> Table<Option<V>> {
-    /// Puts out the rows of one destination prefix, in order.
+    /// Puts out the rows of one destination prefix and the sources of a block, in order.
     pub fn push_rows<S: Sink<V>>(
         &self,
         whole: Loose<Option<V>>,
@@ -157,6 +157,38 @@ impl<V: LawfulOrd> Table<Option<V>> {
         Ok(())
     }
 
+    /// Puts out the rows of one destination prefix and any source, in order: one row where one value
+    /// is answered for all sources.
+    fn push_block<S: Sink<V>>(
+        &self,
+        whole: Loose<Option<V>>,
+        family: Family,
+        dst: Prefix,
+        out: &mut S,
+    ) -> Result<(), S::Error>
+        requires trie { IsTrie (width_of family) self.now.nodes.items whole }
+        requires dst_family { dst.address.family ≡ family }
+        requires can { S.can_put out.old }
+        ensures can { OnOk result (S.can_put out.new) }
+        ensures ok { OnOk result ((t : Shape (Option V)) (start : S) (rows : List (Entry V))
+            → Stands self.now.nodes.items whole t → S.has start out.old rows
+            → S.has start out.new (rows ++ map (entry_at family)
+            (rows_at (block_of dst) (leaves (width_of family) (width_of family) 0 t)))) }
+        ensures err { OnErr result ((t : Shape (Option V)) (start : S) (rows : List (Entry V))
+            → Stands self.now.nodes.items whole t → S.has start out.old rows
+            → StopsAmong (S.stopped start out.new) rows (map (entry_at family)
+            (rows_at (block_of dst) (leaves (width_of family) (width_of family) 0 t)))) }
+    {
+        let Loose::Same(constant) = whole else {
+            return self.push_rows(whole, family, dst, family.width(), 0, out);
+        };
+        let Some(value) = constant else {
+            return Ok(());
+        };
+        out.put((dst, Prefix::whole(family), value))?;
+        Ok(())
+    }
+
     /// Puts out the rows of the largest blocks from one destination to another, in order, all with
     /// the same sources.
     fn push_blocks<S: Sink<V>>(
@@ -182,13 +214,12 @@ impl<V: LawfulOrd> Table<Option<V>> {
             (sources_at (width_of family) self.now.nodes.items sources)
             (largest_in (width_of family) from last))))) }
     {
-        let width = family.width();
         let whole = self.opened(sources);
         let mut at = from;
         loop {
             let bits = first_bits(at, last);
             let dst = block_prefix(family, at, bits);
-            self.push_rows(whole, family, dst, width, 0, out)?;
+            self.push_block(whole, family, dst, out)?;
             let end = last_address(at, bits);
             if end == last {
                 return Ok(());

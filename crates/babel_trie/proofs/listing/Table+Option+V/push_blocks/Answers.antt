@@ -11,7 +11,6 @@ use Rattle.babel_trie.specs.Sinks.{StopsAmong}
 use Rattle.babel_trie.specs.Spans.{each_with}
 use Rattle.babel_trie.proofs.Cuts.{nothing_cut, one_more_cut, cut_to, cut_whole}
 use Rattle.babel_trie.proofs.Fits.{fit_in_width, fit_is_block}
-use Rattle.babel_trie.specs.Interned.{IsTrie}
 use Rattle.babel_trie.proofs.FormLaws.{opened_trie, opened_stands, Represents-in}
 use Rattle.babel_trie.proofs.HeldLaws.{sources_at-stands}
 use Rattle.babel_trie.proofs.Largest.{largest_is, cut_goes_on}
@@ -22,10 +21,8 @@ use Rattle.babel_trie.proofs.listing.Table+Option+V.push_blocks.Goals as goal
 pub opened-whole-requires : goal.opened-whole-requires
 opened-whole-requires g c = Represents-in c.args.self.now.nodes.items c.args.sources c.requires.trie.trie c.requires.trie.stands
 
-pub push_rows-requires-clause-trie : goal.push_rows-requires-clause-trie
-push_rows-requires-clause-trie g c =
-    let nodes = c.args.self.now.nodes.items in
-    subst (λ n. IsTrie n nodes c.opened-whole.result) (sym c.width-width.ensures) (opened_trie nodes (width_of c.args.family) c.args.sources c.opened-whole.result c.opened-whole.ensures c.requires.trie)
+pub push_block-requires-clause-trie : goal.push_block-requires-clause-trie
+push_block-requires-clause-trie g c = opened_trie c.args.self.now.nodes.items (width_of c.args.family) c.args.sources c.opened-whole.result c.opened-whole.ensures c.requires.trie
 
 pub loop-end-init : goal.loop-end-init
 loop-end-init g c =
@@ -55,14 +52,13 @@ returns-then-end-last-clause-ok g c =
     let b : Block = block_from w at bits in
     let h = c.requires.trie in
     let t = sources_at w c.args.self.now.nodes.items c.args.sources in
-    let Has = λ (start : g.row.S.Denot). g.S.Sink.has start c.push_rows.new.out in
+    let Has = λ (start : g.row.S.Denot). g.S.Sink.has start c.push_block.new.out in
     let pushed = λ (start : g.row.S.Denot) (given : List (Entry g.row.V.Denot)) (has : g.S.Sink.has start c.args.out.now given).
     put_both c.args.family (Has start) given (rows_of w (each_with t so.blocks)) (rows_at b (leaves w w 0 t)) (rows_of w (each_with t (so.blocks ++ b ∷ []))) (each_with-push w t so.blocks b)
     (subst (λ rows. Has start ((given ++ map (entry_at c.args.family) (rows_of w (each_with t so.blocks))) ++ map (entry_at c.args.family) rows))
-    (ap (λ (d : Block). rows_at d (leaves w c.width-width.result 0 h.trie)) c.block_prefix-dst.ensures.block
-    ∙ ap (λ n. rows_at b (leaves w n 0 h.trie)) c.width-width.ensures
+    (ap (λ (d : Block). rows_at d (leaves w w 0 h.trie)) c.block_prefix-dst.ensures.block
     ∙ ap (λ u. rows_at b (leaves w w 0 u)) (sym (sources_at-stands w c.args.self.now.nodes.items c.args.sources h)))
-    (c.in_ok-push_rows.ensures.ok h.trie start (given ++ map (entry_at c.args.family) (rows_of w (each_with t so.blocks))) (opened_stands c.args.self.now.nodes.items c.args.sources c.opened-whole.result h.trie c.opened-whole.ensures h.stands) (so.put start given has))) in
+    (c.in_ok-push_block.ensures.ok h.trie start (given ++ map (entry_at c.args.family) (rows_of w (each_with t so.blocks))) (opened_stands c.args.self.now.nodes.items c.args.sources c.opened-whole.result h.trie c.opened-whole.ensures h.stands) (so.put start given has))) in
     let cut = cut_to w c.args.from c.args.last at bits c.last_address-end.result so.blocks so.from_in so.at_in c.requires.fits c.first_bits-bits.ensures.fit c.last_address-end.ensures so.cut in
     λ start given has. subst (λ bs. Has start (given ++ map (entry_at c.args.family) (rows_of w (each_with t bs))))
     (largest_is w c.args.from c.args.last c.requires.fits (so.blocks ++ b ∷ []) (cut_whole w c.args.from c.args.last c.last_address-end.result (so.blocks ++ b ∷ []) c.if-end-last.true cut))
@@ -77,26 +73,25 @@ loop-end-preserved g c =
     let b : Block = block_from w at bits in
     let h = c.requires.trie in
     let t = sources_at w c.args.self.now.nodes.items c.args.sources in
-    let Has = λ (start : g.row.S.Denot). g.S.Sink.has start c.push_rows.new.out in
+    let Has = λ (start : g.row.S.Denot). g.S.Sink.has start c.push_block.new.out in
     let pushed = λ (start : g.row.S.Denot) (given : List (Entry g.row.V.Denot)) (has : g.S.Sink.has start c.args.out.now given).
     put_both c.args.family (Has start) given (rows_of w (each_with t so.blocks)) (rows_at b (leaves w w 0 t)) (rows_of w (each_with t (so.blocks ++ b ∷ []))) (each_with-push w t so.blocks b)
     (subst (λ rows. Has start ((given ++ map (entry_at c.args.family) (rows_of w (each_with t so.blocks))) ++ map (entry_at c.args.family) rows))
-    (ap (λ (d : Block). rows_at d (leaves w c.width-width.result 0 h.trie)) c.block_prefix-dst.ensures.block
-    ∙ ap (λ n. rows_at b (leaves w n 0 h.trie)) c.width-width.ensures
+    (ap (λ (d : Block). rows_at d (leaves w w 0 h.trie)) c.block_prefix-dst.ensures.block
     ∙ ap (λ u. rows_at b (leaves w w 0 u)) (sym (sources_at-stands w c.args.self.now.nodes.items c.args.sources h)))
-    (c.in_ok-push_rows.ensures.ok h.trie start (given ++ map (entry_at c.args.family) (rows_of w (each_with t so.blocks))) (opened_stands c.args.self.now.nodes.items c.args.sources c.opened-whole.result h.trie c.opened-whole.ensures h.stands) (so.put start given has))) in
+    (c.in_ok-push_block.ensures.ok h.trie start (given ++ map (entry_at c.args.family) (rows_of w (each_with t so.blocks))) (opened_stands c.args.self.now.nodes.items c.args.sources c.opened-whole.result h.trie c.opened-whole.ensures h.stands) (so.put start given has))) in
     let room : at + 2 ^ bits ≤ c.args.last + 1 = c.first_bits-bits.ensures.fit.room in
     record {
       from_in = omega arith;
       at_in = omega arith;
       blocks = so.blocks ++ b ∷ [];
       cut = cut_to w c.args.from c.args.last at bits c.last_address-end.result so.blocks so.from_in so.at_in c.requires.fits c.first_bits-bits.ensures.fit c.last_address-end.ensures so.cut;
-      can = c.in_ok-push_rows.ensures.can;
+      can = c.in_ok-push_block.ensures.can;
       put = pushed;
     }
 
-pub returns-in_err-push_rows-clause-err : goal.returns-in_err-push_rows-clause-err
-returns-in_err-push_rows-clause-err g c =
+pub returns-in_err-push_block-clause-err : goal.returns-in_err-push_block-clause-err
+returns-in_err-push_block-clause-err g c =
     let w = width_of c.args.family in
     let so = c.loop-end.invariant in
     let at = c.loop-end.at in
@@ -104,7 +99,7 @@ returns-in_err-push_rows-clause-err g c =
     let b : Block = block_from w at bits in
     let h = c.requires.trie in
     let t = sources_at w c.args.self.now.nodes.items c.args.sources in
-    let Stopped = λ (start : g.row.S.Denot). g.S.Sink.stopped start c.push_rows.new.out in
+    let Stopped = λ (start : g.row.S.Denot). g.S.Sink.stopped start c.push_block.new.out in
     let more = largest_in w (at + 2 ^ bits) c.args.last in
     let cut = one_more_cut w c.args.from c.args.last at bits so.blocks so.from_in so.at_in c.requires.fits c.first_bits-bits.ensures.fit so.cut in
     let exit = err_from_is_err_and c.from_residual.result c.from_residual.ensures.1 in
@@ -113,7 +108,6 @@ returns-in_err-push_rows-clause-err g c =
     (ap (λ bs. rows_of w (each_with t bs)) (sym (cut_goes_on w c.args.from c.args.last (at + 2 ^ bits) (so.blocks ++ b ∷ []) (omega arith) c.requires.fits cut)) ∙ each_with-append w t (so.blocks ++ b ∷ []) more)
     (stop_then c.args.family (Stopped start) given (rows_of w (each_with t so.blocks)) (rows_at b (leaves w w 0 t)) (rows_of w (each_with t (so.blocks ++ b ∷ []))) (each_with-push w t so.blocks b)
     (subst (λ rows. StopsAmong (Stopped start) (given ++ map (entry_at c.args.family) (rows_of w (each_with t so.blocks))) (map (entry_at c.args.family) rows))
-    (ap (λ (d : Block). rows_at d (leaves w c.width-width.result 0 h.trie)) c.block_prefix-dst.ensures.block
-    ∙ ap (λ n. rows_at b (leaves w n 0 h.trie)) c.width-width.ensures
+    (ap (λ (d : Block). rows_at d (leaves w w 0 h.trie)) c.block_prefix-dst.ensures.block
     ∙ ap (λ u. rows_at b (leaves w w 0 u)) (sym (sources_at-stands w c.args.self.now.nodes.items c.args.sources h)))
-    (c.in_err-push_rows.ensures.err h.trie start (given ++ map (entry_at c.args.family) (rows_of w (each_with t so.blocks))) (opened_stands c.args.self.now.nodes.items c.args.sources c.opened-whole.result h.trie c.opened-whole.ensures h.stands) (so.put start given has)))))
+    (c.in_err-push_block.ensures.err h.trie start (given ++ map (entry_at c.args.family) (rows_of w (each_with t so.blocks))) (opened_stands c.args.self.now.nodes.items c.args.sources c.opened-whole.result h.trie c.opened-whole.ensures h.stands) (so.put start given has)))))
