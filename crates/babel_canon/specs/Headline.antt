@@ -1,6 +1,6 @@
--- What canonical octets tell of the dumps that they were made from, in whatever form: this
--- project's own. `Same` says when two tables answer the same, `Made` which octets are made of a
--- dump, and `Refused` for which faults none are.
+-- What canonical octets tell of the dumps that they were made from, with or without a view: this
+-- project's own. In `normalise` `Same` is `AnswerTheSame`; `Made one octets` holds of the octets
+-- that it answers for the dump `one` (*ok*), and `Refused one fault` of its faults (*err*).
 use Rattle.std.specs.Prelude.{◌≡◌, ◌↔◌, ℕ, List}
 use Rattle.babel_prefix.specs.Address.{Address}
 use Rattle.babel_tlv.specs.declared.fault.Fault.{Fault}

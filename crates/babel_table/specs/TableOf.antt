@@ -19,7 +19,8 @@ AreFine mode entries before (saying ∷ later) said =
     × AreFine mode entries (before ++ event ∷ []) later said
 
 -- the table of a dump, which is whole packets whose TLVs do not refuse it: its rows are what is
--- held after its events, and its report counts its TLVs. The limit on octets is no part of this.
+-- held after its events, and its report counts its TLVs. (That the dump has no more octets than the
+-- limit is asked by `HasNoFault`.)
 pub record IsTableOf (limits : Bounds) (mode : Mode) (sender : Address) (dump : List ℕ)
     (table : Routes) : Type 0 where
   pub packets : List (List TlvAt)
