@@ -4,8 +4,8 @@ use Rattle.std.specs.Prelude.{count_by}
 use Rattle.std.specs.List.{find}
 use Rattle.std.specs.Option.{option_map, option_or}
 use Rattle.std.proofs.lemmas.List.Folds.{find-append}
-use Rattle.std.proofs.lemmas.List.Sums.{sum_by-append}
 use Rattle.std.proofs.lemmas.List.{length-append}
+use Rattle.babel_prefix.proofs.Counted.{count-none, count-push}
 use Rattle.babel_capture.specs.declared.reason.Reason.{Reason}
 use Rattle.babel_capture.specs.declared.reason.Reason.TheVariants as reasons
 use Rattle.babel_capture.specs.Findings.{Found, passed, left, snapped, found}
@@ -19,32 +19,12 @@ abbrev bumped : Bool → ℕ → Count → Count
 bumped true at old = one_more at old
 bumped false at old = old
 
-count-cons : (p : Made → Bool) (x : Made) (made : List Made) → count_by p (x ∷ made) ≡ cond (p x) 1 0 + count_by p made
-count-cons p x made = sum_by-append (λ s. cond (p s) 1 0) (x ∷ []) made ∙ ap (λ (n : ℕ). n + count_by p made) (zero_more (cond (p x) 1 0))
-  where
-    zero_more : (n : ℕ) → 0 + n ≡ n
-    zero_more n = omega arith
-
-count-none : (p : Made → Bool) (made : List Made) → find p made ≡ None → count_by p made ≡ 0
-count-none p [] none = refl
-count-none p (x ∷ made) none = count-cons p x made ∙ by (count-none p made) (p x) none
-  where
-    by : (find p made ≡ None → count_by p made ≡ 0) → (b : Bool) → cond b (Some x) (find p made) ≡ None → cond b 1 0 + count_by p made ≡ 0
-    by again true e = absurd cc
-    by again false e = (let none : count_by p made ≡ 0 = again e in omega arith)
-
 merged : (n m at : ℕ) (s : Made) (b : Bool) (f : Option Made) → m ≡ n + cond b 1 0 → (f ≡ None → n ≡ 0) → s.number ≡ at
     → option_map (λ (x : Made). (m, x.number)) (option_or f (cond b (Some s) None)) ≡ bumped b at (option_map (λ (x : Made). (n, x.number)) f)
 merged n m at s true None is none here = (let one : m ≡ 1 = is ∙ (rw (none refl) refl) in rw (one, here) refl)
 merged n m at s false None is none here = refl
 merged n m at s true (Some x) is none here = rw is refl
 merged n m at s false (Some x) is none here = (let e : m ≡ n = omega arith in ap (λ (k : ℕ). Some (k, x.number)) e)
-
-count-push : (p : Made → Bool) (made : List Made) (s : Made) → count_by p (made ++ s ∷ []) ≡ count_by p made + cond (p s) 1 0
-count-push p made s = sum_by-append (λ x. cond (p x) 1 0) made (s ∷ []) ∙ ap (λ (n : ℕ). count_by p made + n) (zero_more (cond (p s) 1 0))
-  where
-    zero_more : (n : ℕ) → 0 + n ≡ n
-    zero_more n = omega arith
 
 left-push : (reason : Reason) (made : List Made) (s : Made) → left_for (made ++ s ∷ []) reason ≡ bumped (is_left_for reason s.what) s.number (left_for made reason)
 left-push reason made s =

@@ -21,7 +21,7 @@ use Rattle.babel_capture.specs.Gathering.{Gathering, octets_found}
 use Rattle.babel_capture.specs.Senders.{AreSenders, is_from, packets_from, tally_for}
 use Rattle.babel_capture.specs.Tallies.{Senders, no_packets, one_more, origin_cmp, senders_of, senders_with, tallied, tally_of}
 use Rattle.babel_capture.proofs.TallyLaws.{origin_total}
-use Rattle.babel_capture.proofs.Entries.{equal_of, is_at-sym, lookup-insert, sorted-insert}
+use Rattle.babel_prefix.proofs.Insertion.{equal_of, is_at-sym, lookup-insert, sorted-insert}
 
 -- ---- one packet more
 

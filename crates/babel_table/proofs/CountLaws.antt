@@ -4,8 +4,8 @@ use Rattle.std.specs.Prelude.{Ok, count_by}
 use Rattle.std.specs.List.{find}
 use Rattle.std.specs.Option.{option_map, option_or}
 use Rattle.std.proofs.lemmas.List.Folds.{find-append}
-use Rattle.std.proofs.lemmas.List.Sums.{sum_by-append}
 use Rattle.std.proofs.lemmas.List.{length-append}
+use Rattle.babel_prefix.proofs.Counted.{count-none, count-push}
 use Rattle.babel_tlv.specs.declared.event.Event.{Event}
 use Rattle.babel_tlv.specs.declared.event.Event.TheVariants as events
 use Rattle.babel_tlv.specs.declared.reason.Reason.{Reason}
@@ -21,32 +21,12 @@ abbrev bumped : Bool → ℕ → Count → Count
 bumped true at old = one_more at old
 bumped false at old = old
 
-count-cons : (p : Saying → Bool) (x : Saying) (said : List Saying) → count_by p (x ∷ said) ≡ cond (p x) 1 0 + count_by p said
-count-cons p x said = sum_by-append (λ s. cond (p s) 1 0) (x ∷ []) said ∙ ap (λ (n : ℕ). n + count_by p said) (zero_more (cond (p x) 1 0))
-  where
-    zero_more : (n : ℕ) → 0 + n ≡ n
-    zero_more n = omega arith
-
-count-none : (p : Saying → Bool) (said : List Saying) → find p said ≡ None → count_by p said ≡ 0
-count-none p [] none = refl
-count-none p (x ∷ said) none = count-cons p x said ∙ by (count-none p said) (p x) none
-  where
-    by : (find p said ≡ None → count_by p said ≡ 0) → (b : Bool) → cond b (Some x) (find p said) ≡ None → cond b 1 0 + count_by p said ≡ 0
-    by again true e = absurd cc
-    by again false e = (let none : count_by p said ≡ 0 = again e in omega arith)
-
 merged : (n m at : ℕ) (s : Saying) (b : Bool) (f : Option Saying) → m ≡ n + cond b 1 0 → (f ≡ None → n ≡ 0) → s.at ≡ at
     → option_map (λ (x : Saying). (m, x.at)) (option_or f (cond b (Some s) None)) ≡ bumped b at (option_map (λ (x : Saying). (n, x.at)) f)
 merged n m at s true None is none here = (let one : m ≡ 1 = is ∙ (rw (none refl) refl) in rw (one, here) refl)
 merged n m at s false None is none here = refl
 merged n m at s true (Some x) is none here = rw is refl
 merged n m at s false (Some x) is none here = (let e : m ≡ n = omega arith in ap (λ (k : ℕ). Some (k, x.at)) e)
-
-count-push : (p : Saying → Bool) (said : List Saying) (s : Saying) → count_by p (said ++ s ∷ []) ≡ count_by p said + cond (p s) 1 0
-count-push p said s = sum_by-append (λ x. cond (p x) 1 0) said (s ∷ []) ∙ ap (λ (n : ℕ). count_by p said + n) (zero_more (cond (p s) 1 0))
-  where
-    zero_more : (n : ℕ) → 0 + n ≡ n
-    zero_more n = omega arith
 
 ignored-push : (reason : Reason) (said : List Saying) (s : Saying) → ignored_in (said ++ s ∷ []) reason ≡ bumped (is_ignored_for reason s.what) s.at (ignored_in said reason)
 ignored-push reason said s =

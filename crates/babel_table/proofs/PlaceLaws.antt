@@ -15,7 +15,7 @@ use Rattle.babel_tlv.specs.Route.{RouteKey}
 use Rattle.babel_tlv.specs.Keys.{key_cmp}
 use Rattle.babel_tlv.proofs.OrderLaws.{key_total}
 use Rattle.babel_table.specs.Said.{AreDistinct, AreListed, IsListed, IsPlace, IsTaken, IsUnlisted, Places, Words, start_of, tag_of}
-use Rattle.babel_table.proofs.Entries.{is_at-sym, lookup-insert}
+use Rattle.babel_prefix.proofs.Insertion.{is_at-sym, lookup-insert}
 use Rattle.babel_table.proofs.SaidLaws.{at_itself, place-read}
 
 -- the slot has another place than the key's

@@ -30,7 +30,8 @@ use Rattle.babel_table.specs.Live.{Kept}
 use Rattle.babel_table.specs.Rows.{IsRising}
 use Rattle.babel_table.specs.Said.{Words, say, standing, AreDistinct, IsAbsent, IsPlace, Places, IsListed, IsUnlisted, AreListed, AreIndexed, AreCounted, AreAbove}
 use Rattle.babel_table.proofs.SearchLaws.{searchable, missed, less_not_greater}
-use Rattle.babel_table.proofs.Entries.{is_at-sym, equal_of, lookup-insert, lookup-remove, sorted-insert, sorted-remove, miss_below, below_all}
+use Rattle.babel_prefix.proofs.Insertion.{is_at-sym, equal_of, lookup-insert, sorted-insert, below_all}
+use Rattle.babel_table.proofs.Entries.{lookup-remove, sorted-remove, miss_below}
 
 both : (a b : Bool) → T a → T b → T (a && b)
 both true b x y = y
