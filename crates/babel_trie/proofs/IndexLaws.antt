@@ -1,5 +1,5 @@
 -- What is found by its slot stays found where a free slot is filled, and what fills it is found.
-use Rattle.std.proofs.Common.{◌≡◌, inl, inr, ℕ, zero, suc, ◌+◌, ◌-◌, ◌/◌, ◌%◌, ◌^◌, ◌<◌, max, cond, List, [], ◌∷◌, ◌++◌, length, take, get_or, Option, Some, None, IfSome, IfNone, refl, sym, ◌∙◌, ap, subst, arith, length-append}
+use Rattle.std.proofs.Common.{◌≡◌, inl, inr, ℕ, zero, suc, ◌+◌, ◌-◌, ◌*◌, ◌/◌, ◌%◌, ◌^◌, ◌<◌, max, cond, List, [], ◌∷◌, ◌++◌, length, take, get_or, Option, Some, None, IfSome, IfNone, refl, sym, ◌∙◌, ap, subst, arith, length-append}
 use Rattle.std.specs.List.{slice_get}
 use Rattle.std.specs.BTreeMap.{BTreeMap, get, is_at}
 use Rattle.std.specs.Ordering.{is_eq}
@@ -9,7 +9,7 @@ use Rattle.std.proofs.Math.ListN.{set}
 use Rattle.std.proofs.lemmas.Bool.{cases_lt}
 use Rattle.std.proofs.lemmas.Option.{slice_get_within}
 use Rattle.std.proofs.lemmas.List.{get_or-set_same, get_or-set_other, length-set}
-use Rattle.babel_trie.specs.Index.{IsAmong, IsFreeAmong, window, first_slot, IsFound, IsIndexedTo, IsIndexed}
+use Rattle.babel_trie.specs.Index.{IsAmong, IsNotAmong, IsFreeAmong, window, first_slot, slot_of, IsFound, IsIndexedTo, IsIndexed}
 use Rattle.babel_trie.specs.declared.index.Index.{Index}
 use Rattle.babel_trie.specs.declared.table.NodeNumber.{NodeNumber}
 use Rattle.babel_trie.proofs.NumberLaws.{slice_get-push, slice_get-push_cases, slice_get-taken}
@@ -29,49 +29,49 @@ taken_stays slots place value at free taken =
     get_or-set_other slots place at value 0 (λ e. let same = ap (λ p. get_or slots p 0) e in omega (arith, same, free, taken))
 
 -- what fills the free slot is among those looked at
-pub filled_among : (slots : List ℕ) (left at place number : ℕ) → IsFreeAmong slots left at place →
-    IsAmong (set slots place (number + 1)) left at number
-filled_among slots zero at place number none = elim none [ ]
-filled_among slots (suc left) at place number (inl here) =
-    let same : get_or (set slots place (number + 1)) at 0 ≡ number + 1 =
-    ap (λ p. get_or (set slots p (number + 1)) at 0) here.2 ∙ get_or-set_same slots at (number + 1) 0 here.0 in
+pub filled_among : (slots : List ℕ) (left at place slot : ℕ) → 0 < slot → IsFreeAmong slots left at place →
+    IsAmong (set slots place slot) left at slot
+filled_among slots zero at place slot some none = elim none [ ]
+filled_among slots (suc left) at place slot some (inl here) =
+    let same : get_or (set slots place slot) at 0 ≡ slot =
+    ap (λ p. get_or (set slots p slot) at 0) here.2 ∙ get_or-set_same slots at slot 0 here.0 in
     (omega (arith, same), inl same)
-filled_among slots (suc left) at place number (inr later) =
+filled_among slots (suc left) at place slot some (inr later) =
     let free = free_place slots left (at + 1) place later.1 in (
-      subst (λ (n : ℕ). 0 < n) (sym (taken_stays slots place (number + 1) at free.1 later.0)) later.0,
-      inr (filled_among slots left (at + 1) place number later.1),
+      subst (λ (n : ℕ). 0 < n) (sym (taken_stays slots place slot at free.1 later.0)) later.0,
+      inr (filled_among slots left (at + 1) place slot some later.1),
     )
 
 -- what was among them still is
-pub still_among : (slots : List ℕ) (place value left at number : ℕ) → get_or slots place 0 ≡ 0 →
-    IsAmong slots left at number → IsAmong (set slots place value) left at number
-still_among slots place value zero at number free none = elim none [ ]
-still_among slots place value (suc left) at number free among =
+pub still_among : (slots : List ℕ) (place value left at slot : ℕ) → get_or slots place 0 ≡ 0 →
+    IsAmong slots left at slot → IsAmong (set slots place value) left at slot
+still_among slots place value zero at slot free none = elim none [ ]
+still_among slots place value (suc left) at slot free among =
     let same = taken_stays slots place value at free among.0 in (
       subst (λ (n : ℕ). 0 < n) (sym same) among.0,
       elim among.1 [
         | inl here ↦ inl (same ∙ here)
-        | inr later ↦ inr (still_among slots place value left (at + 1) number free later)
+        | inr later ↦ inr (still_among slots place value left (at + 1) slot free later)
       ],
     )
 
 -- where a search begins goes with the number of slots alone
-pub still_found : (slots : List ℕ) (place value mark number : ℕ) → get_or slots place 0 ≡ 0 →
-    IsAmong slots window (first_slot slots mark) number →
-    IsAmong (set slots place value) window (first_slot (set slots place value) mark) number
-still_found slots place value mark number free among =
-    subst (λ (k : ℕ). IsAmong (set slots place value) window (mark / 2 ^ 32 % max k 1) number)
+pub still_found : (slots : List ℕ) (place value mark slot : ℕ) → get_or slots place 0 ≡ 0 →
+    IsAmong slots window (first_slot slots mark) slot →
+    IsAmong (set slots place value) window (first_slot (set slots place value) mark) slot
+still_found slots place value mark slot free among =
+    subst (λ (k : ℕ). IsAmong (set slots place value) window (mark / 2 ^ 32 % max k 1) slot)
     (sym (length-set slots place value))
-    (still_among slots place value window (first_slot slots mark) number free among)
+    (still_among slots place value window (first_slot slots mark) slot free among)
 
-pub newly_found : (slots : List ℕ) (place value mark number : ℕ) → value ≡ number + 1 →
+pub newly_found : (slots : List ℕ) (place value mark slot : ℕ) → value ≡ slot → 0 < slot →
     IsFreeAmong slots window (first_slot slots mark) place →
-    IsAmong (set slots place value) window (first_slot (set slots place value) mark) number
-newly_found slots place value mark number is free =
-    subst (λ (k : ℕ). IsAmong (set slots place value) window (mark / 2 ^ 32 % max k 1) number)
+    IsAmong (set slots place value) window (first_slot (set slots place value) mark) slot
+newly_found slots place value mark slot is some free =
+    subst (λ (k : ℕ). IsAmong (set slots place value) window (mark / 2 ^ 32 % max k 1) slot)
     (sym (length-set slots place value))
-    (subst (λ (v : ℕ). IsAmong (set slots place v) window (first_slot slots mark) number) (sym is)
-    (filled_among slots window (first_slot slots mark) place number free))
+    (subst (λ (v : ℕ). IsAmong (set slots place v) window (first_slot slots mark) slot) (sym is)
+    (filled_among slots window (first_slot slots mark) place slot some free))
 
 -- behind a slot that is taken, a free one is that of the slots from the next one on
 pub free_later : (slots : List ℕ) (left at : ℕ) → 0 < left → 0 < get_or slots at 0 → (found : Option ℕ) →
@@ -91,17 +91,18 @@ free_first slots (suc left) at some inside free = inl (inside, free, refl)
 
 module _ {K : Type 0} where
   -- where neither this slot's number nor one of the later ones is the element's, none is
-  pub none_among : (slots : List ℕ) (list : List K) (element : K) (left at : ℕ) → 0 < left →
-      (slice_get list (get_or slots at 0 - 1) ≡ Some element → ⊥) → (found : Option NodeNumber) →
-      IfNone found ((n : NodeNumber) → slice_get list n.0 ≡ Some element → IsAmong slots (left - 1) (at + 1) n.0 → ⊥) →
-      IfNone found ((n : NodeNumber) → slice_get list n.0 ≡ Some element → IsAmong slots left at n.0 → ⊥)
-  none_among slots list element zero at some other found later = absurd (omega arith)
-  none_among slots list element (suc left) at some other (Some n) later = tt
-  none_among slots list element (suc left) at some other None later = λ n is among.
+  pub none_among : (slots : List ℕ) (list : List K) (element : K) (mark left at : ℕ) → 0 < left →
+      ((n : NodeNumber) → slice_get list n.0 ≡ Some element → n.0 + 1 < 2 ^ 32 → get_or slots at 0 ≡ slot_of mark n.0 → ⊥) →
+      (found : Option NodeNumber) →
+      IfNone found (IsNotAmong list element mark slots (left - 1) (at + 1)) →
+      IfNone found (IsNotAmong list element mark slots left at)
+  none_among slots list element mark zero at some other found later = absurd (omega arith)
+  none_among slots list element mark (suc left) at some other (Some n) later = tt
+  none_among slots list element mark (suc left) at some other None later = λ n is fits among.
       let one : suc left - 1 ≡ left = omega arith in
       elim among.1 [
-        | inl here ↦ other (ap (slice_get list) (let e : get_or slots at 0 - 1 ≡ n.0 = omega (arith, here) in e) ∙ is)
-        | inr there ↦ later n is (subst (λ (k : ℕ). IsAmong slots k (at + 1) n.0) (sym one) there)
+        | inl here ↦ other n is fits here
+        | inr there ↦ later n is fits (subst (λ (k : ℕ). IsAmong slots k (at + 1) (slot_of mark n.0)) (sym one) there)
       ]
 
   module _ (cmp : K → K → Ordering) (exact : (a b : K) → cmp a b ≡ Equal → a ≡ b) where

@@ -74,19 +74,18 @@ module _ {V : Type 0} where
             (λ x t a a_in. whole_covers w bits start (block_of x.1) place (own_in.from_start x t) (own_in.before_end x t) (lens x t) a a_in);
       })
 
-  -- one row from all sources is the whole of its value
-  pub overlaid_one : (w : ℕ) (rows : List (Entry V)) (row : Entry V) (nodes : List (Node (Option V))) (old : Shape (Option V)) (value : V) → InBlock source_block w w 0 rows → HasOneDestination rows →
-      rows ≡ row ∷ [] → (block_of row.1).len ≡ 0 → row.2 ≡ value → IsLaid w w 0 (map row_of rows) nodes (Same (Some value)) old
-  overlaid_one w rows row nodes old value rows_in one only len is =
+  -- one row from all sources of a block is the whole of its value
+  pub overlaid_one : (w bits start : ℕ) (rows : List (Entry V)) (row : Entry V) (nodes : List (Node (Option V))) (old : Shape (Option V)) (value : V) → IsPlace w bits start → InBlock source_block w bits start rows →
+      HasOneDestination rows → rows ≡ row ∷ [] → (block_of row.1).len ≡ w - bits → row.2 ≡ value → IsLaid w bits start (map row_of rows) nodes (Same (Some value)) old
+  overlaid_one w bits start rows row nodes old value place rows_in one only len is =
       let listed : Listed rows row = subst (λ (xs : List (Entry V)). Listed xs row) (sym only) (inl refl) in
       let set : IsSet rows nodes (Same (Some value)) old = record { new = leaf (Some value); stands = refl; is = inr (row, listed, ap (λ v. leaf (Some v)) (sym is)) } in
-      let whole : IsPlace w w 0 = record { bits_in = omega arith; index = 0; start_is = omega arith; room = omega arith } in
-      let lens : (x : Entry V) → Listed rows x → (block_of x.1).len ≡ w - w = λ x t.
+      let lens : (x : Entry V) → Listed rows x → (block_of x.1).len ≡ w - bits = λ x t.
       elim (subst (λ (xs : List (Entry V)). Listed xs x) only t) [
-        | inl same ↦ subst (λ (y : Entry V). (block_of y.1).len ≡ w - w) same (omega (arith, len))
+        | inl same ↦ subst (λ (y : Entry V). (block_of y.1).len ≡ w - bits) same len
         | inr none ↦ absurd none
       ] in
-      overlaid_set w w 0 rows rows nodes (Same (Some value)) old whole rows_in one refl lens set
+      overlaid_set w bits start rows rows nodes (Same (Some value)) old place rows_in one refl lens set
 
   -- the halves, with their rows laid over them, are joined
   pub overlaid_joined : (w bits start : ℕ) (rows own low high : List (Entry V)) → AreParted source_block w bits start rows own low high → HasOneDestination rows →

@@ -1,17 +1,20 @@
 -- Where the elements of a list are found again: this project's own.
-use Rattle.std.specs.Prelude.{◌≡◌, ◌⊎◌, ℕ, zero, suc, ◌+◌, ◌/◌, ◌%◌, ◌^◌, ◌<◌, max, List, length}
+use Rattle.std.specs.Prelude.{◌≡◌, ◌⊎◌, ℕ, zero, suc, ◌+◌, ◌*◌, ◌/◌, ◌%◌, ◌^◌, ◌<◌, max, List, length}
 use Rattle.std.specs.Prelude.{get_or, Some, slice_get}
 use Rattle.std.specs.BTreeMap.{get}
 use Rattle.std.specs.declared.cmp.Ordering.{Ordering}
 use Rattle.babel_trie.specs.declared.index.Index.{Index}
 use Rattle.babel_trie.specs.declared.table.NodeNumber.{NodeNumber}
 
--- one of so many slots from this one on has the number, and none before it is free
+-- what a slot has: the lower half of an element's mark, and one more than its number
+abbrev pub slot_of : ℕ → ℕ → ℕ
+slot_of mark number = mark % 2 ^ 32 * 2 ^ 32 + (number + 1)
+
+-- one of so many slots from this one on has this, and none before it is free
 abbrev pub IsAmong : List ℕ → ℕ → ℕ → ℕ → Type 0
-IsAmong slots zero at number = ⊥
-IsAmong slots (suc left) at number =
-    (0 < get_or slots at 0)
-    × ((get_or slots at 0 ≡ number + 1) ⊎ IsAmong slots left (at + 1) number)
+IsAmong slots zero at slot = ⊥
+IsAmong slots (suc left) at slot =
+    (0 < get_or slots at 0) × ((get_or slots at 0 ≡ slot) ⊎ IsAmong slots left (at + 1) slot)
 
 -- the first of so many slots from this one on that is free
 abbrev pub IsFreeAmong : List ℕ → ℕ → ℕ → ℕ → Type 0
@@ -37,16 +40,18 @@ module _ {K : Type 0} where
   abbrev pub IsAbsent : List K → K → Type 0
   IsAbsent list x = (n : NodeNumber) → slice_get list n.0 ≡ Some x → ⊥
 
-  -- no number of the element is among the slots
-  abbrev pub IsNotAmong : List K → K → List ℕ → ℕ → ℕ → Type 0
-  IsNotAmong list x slots left at =
-      (n : NodeNumber) → slice_get list n.0 ≡ Some x → IsAmong slots left at n.0 → ⊥
+  -- no number of the element, beside this mark, is among the slots
+  abbrev pub IsNotAmong : List K → K → ℕ → List ℕ → ℕ → ℕ → Type 0
+  IsNotAmong list x mark slots left at =
+      (n : NodeNumber) → slice_get list n.0 ≡ Some x → n.0 + 1 < 2 ^ 32 →
+      IsAmong slots left at (slot_of mark n.0) → ⊥
 
 module _ {K : Type 0} (cmp : K → K → Ordering) (mark : K → ℕ) where
   -- a search for the element comes to this number
   abbrev pub IsFound : Index K → K → NodeNumber → Type 0
   IsFound index x number =
-      IsAmong index.slots.items window (first_slot index.slots.items (mark x)) number.0
+      ((number.0 + 1 < 2 ^ 32) × IsAmong index.slots.items window
+      (first_slot index.slots.items (mark x)) (slot_of (mark x) number.0))
       ⊎ (get cmp index.crowded x ≡ Some number)
 
   -- a search for each of so many elements comes to its number

@@ -1,6 +1,6 @@
 //! Where the elements of a list are found again.
-ghost use Rattle.std.specs.Prelude.{◌≡◌, ◌^◌, ◌<◌, ◌↔◌, ◌++◌, ◌∷◌, [], length, slice_get, Some, IfSome, IfNone, IsTrue, OnOk};
-ghost use Rattle.babel_trie.specs.Index.{IsNotAmong, IsFreeAmong, first_slot, HasDistinct, IsAbsent};
+ghost use Rattle.std.specs.Prelude.{◌≡◌, ◌≢◌, ℕ, ◌+◌, ◌^◌, ◌<◌, ◌↔◌, ◌++◌, ◌∷◌, [], length, slice_get, Some, IfSome, IfNone, IsTrue, OnOk};
+ghost use Rattle.babel_trie.specs.Index.{IsNotAmong, IsFreeAmong, first_slot, slot_of, HasDistinct, IsAbsent};
 ghost use Rattle.babel_trie.specs.Index.{IsFound, KeepsFound, IsIndexed};
 
 use crate::lawful::{LawfulOrd, are_same};
@@ -18,8 +18,8 @@ const WINDOW: u8 = 16;
 /// that is found is looked up in the list.
 #[derive(Drop)]
 pub struct Index<K: Ord> {
-    /// One more than an element's number, or 0 where the slot is free.
-    slots: Vec<u32>,
+    /// What `slot_of` says of an element's mark and number, or 0 where the slot is free.
+    slots: Vec<u64>,
     crowded: BTreeMap<K, NodeNumber>,
     /// How many more numbers are kept before the slots are made anew.
     room: usize,
@@ -35,17 +35,56 @@ fn is_number_of<K: LawfulOrd>(list: &[K], number: NodeNumber, element: K) -> boo
     }
 }
 
-/// The number of an element that one of so many slots from this one on has, if none before it is
-/// free.
+/// What a slot has: the lower half of an element's mark, so that others are told apart from it
+/// without a look at the list, and one more than its number. `None` where that is too large.
+fn slot_of(mark: u64, number: NodeNumber) -> Option<u64>
+    ensures { IfSome result (λ slot. (number.0 + 1 < 2 ^ 32) × (slot ≡ slot_of mark number.0)) }
+{
+    let next = number.0.checked_add(1)?;
+    Some(mark % (1 << 32) * (1 << 32) + u64::from(next))
+}
+
+/// The number in a slot, if the mark there is this one.
+fn number_in(slot: u64, mark: u64) -> Option<NodeNumber>
+    ensures some { IfSome result (λ n. slot ≡ slot_of mark n.0) }
+    ensures none { IfNone result ((n : ℕ) → n + 1 < 2 ^ 32 → slot ≢ slot_of mark n) }
+{
+    if slot >> 32 != mark % (1 << 32) {
+        return None;
+    }
+    let next = (slot % (1 << 32)) as u32;
+    let number = next.checked_sub(1)?;
+    Some(NodeNumber(number))
+}
+
+/// The number in a slot, if it is that of an element with this mark.
+fn number_at<K: LawfulOrd>(slot: u64, list: &[K], element: K, mark: u64) -> Option<NodeNumber>
+    ensures some { IfSome result (λ n. slice_get list.now n.0 ≡ Some element) }
+    ensures none { IfNone result ((n : NodeNumber) → slice_get list.now n.0 ≡ Some element
+        → n.0 + 1 < 2 ^ 32 → slot ≢ slot_of mark n.0) }
+{
+    let Some(number) = number_in(slot, mark) else {
+        return None;
+    };
+    if is_number_of(list, number, element) {
+        Some(number)
+    } else {
+        None
+    }
+}
+
+/// The number of an element with this mark that one of so many slots from this one on has, if none
+/// before it is free.
 fn number_among<K: LawfulOrd>(
-    slots: &[u32],
+    slots: &[u64],
     list: &[K],
     element: K,
+    mark: u64,
     at: usize,
     left: u8,
 ) -> Option<NodeNumber>
     ensures some { IfSome result (λ n. slice_get list.now n.0 ≡ Some element) }
-    ensures none { IfNone result (IsNotAmong list.now element slots.now left at) }
+    ensures none { IfNone result (IsNotAmong list.now element mark slots.now left at) }
 {
     if left == 0 || at >= slots.len() {
         return None;
@@ -54,15 +93,14 @@ fn number_among<K: LawfulOrd>(
     if slot == 0 {
         return None;
     }
-    let number = NodeNumber(slot - 1);
-    if is_number_of(list, number, element) {
+    if let Some(number) = number_at(slot, list, element, mark) {
         return Some(number);
     }
-    number_among(slots, list, element, at + 1, left - 1)
+    number_among(slots, list, element, mark, at + 1, left - 1)
 }
 
 /// The first of so many slots from this one on that is free.
-fn free_among(slots: &[u32], at: usize, left: u8) -> Option<usize>
+fn free_among(slots: &[u64], at: usize, left: u8) -> Option<usize>
     ensures { IfSome result (λ place. IsFreeAmong slots.now left at place) }
 {
     if left == 0 || at >= slots.len() {
@@ -85,11 +123,11 @@ impl<K: LawfulOrd> Index<K> {
         }
     }
 
-    /// The slot at which a search for an element begins.
-    fn first_slot(&self, element: K) -> usize
-        ensures { result ≡ first_slot self.now.slots.items (K.mark element) }
+    /// The slot at which a search for a mark begins.
+    fn first_slot(&self, mark: u64) -> usize
+        ensures { result ≡ first_slot self.now.slots.items mark }
     {
-        (element.mark() >> 32) as usize % self.slots.len().max(1)
+        (mark >> 32) as usize % self.slots.len().max(1)
     }
 
     /// The number of an element in the list.
@@ -98,8 +136,9 @@ impl<K: LawfulOrd> Index<K> {
         ensures some { IfSome result (λ n. slice_get list.now n.0 ≡ Some element) }
         ensures none { IfNone result (IsAbsent list.now element) }
     {
-        let first = self.first_slot(element);
-        if let Some(number) = number_among(&self.slots, list, element, first, WINDOW) {
+        let mark = element.mark();
+        let first = self.first_slot(mark);
+        if let Some(number) = number_among(&self.slots, list, element, mark, first, WINDOW) {
             return Some(number);
         }
         let kept = *self.crowded.get(&element)?;
@@ -115,9 +154,10 @@ impl<K: LawfulOrd> Index<K> {
         ensures kept { OnOk result (IsFound K.cmp K.mark self.new element number) }
         ensures others { OnOk result (KeepsFound K.cmp K.mark self.old self.new element number) }
     {
-        let first = self.first_slot(element);
+        let mark = element.mark();
+        let first = self.first_slot(mark);
         if let Some(place) = free_among(&self.slots, first, WINDOW) {
-            if let Some(slot) = number.0.checked_add(1) {
+            if let Some(slot) = slot_of(mark, number) {
                 self.slots[place] = slot;
                 return Ok(());
             }

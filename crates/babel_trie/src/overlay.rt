@@ -26,19 +26,20 @@ fn set<V: Copy>(rows: &[Row<V>], old: Loose<Option<V>>) -> Loose<Option<V>>
     }
 }
 
-/// The value of the row from all sources, where that is the only row.
-fn only_value<V: Copy>(rows: &[Row<V>]) -> Option<V>
+/// The value of the row with a source of this length, where that is the only row.
+fn only_value<V: Copy>(rows: &[Row<V>], len: u8) -> Option<V>
     ensures { IfSome result (λ value. (row : Entry V) × (rows.now ≡ row ∷ [])
-        × ((source_block row).len ≡ 0) × (row.2 ≡ value)) }
+        × ((source_block row).len ≡ len) × (row.2 ≡ value)) }
 {
     match rows {
-        [row] if row.1.len() == 0 => Some(row.2),
+        [row] if row.1.len() == len => Some(row.2),
         _ => None,
     }
 }
 
 impl<V: LawfulOrd> Table<Option<V>> {
-    /// The trie of a block with rows of one destination laid over it.
+    /// The trie of a block with rows of one destination laid over it. Over one value a row alone is
+    /// what the bits to its sources lead to.
     fn laid(
         &mut self,
         rows: &[Row<V>],
@@ -63,8 +64,16 @@ impl<V: LawfulOrd> Table<Option<V>> {
             → Stands self.old.nodes.items old t
             → IsLaid width bits start (map row_of rows.now) self.new.nodes.items new t) }
     {
+        if rows.is_empty() {
+            return Ok(old);
+        }
         if let Some(value) = old.value() {
             if let Some(inner) = inner_block(rows, width, bits, start) {
+                if let Some(only) = only_value(rows, width - inner.bits) {
+                    let inside = Loose::Same(Some(only));
+                    let around = self.along(inside, value, bits - inner.bits, inner.path)?;
+                    return Ok(around);
+                }
                 let inside = self.laid(rows, width, inner.bits, inner.start, old)?;
                 let whole = self.along(inside, value, bits - inner.bits, inner.path)?;
                 return Ok(whole);
@@ -103,7 +112,7 @@ impl<V: LawfulOrd> Table<Option<V>> {
             → Represents self.old.nodes.items old t
             → IsOverlaid width width 0 (map row_of rows.now) self.new.nodes.items new t) }
     {
-        if let Some(value) = only_value(rows) {
+        if let Some(value) = only_value(rows, 0) {
             return Ok(Sources::Constant(Some(value)));
         }
         let old = self.opened(old);

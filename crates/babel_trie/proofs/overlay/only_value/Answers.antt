@@ -10,4 +10,4 @@ only_one (x ∷ y ∷ xs) d some one = absurd (omega arith)
 pub returns-in-len1 : goal.returns-in-len1
 returns-in-len1 g c =
     let row = c.row-item.result in
-    (row, only_one c.args.rows.now row c.in-len1.len_at_least c.in-len1.len_below ∙ ap (λ x. x ∷ []) (sym c.row-item.is), sym c.len.ensures.value ∙ c.if-len-eq0.true, refl)
+    (row, only_one c.args.rows.now row c.in-len1.len_at_least c.in-len1.len_below ∙ ap (λ x. x ∷ []) (sym c.row-item.is), sym c.len.ensures.value ∙ c.if-len.true, refl)

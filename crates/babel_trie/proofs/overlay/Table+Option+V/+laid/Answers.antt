@@ -1,5 +1,6 @@
 -- The rows of the whole block set a constant, and the others are laid over its halves.
-use Rattle.std.proofs.Common.{◌-◌, ◌<◌, ◌≤◌, ◌++◌, map, subst, arith, rules}
+use Rattle.std.proofs.Common.{◌-◌, ◌<◌, ◌≤◌, ◌++◌, Some, map, refl, subst, arith, rules}
+use Rattle.babel_trie.specs.declared.table.Loose.TheVariants.{Same}
 use Rattle.babel_trie.specs.Interned.{IsTrie, IsNormalLoose}
 use Rattle.babel_trie.specs.Laid.{HasOneDestination, IsLaid}
 use Rattle.babel_prefix.specs.Entries.{row_of}
@@ -10,7 +11,7 @@ use Rattle.babel_trie.proofs.FormLaws.{IsTrie-grows}
 use Rattle.babel_trie.proofs.HalfLaws.{halved, halves_normal, set_trie}
 use Rattle.babel_trie.proofs.PlaceLaws.{place_low}
 use Rattle.babel_trie.proofs.PartLaws.{some_holds, none_holds, upper_place, upper_rows}
-use Rattle.babel_trie.proofs.SourceLaws.{overlaid_set, overlaid_joined, halved_tries, one_left, one_right}
+use Rattle.babel_trie.proofs.SourceLaws.{overlaid_set, overlaid_one, overlaid_joined, halved_tries, one_left, one_right}
 use Rattle.babel_trie.proofs.LaidAlong.{laid_along, one_trie}
 use Rattle.babel_trie.proofs.overlay.Table+Option+V.+laid.Goals as goal
 
@@ -40,6 +41,30 @@ laid-requires g t c κs within =
 
 pub along-requires-clause-inside : goal.along-requires-clause-inside
 along-requires-clause-inside g t c =
+    one_trie (128 - (c.args.bits - c.in-Some-inner_block.inner.bits)) c.args.self.now.nodes.items (Same (Some c.in-Some-only_value.only)) (Some c.in-Some-only_value.only) refl
+
+pub returns-in-Some-only_value-clause-laid : goal.returns-in-Some-only_value-clause-laid
+returns-in-Some-only_value-clause-laid g t c u p =
+    let a = c.args in
+    let inner = c.in-Some-inner_block.inner in
+    let ensures = c.inner_block.ensures in
+    let there = c.in-Some-inner_block.is in
+    let v = c.in-Some.value in
+    let only = c.in-Some-only_value.only in
+    let nodes = a.self.now.nodes.items in
+    let new = c.along.new.self.nodes.items in
+    let is = some_holds _ c.value.ensures.some c.in-Some.is in
+    let one = c.in-Some-only_value.ensures in
+    let place = some_holds _ ensures.place there in
+    let rows = some_holds _ ensures.rows there in
+    let laid = overlaid_one a.width inner.bits inner.start a.rows.now one.0 nodes (leaf v) only place rows c.requires.one one.1 one.2 one.3 in
+    let smaller = some_holds _ ensures.smaller there in
+    let whole = laid_along a.width a.bits a.start inner.bits inner.start inner.path a.rows.now place rows (omega (arith, smaller)) (some_holds _ ensures.path there) (some_holds _ ensures.start there)
+    nodes new (Same (Some only)) c.in_ok-around.around v laid (c.in_ok-around.ensures.along laid.new laid.stands) in
+    subst (IsLaid a.width a.bits a.start (map row_of a.rows.now) new c.in_ok-around.around) (one_shape nodes a.old (leaf v) u is p) whole
+
+pub along-requires-in-Some-inner_block-clause-inside : goal.along-requires-in-Some-inner_block-clause-inside
+along-requires-in-Some-inner_block-clause-inside g t c =
     let is = some_holds _ c.value.ensures.some c.in-Some.is in
     let laid = c.in_ok-inside.ensures.laid (leaf c.in-Some.value) is in
     let smaller = some_holds _ c.inner_block.ensures.smaller c.in-Some-inner_block.is in
@@ -56,7 +81,7 @@ returns-in-Some-inner_block-clause-laid g t c u p =
     let ensures = c.inner_block.ensures in
     let there = c.in-Some-inner_block.is in
     let v = c.in-Some.value in
-    let new = c.along.new.self.nodes.items in
+    let new = c.along-in-Some-inner_block.new.self.nodes.items in
     let is = some_holds _ c.value.ensures.some c.in-Some.is in
     let laid = c.in_ok-inside.ensures.laid (leaf v) is in
     let smaller = some_holds _ ensures.smaller there in

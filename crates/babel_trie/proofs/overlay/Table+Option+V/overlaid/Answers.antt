@@ -1,5 +1,6 @@
 -- What is laid over what the sources are, stored; one row from all sources is a constant.
-use Rattle.std.proofs.Common.{Some, refl}
+use Rattle.std.proofs.Common.{Some, refl, arith}
+use Rattle.babel_trie.specs.Rows.{IsPlace}
 use Rattle.babel_trie.specs.declared.table.Loose.TheVariants.{Same}
 use Rattle.babel_trie.proofs.SourceLaws.{overlaid_one}
 use Rattle.babel_trie.proofs.NumberLaws.{Stands-grows, opened-normal, form_from_sound}
@@ -45,7 +46,8 @@ returns-clause-overlaid g c t p =
 pub returns-in-Some-clause-overlaid : goal.returns-in-Some-clause-overlaid
 returns-in-Some-clause-overlaid g c t p =
     let one = c.in-Some.ensures in
-    let laid = overlaid_one c.args.width c.args.rows.now one.0 c.args.self.now.nodes.items t c.in-Some.value c.requires.rows c.requires.one one.1 one.2 one.3 in
+    let whole : IsPlace c.args.width c.args.width 0 = record { bits_in = omega arith; index = 0; start_is = omega arith; room = omega arith } in
+    let laid = overlaid_one c.args.width c.args.width 0 c.args.rows.now one.0 c.args.self.now.nodes.items t c.in-Some.value whole c.requires.rows c.requires.one one.1 (omega (arith, one.2)) one.3 in
     record {
       new = laid.new;
       stands = (Same (Some c.in-Some.value), refl, laid.stands);
