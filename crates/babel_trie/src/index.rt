@@ -26,7 +26,7 @@ pub struct Index<K: Ord> {
 }
 
 /// Whether this is the number of an element in the list.
-fn is_number_of<K: LawfulOrd>(list: &[K], number: NodeNumber, element: K) -> bool
+pub fn is_number_of<K: LawfulOrd>(list: &[K], number: NodeNumber, element: K) -> bool
     ensures { IsTrue result ↔ (slice_get list.now number.0 ≡ Some element) }
 {
     match list.get(number.index()) {

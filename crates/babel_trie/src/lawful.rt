@@ -3,7 +3,6 @@ ghost use Rattle.std.specs.Prelude.{◌≡◌, ◌↔◌, ℕ, IsTrue};
 ghost use Rattle.babel_trie.specs.Marks.{stirred};
 ghost use Rattle.std.specs.declared.cmp.Ordering.TheVariants.{Equal};
 
-
 /// Values that a grid can hold: ordered, and equal by that order only where they are one.
 pub trait LawfulOrd: Ord + Copy {
     // The number that goes with a value.

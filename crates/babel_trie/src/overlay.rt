@@ -84,10 +84,11 @@ impl<V: LawfulOrd> Table<Option<V>> {
         let Some(rest) = rest else {
             return Ok(old);
         };
+        let numbers = old.numbers();
         let (low, high) = self.halves(old);
         let low = self.laid(rest.low, width, bits - 1, start, low)?;
         let high = self.laid(rest.high, width, bits - 1, rest.middle, high)?;
-        let whole = self.joined(low, high)?;
+        let whole = self.joined_as(low, high, numbers)?;
         Ok(whole)
     }
 

@@ -1,5 +1,5 @@
 -- The number is that of this slot, or that of a later one.
-use Rattle.std.proofs.Common.{arith, ap, sym, ◌∙◌}
+use Rattle.std.proofs.Common.{arith}
 use Rattle.babel_trie.proofs.IndexLaws.{none_among}
 use Rattle.babel_trie.proofs.index.+number_among.Goals as goal
 

@@ -138,8 +138,8 @@ laid-requires-3 g t c κs within =
     let one : HasOneDestination high = one_right low high (one_right own (low ++ high) (subst HasOneDestination parts.whole c.requires.one)) in
     search rules
 
-pub joined-requires-clause-low : goal.joined-requires-clause-low
-joined-requires-clause-low g t c =
+pub joined_as-requires-clause-low : goal.joined_as-requires-clause-low
+joined_as-requires-clause-low g t c =
     let a = c.args in
     let nodes1 = a.self.now.nodes.items in
     let nodes2 = c.laid-2.new.self.nodes.items in
@@ -152,8 +152,8 @@ joined-requires-clause-low g t c =
     let fits : height low.new ≤ 127 = omega (arith, low.fits tries.0.fits, c.requires.width) in
     IsTrie-grows nodes2 nodes3 c.in_ok-high.ensures.keeps 127 c.in_ok-low.low (record { trie = low.new; stands = low.stands; fits = fits; reduced = low.reduced tries.0.reduced })
 
-pub joined-requires-clause-high : goal.joined-requires-clause-high
-joined-requires-clause-high g t c =
+pub joined_as-requires-clause-high : goal.joined_as-requires-clause-high
+joined_as-requires-clause-high g t c =
     let a = c.args in
     let nodes1 = a.self.now.nodes.items in
     let nodes2 = c.laid-2.new.self.nodes.items in
@@ -166,8 +166,8 @@ joined-requires-clause-high g t c =
     let fits : height high.new ≤ 127 = omega (arith, high.fits tries.1.fits, c.requires.width) in
     record { trie = high.new; stands = high.stands; fits = fits; reduced = high.reduced tries.1.reduced }
 
-pub joined-requires-clause-low_normal : goal.joined-requires-clause-low_normal
-joined-requires-clause-low_normal g t c =
+pub joined_as-requires-clause-low_normal : goal.joined_as-requires-clause-low_normal
+joined_as-requires-clause-low_normal g t c =
     IsNormalLoose-grows c.laid-2.new.self.nodes.items c.laid-3.new.self.nodes.items c.in_ok-high.ensures.keeps c.in_ok-low.low c.in_ok-low.ensures.normal
 
 pub returns-clause-keeps : goal.returns-clause-keeps
@@ -183,7 +183,7 @@ returns-clause-laid g t c u p =
     let nodes1 = c.args.self.now.nodes.items in
     let nodes2 = c.laid-2.new.self.nodes.items in
     let nodes3 = c.laid-3.new.self.nodes.items in
-    let nodes4 = c.joined.new.self.nodes.items in
+    let nodes4 = c.joined_as.new.self.nodes.items in
     let fits : height u ≤ a.bits = subst (λ x. height x ≤ a.bits) (one_shape c.args.self.now.nodes.items a.old c.requires.trie.trie u c.requires.trie.stands p) c.requires.trie.fits in
     let set = c.set-old.ensures.is c.args.self.now.nodes.items u p in
     let halved = halved c.args.self.now.nodes.items c.set-old.result c.halves.result.0 c.halves.result.1 c.halves.ensures.one c.halves.ensures.node set.new set.stands in
