@@ -17,7 +17,7 @@ use Rattle.babel_trie.specs.declared.table.Sources.{Sources}
 use Rattle.babel_trie.specs.declared.table.Sources.TheVariants.{Constant, Stored}
 use Rattle.babel_trie.proofs.BitLaws.{pow_twice, is_low-below, is_low-above}
 use Rattle.babel_trie.proofs.NumberLaws.{node_is, is_low-mod, one_shape}
-use Rattle.babel_trie.proofs.FormLaws.{longer_node, united_low, united_high, halves_are_not_one, path-lower}
+use Rattle.babel_trie.proofs.FormLaws.{fork_node, united_values, longer_node, united_low, united_high, halves_are_not_one, path-lower}
 
 -- a longer path is below its power of two
 pub longer_path : (skip path more bits : ℕ) → path < 2 ^ skip → bits < 2 ^ more → path + bits * 2 ^ skip < 2 ^ (skip + more)
@@ -256,6 +256,18 @@ module _ {V : Type 0} (nodes : List (Node V)) (v : V) where
     pub few_bits : (skip : ℕ) (node : Node V) → 0 < skip → skip ≤ 128 → height t ≤ 128 - skip → IsLong node (along 1 path (leaf v) t) → node.skip + (skip - 1) < 128
     few_bits skip node some few fits base =
         omega (arith, path-lower nodes (along 1 path (leaf v) t) node base.stands, along-lower v 1 path t)
+
+  in_order-apart : (b : Bool) (inside low high : V) → AreHalvesBy b (Same inside) (Same v) (Same low) (Same high) → (inside ≡ v → ⊥) → low ≡ high → ⊥
+  in_order-apart true inside low high h apart e = let p = h.0 in let q = h.1 in apart (cc)
+  in_order-apart false inside low high h apart e = let p = h.0 in let q = h.1 in apart (cc)
+
+  -- two values that differ are the halves of a node
+  pub alone_node : (inside low high : V) (path : ℕ) (node : Node V) (t : Shape V) → Stands nodes (Same inside) t → AreHalvesBy (is_low 1 path) (Same inside) (Same v) (Same low) (Same high) → (inside ≡ v → ⊥) →
+      node ≡ fork_node nodes (Constant low) (Constant high) → IsLong node (along 1 path (leaf v) t) × (t ≡ leaf v → ⊥)
+  alone_node inside low high path node t p halves apart is =
+      let made : AreUnited nodes (Same low) (Same high) (Split node) = subst (λ (m : Node V). AreUnited nodes (Same low) (Same high) (Split m)) (sym is)
+      (united_values nodes low high (in_order-apart (is_low 1 path) inside low high halves apart)) in
+      first_bit (Same inside) path t p (is_low 1 path) (Same low) (Same high) node refl halves made
 
   pub halves_tries : (b : Bool) (inside low high : Loose V) → AreHalvesBy b inside (Same v) low high → IsTrie 127 nodes inside → IsTrie 127 nodes low × IsTrie 127 nodes high
   halves_tries b inside low high halves h = by b halves

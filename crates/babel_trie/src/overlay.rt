@@ -10,7 +10,7 @@ ghost use Rattle.babel_trie.specs.declared.table.Node.{Node};
 
 use crate::lawful::LawfulOrd;
 use crate::rows::{Row, inner_block, parts};
-use crate::table::{Loose, Sources, Table};
+use crate::table::{Loose, Sources, Table, alone};
 use std::alloc::AllocError;
 
 /// The value that the rows of a whole block set, or what was answered before where there are none.
@@ -70,9 +70,7 @@ impl<V: LawfulOrd> Table<Option<V>> {
         if let Some(value) = old.value() {
             if let Some(inner) = inner_block(rows, width, bits, start) {
                 if let Some(only) = only_value(rows, width - inner.bits) {
-                    let inside = Loose::Same(Some(only));
-                    let around = self.along(inside, value, bits - inner.bits, inner.path)?;
-                    return Ok(around);
+                    return Ok(alone(Some(only), value, bits - inner.bits, inner.path));
                 }
                 let inside = self.laid(rows, width, inner.bits, inner.start, old)?;
                 let whole = self.along(inside, value, bits - inner.bits, inner.path)?;

@@ -1,5 +1,5 @@
 -- The rows of the whole block set a constant, and the others are laid over its halves.
-use Rattle.std.proofs.Common.{◌-◌, ◌<◌, ◌≤◌, ◌++◌, Some, map, refl, subst, arith, rules}
+use Rattle.std.proofs.Common.{◌-◌, ◌<◌, ◌≤◌, ◌++◌, Some, map, subst, arith, rules}
 use Rattle.babel_trie.specs.declared.table.Loose.TheVariants.{Same}
 use Rattle.babel_trie.specs.Interned.{IsTrie, IsNormalLoose}
 use Rattle.babel_trie.specs.Laid.{HasOneDestination, IsLaid}
@@ -39,10 +39,6 @@ laid-requires g t c κs within =
     let rows : InBlock source_block a.width inner.bits inner.start a.rows.now = some_holds _ c.inner_block.ensures.rows c.in-Some-inner_block.is in
     search rules
 
-pub along-requires-clause-inside : goal.along-requires-clause-inside
-along-requires-clause-inside g t c =
-    one_trie (128 - (c.args.bits - c.in-Some-inner_block.inner.bits)) c.args.self.now.nodes.items (Same (Some c.in-Some-only_value.only)) (Some c.in-Some-only_value.only) refl
-
 pub returns-in-Some-only_value-clause-laid : goal.returns-in-Some-only_value-clause-laid
 returns-in-Some-only_value-clause-laid g t c u p =
     let a = c.args in
@@ -52,7 +48,6 @@ returns-in-Some-only_value-clause-laid g t c u p =
     let v = c.in-Some.value in
     let only = c.in-Some-only_value.only in
     let nodes = a.self.now.nodes.items in
-    let new = c.along.new.self.nodes.items in
     let is = some_holds _ c.value.ensures.some c.in-Some.is in
     let one = c.in-Some-only_value.ensures in
     let place = some_holds _ ensures.place there in
@@ -60,11 +55,11 @@ returns-in-Some-only_value-clause-laid g t c u p =
     let laid = overlaid_one a.width inner.bits inner.start a.rows.now one.0 nodes (leaf v) only place rows c.requires.one one.1 one.2 one.3 in
     let smaller = some_holds _ ensures.smaller there in
     let whole = laid_along a.width a.bits a.start inner.bits inner.start inner.path a.rows.now place rows (omega (arith, smaller)) (some_holds _ ensures.path there) (some_holds _ ensures.start there)
-    nodes new (Same (Some only)) c.in_ok-around.around v laid (c.in_ok-around.ensures.along laid.new laid.stands) in
-    subst (IsLaid a.width a.bits a.start (map row_of a.rows.now) new c.in_ok-around.around) (one_shape nodes a.old (leaf v) u is p) whole
+    nodes nodes (Same (Some only)) c.alone.result v laid (c.alone.ensures.along nodes laid.new laid.stands) in
+    subst (IsLaid a.width a.bits a.start (map row_of a.rows.now) nodes c.alone.result) (one_shape nodes a.old (leaf v) u is p) whole
 
-pub along-requires-in-Some-inner_block-clause-inside : goal.along-requires-in-Some-inner_block-clause-inside
-along-requires-in-Some-inner_block-clause-inside g t c =
+pub along-requires-clause-inside : goal.along-requires-clause-inside
+along-requires-clause-inside g t c =
     let is = some_holds _ c.value.ensures.some c.in-Some.is in
     let laid = c.in_ok-inside.ensures.laid (leaf c.in-Some.value) is in
     let smaller = some_holds _ c.inner_block.ensures.smaller c.in-Some-inner_block.is in
@@ -81,7 +76,7 @@ returns-in-Some-inner_block-clause-laid g t c u p =
     let ensures = c.inner_block.ensures in
     let there = c.in-Some-inner_block.is in
     let v = c.in-Some.value in
-    let new = c.along-in-Some-inner_block.new.self.nodes.items in
+    let new = c.along.new.self.nodes.items in
     let is = some_holds _ c.value.ensures.some c.in-Some.is in
     let laid = c.in_ok-inside.ensures.laid (leaf v) is in
     let smaller = some_holds _ ensures.smaller there in
@@ -193,3 +188,6 @@ returns-clause-laid g t c u p =
     let joined = c.in_ok-whole-2.ensures.joins in_low.new in_high.new (Stands-grows nodes2 nodes3 c.in_ok-high.ensures.keeps c.in_ok-low.low in_low.new in_low.stands) in_high.stands in
     overlaid_joined a.width a.bits a.start a.rows.now c.parts.result.0.now low high parts c.requires.one nodes1 nodes2 nodes3 nodes4 c.set-old.result c.halves.result.0 c.halves.result.1 c.in_ok-low.low c.in_ok-high.high c.in_ok-whole-2.whole u
     set halved in_low in_high joined fits
+
+pub returns-in-Some-only_value-clause-normal : goal.returns-in-Some-only_value-clause-normal
+returns-in-Some-only_value-clause-normal g t c = c.alone.ensures.normal c.args.self.now.nodes.items
