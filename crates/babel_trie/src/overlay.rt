@@ -38,9 +38,9 @@ fn only_value<V: Copy>(rows: &[Row<V>], len: u8) -> Option<V>
 }
 
 impl<V: LawfulOrd> Table<Option<V>> {
-    /// The trie of a block with rows of one destination laid over it. Over one value a row alone is
-    /// what the bits to its sources lead to.
-    fn laid(
+    /// The trie of a half with the rows that lie there laid over it: as it was where there are none.
+    #[cycle(laid)]
+    fn laid_half(
         &mut self,
         rows: &[Row<V>],
         width: u8,
@@ -67,6 +67,36 @@ impl<V: LawfulOrd> Table<Option<V>> {
         if rows.is_empty() {
             return Ok(old);
         }
+        self.laid(rows, width, bits, start, old)
+    }
+
+    /// The trie of a block with rows of one destination laid over it. Over one value a row alone is
+    /// what the bits to its sources lead to.
+    #[cycle(laid)]
+    fn laid(
+        &mut self,
+        rows: &[Row<V>],
+        width: u8,
+        bits: u8,
+        start: u128,
+        old: Loose<Option<V>>,
+    ) -> Result<Loose<Option<V>>, AllocError>
+        requires sound { IsSound ⟦<Sources<Option<V>> as Ord>⟧.cmp
+            ⟦<Sources<Option<V>> as LawfulOrd>⟧.mark self.old.nodes.items self.old.numbers }
+        requires trie { IsTrie bits self.old.nodes.items old }
+        requires normal { IsNormalLoose self.old.nodes.items old }
+        requires place { IsPlace width bits start }
+        requires rows { InBlock source_block width bits start rows.now }
+        requires one { HasOneDestination rows.now }
+        requires width { width ≤ 128 }
+        ensures sound { OnOk result (IsSound ⟦<Sources<Option<V>> as Ord>⟧.cmp
+            ⟦<Sources<Option<V>> as LawfulOrd>⟧.mark self.new.nodes.items self.new.numbers) }
+        ensures keeps { OnOk result (KeepsNodes self.old.nodes.items self.new.nodes.items) }
+        ensures normal { IfOk result (IsNormalLoose self.new.nodes.items) }
+        ensures laid { IfOk result (λ new. (t : Shape (Option V))
+            → Stands self.old.nodes.items old t
+            → IsLaid width bits start (map row_of rows.now) self.new.nodes.items new t) }
+    {
         if let Some(value) = old.value() {
             if let Some(inner) = inner_block(rows, width, bits, start) {
                 if let Some(only) = only_value(rows, width - inner.bits) {
@@ -84,8 +114,8 @@ impl<V: LawfulOrd> Table<Option<V>> {
         };
         let numbers = old.numbers();
         let (low, high) = self.halves(old);
-        let low = self.laid(rest.low, width, bits - 1, start, low)?;
-        let high = self.laid(rest.high, width, bits - 1, rest.middle, high)?;
+        let low = self.laid_half(rest.low, width, bits - 1, start, low)?;
+        let high = self.laid_half(rest.high, width, bits - 1, rest.middle, high)?;
         let whole = self.joined_as(low, high, numbers)?;
         Ok(whole)
     }

@@ -1,5 +1,5 @@
 -- The rows of the whole block set a constant, and the others are laid over its halves.
-use Rattle.std.proofs.Common.{◌-◌, ◌<◌, ◌≤◌, ◌++◌, Some, map, subst, arith, rules}
+use Rattle.std.proofs.Common.{◌-◌, ◌+◌, ◌*◌, ◌<◌, ◌≤◌, ◌++◌, Some, map, subst, arith, rules}
 use Rattle.babel_trie.specs.declared.table.Loose.TheVariants.{Same}
 use Rattle.babel_trie.specs.Interned.{IsTrie, IsNormalLoose}
 use Rattle.babel_trie.specs.Laid.{HasOneDestination, IsLaid}
@@ -15,32 +15,32 @@ use Rattle.babel_trie.proofs.SourceLaws.{overlaid_set, overlaid_one, overlaid_jo
 use Rattle.babel_trie.proofs.LaidAlong.{laid_along, one_trie}
 use Rattle.babel_trie.proofs.overlay.Table+Option+V.+laid.Goals as goal
 
-pub returns-in_default-rest-clause-laid : goal.returns-in_default-rest-clause-laid
-returns-in_default-rest-clause-laid g t c u p =
+pub laid-returns-in_default-rest-clause-laid : goal.laid-returns-in_default-rest-clause-laid
+laid-returns-in_default-rest-clause-laid g t c u p =
     let a = c.args in
     overlaid_set a.width a.bits a.start a.rows.now c.parts.result.0.now c.args.self.now.nodes.items c.set-old.result u c.requires.place c.requires.rows c.requires.one
     (none_holds c.parts.ensures.none c.in_default-rest.is) c.parts.ensures.own (c.set-old.ensures.is c.args.self.now.nodes.items u p)
 
-pub returns-in_default-rest-clause-normal : goal.returns-in_default-rest-clause-normal
-returns-in_default-rest-clause-normal g t c = c.set-old.ensures.normal c.args.self.now.nodes.items c.requires.normal
+pub laid-returns-in_default-rest-clause-normal : goal.laid-returns-in_default-rest-clause-normal
+laid-returns-in_default-rest-clause-normal g t c = c.set-old.ensures.normal c.args.self.now.nodes.items c.requires.normal
 
-pub overflow_sub-bits : goal.overflow_sub-bits
-overflow_sub-bits g t c = omega (arith, some_holds _ c.inner_block.ensures.smaller c.in-Some-inner_block.is)
+pub laid-overflow_sub-bits : goal.laid-overflow_sub-bits
+laid-overflow_sub-bits g t c = omega (arith, some_holds _ c.inner_block.ensures.smaller c.in-Some-inner_block.is)
 
-pub laid-requires : goal.laid-requires
-laid-requires g t c κs within =
+pub laid-laid-requires : goal.laid-laid-requires
+laid-laid-requires g t c κs within =
     let a = c.args in
     let inner = c.in-Some-inner_block.inner in
     let nodes = a.self.now.nodes.items in
     let is = some_holds _ c.value.ensures.some c.in-Some.is in
-    let falls : inner.bits < t = omega (arith, c.decreases, some_holds _ c.inner_block.ensures.smaller c.in-Some-inner_block.is) in
+    let falls : 2 * inner.bits < t = omega (arith, c.decreases, some_holds _ c.inner_block.ensures.smaller c.in-Some-inner_block.is) in
     let trie : IsTrie inner.bits nodes a.old = one_trie inner.bits nodes a.old c.in-Some.value is in
     let place : IsPlace a.width inner.bits inner.start = some_holds _ c.inner_block.ensures.place c.in-Some-inner_block.is in
     let rows : InBlock source_block a.width inner.bits inner.start a.rows.now = some_holds _ c.inner_block.ensures.rows c.in-Some-inner_block.is in
     search rules
 
-pub returns-in-Some-only_value-clause-laid : goal.returns-in-Some-only_value-clause-laid
-returns-in-Some-only_value-clause-laid g t c u p =
+pub laid-returns-in-Some-only_value-clause-laid : goal.laid-returns-in-Some-only_value-clause-laid
+laid-returns-in-Some-only_value-clause-laid g t c u p =
     let a = c.args in
     let inner = c.in-Some-inner_block.inner in
     let ensures = c.inner_block.ensures in
@@ -58,19 +58,19 @@ returns-in-Some-only_value-clause-laid g t c u p =
     nodes nodes (Same (Some only)) c.alone.result v laid (c.alone.ensures.along nodes laid.new laid.stands) in
     subst (IsLaid a.width a.bits a.start (map row_of a.rows.now) nodes c.alone.result) (one_shape nodes a.old (leaf v) u is p) whole
 
-pub along-requires-clause-inside : goal.along-requires-clause-inside
-along-requires-clause-inside g t c =
+pub laid-along-requires-clause-inside : goal.laid-along-requires-clause-inside
+laid-along-requires-clause-inside g t c =
     let is = some_holds _ c.value.ensures.some c.in-Some.is in
     let laid = c.in_ok-inside.ensures.laid (leaf c.in-Some.value) is in
     let smaller = some_holds _ c.inner_block.ensures.smaller c.in-Some-inner_block.is in
     let fits : height laid.new ≤ 128 - (c.args.bits - c.in-Some-inner_block.inner.bits) = omega (arith, laid.fits (omega arith), smaller, c.requires.place.bits_in, c.requires.width) in
     record { trie = laid.new; stands = laid.stands; fits = fits; reduced = laid.reduced tt }
 
-pub returns-in-Some-inner_block-clause-keeps : goal.returns-in-Some-inner_block-clause-keeps
-returns-in-Some-inner_block-clause-keeps g t c i node e = c.in_ok-whole.ensures.keeps i node (c.in_ok-inside.ensures.keeps i node e)
+pub laid-returns-in-Some-inner_block-clause-keeps : goal.laid-returns-in-Some-inner_block-clause-keeps
+laid-returns-in-Some-inner_block-clause-keeps g t c i node e = c.in_ok-whole.ensures.keeps i node (c.in_ok-inside.ensures.keeps i node e)
 
-pub returns-in-Some-inner_block-clause-laid : goal.returns-in-Some-inner_block-clause-laid
-returns-in-Some-inner_block-clause-laid g t c u p =
+pub laid-returns-in-Some-inner_block-clause-laid : goal.laid-returns-in-Some-inner_block-clause-laid
+laid-returns-in-Some-inner_block-clause-laid g t c u p =
     let a = c.args in
     let inner = c.in-Some-inner_block.inner in
     let ensures = c.inner_block.ensures in
@@ -84,16 +84,16 @@ returns-in-Some-inner_block-clause-laid g t c u p =
     c.laid.new.self.nodes.items new c.in_ok-inside.inside c.in_ok-whole.whole v laid (c.in_ok-whole.ensures.along laid.new laid.stands) in
     subst (IsLaid a.width a.bits a.start (map row_of a.rows.now) new c.in_ok-whole.whole) (one_shape a.self.now.nodes.items a.old (leaf v) u is p) whole
 
-pub halves-requires : goal.halves-requires
-halves-requires g t c =
+pub laid-halves-requires : goal.laid-halves-requires
+laid-halves-requires g t c =
     let set = c.set-old.ensures.is c.args.self.now.nodes.items c.requires.trie.trie c.requires.trie.stands in
     (c.args.bits, omega (arith, c.requires.place.bits_in, c.requires.width), set_trie c.args.bits c.parts.result.0.now c.args.self.now.nodes.items c.set-old.result c.requires.trie.trie set c.requires.trie.fits c.requires.trie.reduced)
 
-pub overflow_sub-bits-2 : goal.overflow_sub-bits-2
-overflow_sub-bits-2 g t c = (some_holds _ c.parts.ensures.halves c.in-Some-rest.is).some
+pub laid-overflow_sub-bits-2 : goal.laid-overflow_sub-bits-2
+laid-overflow_sub-bits-2 g t c = (some_holds _ c.parts.ensures.halves c.in-Some-rest.is).some
 
-pub laid-requires-2 : goal.laid-requires-2
-laid-requires-2 g t c κs within =
+pub laid-laid_half-requires : goal.laid-laid_half-requires
+laid-laid_half-requires g t c κs within =
     let a = c.args in
     let nodes = c.args.self.now.nodes.items in
     let own = c.parts.result.0.now in
@@ -102,7 +102,7 @@ laid-requires-2 g t c κs within =
     let parts = some_holds _ c.parts.ensures.halves c.in-Some-rest.is in
     let set = c.set-old.ensures.is c.args.self.now.nodes.items c.requires.trie.trie c.requires.trie.stands in
     let tries = halved_tries a.bits own nodes c.set-old.result c.halves.result.0 c.halves.result.1 c.requires.trie.trie set c.requires.trie.fits c.requires.trie.reduced parts.some (halved c.args.self.now.nodes.items c.set-old.result c.halves.result.0 c.halves.result.1 c.halves.ensures.one c.halves.ensures.node set.new set.stands) in
-    let falls : a.bits - 1 < t = omega (arith, c.decreases) in
+    let falls : 2 * (a.bits - 1) + 1 < t = omega (arith, c.decreases, parts.some) in
     let trie : IsTrie (a.bits - 1) nodes c.halves.result.0 = tries.0 in
     let form = form_from_sound _ nodes a.self.now.numbers c.requires.sound in
     let normals = halves_normal nodes form c.set-old.result c.halves.result.0 c.halves.result.1 c.halves.ensures.one c.halves.ensures.node (c.set-old.ensures.normal nodes c.requires.normal) in
@@ -112,8 +112,8 @@ laid-requires-2 g t c κs within =
     let one : HasOneDestination low = one_left low high (one_right own (low ++ high) (subst HasOneDestination parts.whole c.requires.one)) in
     search rules
 
-pub laid-requires-3 : goal.laid-requires-3
-laid-requires-3 g t c κs within =
+pub laid-laid_half-requires-2 : goal.laid-laid_half-requires-2
+laid-laid_half-requires-2 g t c κs within =
     let a = c.args in
     let nodes = c.args.self.now.nodes.items in
     let own = c.parts.result.0.now in
@@ -123,22 +123,22 @@ laid-requires-3 g t c κs within =
     let middle = some_holds _ c.parts.ensures.middle c.in-Some-rest.is in
     let set = c.set-old.ensures.is c.args.self.now.nodes.items c.requires.trie.trie c.requires.trie.stands in
     let tries = halved_tries a.bits own nodes c.set-old.result c.halves.result.0 c.halves.result.1 c.requires.trie.trie set c.requires.trie.fits c.requires.trie.reduced parts.some (halved c.args.self.now.nodes.items c.set-old.result c.halves.result.0 c.halves.result.1 c.halves.ensures.one c.halves.ensures.node set.new set.stands) in
-    let falls : a.bits - 1 < t = omega (arith, c.decreases) in
+    let falls : 2 * (a.bits - 1) + 1 < t = omega (arith, c.decreases, parts.some) in
     let form = form_from_sound _ nodes a.self.now.numbers c.requires.sound in
     let normals = halves_normal nodes form c.set-old.result c.halves.result.0 c.halves.result.1 c.halves.ensures.one c.halves.ensures.node (c.set-old.ensures.normal nodes c.requires.normal) in
-    let normal : IsNormalLoose c.laid-2.new.self.nodes.items c.halves.result.1 = IsNormalLoose-grows nodes c.laid-2.new.self.nodes.items c.in_ok-low.ensures.keeps c.halves.result.1 normals.1 in
-    let trie : IsTrie (a.bits - 1) c.laid-2.new.self.nodes.items c.halves.result.1 = IsTrie-grows nodes c.laid-2.new.self.nodes.items c.in_ok-low.ensures.keeps (a.bits - 1) c.halves.result.1 tries.1 in
+    let normal : IsNormalLoose c.laid_half.new.self.nodes.items c.halves.result.1 = IsNormalLoose-grows nodes c.laid_half.new.self.nodes.items c.in_ok-low.ensures.keeps c.halves.result.1 normals.1 in
+    let trie : IsTrie (a.bits - 1) c.laid_half.new.self.nodes.items c.halves.result.1 = IsTrie-grows nodes c.laid_half.new.self.nodes.items c.in_ok-low.ensures.keeps (a.bits - 1) c.halves.result.1 tries.1 in
     let place : IsPlace a.width (a.bits - 1) c.in-Some-rest.rest.middle = upper_place middle parts in
     let rows : InBlock source_block a.width (a.bits - 1) c.in-Some-rest.rest.middle high = upper_rows middle parts in
     let one : HasOneDestination high = one_right low high (one_right own (low ++ high) (subst HasOneDestination parts.whole c.requires.one)) in
     search rules
 
-pub joined_as-requires-clause-low : goal.joined_as-requires-clause-low
-joined_as-requires-clause-low g t c =
+pub laid-joined_as-requires-clause-low : goal.laid-joined_as-requires-clause-low
+laid-joined_as-requires-clause-low g t c =
     let a = c.args in
     let nodes1 = a.self.now.nodes.items in
-    let nodes2 = c.laid-2.new.self.nodes.items in
-    let nodes3 = c.laid-3.new.self.nodes.items in
+    let nodes2 = c.laid_half.new.self.nodes.items in
+    let nodes3 = c.laid_half-2.new.self.nodes.items in
     let parts = some_holds _ c.parts.ensures.halves c.in-Some-rest.is in
     let set = c.set-old.ensures.is nodes1 c.requires.trie.trie c.requires.trie.stands in
     let halves = halved nodes1 c.set-old.result c.halves.result.0 c.halves.result.1 c.halves.ensures.one c.halves.ensures.node set.new set.stands in
@@ -147,12 +147,12 @@ joined_as-requires-clause-low g t c =
     let fits : height low.new ≤ 127 = omega (arith, low.fits tries.0.fits, c.requires.width) in
     IsTrie-grows nodes2 nodes3 c.in_ok-high.ensures.keeps 127 c.in_ok-low.low (record { trie = low.new; stands = low.stands; fits = fits; reduced = low.reduced tries.0.reduced })
 
-pub joined_as-requires-clause-high : goal.joined_as-requires-clause-high
-joined_as-requires-clause-high g t c =
+pub laid-joined_as-requires-clause-high : goal.laid-joined_as-requires-clause-high
+laid-joined_as-requires-clause-high g t c =
     let a = c.args in
     let nodes1 = a.self.now.nodes.items in
-    let nodes2 = c.laid-2.new.self.nodes.items in
-    let nodes3 = c.laid-3.new.self.nodes.items in
+    let nodes2 = c.laid_half.new.self.nodes.items in
+    let nodes3 = c.laid_half-2.new.self.nodes.items in
     let parts = some_holds _ c.parts.ensures.halves c.in-Some-rest.is in
     let set = c.set-old.ensures.is nodes1 c.requires.trie.trie c.requires.trie.stands in
     let halves = halved nodes1 c.set-old.result c.halves.result.0 c.halves.result.1 c.halves.ensures.one c.halves.ensures.node set.new set.stands in
@@ -161,23 +161,23 @@ joined_as-requires-clause-high g t c =
     let fits : height high.new ≤ 127 = omega (arith, high.fits tries.1.fits, c.requires.width) in
     record { trie = high.new; stands = high.stands; fits = fits; reduced = high.reduced tries.1.reduced }
 
-pub joined_as-requires-clause-low_normal : goal.joined_as-requires-clause-low_normal
-joined_as-requires-clause-low_normal g t c =
-    IsNormalLoose-grows c.laid-2.new.self.nodes.items c.laid-3.new.self.nodes.items c.in_ok-high.ensures.keeps c.in_ok-low.low c.in_ok-low.ensures.normal
+pub laid-joined_as-requires-clause-low_normal : goal.laid-joined_as-requires-clause-low_normal
+laid-joined_as-requires-clause-low_normal g t c =
+    IsNormalLoose-grows c.laid_half.new.self.nodes.items c.laid_half-2.new.self.nodes.items c.in_ok-high.ensures.keeps c.in_ok-low.low c.in_ok-low.ensures.normal
 
-pub returns-clause-keeps : goal.returns-clause-keeps
-returns-clause-keeps g t c i node e =
+pub laid-returns-clause-keeps : goal.laid-returns-clause-keeps
+laid-returns-clause-keeps g t c i node e =
     c.in_ok-whole-2.ensures.keeps i node (c.in_ok-high.ensures.keeps i node (c.in_ok-low.ensures.keeps i node e))
 
-pub returns-clause-laid : goal.returns-clause-laid
-returns-clause-laid g t c u p =
+pub laid-returns-clause-laid : goal.laid-returns-clause-laid
+laid-returns-clause-laid g t c u p =
     let a = c.args in
     let low = c.in-Some-rest.rest.low.now in
     let high = c.in-Some-rest.rest.high.now in
     let parts = some_holds _ c.parts.ensures.halves c.in-Some-rest.is in
     let nodes1 = c.args.self.now.nodes.items in
-    let nodes2 = c.laid-2.new.self.nodes.items in
-    let nodes3 = c.laid-3.new.self.nodes.items in
+    let nodes2 = c.laid_half.new.self.nodes.items in
+    let nodes3 = c.laid_half-2.new.self.nodes.items in
     let nodes4 = c.joined_as.new.self.nodes.items in
     let fits : height u ≤ a.bits = subst (λ x. height x ≤ a.bits) (one_shape c.args.self.now.nodes.items a.old c.requires.trie.trie u c.requires.trie.stands p) c.requires.trie.fits in
     let set = c.set-old.ensures.is c.args.self.now.nodes.items u p in
@@ -189,5 +189,5 @@ returns-clause-laid g t c u p =
     overlaid_joined a.width a.bits a.start a.rows.now c.parts.result.0.now low high parts c.requires.one nodes1 nodes2 nodes3 nodes4 c.set-old.result c.halves.result.0 c.halves.result.1 c.in_ok-low.low c.in_ok-high.high c.in_ok-whole-2.whole u
     set halved in_low in_high joined fits
 
-pub returns-in-Some-only_value-clause-normal : goal.returns-in-Some-only_value-clause-normal
-returns-in-Some-only_value-clause-normal g t c = c.alone.ensures.normal c.args.self.now.nodes.items
+pub laid-returns-in-Some-only_value-clause-normal : goal.laid-returns-in-Some-only_value-clause-normal
+laid-returns-in-Some-only_value-clause-normal g t c = c.alone.ensures.normal c.args.self.now.nodes.items
