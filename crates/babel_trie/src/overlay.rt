@@ -38,7 +38,7 @@ fn only_value<V: Copy>(rows: &[Row<V>], len: u8) -> Option<V>
 }
 
 impl<V: LawfulOrd> Table<Option<V>> {
-    /// The trie of a half with the rows that lie there laid over it: as it was where there are none.
+    /// The trie of a half with the rows in it laid over it; where there are none it is as it was.
     #[cycle(laid)]
     fn laid_half(
         &mut self,
