@@ -127,6 +127,10 @@ distinct_push x (y ∷ ks) distinct absent = (apart ks distinct.0, distinct_push
 key_at : (k : RouteKey) (ws : Words) (i : ℕ) (x : RouteKey × Option Kept) → IsPlace (keys_of ws) k i → (get_or ws i x).0 ≡ k
 key_at k ws i x place = let key : RouteKey × Option Kept → RouteKey = λ w. w.0 in sym (get_or-map key ws i x) ∙ place.at_key x.0
 
+-- the key of the row that was read at its place
+pub key-read : (k : RouteKey) (ws : Words) (i : ℕ) (x : RouteKey × Option Kept) → IsPlace (keys_of ws) k i → x ≡ get_or ws i x → x.0 ≡ k
+key-read k ws i x place at = ap (λ (w : RouteKey × Option Kept). w.0) at ∙ key_at k ws i x place
+
 pub inside_of : (k : RouteKey) (ws : Words) (i : ℕ) → IsPlace (keys_of ws) k i → i < length ws
 inside_of k ws i place = subst (λ n. i < n) (length-keys_of ws) place.inside
 
@@ -215,16 +219,13 @@ not_in_front k (x ∷ ks) (suc n) zero absent place lt =
 not_in_front k (x ∷ ks) (suc n) (suc i) absent place lt =
     not_in_front k ks n i (absent_tail k x (take n ks) absent) (record { inside = omega (arith, place.inside); at_key = λ d. place.at_key d }) (omega (arith, lt))
 
-pub searched-behind : (ws : Words) (k : RouteKey) (rising : ℕ) (places : Places) (i : ℕ) (o : Option ℕ) → AreIndexed (keys_of ws) rising places → IsBinarySearchResult (λ word. key_cmp word.0 k) (take rising ws) (Err i)
+absent-behind : (ws : Words) (k : RouteKey) (rising : ℕ) (places : Places) (o : Option ℕ) → AreIndexed (keys_of ws) rising places → IsAbsent k (keys_of (take rising ws))
     → MatchOption o (IsUnlisted (keys_of ws) places k) (IsPlace (keys_of ws) k) → MatchOption o (found k ws ≡ None) (IsPlace (keys_of ws) k)
-searched-behind ws k rising places i (Some j) indexed point place = place
-searched-behind ws k rising places i None indexed point unlisted = none (found k ws) refl
+absent-behind ws k rising places (Some j) indexed not_here place = place
+absent-behind ws k rising places None indexed not_here unlisted = none (found k ws) refl
   where
-    order : IsRising (take rising ws)
-    order = subst (λ t. IsStrictlySortedBy key_cmp t) (sym (keys_take rising ws)) indexed.front
-
     absent : IsAbsent k (take rising (keys_of ws))
-    absent = subst (λ t. IsAbsent k t) (keys_take rising ws) (absent-searched (take rising ws) k i order point)
+    absent = subst (λ t. IsAbsent k t) (keys_take rising ws) not_here
 
     none : (o : Option (Option Kept)) → found k ws ≡ o → found k ws ≡ None
     none None is = is
@@ -234,6 +235,27 @@ searched-behind ws k rising places i None indexed point unlisted = none (found k
           | inl lt ↦ not_in_front k (keys_of ws) rising at.0 absent at.1 lt
           | inr le ↦ unlisted at.0 at.1 (indexed.behind k at.0 le at.1)
         ])
+
+-- the rows in front rise
+pub front-rising : (ws : Words) (rising : ℕ) (places : Places) → AreIndexed (keys_of ws) rising places → IsRising (take rising ws)
+front-rising ws rising places indexed = subst (λ t. IsStrictlySortedBy key_cmp t) (sym (keys_take rising ws)) indexed.front
+
+-- a key that a search misses in front, or that is greater than all there, is where it is listed
+pub searched-behind : (ws : Words) (k : RouteKey) (rising : ℕ) (places : Places) (i : ℕ) (o : Option ℕ) → AreIndexed (keys_of ws) rising places → IsBinarySearchResult (λ word. key_cmp word.0 k) (take rising ws) (Err i)
+    → MatchOption o (IsUnlisted (keys_of ws) places k) (IsPlace (keys_of ws) k) → MatchOption o (found k ws ≡ None) (IsPlace (keys_of ws) k)
+searched-behind ws k rising places i o indexed point found_there =
+    absent-behind ws k rising places o indexed (absent-searched (take rising ws) k i (front-rising ws rising places indexed) point) found_there
+
+none-above : {X : Type 0} (k : RouteKey) (es : List (RouteKey × X)) → AreAbove k es → found k es ≡ None
+none-above k [] above = refl
+none-above {X} k (e ∷ es) above =
+    let back : key_cmp k e.0 ≡ Greater = key_total.antisymm k e.0 ∙ ap ordering_reverse above.0 in
+    rw back (none-above k es above.1)
+
+pub above-behind : (ws : Words) (k : RouteKey) (rising : ℕ) (places : Places) (o : Option ℕ) → AreIndexed (keys_of ws) rising places → AreAbove k (take rising ws)
+    → MatchOption o (IsUnlisted (keys_of ws) places k) (IsPlace (keys_of ws) k) → MatchOption o (found k ws ≡ None) (IsPlace (keys_of ws) k)
+above-behind ws k rising places o indexed above found_there =
+    absent-behind ws k rising places o indexed (absent_of k (take rising ws) (none-above k (take rising ws) above)) found_there
 
 -- ---- what is said
 

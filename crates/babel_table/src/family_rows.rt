@@ -114,7 +114,7 @@ impl<W: Word> FamilyRows<W> {
         let stored = Stored { held, wipes };
         if let Some(place) = find(&self.rows, self.next, self.rising, &self.places, &key) {
             let was = self.rows[place].1.is_some();
-            self.rows[place] = (key, Some(stored));
+            self.rows[place].1 = Some(stored);
             self.next = place + 1;
             self.count += usize::from(!was);
             return Ok(());
@@ -147,7 +147,7 @@ impl<W: Word> FamilyRows<W> {
         let key = CompactKey::of(key);
         if let Some(place) = find(&self.rows, self.next, self.rising, &self.places, &key) {
             let was = self.rows[place].1.is_some();
-            self.rows[place] = (key, None);
+            self.rows[place].1 = None;
             self.next = place + 1;
             self.count -= usize::from(was);
         }
@@ -256,7 +256,11 @@ fn find<W: Word>(
     if has_key(rows, next, key) {
         return Some(next);
     }
-    match rows[..rising].binary_search_by(|row| row.0.cmp(key)) {
+    let front = &rows[..rising];
+    if is_past(front, key) {
+        return places.find(rows, key);
+    }
+    match front.binary_search_by(|row| row.0.cmp(key)) {
         Ok(place) => Some(place),
         Err(_) => places.find(rows, key),
     }

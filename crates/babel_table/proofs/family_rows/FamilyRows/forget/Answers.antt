@@ -2,7 +2,7 @@
 use Rattle.std.proofs.Common.{◌≡◌, None, sym, subst}
 use Rattle.std.specs.Map.{keys_of}
 use Rattle.babel_table.specs.Said.{IsPlace}
-use Rattle.babel_table.proofs.SaidLaws.{found, standing-set, fewer-set, counted-unset, stands-nowhere, unsaid-nothing}
+use Rattle.babel_table.proofs.SaidLaws.{found, key-read, standing-set, fewer-set, counted-unset, stands-nowhere, unsaid-nothing}
 use Rattle.babel_table.proofs.family_rows.FamilyRows.forget.Goals as goal
 
 pub overflow_sub-self : goal.overflow_sub-self
@@ -16,14 +16,15 @@ pub invariant_of-self : goal.invariant_of-self
 invariant_of-self g c =
     let k = c.of-key.result in
     let place : IsPlace (keys_of c.self.inside.rows.items) k c.in-Some.place = subst (λ ws. IsPlace (keys_of ws) k c.in-Some.place) c.deref.ensures.value c.in-Some.ensures in
-    counted-unset c.self.inside.count c.self.inside.rows.items c.self.inside.rising c.self.inside.places c.self.invariant k c.in-Some.place place c.index.result.now c.is_some-was.result c.from.result
-    c.index.ensures c.is_some-was.ensures c.from.ensures
+    rw (key-read k c.self.inside.rows.items c.in-Some.place c.index_mut.result.now place c.index_mut.ensures.value)
+    (counted-unset c.self.inside.count c.self.inside.rows.items c.self.inside.rising c.self.inside.places c.self.invariant k c.in-Some.place place c.index.result.now c.is_some-was.result c.from.result
+    c.index.ensures c.is_some-was.ensures c.from.ensures)
 
 pub returns-in-Some : goal.returns-in-Some
 returns-in-Some g c =
     let k = c.of-key.result in
     let place : IsPlace (keys_of c.self.inside.rows.items) k c.in-Some.place = subst (λ ws. IsPlace (keys_of ws) k c.in-Some.place) c.deref.ensures.value c.in-Some.ensures in
-    rw (← c.self.view_is, ← c.of-key.ensures)
+    rw (key-read k c.self.inside.rows.items c.in-Some.place c.index_mut.result.now place c.index_mut.ensures.value, ← c.self.view_is, ← c.of-key.ensures)
     (standing-set c.self.inside.count c.self.inside.rows.items c.self.inside.rising c.self.inside.places c.self.invariant k c.in-Some.place place c.index.result.now None)
 
 pub returns-in_default : goal.returns-in_default

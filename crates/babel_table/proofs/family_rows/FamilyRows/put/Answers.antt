@@ -3,7 +3,7 @@ use Rattle.std.proofs.Common.{◌≡◌, ◌∙◌, None, length, ap, subst, ari
 use Rattle.std.specs.Map.{keys_of}
 use Rattle.babel_table.specs.Live.{kept}
 use Rattle.babel_table.specs.Said.{IsPlace, AreAbove, AreIndexed}
-use Rattle.babel_table.proofs.SaidLaws.{found, on_err, said-length, one_more, byte_small, counted-set, standing-set, counted-front, counted-behind, standing-pushed}
+use Rattle.babel_table.proofs.SaidLaws.{found, key-read, on_err, said-length, one_more, byte_small, counted-set, standing-set, counted-front, counted-behind, standing-pushed}
 use Rattle.babel_table.proofs.family_rows.FamilyRows.put.Goals as goal
 use Rattle.babel_table.proofs.family_rows.FamilyRows.put.Goals.{then-self-place+then-is_past+in_ok-push, else-self-place+in_ok-push_placed}
 
@@ -16,14 +16,15 @@ pub invariant_of-self : goal.invariant_of-self
 invariant_of-self g c =
     let k = c.of-key.result in
     let place : IsPlace (keys_of c.self.inside.rows.items) k c.in-Some.place = subst (λ ws. IsPlace (keys_of ws) k c.in-Some.place) c.deref.ensures.value c.in-Some.ensures in
-    counted-set c.self.inside.count c.self.inside.rows.items c.self.inside.rising c.self.inside.places c.self.invariant k c.in-Some.place place c.index.result.now _ c.is_some-was.result c.from.result
-    c.index.ensures c.is_some-was.ensures c.from.ensures (one_more _ _ _ _ _ c.self.invariant c.self.view_is c.requires.few)
+    rw (key-read k c.self.inside.rows.items c.in-Some.place c.index_mut.result.now place c.index_mut.ensures.value)
+    (counted-set c.self.inside.count c.self.inside.rows.items c.self.inside.rising c.self.inside.places c.self.invariant k c.in-Some.place place c.index.result.now _ c.is_some-was.result c.from.result
+    c.index.ensures c.is_some-was.ensures c.from.ensures (one_more _ _ _ _ _ c.self.invariant c.self.view_is c.requires.few))
 
 pub returns-in-Some-clause-ok : goal.returns-in-Some-clause-ok
 returns-in-Some-clause-ok g c =
     let k = c.of-key.result in
     let place : IsPlace (keys_of c.self.inside.rows.items) k c.in-Some.place = subst (λ ws. IsPlace (keys_of ws) k c.in-Some.place) c.deref.ensures.value c.in-Some.ensures in
-    rw (← c.self.view_is, ← c.of-key.ensures, ← c.of-held.ensures)
+    rw (key-read k c.self.inside.rows.items c.in-Some.place c.index_mut.result.now place c.index_mut.ensures.value, ← c.self.view_is, ← c.of-key.ensures, ← c.of-held.ensures)
     (standing-set c.self.inside.count c.self.inside.rows.items c.self.inside.rising c.self.inside.places c.self.invariant k c.in-Some.place place c.index.result.now _)
 
 pub returns-in-Some-clause-len : goal.returns-in-Some-clause-len
