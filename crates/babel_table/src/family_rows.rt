@@ -257,13 +257,12 @@ fn find<W: Word>(
         return Some(next);
     }
     let front = &rows[..rising];
-    if is_past(front, key) {
-        return places.find(rows, key);
+    if !is_past(front, key) {
+        if let Ok(place) = front.binary_search_by(|row| row.0.cmp(key)) {
+            return Some(place);
+        }
     }
-    match front.binary_search_by(|row| row.0.cmp(key)) {
-        Ok(place) => Some(place),
-        Err(_) => places.find(rows, key),
-    }
+    places.find(rows, key)
 }
 
 /// Whether this is the key's place among the rows.
