@@ -1,27 +1,26 @@
 //! The addresses at which the answers change from one destination to the next, found in one pass
 //! over sorted rows.
-ghost use Rattle.std.specs.Prelude.{◌≡◌, ◌≢◌, ◌⊎◌, ℕ, ◌+◌, ◌-◌, ◌*◌, ◌^◌, ◌<◌, ◌≤◌, ◌++◌, List, [], map, length, slice_get, Option, Some, true, false, IfOk, IfSome, IfNone, OnOk};
+ghost use Rattle.std.specs.Prelude.{◌≡◌, ◌≢◌, ◌↔◌, ℕ, ◌+◌, ◌-◌, ◌*◌, ◌^◌, ◌<◌, ◌≤◌, ◌∷◌, ◌++◌, List, map, length, reverse, slice_get, Option, Some, true, false, IfOk, IfSome, OnOk};
 ghost use Rattle.babel_prefix.specs.Address.{block_of};
 ghost use Rattle.babel_prefix.specs.Best.{answer};
 ghost use Rattle.babel_prefix.specs.BestRow.{IsTable};
-ghost use Rattle.babel_prefix.specs.Entries.{row_of};
+ghost use Rattle.babel_prefix.specs.Entries.{Entry, row_of};
 ghost use Rattle.babel_prefix.specs.Members.{Listed};
 ghost use Rattle.babel_trie.specs.Held.{RowOrder};
-ghost use Rattle.babel_trie.specs.Pass.{IsFilled, IsOpen, ahead_of, coming, all_changes};
+ghost use Rattle.babel_trie.specs.Pass.{IsFilled, StartInOrder, IsPassOver, IsQuietUpTo, ahead_of, changes_left, rows_left};
 ghost use Rattle.babel_trie.specs.Split.{rows_of_split};
 ghost use Rattle.babel_trie.specs.Rows.{InOrder};
-ghost use Rattle.babel_trie.specs.Runs.{said_at, AreRuns, StartBelow, StartBehind, HasRuns};
+ghost use Rattle.babel_trie.specs.Runs.{AreRuns, StartBelow, StartBehind, HasRuns};
 ghost use Rattle.babel_trie.specs.Sound.{IsSound, KeepsNodes};
 ghost use Rattle.babel_trie.specs.declared.runs.Change.{Change};
+ghost use Rattle.babel_trie.specs.declared.table.Node.{Node};
 ghost use Rattle.babel_trie.specs.declared.table.Sources.{Sources};
-ghost use Rattle.babel_trie.specs.declared.table.Sources.TheVariants.{Constant};
 
 use crate::fit::last_address;
 use crate::lawful::{LawfulOrd, are_same};
 use crate::rows::{Row, Rows};
 use crate::runs::Change;
 use crate::table::{Node, Sources, Table};
-use babel_prefix::Prefix;
 use std::alloc::{AllocError, Global};
 
 /// Whether the last change is to these answers.
@@ -53,132 +52,227 @@ pub fn say<F: LawfulOrd>(out: &mut Vec<Change<F>>, change: Change<F>) -> Result<
     Ok(())
 }
 
-/// The destination of the first row, and the rows behind those of this destination.
-#[derive(Clone, Copy)]
-struct Leading<R> {
-    destination: Prefix,
-    others: R,
-}
-
-/// Copies the rows of the first destination, if there are rows. They are split already, so that
-/// each row is asked for once.
+/// Copies the rows of the destination of the first row, and answers the rows behind them, split.
+/// Each row is asked for once.
 fn first_destination<V: Copy, R: Rows<V>>(
-    split: Option<(Row<V>, R)>,
+    first: Row<V>,
+    behind: R,
     own: &mut Vec<Row<V>>,
-) -> Result<Option<Leading<Option<(Row<V>, R)>>>, AllocError>
-    ensures none { IfOk result (λ r. IfNone r (rows_of_split R.rows split ≡ [])) }
-    ensures parts { IfOk result (λ r. IfSome r (λ first. rows_of_split R.rows split
-        ≡ own.new.items ++ rows_of_split R.rows first.others)) }
-    ensures some { IfOk result (λ r. IfSome r (λ _. 0 < length own.new.items)) }
-    ensures one { IfOk result (λ r. IfSome r (λ first. (x : _) → Listed own.new.items x
-        → block_of x.0 ≡ block_of first.destination)) }
+) -> Result<Option<(Row<V>, R)>, AllocError>
+    ensures parts { IfOk result (λ others. first ∷ R.rows behind
+        ≡ own.new.items ++ rows_of_split R.rows others) }
+    ensures some { OnOk result (0 < length own.new.items) }
+    ensures one { OnOk result ((x : _) → Listed own.new.items x
+        → block_of x.0 ≡ block_of first.0) }
 {
-    let Some((first, behind)) = split else {
-        return Ok(None);
-    };
-    let destination = first.0;
     own.clear();
     own.push(first)?;
     let mut others = behind.split();
     while let Some((row, behind)) = &others {
-        if row.0 != destination {
+        if row.0 != first.0 {
             break;
         }
         own.push(*row)?;
         others = behind.split();
     }
-    Ok(Some(Leading {
-        destination,
-        others,
-    }))
+    Ok(others)
 }
 
-/// A pass over rows in order: the changes said, the change come to, which is said once the next one
-/// is, and the changes back behind the blocks that are open, of which the last comes next.
+/// A pass over rows in order: the change come to, the changes back behind the blocks that are open,
+/// of which the last comes next, and the rows of which no block was come to.
 #[derive(Drop)]
-struct Pass<F> {
-    list: Vec<Change<F>>,
-    now: Change<F>,
-    ahead: Vec<Change<F>>,
+pub struct Pass<V, R> {
+    now: Change<Sources<Option<V>>>,
+    ahead: Vec<Change<Sources<Option<V>>>>,
+    rest: Option<(Row<V>, R)>,
+    own: Vec<Row<V>>,
 }
 
-impl<F: LawfulOrd> Pass<F> {
+/// Where the nearest of the changes ahead starts, which is the last of them.
+fn last_start<F: Copy>(ahead: &[Change<F>]) -> Option<u128>
+    requires { StartInOrder (reverse ahead.now) }
+    ensures nearest { (at : ℕ) → StartBehind at (reverse ahead.now)
+        ↔ IfSome result (λ start. at < start) }
+    ensures one { IfSome result (λ start. (x : Change F) × Listed (reverse ahead.now) x
+        × (x.start ≡ start)) }
+{
+    let next = ahead.last()?;
+    Some(next.start)
+}
+
+/// Where the destination of the first of rows in order starts.
+fn first_start<V: Copy, R: Rows<V>>(split: Option<(Row<V>, R)>) -> Option<u128>
+    requires { InOrder RowOrder (rows_of_split R.rows split) }
+    ensures first { (at : ℕ) → ((row : Entry V) → Listed (rows_of_split R.rows split) row
+        → at < (block_of row.0).start) ↔ IfSome result (λ start. at < start) }
+    ensures one { IfSome result (λ start. (row : Entry V)
+        × Listed (rows_of_split R.rows split) row × ((block_of row.0).start ≡ start)) }
+{
+    let (first, _) = split?;
+    Some(first.0.addr().bits())
+}
+
+/// The nearer of where two changes start, if they come.
+fn nearer_start(back: Option<u128>, row: Option<u128>) -> Option<u128>
+    ensures behind { (at : ℕ) → IfSome result (λ start. at < start)
+        ↔ (IfSome back (λ start. at < start) × IfSome row (λ start. at < start)) }
+    ensures within { (end : ℕ) → IfSome back (λ start. start < end)
+        → IfSome row (λ start. start < end) → IfSome result (λ start. start < end) }
+{
+    match (back, row) {
+        (Some(back), Some(row)) => Some(back.min(row)),
+        (Some(back), None) => Some(back),
+        (None, row) => row,
+    }
+}
+
+impl<V: LawfulOrd, R: Rows<V>> Pass<V, R> {
+    /// A pass at the first address, before all rows.
+    pub fn new(alloc: Global, rows: R) -> Pass<V, R>
+        ensures start { result.now.start ≡ 0 }
+        ensures pass { (width : ℕ) (nodes : List (Node (Option V)))
+            → InOrder RowOrder (R.rows rows) → IsTable width (map row_of (R.rows rows))
+            → IsPassOver width R.rows (R.rows rows) nodes result }
+        ensures few { changes_left R.rows result ≡ 2 * length (R.rows rows) }
+    {
+        Pass {
+            now: Change {
+                start: 0,
+                sources: Sources::Constant(None),
+            },
+            ahead: Vec::new(alloc),
+            rest: rows.split(),
+            own: Vec::new(alloc),
+        }
+    }
+
     /// What is answered where the pass has come to.
-    fn sources(&self) -> F
+    pub fn sources(&self) -> Sources<Option<V>>
         ensures { result ≡ self.entry.now.now.sources }
     {
         self.now.sources
     }
 
-    /// Comes to a change, and says what is answered up to it.
-    fn come_to(&mut self, next: Change<F>) -> Result<(), AllocError>
-        requires runs { AreRuns self.old.list.items }
-        requires below { StartBelow self.old.now.start self.old.list.items }
-        requires order { self.old.now.start ≤ next.start }
-        ensures now { OnOk result (self.new.now ≡ next) }
-        ensures ahead { OnOk result (self.new.ahead.items ≡ self.old.ahead.items) }
-        ensures filled { OnOk result (IsFilled self.old.now.start next.start self.old.now.sources
-            self.old.list.items self.new.list.items) }
-        ensures one { OnOk result (length self.new.list.items ≤ length self.old.list.items + 1) }
+    /// Where the next change comes, if one does.
+    fn next_start(&self) -> Option<u128>
+        requires pass { (width : ℕ) × (rows : List (Entry V)) × (nodes : List (Node (Option V)))
+            × IsPassOver width R.rows rows nodes self.now }
+        ensures next { (at : ℕ) → IsQuietUpTo at R.rows self.entry.now
+            ↔ IfSome result (λ next. at < next) }
+        ensures within { (width : ℕ) (rows : List (Entry V)) (nodes : List (Node (Option V)))
+            → IsPassOver width R.rows rows nodes self.entry.now
+            → IfSome result (λ next. next < 2 ^ width) }
     {
-        if self.now.start < next.start {
-            say(&mut self.list, self.now)?;
-        }
-        self.now = next;
-        Ok(())
+        nearer_start(last_start(&self.ahead), first_start(self.rest))
     }
 
-    /// Comes to each change ahead up to an address.
-    fn reach(&mut self, start: u128) -> Result<(), AllocError>
-        requires is_open { IsOpen self.old }
-        requires order { self.old.now.start ≤ start }
-        ensures is_open { OnOk result (IsOpen self.new) }
-        ensures reached { OnOk result (self.new.now.start ≤ start) }
-        ensures behind { OnOk result (StartBehind start (ahead_of self.new)) }
-        ensures same { OnOk result ((none : F) (d : ℕ)
-            → said_at none (all_changes self.new) d ≡ said_at none (all_changes self.old) d) }
-        ensures left { OnOk result ((x : Change F) → Listed (coming self.new) x
-            → Listed (coming self.old) x) }
-        ensures few { OnOk result (length self.new.list.items + length self.new.ahead.items
-            ≤ length self.old.list.items + length self.old.ahead.items) }
+    /// Comes to each change back up to an address.
+    fn leave(&mut self, at: u128)
+        requires pass { (width : ℕ) × (rows : List (Entry V)) × (nodes : List (Node (Option V)))
+            × IsPassOver width R.rows rows nodes self.old }
+        requires order { self.old.now.start ≤ at }
+        requires rows { (row : Entry V) → Listed (rows_left R.rows self.old) row
+            → at ≤ (block_of row.0).start }
+        ensures pass { (width : ℕ) (rows : List (Entry V)) (nodes : List (Node (Option V)))
+            → IsPassOver width R.rows rows nodes self.old
+            → IsPassOver width R.rows rows nodes self.new }
+        ensures reached { self.new.now.start ≤ at }
+        ensures behind { StartBehind at (ahead_of self.new) }
+        ensures rest { self.new.rest ≡ self.old.rest }
+        ensures few { length self.new.ahead.items ≤ length self.old.ahead.items }
+        ensures fewer { (StartBehind at (ahead_of self.old) → ⊥)
+            → length self.new.ahead.items < length self.old.ahead.items }
     {
         while let Some(next) = self.ahead.last() {
             let next = *next;
-            if start < next.start {
+            if at < next.start {
                 break;
             }
             let _ = self.ahead.pop();
-            self.come_to(next)?;
+            self.now = next;
         }
-        Ok(())
     }
 
-    /// Comes to the sources of a block, which ends at an address; behind it, if it is not the end
-    /// of all, come those of now again.
-    fn enter(&mut self, start: u128, end: u128, last: u128, sources: F) -> Result<(), AllocError>
-        requires is_open { IsOpen self.old }
-        requires order { self.old.now.start ≤ start }
-        requires some { start ≤ end }
-        requires behind { StartBehind end (ahead_of self.old) }
-        ensures is_open { OnOk result (IsOpen self.new) }
-        ensures now { OnOk result (self.new.now.start ≡ start) }
-        ensures inside { OnOk result ((none : F) (d : ℕ) → start ≤ d → d ≤ end
-            → said_at none (all_changes self.new) d ≡ sources) }
-        ensures outside { OnOk result ((none : F) (d : ℕ) → (d < start) ⊎ (end < d) → d ≤ last
-            → said_at none (all_changes self.new) d ≡ said_at none (all_changes self.old) d) }
-        ensures ahead { OnOk result ((x : Change F) → Listed (ahead_of self.new) x
-            → ((x.start ≡ end + 1) × (end < last)) ⊎ Listed (ahead_of self.old) x) }
-        ensures few { OnOk result (length self.new.list.items + length self.new.ahead.items
-            ≤ length self.old.list.items + length self.old.ahead.items + 2) }
+    /// Comes to the destination of the first of the rows that are left; behind its block, if that
+    /// does not end with the last address, come the sources of now again.
+    fn enter(
+        &mut self,
+        table: &mut Table<Option<V>>,
+        width: u8,
+        first: Row<V>,
+        behind: R,
+    ) -> Result<(), AllocError>
+        requires sound { IsSound ⟦<Sources<Option<V>> as Ord>⟧.cmp
+            ⟦<Sources<Option<V>> as LawfulOrd>⟧.mark table.old.nodes.items table.old.numbers }
+        requires pass { (rows : List (Entry V))
+            × IsPassOver width R.rows rows table.old.nodes.items self.old }
+        requires next { self.old.rest ≡ Some (first, behind) }
+        requires reached { StartBehind (block_of first.0).start (ahead_of self.old) }
+        requires width { width ≤ 128 }
+        ensures sound { OnOk result (IsSound ⟦<Sources<Option<V>> as Ord>⟧.cmp
+            ⟦<Sources<Option<V>> as LawfulOrd>⟧.mark table.new.nodes.items table.new.numbers) }
+        ensures keeps { OnOk result (KeepsNodes table.old.nodes.items table.new.nodes.items) }
+        ensures pass { OnOk result ((rows : List (Entry V))
+            → IsPassOver width R.rows rows table.old.nodes.items self.old
+            → IsPassOver width R.rows rows table.new.nodes.items self.new) }
+        ensures start { OnOk result (self.new.now.start ≡ (block_of first.0).start) }
+        ensures fewer { OnOk result (changes_left R.rows self.new < changes_left R.rows self.old) }
+        ensures rows { OnOk result (length (rows_left R.rows self.new)
+            < length (rows_left R.rows self.old)) }
     {
-        if end < last {
+        let others = first_destination(first, behind, &mut self.own)?;
+        let start = first.0.addr().bits();
+        let end = last_address(start, width - first.0.len());
+        let sources = table.overlaid(&self.own, width, self.now.sources)?;
+        if end < last_address(0, width) {
             self.ahead.push(Change {
                 start: end + 1,
                 sources: self.now.sources,
             })?;
         }
-        self.come_to(Change { start, sources })?;
+        self.now = Change { start, sources };
+        self.rest = others;
         Ok(())
+    }
+
+    /// Comes to each change up to an address, and answers where the next one comes.
+    pub fn reach(
+        &mut self,
+        table: &mut Table<Option<V>>,
+        width: u8,
+        at: u128,
+    ) -> Result<Option<u128>, AllocError>
+        requires sound { IsSound ⟦<Sources<Option<V>> as Ord>⟧.cmp
+            ⟦<Sources<Option<V>> as LawfulOrd>⟧.mark table.old.nodes.items table.old.numbers }
+        requires pass { (rows : List (Entry V))
+            × IsPassOver width R.rows rows table.old.nodes.items self.old }
+        requires order { self.old.now.start ≤ at }
+        requires width { width ≤ 128 }
+        ensures sound { OnOk result (IsSound ⟦<Sources<Option<V>> as Ord>⟧.cmp
+            ⟦<Sources<Option<V>> as LawfulOrd>⟧.mark table.new.nodes.items table.new.numbers) }
+        ensures keeps { OnOk result (KeepsNodes table.old.nodes.items table.new.nodes.items) }
+        ensures pass { OnOk result ((rows : List (Entry V))
+            → IsPassOver width R.rows rows table.old.nodes.items self.old
+            → IsPassOver width R.rows rows table.new.nodes.items self.new) }
+        ensures reached { OnOk result (self.new.now.start ≤ at) }
+        ensures next { IfOk result (λ next. (to : ℕ) → IsQuietUpTo to R.rows self.new
+            ↔ IfSome next (λ start. to < start)) }
+        ensures behind { IfOk result (λ next. IfSome next (λ start. at < start)) }
+        ensures within { IfOk result (λ next. IfSome next (λ start. start < 2 ^ width)) }
+        ensures few { OnOk result (changes_left R.rows self.new ≤ changes_left R.rows self.old) }
+        ensures fewer { OnOk result ((IsQuietUpTo at R.rows self.old → ⊥)
+            → changes_left R.rows self.new < changes_left R.rows self.old) }
+    {
+        while let Some((first, behind)) = self.rest {
+            let start = first.0.addr().bits();
+            if at < start {
+                break;
+            }
+            self.leave(start);
+            self.enter(table, width, first, behind)?;
+        }
+        self.leave(at);
+        Ok(self.next_start())
     }
 }
 
@@ -202,27 +296,17 @@ impl<V: LawfulOrd> Table<Option<V>> {
             (answer width (map row_of (R.rows rows)))) }
         ensures few { IfOk result (λ list. length list.items ≤ 2 * length (R.rows rows) + 1) }
     {
-        let last = last_address(0, width);
-        let mut pass = Pass {
-            list: Vec::new(alloc),
-            now: Change {
-                start: 0,
-                sources: Sources::Constant(None),
-            },
-            ahead: Vec::new(alloc),
-        };
-        let mut own = Vec::new(alloc);
-        let mut rest = rows.split();
-        while let Some(next) = first_destination(rest, &mut own)? {
-            let start = next.destination.addr().bits();
-            let end = last_address(start, width - next.destination.len());
-            pass.reach(start)?;
-            let here = self.overlaid(&own, width, pass.sources())?;
-            pass.enter(start, end, last, here)?;
-            rest = next.others;
+        let mut pass = Pass::new(alloc, rows);
+        let mut list = Vec::new(alloc);
+        let mut at = 0u128;
+        loop {
+            let next = pass.reach(self, width, at)?;
+            let sources = pass.sources();
+            say(&mut list, Change { start: at, sources })?;
+            let Some(start) = next else {
+                return Ok(list);
+            };
+            at = start;
         }
-        pass.reach(last)?;
-        say(&mut pass.list, pass.now)?;
-        Ok(pass.list)
     }
 }

@@ -11,12 +11,12 @@ use Rattle.babel_trie.proofs.pass.first_destination.Goals as goal
 pub loop-others-init : goal.loop-others-init
 loop-others-init g c =
     let rows = g.R.Rows.rows in
-    let first = c.in-Some.first in
+    let first = c.args.first in
     let pushed : c.push.new.self.items ≡ first ∷ [] = c.in_ok-push.ensures.items ∙ ap (λ ys. ys ++ first ∷ []) c.clear.ensures.items in
     let others = rows_of_split rows c.split-others.result in
     record {
       some = omega (arith, ap length pushed);
-      parts = ap (rows_of_split rows) c.in-Some.is ∙ ap (λ ys. first ∷ ys) (rows-split rows (rows c.in-Some.behind) c.split-others.result c.split-others.ensures) ∙ ap (λ ys. ys ++ others) (sym pushed);
+      parts = ap (λ ys. first ∷ ys) (rows-split rows (rows c.args.behind) c.split-others.result c.split-others.ensures) ∙ ap (λ ys. ys ++ others) (sym pushed);
       one = λ y t. elim (subst (λ ys. Listed ys y) pushed t) [ inl e ↦ sym (ap (λ z. block_of z.0) e) | inr none ↦ elim none [ ] ];
     }
 
@@ -25,15 +25,15 @@ loop-others-preserved g c =
     let so = c.loop-others.invariant in
     let rows = g.R.Rows.rows in
     let own = c.loop-others.own.items in
-    let x = c.in-Some-others.row in
-    let behind = rows c.in-Some-others.behind in
-    let others = rows_of_split rows c.split-others-in-Some-others.result in
+    let x = c.in-Some.row in
+    let behind = rows c.in-Some.behind in
+    let others = rows_of_split rows c.split-others-in-Some.result in
     let pushed = c.in_ok-push-2.ensures.items in
-    let same : x.0 ≡ c.in-Some.first.0 = search rules in
-    let next : rows_of_split rows c.loop-others.others ≡ x ∷ others = ap (rows_of_split rows) c.in-Some-others.is ∙ ap (λ ys. x ∷ ys) (rows-split rows behind c.split-others-in-Some-others.result c.split-others-in-Some-others.ensures) in
+    let same : x.0 ≡ c.args.first.0 = search rules in
+    let next : rows_of_split rows c.loop-others.others ≡ x ∷ others = ap (rows_of_split rows) c.in-Some.is ∙ ap (λ ys. x ∷ ys) (rows-split rows behind c.split-others-in-Some.result c.split-others-in-Some.ensures) in
     record {
       some = omega (arith, ap length pushed, length-append own (x ∷ []));
-      parts = one_more (rows_of_split rows c.args.split) own (rows_of_split rows c.loop-others.others) others x so.parts next ∙ ap (λ ys. ys ++ others) (sym pushed);
+      parts = one_more (c.args.first ∷ rows c.args.behind) own (rows_of_split rows c.loop-others.others) others x so.parts next ∙ ap (λ ys. ys ++ others) (sym pushed);
       one = λ y t. elim (Listed-append_cases own (x ∷ []) y (subst (λ ys. Listed ys y) pushed t)) [
         | inl before ↦ so.one y before
         | inr last ↦ elim last [ inl e ↦ sym (ap (λ z. block_of z.0) e) ∙ ap block_of same | inr none ↦ elim none [ ] ]

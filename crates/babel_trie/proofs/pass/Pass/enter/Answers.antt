@@ -1,59 +1,87 @@
--- The sources of the block are said up to its end, and those of now come again behind it.
-use Rattle.std.proofs.Common.{◌≡◌, ◌⊎◌, inl, inr, ℕ, ◌+◌, ◌<◌, ◌≤◌, List, ◌∷◌, ◌++◌, reverse, refl, sym, ◌∙◌, ap, subst, arith}
-use Rattle.babel_trie.specs.Pass.{IsFilled}
-use Rattle.babel_trie.specs.Runs.{said_at, StartBehind}
+-- The rows of the destination are laid over what the pass has come to.
+use Rattle.std.proofs.Common.{◌≡◌, ◌+◌, ◌-◌, ◌^◌, inl, List, [], ◌∷◌, ◌++◌, reverse, length, Option, refl, sym, ◌∙◌, ap, subst, arith}
+use Rattle.std.proofs.Math.Pow.{pow_mono}
+use Rattle.babel_prefix.specs.Address.{Address, block_of}
+use Rattle.babel_prefix.specs.Block.{Block}
+use Rattle.babel_prefix.proofs.Members.{Listed}
+use Rattle.babel_trie.specs.Pass.{IsUnderWay, ahead_of, rows_left}
+use Rattle.babel_trie.specs.Split.{rows_of_split}
 use Rattle.babel_trie.specs.declared.pass.Pass.{Pass}
 use Rattle.babel_trie.specs.declared.runs.Change.{Change}
-use Rattle.babel_trie.proofs.PassLaws.{said-now, entered, entered-last, reverse-push}
-use Rattle.babel_trie.proofs.pass.Pass.enter.Goals.{then-end-last+in_ok-push, else-end-last}
+use Rattle.babel_trie.specs.declared.table.Sources.{Sources}
+use Rattle.babel_trie.proofs.PassLaws.{IsNext, left_block, reverse-push, sources_in, way-held, way-entered, way-entered_last}
+use Rattle.babel_trie.proofs.Ranges.{size, block_ends}
+use Rattle.babel_trie.proofs.pass.Pass.enter.Goals.{then-end-last_address+in_ok-push, else-end-last_address}
 use Rattle.babel_trie.proofs.pass.Pass.enter.Goals as goal
 
-pub returns-clause-inside : goal.returns-clause-inside
-returns-clause-inside g c none d low high =
-    let a = c.args in
-    let new = c.come_to.new.self in
-    let old = reverse a.self.now.ahead.items in
-    let come = c.in_ok-come_to.ensures in
-    let le : new.now.start ≤ d = subst (λ (x : Change g.row.F.Denot). x.start ≤ d) (sym come.now) low in
-    let behind : StartBehind d (reverse new.ahead.items) = subst (λ xs. StartBehind d (reverse xs)) (sym come.ahead) (elim c.if-end-last.branch [
-      | then-end-last+in_ok-push w ↦
-          let back : Change g.row.F.Denot = record { start = a.end + 1; sources = a.self.now.now.sources } in
-          subst (λ (p : Pass g.row.F.Denot). StartBehind d (reverse p.ahead.items)) (sym w.self-is) (subst (λ xs. StartBehind d (reverse xs)) (sym w.in_ok-push.ensures.items)
-          (subst (StartBehind d) (sym (reverse-push a.self.now.ahead.items back))
-          (λ x t. elim t [ inl here ↦ subst (λ (y : Change g.row.F.Denot). d < y.start) here (omega arith) | inr there ↦ omega (arith, c.requires.behind x there) ])))
-      | else-end-last w ↦ subst (λ (p : Pass g.row.F.Denot). StartBehind d (reverse p.ahead.items)) (sym w.self-is) (λ x t. omega (arith, c.requires.behind x t))
-    ]) in
-    said-now new.list.items (reverse new.ahead.items) new.now none d le behind ∙ ap (λ (x : Change g.row.F.Denot). x.sources) come.now
+pub overflow_sub-width : goal.overflow_sub-width
+overflow_sub-width g c =
+    let first = c.args.first in
+    let left = rows_left g.R.Rows.rows c.args.self.now in
+    let here : Listed left first = subst (λ split. Listed (rows_of_split g.R.Rows.rows split) first) (sym c.requires.next) (inl refl) in
+    omega (arith, (left_block c.requires.pass.1 first here).len_in_range, c.len.ensures.value)
 
--- what is filled, from what was
-fill_is : {F : Type 0} (old now : Change F) (list before after : List (Change F)) (start : ℕ) (new : Change F) → now ≡ old → list ≡ before → start ≡ new.start → IsFilled now.start start now.sources list after →
-    IsFilled old.start new.start old.sources before after
-fill_is {F = F} old now list before after start new a b e p =
-    subst (λ n. IsFilled old.start n old.sources before after) e
-    (subst (λ xs. IsFilled old.start start old.sources xs after) b (subst (λ (x : Change F). IsFilled x.start start x.sources list after) a p))
+pub last_address-end-requires : goal.last_address-end-requires
+last_address-end-requires g c =
+    let w = c.args.width in
+    let first = c.args.first in
+    let left = rows_left g.R.Rows.rows c.args.self.now in
+    let here : Listed left first = subst (λ split. Listed (rows_of_split g.R.Rows.rows split) first) (sym c.requires.next) (inl refl) in
+    let start_is = c.bits-start.ensures.value ∙ ap (λ (x : Address). x.bits) c.addr.ensures.value in
+    omega (arith, block_ends w (block_of first.0) (left_block c.requires.pass.1 first here), start_is, ap (λ k. 2 ^ (w - k)) c.len.ensures.value, pow_mono {i = w} {j = 128} c.requires.width)
 
-pub returns-clause-outside : goal.returns-clause-outside
-returns-clause-outside g c none d out within =
-    let a = c.args in
-    let new = c.come_to.new.self in
-    let old = a.self.now in
-    let mid = c.if-end-last.self in
-    let ahead = reverse old.ahead.items in
-    let come = c.in_ok-come_to.ensures in
-    let start_is : a.start ≡ new.now.start = sym (ap (λ (x : Change g.row.F.Denot). x.start) come.now) in
-    elim c.if-end-last.branch [
-      | then-end-last+in_ok-push w ↦
-          let back : Change g.row.F.Denot = record { start = a.end + 1; sources = old.now.sources } in
-          let filled = fill_is old.now mid.now mid.list.items old.list.items new.list.items a.start new.now (ap (λ (p : Pass g.row.F.Denot). p.now) w.self-is) (ap (λ (p : Pass g.row.F.Denot). p.list.items) w.self-is) start_is come.filled in
-          let ahead_is : reverse new.ahead.items ≡ back ∷ ahead =
-          ap reverse (come.ahead ∙ ap (λ (p : Pass g.row.F.Denot). p.ahead.items) w.self-is ∙ w.in_ok-push.ensures.items) ∙ reverse-push old.ahead.items back in
-          let here : (d < new.now.start) ⊎ (back.start ≤ d) = elim out [ inl lt ↦ inl (omega arith) | inr gt ↦ inr (omega arith) ] in
-          ap (λ xs. said_at none (new.list.items ++ new.now ∷ xs) d) ahead_is
-          ∙ entered old.list.items new.list.items ahead old.now new.now back filled (omega (arith, c.requires.order, c.requires.some)) refl none d here
-      | else-end-last w ↦
-          let filled = fill_is old.now mid.now mid.list.items old.list.items new.list.items a.start new.now (ap (λ (p : Pass g.row.F.Denot). p.now) w.self-is) (ap (λ (p : Pass g.row.F.Denot). p.list.items) w.self-is) start_is come.filled in
-          let ahead_is : reverse new.ahead.items ≡ ahead = ap reverse (come.ahead ∙ ap (λ (p : Pass g.row.F.Denot). p.ahead.items) w.self-is) in
-          let lt : d < new.now.start = elim out [ inl lt ↦ omega arith | inr gt ↦ absurd (omega (arith, w.if-end-last.false)) ] in
-          ap (λ xs. said_at none (new.list.items ++ new.now ∷ xs) d) ahead_is
-          ∙ entered-last old.list.items new.list.items ahead old.now new.now filled none d lt
+pub overlaid-requires-clause-trie : goal.overlaid-requires-clause-trie
+overlaid-requires-clause-trie g c =
+    let p = c.requires.pass.1 in
+    let first = c.args.first in
+    let left = rows_left g.R.Rows.rows c.args.self.now in
+    let here : Listed left first = subst (λ split. Listed (rows_of_split g.R.Rows.rows split) first) (sym c.requires.next) (inl refl) in
+    way-held p (block_of first.0).start (p.from first here) (left_block p first here).start_in_range c.requires.reached
+
+pub overlaid-requires-clause-rows : goal.overlaid-requires-clause-rows
+overlaid-requires-clause-rows g c =
+    let w = c.args.width in
+    let self = c.args.self.now in
+    let own = c.deref.result.now in
+    let items = c.first_destination.new.own.items in
+    let others = rows_of_split g.R.Rows.rows c.in_ok-others.others in
+    let same : own ≡ items = c.deref.ensures.value in
+    let split = ap (rows_of_split g.R.Rows.rows) c.requires.next ∙ c.in_ok-others.ensures.parts ∙ ap (λ xs. xs ++ others) (sym same) in
+    let n : IsNext w own others (block_of c.args.first.0) =
+    record { some = omega (arith, ap length same, c.in_ok-others.ensures.some); one = λ x t. c.in_ok-others.ensures.one x (subst (λ xs. Listed xs x) same t) } in
+    sources_in n (subst (IsUnderWay w c.requires.pass.0 c.args.table.now.nodes.items self.now (ahead_of self)) split c.requires.pass.1)
+
+pub last_address-requires : goal.last_address-requires
+last_address-requires g c = omega (arith, pow_mono {i = c.args.width} {j = 128} c.requires.width)
+
+pub returns-clause-pass : goal.returns-clause-pass
+returns-clause-pass g c rows p =
+    let V = g.row.V.Denot in
+    let w = c.args.width in
+    let self = c.args.self.now in
+    let own = c.deref.result.now in
+    let items = c.first_destination.new.own.items in
+    let others = rows_of_split g.R.Rows.rows c.in_ok-others.others in
+    let same : own ≡ items = c.deref.ensures.value in
+    let split = ap (rows_of_split g.R.Rows.rows) c.requires.next ∙ c.in_ok-others.ensures.parts ∙ ap (λ xs. xs ++ others) (sym same) in
+    let b : Block = block_of c.args.first.0 in
+    let n : IsNext w own others b =
+    record { some = omega (arith, ap length same, c.in_ok-others.ensures.some); one = λ x t. c.in_ok-others.ensures.one x (subst (λ xs. Listed xs x) same t) } in
+    let q = subst (IsUnderWay w rows c.args.table.now.nodes.items self.now (ahead_of self)) split p in
+    let more = c.overlaid.new.self.nodes.items in
+    let new : Change (Sources (Option V)) = record { start = c.bits-start.result; sources = c.in_ok-sources.sources } in
+    let start_is : c.bits-start.result ≡ b.start = c.bits-start.ensures.value ∙ ap (λ (x : Address). x.bits) c.addr.ensures.value in
+    let end_is : c.last_address-end.result + 1 ≡ b.start + size w b = omega (arith, start_is, ap (λ k. 2 ^ (w - k)) c.len.ensures.value, c.last_address-end.ensures) in
+    let last_is : c.last_address.result + 1 ≡ 2 ^ w = omega (arith, c.last_address.ensures) in
+    let Under = λ (xs : List (Change (Sources (Option V)))). IsUnderWay w rows more new xs others in
+    elim c.if-end-last_address.branch [
+      | then-end-last_address+in_ok-push t ↦
+          let back : Change (Sources (Option V)) = record { start = c.last_address-end.result + 1; sources = self.now.sources } in
+          let entered = way-entered n q c.requires.reached more new.sources c.in_ok-sources.ensures.keeps c.in_ok-sources.ensures.overlaid new start_is refl back end_is refl (omega (arith, t.if-end-last_address.true, last_is)) in
+          let ahead : reverse (self.ahead.items ++ back ∷ []) ≡ back ∷ reverse self.ahead.items = reverse-push self.ahead.items back in
+          subst (λ (x : Pass V g.row.R.Denot). Under (reverse x.ahead.items)) (sym t.self-is)
+          (subst (λ (xs : List (Change (Sources (Option V)))). Under (reverse xs)) (sym t.in_ok-push.ensures.items) (subst Under (sym ahead) entered))
+      | else-end-last_address t ↦
+          let entered = way-entered_last n q c.requires.reached more new.sources c.in_ok-sources.ensures.keeps c.in_ok-sources.ensures.overlaid new start_is refl (omega (arith, t.if-end-last_address.false, last_is, end_is)) in
+          subst (λ (x : Pass V g.row.R.Denot). Under (reverse x.ahead.items)) (sym t.self-is) entered
     ]

@@ -1,19 +1,22 @@
--- What is said stays, and no change ahead comes in.
-use Rattle.std.proofs.Common.{◌≡◌, ℕ, ◌+◌, ◌≤◌, length}
-use Rattle.babel_prefix.specs.Members.{Listed}
-use Rattle.babel_trie.specs.Pass.{IsOpen, coming, all_changes}
-use Rattle.babel_trie.specs.Runs.{said_at}
-use Rattle.babel_trie.specs.declared.runs.Change.{Change}
+-- It stays a pass over its rows, and comes to some of what it had to come to.
+use Rattle.std.proofs.Common.{◌⊎◌, ◌<◌, ◌≤◌, List, length}
+use Rattle.std.specs.Option.{option_cmp}
+use Rattle.babel_prefix.specs.Entries.{Entry}
+use Rattle.babel_trie.specs.Marks.{option_mark, sources_mark}
+use Rattle.babel_trie.specs.Pass.{IsPassOver, IsQuietUpTo, changes_left, rows_left}
+use Rattle.babel_trie.specs.Sound.{IsSound, KeepsNodes}
+use Rattle.babel_trie.proofs.NodeLaws.{sources_cmp}
 use Rattle.babel_trie.proofs.pass.Pass.reach.Given as goal
 
-abbrev pub invariant-loop-next : goal.invariant-loop-next
-invariant-loop-next g l = record {
-  is_open : IsOpen l.self;
-  reached : l.self.now.start ≤ l.start;
-  same : (none : g.row.F.Denot) (d : ℕ) → said_at none (all_changes l.self) d ≡ said_at none (all_changes l.fn.self) d;
-  left : (x : Change g.row.F.Denot) → Listed (coming l.self) x → Listed (coming l.fn.self) x;
-  few : length l.self.list.items + length l.self.ahead.items ≤ length l.fn.self.list.items + length l.fn.self.ahead.items;
+abbrev pub invariant-loop-self : goal.invariant-loop-self
+invariant-loop-self g l = record {
+  sound : IsSound (sources_cmp (option_cmp g.V.Ord.cmp)) (sources_mark (option_mark g.V.LawfulOrd.mark)) l.table.nodes.items l.table.numbers;
+  keeps : KeepsNodes l.fn.table.nodes.items l.table.nodes.items;
+  pass : (rows : List (Entry g.row.V.Denot)) → IsPassOver l.width g.R.Rows.rows rows l.fn.table.nodes.items l.fn.self → IsPassOver l.width g.R.Rows.rows rows l.table.nodes.items l.self;
+  reached : l.self.now.start ≤ l.at;
+  few : changes_left g.R.Rows.rows l.self ≤ changes_left g.R.Rows.rows l.fn.self;
+  fewer : (IsQuietUpTo l.at g.R.Rows.rows l.fn.self → ⊥) → (IsQuietUpTo l.at g.R.Rows.rows l.self → ⊥) ⊎ (changes_left g.R.Rows.rows l.self < changes_left g.R.Rows.rows l.fn.self);
 }
 
-abbrev pub decreases-loop-next : goal.decreases-loop-next
-decreases-loop-next g l = length l.self.ahead.items
+abbrev pub decreases-loop-self : goal.decreases-loop-self
+decreases-loop-self g l = length (rows_left g.R.Rows.rows l.self)

@@ -1,25 +1,27 @@
--- The rows that are gone and the rest are the rows, and the pass has come to the answers of those that are gone.
-use Rattle.std.proofs.Common.{◌≡◌, ◌+◌, ◌*◌, ◌≤◌, ◌++◌, List, length}
+-- Below the address the list says what the rows answer, and the pass has come no further.
+use Rattle.std.proofs.Common.{◌≡◌, ◌⊎◌, ◌+◌, ◌-◌, ◌*◌, ◌^◌, ◌<◌, ◌≤◌, length}
 use Rattle.std.specs.Option.{option_cmp}
-use Rattle.babel_prefix.specs.Entries.{Entry}
 use Rattle.babel_trie.specs.Marks.{option_mark, sources_mark}
-use Rattle.babel_trie.specs.Pass.{IsOpen, ahead_of}
+use Rattle.babel_trie.specs.Pass.{IsPassOver, IsQuietUpTo, changes_left}
+use Rattle.babel_trie.specs.Runs.{AreRuns, StartBelow}
 use Rattle.babel_trie.specs.Sound.{IsSound, KeepsNodes}
-use Rattle.babel_trie.specs.Split.{rows_of_split}
 use Rattle.babel_trie.proofs.NodeLaws.{sources_cmp}
-use Rattle.babel_trie.proofs.PassLaws.{AreSoFar}
+use Rattle.babel_trie.proofs.PassLaws.{Says}
 use Rattle.babel_trie.proofs.pass.Table+Option+V.table_runs.Given as goal
 
-abbrev pub invariant-loop-own : goal.invariant-loop-own
-invariant-loop-own g l = record {
-  gone : List (Entry g.row.V.Denot);
-  parts : g.R.Rows.rows l.fn.rows ≡ gone ++ rows_of_split g.R.Rows.rows l.rest;
+abbrev pub invariant-loop-list : goal.invariant-loop-list
+invariant-loop-list g l = record {
   sound : IsSound (sources_cmp (option_cmp g.V.Ord.cmp)) (sources_mark (option_mark g.V.LawfulOrd.mark)) l.self.nodes.items l.self.numbers;
   keeps : KeepsNodes l.fn.self.nodes.items l.self.nodes.items;
-  is_open : IsOpen l.pass;
-  so_far : AreSoFar l.fn.width gone (rows_of_split g.R.Rows.rows l.rest) l.self.nodes.items l.pass.list.items l.pass.now (ahead_of l.pass);
-  few : length l.pass.list.items + length l.pass.ahead.items ≤ 2 * length gone;
+  pass : IsPassOver l.width g.R.Rows.rows (g.R.Rows.rows l.fn.rows) l.self.nodes.items l.pass;
+  reached : l.pass.now.start ≤ l.at;
+  within : l.at < 2 ^ l.width;
+  runs : AreRuns l.list.items;
+  below : StartBelow l.at l.list.items;
+  says : Says l.width l.at (g.R.Rows.rows l.fn.rows) l.self.nodes.items l.list.items;
+  few : ((length l.list.items ≡ 0) × (changes_left g.R.Rows.rows l.pass ≤ 2 * length (g.R.Rows.rows l.fn.rows)))
+      ⊎ ((IsQuietUpTo l.at g.R.Rows.rows l.pass → ⊥) × (length l.list.items + changes_left g.R.Rows.rows l.pass ≤ 2 * length (g.R.Rows.rows l.fn.rows) + 1));
 }
 
-abbrev pub decreases-loop-own : goal.decreases-loop-own
-decreases-loop-own g l = length (rows_of_split g.R.Rows.rows l.rest)
+abbrev pub decreases-loop-list : goal.decreases-loop-list
+decreases-loop-list g l = 2 ^ 128 - l.at

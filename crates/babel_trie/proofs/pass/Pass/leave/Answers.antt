@@ -1,0 +1,56 @@
+-- The nearest change ahead is come to.
+use Rattle.std.proofs.Common.{◌≡◌, inl, inr, ◌<◌, ◌≤◌, ◌-◌, ◌∷◌, take, List, length, reverse, Some, sym, ◌∙◌, ap, subst, arith, Option}
+use Rattle.std.proofs.lemmas.List.{length-reverse}
+use Rattle.std.specs.List.{slice_get}
+use Rattle.std.specs.Vec.{vec_len}
+use Rattle.babel_prefix.specs.Address.{block_of}
+use Rattle.babel_prefix.specs.Entries.{Entry}
+use Rattle.babel_prefix.proofs.Members.{Listed}
+use Rattle.babel_trie.specs.Pass.{IsUnderWay}
+use Rattle.babel_trie.specs.Split.{rows_of_split}
+use Rattle.babel_trie.specs.declared.runs.Change.{Change}
+use Rattle.babel_trie.specs.declared.table.Sources.{Sources}
+use Rattle.babel_trie.proofs.PassLaws.{nearest, nearest-behind, reverse-push, split-last, way-back}
+use Rattle.babel_trie.proofs.pass.Pass.leave.Goals as goal
+
+pub returns-then-at-next-clause-behind : goal.returns-then-at-next-clause-behind
+returns-then-at-next-clause-behind g c =
+    let next = c.in-Some.next.now in
+    let self = c.loop-next.self in
+    let r = c.requires.pass in
+    let popped = nearest self.ahead.items c.deref.result.now next c.deref.ensures.value c.in-Some.ensures.value in
+    nearest-behind (reverse self.ahead.items) (reverse popped.0) next c.args.at popped.1 (c.loop-next.invariant.pass r.0 r.1 r.2 r.3).in_order.1 c.if-at-next.true
+
+pub returns-then-at-next-clause-fewer : goal.returns-then-at-next-clause-fewer
+returns-then-at-next-clause-fewer g c some =
+    let next = c.in-Some.next.now in
+    let self = c.loop-next.self in
+    let r = c.requires.pass in
+    let popped = nearest self.ahead.items c.deref.result.now next c.deref.ensures.value c.in-Some.ensures.value in
+    elim (c.loop-next.invariant.fewer some) [
+      | inl never ↦ absurd (never (nearest-behind (reverse self.ahead.items) (reverse popped.0) next c.args.at popped.1 (c.loop-next.invariant.pass r.0 r.1 r.2 r.3).in_order.1 c.if-at-next.true))
+      | inr lt ↦ lt
+    ]
+
+pub loop-next-preserved : goal.loop-next-preserved
+loop-next-preserved g c =
+    let i = c.loop-next.invariant in
+    let old = c.loop-next.self in
+    let next = c.in-Some.next.now in
+    let new = c.pop.new.self in
+    let left = rows_of_split g.R.Rows.rows old.rest in
+    let last = subst (λ (xs : List (Change (Sources (Option g.row.V.Denot)))). slice_get xs (length xs - 1) ≡ Some next) c.deref.ensures.value (sym c.in-Some.ensures.value) in
+    let count : vec_len old.ahead ≡ length old.ahead.items = omega (arith, old.ahead.ok.0) in
+    let rest : new.items ≡ take (length old.ahead.items - 1) old.ahead.items = c.pop.ensures.rest ∙ ap (λ n. take (n - 1) old.ahead.items) count in
+    let popped : reverse old.ahead.items ≡ next ∷ reverse new.items = ap reverse (split-last old.ahead.items next last) ∙ reverse-push (take (length old.ahead.items - 1) old.ahead.items) next ∙ ap (λ xs. next ∷ reverse xs) (sym rest) in
+    let fewer : length new.items < length old.ahead.items = omega (arith, ap length popped, length-reverse old.ahead.items, length-reverse new.items) in
+    let from : (row : Entry g.row.V.Denot) → Listed left row → next.start ≤ (block_of row.0).start =
+    λ row t. omega (arith, c.if-at-next.false, c.requires.rows row (subst (λ split. Listed (rows_of_split g.R.Rows.rows split) row) i.rest t)) in
+    (record {
+      pass = λ w rows nodes p. way-back w rows left nodes old.now next (reverse new.items) from
+          (subst (λ (xs : List (Change (Sources (Option g.row.V.Denot)))). IsUnderWay w rows nodes old.now xs left) popped (i.pass w rows nodes p));
+      reached = c.if-at-next.false;
+      rest = i.rest;
+      few = omega (arith, i.few, fewer);
+      fewer = λ some. inr (omega (arith, i.few, fewer));
+    })
