@@ -22,7 +22,7 @@ use Rattle.babel_table.specs.Said.{Words, standing, AreDistinct}
 use Rattle.babel_table.proofs.LiveLaws.{keys-live_rows}
 use Rattle.babel_table.proofs.ListLaws.{found-listed, listing, with_word, distinct-listing}
 use Rattle.babel_table.proofs.SaidLaws.{found, sorted-standing}
-use Rattle.babel_table.proofs.Entries.{equal_of}
+use Rattle.babel_prefix.proofs.Insertion.{equal_of}
 
 -- the row contains both addresses, and no row that does is more specific
 pub record IsBestRow (rows : List Pair) (d s : Address) (row : Pair) : Type 0 where
