@@ -113,7 +113,7 @@ fn first_start<V: Copy, R: Rows<V>>(split: Option<(Row<V>, R)>) -> Option<u128>
 }
 
 /// The nearer of where two changes start, if they come.
-fn nearer_start(back: Option<u128>, row: Option<u128>) -> Option<u128>
+pub fn nearer_start(back: Option<u128>, row: Option<u128>) -> Option<u128>
     ensures behind { (at : ℕ) → IfSome result (λ start. at < start)
         ↔ (IfSome back (λ start. at < start) × IfSome row (λ start. at < start)) }
     ensures within { (end : ℕ) → IfSome back (λ start. start < end)

@@ -1,41 +1,77 @@
--- What the first list says is kept while the second is made.
-use Rattle.std.proofs.Common.{List, sym, subst, Option}
-use Rattle.babel_prefix.specs.Entries.{answers_in}
+-- The rows in order are a table with the same answers.
+use Rattle.std.proofs.Common.{◌≡◌, ℕ, ◌^◌, List, map, Option, Some, None, sym, subst, rules}
+use Rattle.std.specs.List.{All}
+use Rattle.std.specs.List.Sorted.{IsPermutation}
+use Rattle.babel_prefix.specs.Address.{Address}
+use Rattle.babel_prefix.specs.declared.family.Family.{Family}
+use Rattle.babel_prefix.specs.Best.{Row, answer}
+use Rattle.babel_prefix.specs.BestRow.{IsTable, HasPrefixes, AreOfFamily, HasDistinctPrefixes}
+use Rattle.babel_prefix.specs.Entries.{Entry, row_of, answers_in}
 use Rattle.babel_prefix.specs.Width.{width_of}
-use Rattle.babel_trie.specs.Runs.{HasRuns}
-use Rattle.babel_trie.specs.declared.runs.Change.{Change}
-use Rattle.babel_trie.specs.declared.table.Sources.{Sources}
-use Rattle.babel_trie.proofs.RunLaws.{runs-grow}
+use Rattle.babel_prefix.proofs.EntryLaws.{rows_in-all}
+use Rattle.babel_trie.specs.Boxes.{SameAnswers, IsLeastDifference}
+use Rattle.babel_trie.specs.Differs.{IsFirstPair}
+use Rattle.babel_trie.specs.Ordered.{rows_of_ordered}
+use Rattle.babel_trie.proofs.ApartLaws.{first-same}
+use Rattle.babel_trie.proofs.DifferLaws.{least_from_first}
+use Rattle.babel_trie.proofs.OfLaws.{table_of_entries, table_of_sorted, answers_of_sorted}
 use Rattle.babel_trie.proofs.least.least_difference_of.Goals as goal
 
-pub least_difference-requires-clause-left : goal.least_difference-requires-clause-left
-least_difference-requires-clause-left g c =
-    let w = width_of c.args.family in
-    let sources = c.runs-2.new.self.nodes.items in
-    let list = c.in_ok-left.left.items in
-    let f = answers_in c.args.family (g.L.Rows.rows c.args.left) in
-    let grown = runs-grow w c.runs.new.self.nodes.items sources list f c.in_ok-right.ensures.keeps c.in_ok-left.ensures.runs in
-    let left = subst (λ (xs : List (Change (Sources (Option g.row.V.Denot)))). HasRuns w sources xs f) (sym c.deref.ensures.value) grown in
-    (f, left)
+-- the rows in order have the answers of the rows
+same_answers : {V : Type 0} (family : Family) (rows sorted : List (Entry V)) → All HasPrefixes rows → All (AreOfFamily family) rows → HasDistinctPrefixes rows → IsPermutation rows sorted →
+    SameAnswers (width_of family) (answer (width_of family) (map row_of sorted)) (answers_in family rows)
+same_answers {V = V} family rows sorted prefixes families distinct permutation =
+    let w = width_of family in
+    subst (λ (rs : List (Row V)). SameAnswers w (answer w (map row_of sorted)) (answer w rs)) (sym (rows_in-all family rows families))
+    (answers_of_sorted w rows sorted (table_of_entries family rows prefixes families distinct) permutation)
 
-pub least_difference-requires-clause-right : goal.least_difference-requires-clause-right
-least_difference-requires-clause-right g c =
-    let w = width_of c.args.family in
-    let sources = c.runs-2.new.self.nodes.items in
-    let others = c.in_ok-right.right.items in
-    let f' = answers_in c.args.family (g.R.Rows.rows c.args.right) in
-    let right = subst (λ (xs : List (Change (Sources (Option g.row.V.Denot)))). HasRuns w sources xs f') (sym c.deref-2.ensures.value) c.in_ok-right.ensures.runs in
-    (f', right)
+pub first_pair-requires-clause-left_table : goal.first_pair-requires-clause-left_table
+first_pair-requires-clause-left_table g c =
+    let rows = g.L.Rows.rows c.args.left in
+    let sorted = rows_of_ordered g.L.Rows.rows c.in_order-rows.result in
+    let table = table_of_entries c.args.family rows c.in_ok-copy.ensures.prefixes c.requires.left_family c.requires.left_prefixes in
+    subst (λ n. IsTable n (map row_of sorted)) (sym c.width.ensures) (table_of_sorted (width_of c.args.family) rows sorted table c.in_order-rows.ensures.permutation)
+
+pub first_pair-requires-clause-right_table : goal.first_pair-requires-clause-right_table
+first_pair-requires-clause-right_table g c =
+    let rows = g.R.Rows.rows c.args.right in
+    let sorted = rows_of_ordered g.R.Rows.rows c.in_order-other_rows.result in
+    let table = table_of_entries c.args.family rows c.in_ok-other_copy.ensures.prefixes c.requires.right_family c.requires.right_prefixes in
+    subst (λ n. IsTable n (map row_of sorted)) (sym c.width.ensures) (table_of_sorted (width_of c.args.family) rows sorted table c.in_order-other_rows.ensures.permutation)
+
+pub returns-in_default-clause-least : goal.returns-in_default-clause-least
+returns-in_default-clause-least g c d s d_in s_in =
+    let V = g.row.V.Denot in
+    let family = c.args.family in
+    let w = width_of family in
+    let left = g.L.Rows.rows c.args.left in
+    let right = g.R.Rows.rows c.args.right in
+    let rows = rows_of_ordered g.L.Rows.rows c.in_order-rows.result in
+    let others = rows_of_ordered g.R.Rows.rows c.in_order-other_rows.result in
+    let found = c.in_ok-dst.field-0 in
+    let here = subst (λ n. IsFirstPair (2 ^ n) (2 ^ n) (answer n (map row_of rows)) (answer n (map row_of others)) found) c.width.ensures c.in_ok-dst.ensures in
+    let first : IsFirstPair (2 ^ w) (2 ^ w) (answers_in family left) (answers_in family right) found = first-same w (answer w (map row_of rows)) (answer w (map row_of others)) (answers_in family left) (answers_in family right)
+    (same_answers family left rows c.in_ok-copy.ensures.prefixes c.requires.left_family c.requires.left_prefixes c.in_order-rows.ensures.permutation)
+    (same_answers family right others c.in_ok-other_copy.ensures.prefixes c.requires.right_family c.requires.right_prefixes c.in_order-other_rows.ensures.permutation) found here in
+    let same = subst (IsFirstPair (2 ^ w) (2 ^ w) (answers_in family left) (answers_in family right)) c.in_default.is first in
+    same d d_in s s_in
 
 pub returns-clause-least : goal.returns-clause-least
 returns-clause-least g c =
-    let w = width_of c.args.family in
-    let sources = c.runs-2.new.self.nodes.items in
-    let list = c.in_ok-left.left.items in
-    let f = answers_in c.args.family (g.L.Rows.rows c.args.left) in
-    let grown = runs-grow w c.runs.new.self.nodes.items sources list f c.in_ok-right.ensures.keeps c.in_ok-left.ensures.runs in
-    let left = subst (λ (xs : List (Change (Sources (Option g.row.V.Denot)))). HasRuns w sources xs f) (sym c.deref.ensures.value) grown in
-    let others = c.in_ok-right.right.items in
-    let f' = answers_in c.args.family (g.R.Rows.rows c.args.right) in
-    let right = subst (λ (xs : List (Change (Sources (Option g.row.V.Denot)))). HasRuns w sources xs f') (sym c.deref-2.ensures.value) c.in_ok-right.ensures.runs in
-    c.least_difference.ensures.least f f' left right
+    let V = g.row.V.Denot in
+    let family = c.args.family in
+    let w = width_of family in
+    let left = g.L.Rows.rows c.args.left in
+    let right = g.R.Rows.rows c.args.right in
+    let rows = rows_of_ordered g.L.Rows.rows c.in_order-rows.result in
+    let others = rows_of_ordered g.R.Rows.rows c.in_order-other_rows.result in
+    let found = c.in_ok-dst.field-0 in
+    let here = subst (λ n. IsFirstPair (2 ^ n) (2 ^ n) (answer n (map row_of rows)) (answer n (map row_of others)) found) c.width.ensures c.in_ok-dst.ensures in
+    let first : IsFirstPair (2 ^ w) (2 ^ w) (answers_in family left) (answers_in family right) found = first-same w (answer w (map row_of rows)) (answer w (map row_of others)) (answers_in family left) (answers_in family right)
+    (same_answers family left rows c.in_ok-copy.ensures.prefixes c.requires.left_family c.requires.left_prefixes c.in_order-rows.ensures.permutation)
+    (same_answers family right others c.in_ok-other_copy.ensures.prefixes c.requires.right_family c.requires.right_prefixes c.in_order-other_rows.ensures.permutation) found here in
+    let at = subst (IsFirstPair (2 ^ w) (2 ^ w) (answers_in family left) (answers_in family right)) c.in-Some.is first in
+    let dst : c.unwrap-dst.result ≡ record { family = family; bits = c.in-Some.dst } = search rules in
+    let src : c.unwrap-src.result ≡ record { family = family; bits = c.in-Some.src } = search rules in
+    let P : Address → Address → Type 0 = λ x y. IsLeastDifference w (answers_in family left) (answers_in family right) x.bits y.bits in
+    subst (λ x. P x c.unwrap-src.result) (sym dst) (subst (P (record { family = family; bits = c.in-Some.dst })) (sym src) (least_from_first w (answers_in family left) (answers_in family right) (c.in-Some.dst, c.in-Some.src) at))
