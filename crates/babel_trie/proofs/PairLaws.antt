@@ -1,5 +1,5 @@
 -- Two passes side by side: what their rows answer up to the next change of either.
-use Rattle.std.proofs.Common.{◌≡◌, inl, inr, ℕ, ◌^◌, ◌<◌, ◌≤◌, List, map, Option, sym, ◌∙◌, arith}
+use Rattle.std.proofs.Common.{inl, inr, ℕ, ◌^◌, ◌<◌, ◌≤◌, List, map, Option, sym, ◌∙◌, arith}
 use Rattle.std.proofs.lemmas.Bool.{cases_lt}
 use Rattle.babel_prefix.specs.Best.{answer}
 use Rattle.babel_prefix.specs.BestRow.{IsTable}

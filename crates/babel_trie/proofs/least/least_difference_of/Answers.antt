@@ -1,5 +1,5 @@
 -- The rows in order are a table with the same answers.
-use Rattle.std.proofs.Common.{◌≡◌, ℕ, ◌^◌, List, map, Option, Some, None, sym, subst, rules}
+use Rattle.std.proofs.Common.{◌≡◌, ◌^◌, List, map, sym, subst, rules}
 use Rattle.std.specs.List.{All}
 use Rattle.std.specs.List.Sorted.{IsPermutation}
 use Rattle.babel_prefix.specs.Address.{Address}
