@@ -62,6 +62,10 @@ impl<'a> Rows<PackedValue> for PackedRows<'a> {
         Some(((key.dst(), key.src(), *value), PackedRows { rows, values }))
     }
 
+    fn room(self) -> usize {
+        self.values.len()
+    }
+
     fn are_in_order(self) -> bool {
         true
     }

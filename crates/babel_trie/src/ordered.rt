@@ -32,6 +32,13 @@ impl<'a, V: Copy, R: Rows<V>> Rows<V> for Ordered<'a, V, R> {
             }
         }
     }
+
+    fn room(self) -> usize {
+        match self {
+            Ordered::AsTheyAre(rows) => rows.room(),
+            Ordered::Sorted(rows) => rows.len(),
+        }
+    }
 }
 
 /// A sorted copy of rows, unless they stand in order.

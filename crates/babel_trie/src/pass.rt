@@ -296,8 +296,9 @@ impl<V: LawfulOrd> Table<Option<V>> {
             (answer width (map row_of (R.rows rows)))) }
         ensures few { IfOk result (λ list. length list.items ≤ 2 * length (R.rows rows) + 1) }
     {
+        let most = rows.room().saturating_mul(2).saturating_add(1);
         let mut pass = Pass::new(alloc, rows);
-        let mut list = Vec::new(alloc);
+        let mut list = Vec::with_capacity(alloc, most)?;
         let mut at = 0u128;
         loop {
             let next = pass.reach(self, width, at)?;

@@ -38,6 +38,9 @@ pub trait Rows<V: Copy>: Copy {
         ensures { MatchOption result (rows self ≡ []) (λ parts. rows self
             ≡ parts.0 ∷ rows parts.1) };
 
+    /// How many rows there are, as far as is known: for so many room is kept.
+    fn room(self) -> usize;
+
     /// Whether the rows stand in order: they are gone through, unless it is known.
     fn are_in_order(self) -> bool
         ensures in_order { result ≡ true → InOrder RowOrder (rows self) }
@@ -64,6 +67,10 @@ impl<'a, V: Copy> Rows<V> for &'a [Row<V>] {
         let (first, others) = self.split_first()?;
         Some((*first, others))
     }
+
+    fn room(self) -> usize {
+        self.len()
+    }
 }
 
 /// The rows in order: a prefix stands before those inside it.
@@ -72,7 +79,7 @@ pub fn sorted_rows<V: Copy, R: Rows<V>>(alloc: Global, rows: R) -> Result<Vec<Ro
     ensures in_order { IfOk result (λ sorted. InOrder RowOrder sorted.items) }
     ensures prefixes { IfOk result (λ _. All HasPrefixes (R.rows rows)) }
 {
-    let mut sorted = Vec::new(alloc);
+    let mut sorted = Vec::with_capacity(alloc, rows.room())?;
     let mut left = rows;
     while let Some((row, others)) = left.split() {
         let _ = (row.0.len(), row.1.len());

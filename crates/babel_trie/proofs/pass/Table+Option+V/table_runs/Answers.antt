@@ -23,7 +23,7 @@ loop-list-init g c =
     let a = c.args in
     let table = a.self.now in
     let rows = g.R.Rows.rows a.rows in
-    let none = none_said a.width rows table.nodes.items c.new-list.result.items c.new-list.ensures.items in
+    let none = none_said a.width rows table.nodes.items c.in_ok-list.list.items c.in_ok-list.ensures.items in
     record {
       sound = sound_by table.nodes.items table.numbers (elim [ Constant v ↦ elim [ Constant u ↦ refl | Stored m ↦ refl ] | Stored k ↦ elim [ Constant v ↦ refl | Stored m ↦ refl ] ]) c.requires.sound;
       keeps = λ k node e. e;
