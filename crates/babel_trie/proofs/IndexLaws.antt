@@ -1,5 +1,5 @@
 -- What is found by its slot stays found where a free slot is filled, and what fills it is found.
-use Rattle.std.proofs.Common.{◌≡◌, inl, inr, ℕ, zero, suc, ◌+◌, ◌-◌, ◌/◌, ◌%◌, ◌^◌, ◌<◌, max, cond, List, [], ◌∷◌, ◌++◌, length, get_or, Option, Some, None, IfSome, IfNone, refl, sym, ◌∙◌, ap, subst, arith, length-append}
+use Rattle.std.proofs.Common.{◌≡◌, inl, inr, ℕ, zero, suc, ◌+◌, ◌-◌, ◌/◌, ◌%◌, ◌^◌, ◌<◌, max, cond, List, [], ◌∷◌, ◌++◌, length, take, get_or, Option, Some, None, IfSome, IfNone, refl, sym, ◌∙◌, ap, subst, arith, length-append}
 use Rattle.std.specs.List.{slice_get}
 use Rattle.std.specs.BTreeMap.{BTreeMap, get, is_at}
 use Rattle.std.specs.Ordering.{is_eq}
@@ -7,11 +7,12 @@ use Rattle.std.specs.declared.cmp.Ordering.{Ordering}
 use Rattle.std.specs.declared.cmp.Ordering.TheVariants.{Less, Equal, Greater}
 use Rattle.std.proofs.Math.ListN.{set}
 use Rattle.std.proofs.lemmas.Bool.{cases_lt}
+use Rattle.std.proofs.lemmas.Option.{slice_get_within}
 use Rattle.std.proofs.lemmas.List.{get_or-set_same, get_or-set_other, length-set}
 use Rattle.babel_trie.specs.Index.{IsAmong, IsNotAmong, IsFreeAmong, window, first_slot, slot_of, IsFound, IsIndexedTo, IsIndexed}
 use Rattle.babel_trie.specs.declared.index.Index.{Index}
 use Rattle.babel_trie.specs.declared.table.NodeNumber.{NodeNumber}
-use Rattle.babel_trie.proofs.NumberLaws.{slice_get-push, slice_get-push_cases}
+use Rattle.babel_trie.proofs.NumberLaws.{slice_get-push, slice_get-push_cases, slice_get-taken}
 
 -- the free slot is in the list
 pub free_place : (slots : List ℕ) (left at place : ℕ) → IsFreeAmong slots left at place →
@@ -165,6 +166,14 @@ module _ {K : Type 0} (cmp : K → K → Ordering) (mark : K → ℕ) where
       let all = index_step longer old new element number before at none kept others in
       let count : number.0 + 1 ≡ length longer = omega (arith, is_next, length-append list (element ∷ [])) in
       subst (λ (k : ℕ). IsIndexedTo cmp mark k longer new) count all
+
+  -- the index of a list is one of what comes first in it
+  pub index_take : (list : List K) (len : ℕ) (index : Index K) → IsIndexed cmp mark list index → IsIndexed cmp mark (take len list) index
+  index_take list len index indexed = record {
+    found = λ x n below is.
+        let there = slice_get-taken list len n.0 x is in
+        indexed.found x n (slice_get_within list n.0 x there) there;
+  }
 
 -- the index of a list is that of an equal list
 pub indexed_as : {K : Type 0} {cmp : K → K → Ordering} {mark : K → ℕ} (list other : List K) (index : Index K) → list ≡ other →

@@ -1,7 +1,8 @@
 -- One pass over sorted rows: what it has come to and what is ahead of it are the answers of the rows so far.
 use Rattle.std.proofs.Common.{◌≡◌, ◌≢◌, inl, inr, ℕ, ◌+◌, ◌-◌, ◌%◌, ◌^◌, ◌<◌, ◌≤◌, cond, List, [], ◌∷◌, ◌++◌, take, reverse, suc, length, Option, Some, None, map, refl, sym, ◌∙◌, ap, subst, arith}
 use Rattle.std.specs.List.{slice_get}
-use Rattle.std.proofs.lemmas.List.{map-append, reverse-append, append_assoc}
+use Rattle.std.proofs.lemmas.List.{map-append, reverse-append, append_assoc, length-take, take_all}
+use Rattle.std.proofs.lemmas.Option.{slice_get_within}
 use Rattle.std.proofs.lemmas.Bool.{cases_lt}
 use Rattle.std.proofs.lemmas.Nat.{pow_pos}
 use Rattle.babel_prefix.specs.Address.{block_of}
@@ -15,16 +16,17 @@ use Rattle.babel_prefix.proofs.Members.{Listed, Listed-append_left, Listed-appen
 use Rattle.babel_trie.specs.Held.{RowOrder}
 use Rattle.babel_trie.specs.Interned.{Represents, HasTrie}
 use Rattle.babel_trie.specs.Laid.{HasOneDestination, IsOverlaid}
-use Rattle.babel_trie.specs.Pass.{IsFilled, StartInOrder, IsLaidAt, AreLaid, IsUnderWay, AreQuietUpTo}
+use Rattle.babel_trie.specs.Pass.{IsFilled, StartInOrder, IsLaidAt, IsReachedAt, AreLaid, IsUnderWay, AreQuietUpTo}
 use Rattle.babel_trie.specs.Rows.{InOrder, IsNoLater, InBlock, Overlays, source_block}
 use Rattle.babel_trie.specs.Runs.{said_at, AreRuns, StartBelow, StartBehind, HasRuns}
 use Rattle.babel_trie.specs.Shape.{Shape, leaf, value_at}
 use Rattle.babel_trie.specs.Sound.{KeepsNodes}
+use Rattle.babel_trie.specs.declared.pass.Reached.{Reached}
 use Rattle.babel_trie.specs.declared.runs.Change.{Change}
 use Rattle.babel_trie.specs.declared.table.Node.{Node}
 use Rattle.babel_trie.specs.declared.table.Sources.{Sources}
 use Rattle.babel_trie.proofs.HeldLaws.{sources_at-stands}
-use Rattle.babel_trie.proofs.NumberLaws.{Represents-grows}
+use Rattle.babel_trie.proofs.NumberLaws.{Represents-grows, slice_get-take, slice_get-taken}
 use Rattle.babel_trie.proofs.OverlayLaws.{overlays_left, overlays_then, answer-overlays}
 use Rattle.babel_trie.proofs.PartLaws.{from_map, to_map}
 use Rattle.babel_trie.proofs.PlaceLaws.{InOrder-left, InOrder-right}
@@ -117,6 +119,24 @@ module _ (w : ℕ) (a b : Block) (a_block : IsBlock w a) (b_block : IsBlock w b)
         | inr ge ↦ ge
       ]
 
+-- the nodes at the front are kept where all are
+keeps-front : {N : Type 0} (old new : List (Node N)) (n : ℕ) → KeepsNodes old new → KeepsNodes (take n old) (take n new)
+keeps-front old new n keeps i x e =
+    let within = slice_get_within (take n old) i x e in
+    slice_get-take new n i x (omega (arith, within, length-take n old)) (keeps i x (slice_get-taken old n i x e))
+
+-- and where so many are left
+keeps-cut : {N : Type 0} (nodes : List (Node N)) (n len : ℕ) → n ≤ len → KeepsNodes (take n nodes) (take n (take len nodes))
+keeps-cut nodes n len le i x e =
+    let inside : i < n = omega (arith, slice_get_within (take n nodes) i x e, length-take n nodes) in
+    slice_get-take (take len nodes) n i x inside (slice_get-take nodes len i x (omega arith) (slice_get-taken nodes n i x e))
+
+-- a table that keeps its nodes gets no shorter
+keeps-length : {N : Type 0} (old new : List (Node N)) → KeepsNodes old new → length old ≤ length new
+keeps-length [] new keeps = omega arith
+keeps-length (x ∷ old) [] keeps = absurd (let e = keeps 0 x refl in cc)
+keeps-length (x ∷ old) (y ∷ new) keeps = let rest = keeps-length old new (λ i z e. keeps (suc i) z e) in omega arith
+
 module _ {V : Type 0} where
   laid-grows : (w d : ℕ) (rows : List (Entry V)) (nodes more : List (Node (Option V))) (s : Sources (Option V)) → KeepsNodes nodes more → IsLaidAt w d rows nodes s → IsLaidAt w d rows more s
   laid-grows w d rows nodes more s keeps l =
@@ -184,57 +204,66 @@ module _ {V : Type 0} where
       ]
 
   -- a table that grows keeps what the changes stand for
-  are_laid-grows : (w : ℕ) (rows : List (Entry V)) (nodes more : List (Node (Option V))) → KeepsNodes nodes more → (now : Change (Sources (Option V))) (ahead : List (Change (Sources (Option V)))) → AreLaid w rows nodes now ahead →
+  are_laid-grows : (w : ℕ) (rows : List (Entry V)) (nodes more : List (Node (Option V))) → KeepsNodes nodes more → (now : Change (Reached V)) (ahead : List (Change (Reached V))) → AreLaid w rows nodes now ahead →
       AreLaid w rows more now ahead
-  are_laid-grows w rows nodes more keeps now [] l = λ d low high. laid-grows w d rows nodes more now.sources keeps (l d low high)
+  are_laid-grows w rows nodes more keeps now [] l = λ d low high. laid-grows w d rows (take now.sources.made nodes) (take now.sources.made more) now.sources.trie (keeps-front nodes more now.sources.made keeps) (l d low high)
   are_laid-grows w rows nodes more keeps now (next ∷ ahead) l =
-      (λ d low high. laid-grows w d rows nodes more now.sources keeps (l.0 d low high), are_laid-grows w rows nodes more keeps next ahead l.1)
+      (λ d low high. laid-grows w d rows (take now.sources.made nodes) (take now.sources.made more) now.sources.trie (keeps-front nodes more now.sources.made keeps) (l.0 d low high), l.1, are_laid-grows w rows nodes more keeps next ahead l.2)
+
+  -- so does one that is cut, where it has so many nodes as the first change needs
+  are_laid-cut : (w : ℕ) (rows : List (Entry V)) (nodes : List (Node (Option V))) (len : ℕ) (now : Change (Reached V)) (ahead : List (Change (Reached V))) → now.sources.made ≤ len → AreLaid w rows nodes now ahead →
+      AreLaid w rows (take len nodes) now ahead
+  are_laid-cut w rows nodes len now [] le l = λ d low high. laid-grows w d rows (take now.sources.made nodes) (take now.sources.made (take len nodes)) now.sources.trie (keeps-cut nodes now.sources.made len le) (l d low high)
+  are_laid-cut w rows nodes len now (next ∷ ahead) le l =
+      (λ d low high. laid-grows w d rows (take now.sources.made nodes) (take now.sources.made (take len nodes)) now.sources.trie (keeps-cut nodes now.sources.made len le) (l.0 d low high), l.1, are_laid-cut w rows nodes len next ahead (omega (arith, l.1)) l.2)
 
   -- rows of which no block has an address from the first change on change nothing
   are_laid-other : (w : ℕ) (gone own : List (Entry V)) (nodes more : List (Node (Option V))) → KeepsNodes nodes more → (at : ℕ) → ((d : ℕ) → at ≤ d → (x : Entry V) → Listed own x → BlockCovers w (block_of x.0) d → ⊥) →
-      (now : Change (Sources (Option V))) (ahead : List (Change (Sources (Option V)))) → at ≤ now.start → StartInOrder (now ∷ ahead) → AreLaid w gone nodes now ahead → AreLaid w (gone ++ own) more now ahead
-  are_laid-other w gone own nodes more keeps at never now [] from order l = λ d low high. laid-other w d gone own nodes more now.sources (l d low high) keeps (never d (omega arith))
+      (now : Change (Reached V)) (ahead : List (Change (Reached V))) → at ≤ now.start → StartInOrder (now ∷ ahead) → AreLaid w gone nodes now ahead → AreLaid w (gone ++ own) more now ahead
+  are_laid-other w gone own nodes more keeps at never now [] from order l = λ d low high. laid-other w d gone own (take now.sources.made nodes) (take now.sources.made more) now.sources.trie (l d low high) (keeps-front nodes more now.sources.made keeps) (never d (omega arith))
   are_laid-other w gone own nodes more keeps at never now (next ∷ ahead) from order l =
       let le : now.start ≤ next.start = order.0 next (inl refl) in
-      (λ d low high. laid-other w d gone own nodes more now.sources (l.0 d low high) keeps (never d (omega arith)), are_laid-other w gone own nodes more keeps at never next ahead (omega arith) order.1 l.1)
+      (λ d low high. laid-other w d gone own (take now.sources.made nodes) (take now.sources.made more) now.sources.trie (l.0 d low high) (keeps-front nodes more now.sources.made keeps) (never d (omega arith)), l.1, are_laid-other w gone own nodes more keeps at never next ahead (omega arith) order.1 l.2)
 
   -- before all changes ahead the one come to counts
-  are_laid-here : (w : ℕ) (rows : List (Entry V)) (nodes : List (Node (Option V))) (now : Change (Sources (Option V))) (ahead : List (Change (Sources (Option V)))) → AreLaid w rows nodes now ahead →
-      (d : ℕ) → now.start ≤ d → d < 2 ^ w → StartBehind d ahead → IsLaidAt w d rows nodes now.sources
-  are_laid-here w rows nodes now [] l d low d_in behind = l d low d_in
-  are_laid-here w rows nodes now (next ∷ ahead) l d low d_in behind = l.0 d low (behind next (inl refl))
+  are_laid-here : (w : ℕ) (rows : List (Entry V)) (nodes : List (Node (Option V))) (now : Change (Reached V)) (ahead : List (Change (Reached V))) → AreLaid w rows nodes now ahead →
+      (d : ℕ) → now.start ≤ d → d < 2 ^ w → StartBehind d ahead → IsLaidAt w d rows nodes now.sources.trie
+  are_laid-here w rows nodes now [] l d low d_in behind = laid-grows w d rows (take now.sources.made nodes) nodes now.sources.trie (slice_get-taken nodes now.sources.made) (l d low d_in)
+  are_laid-here w rows nodes now (next ∷ ahead) l d low d_in behind = laid-grows w d rows (take now.sources.made nodes) nodes now.sources.trie (slice_get-taken nodes now.sources.made) (l.0 d low (behind next (inl refl)))
 
   -- the change come to may come again
-  are_laid-later : (w : ℕ) (rows : List (Entry V)) (nodes : List (Node (Option V))) (now back : Change (Sources (Option V))) (ahead : List (Change (Sources (Option V)))) → now.start ≤ back.start → now.sources ≡ back.sources →
+  are_laid-later : (w : ℕ) (rows : List (Entry V)) (nodes : List (Node (Option V))) (now back : Change (Reached V)) (ahead : List (Change (Reached V))) → now.start ≤ back.start → now.sources ≡ back.sources →
       AreLaid w rows nodes now ahead → AreLaid w rows nodes back ahead
-  are_laid-later w rows nodes now back [] le is l = λ d low high. subst (IsLaidAt w d rows nodes) is (l d (omega arith) high)
-  are_laid-later w rows nodes now back (next ∷ ahead) le is l = (λ d low high. subst (IsLaidAt w d rows nodes) is (l.0 d (omega arith) high), l.1)
+  are_laid-later w rows nodes now back [] le is l = λ d low high. subst (IsReachedAt w d rows nodes) is (l d (omega arith) high)
+  are_laid-later w rows nodes now back (next ∷ ahead) le is l =
+      (λ d low high. subst (IsReachedAt w d rows nodes) is (l.0 d (omega arith) high), subst (λ (s : Reached V). next.sources.made ≤ s.made) is l.1, l.2)
 
   -- nothing is ahead
-  are_laid-last : (w : ℕ) (rows : List (Entry V)) (nodes : List (Node (Option V))) (now : Change (Sources (Option V))) (ahead : List (Change (Sources (Option V)))) → ((x : Change (Sources (Option V))) → Listed ahead x → ⊥) →
-      ((d : ℕ) → now.start ≤ d → d < 2 ^ w → IsLaidAt w d rows nodes now.sources) → AreLaid w rows nodes now ahead
+  are_laid-last : (w : ℕ) (rows : List (Entry V)) (nodes : List (Node (Option V))) (now : Change (Reached V)) (ahead : List (Change (Reached V))) → ((x : Change (Reached V)) → Listed ahead x → ⊥) →
+      ((d : ℕ) → now.start ≤ d → d < 2 ^ w → IsReachedAt w d rows nodes now.sources) → AreLaid w rows nodes now ahead
   are_laid-last w rows nodes now [] never l = l
   are_laid-last w rows nodes now (next ∷ ahead) never l = absurd (never next (inl refl))
 
   -- no row is gone yet
-  pub way-first : (w : ℕ) (rows left : List (Entry V)) (nodes : List (Node (Option V))) (now : Change (Sources (Option V))) (ahead : List (Change (Sources (Option V)))) → IsTable w (map row_of rows) → InOrder RowOrder rows → rows ≡ left →
-      now.start ≡ 0 → Represents nodes now.sources (leaf None) → ahead ≡ [] → IsUnderWay w rows nodes now (reverse ahead) left
-  way-first w rows left nodes now [] table order whole start stands none =
+  pub way-first : (w : ℕ) (rows left : List (Entry V)) (nodes : List (Node (Option V))) (now : Change (Reached V)) (ahead : List (Change (Reached V))) → IsTable w (map row_of rows) → InOrder RowOrder rows → rows ≡ left →
+      now.start ≡ 0 → now.sources.made ≡ 0 → Represents [] now.sources.trie (leaf None) → ahead ≡ [] → IsUnderWay w rows nodes now (reverse ahead) left
+  way-first w rows left nodes now [] table order whole start made stands none =
       record {
         table = table;
         rows_in_order = order;
         gone = [];
         whole = whole;
         in_order = ((λ x t. elim t [ ]), tt);
-        below = λ x t. elim t [ inl here ↦ let e : now.start ≡ x.start = ap (λ (c : Change (Sources (Option V))). c.start) here in omega (arith, pow_pos w) | inr never ↦ elim never [ ] ];
-        laid = λ d low d_in. record { held = record { trie = leaf None; stands = stands; fits = omega arith; reduced = tt }; values = λ s s_in. inr (λ row t m. elim t [ ], refl) };
+        below = λ x t. elim t [ inl here ↦ let e : now.start ≡ x.start = ap (λ (c : Change (Reached V)). c.start) here in omega (arith, pow_pos w) | inr never ↦ elim never [ ] ];
+        laid = λ d low d_in. record { held = record { trie = leaf None; stands = subst (λ n. Represents (take n nodes) now.sources.trie (leaf None)) (sym made) stands; fits = omega arith; reduced = tt }; values = λ s s_in. inr (λ row t m. elim t [ ], refl) };
+        made = omega (arith, made);
         from = λ y t. omega arith;
         nested = λ x t. elim t [ ];
       }
-  way-first w rows left nodes now (x ∷ ahead) table order whole start stands none = cc
+  way-first w rows left nodes now (x ∷ ahead) table order whole start made stands none = cc
 
   -- the next change ahead is come to
-  pub way-back : (w : ℕ) (rows left : List (Entry V)) (nodes : List (Node (Option V))) (now next : Change (Sources (Option V))) (ahead : List (Change (Sources (Option V)))) → ((y : Entry V) → Listed left y → next.start ≤ (block_of y.0).start) →
+  pub way-back : (w : ℕ) (rows left : List (Entry V)) (nodes : List (Node (Option V))) (now next : Change (Reached V)) (ahead : List (Change (Reached V))) → ((y : Entry V) → Listed left y → next.start ≤ (block_of y.0).start) →
       IsUnderWay w rows nodes now (next ∷ ahead) left → IsUnderWay w rows nodes next ahead left
   way-back w rows left nodes now next ahead from p =
       record {
@@ -244,13 +273,14 @@ module _ {V : Type 0} where
         whole = p.whole;
         in_order = p.in_order.1;
         below = λ x t. p.below x (inr t);
-        laid = p.laid.1;
+        laid = p.laid.2;
+        made = omega (arith, p.laid.1, p.made);
         from = from;
         nested = λ x t. p.nested x (inr t);
       }
 
   -- a table that grows keeps it
-  pub way-grows : (w : ℕ) (rows left : List (Entry V)) (nodes more : List (Node (Option V))) (now : Change (Sources (Option V))) (ahead : List (Change (Sources (Option V)))) → KeepsNodes nodes more → IsUnderWay w rows nodes now ahead left →
+  pub way-grows : (w : ℕ) (rows left : List (Entry V)) (nodes more : List (Node (Option V))) (now : Change (Reached V)) (ahead : List (Change (Reached V))) → KeepsNodes nodes more → IsUnderWay w rows nodes now ahead left →
       IsUnderWay w rows more now ahead left
   way-grows w rows left nodes more now ahead keeps p =
       record {
@@ -261,11 +291,29 @@ module _ {V : Type 0} where
         in_order = p.in_order;
         below = p.below;
         laid = are_laid-grows w p.gone nodes more keeps now ahead p.laid;
+        made = omega (arith, p.made, keeps-length nodes more keeps);
         from = p.from;
         nested = p.nested;
       }
 
-  module _ {w : ℕ} {rows left : List (Entry V)} {nodes : List (Node (Option V))} {now : Change (Sources (Option V))} {ahead : List (Change (Sources (Option V)))} (p : IsUnderWay w rows nodes now ahead left) where
+  -- so does one that is cut, where it has so many nodes as the change come to needs
+  pub way-cut : (w : ℕ) (rows left : List (Entry V)) (nodes : List (Node (Option V))) (len : ℕ) (now : Change (Reached V)) (ahead : List (Change (Reached V))) → now.sources.made ≤ len → IsUnderWay w rows nodes now ahead left →
+      IsUnderWay w rows (take len nodes) now ahead left
+  way-cut w rows left nodes len now ahead le p =
+      record {
+        table = p.table;
+        rows_in_order = p.rows_in_order;
+        gone = p.gone;
+        whole = p.whole;
+        in_order = p.in_order;
+        below = p.below;
+        laid = are_laid-cut w p.gone nodes len now ahead le p.laid;
+        made = omega (arith, p.made, length-take len nodes);
+        from = p.from;
+        nested = p.nested;
+      }
+
+  module _ {w : ℕ} {rows left : List (Entry V)} {nodes : List (Node (Option V))} {now : Change (Reached V)} {ahead : List (Change (Reached V))} (p : IsUnderWay w rows nodes now ahead left) where
     listed : (x : Entry V) → Listed left x → Listed rows x
     listed x t = subst (λ xs. Listed xs x) (sym p.whole) (Listed-append_right p.gone left x t)
 
@@ -285,14 +333,14 @@ module _ {V : Type 0} where
     left_order = InOrder-right RowOrder p.gone left (subst (InOrder RowOrder) p.whole p.rows_in_order)
 
     -- up to the next change the sources come to are the answers of all rows
-    pub way-here : (d : ℕ) → now.start ≤ d → d < 2 ^ w → AreQuietUpTo d ahead left → IsLaidAt w d rows nodes now.sources
+    pub way-here : (d : ℕ) → now.start ≤ d → d < 2 ^ w → AreQuietUpTo d ahead left → IsLaidAt w d rows nodes now.sources.trie
     way-here d low d_in quiet =
-        subst (λ xs. IsLaidAt w d xs nodes now.sources) (sym p.whole)
-        (laid-other w d p.gone left nodes nodes now.sources (are_laid-here w p.gone nodes now ahead p.laid d low d_in quiet.changes) (λ k node e. e)
+        subst (λ xs. IsLaidAt w d xs nodes now.sources.trie) (sym p.whole)
+        (laid-other w d p.gone left nodes nodes now.sources.trie (are_laid-here w p.gone nodes now ahead p.laid d low d_in quiet.changes) (λ k node e. e)
         (λ x t c. let low : (block_of x.0).start ≤ d = (covers_range w (block_of x.0) d (prefixes x (listed x t)).0 c).0 in omega (arith, quiet.rows x t)))
 
     -- they stand for a trie
-    pub way-held : (d : ℕ) → now.start ≤ d → d < 2 ^ w → StartBehind d ahead → HasTrie w nodes now.sources
+    pub way-held : (d : ℕ) → now.start ≤ d → d < 2 ^ w → StartBehind d ahead → HasTrie w nodes now.sources.trie
     way-held d low d_in behind = (are_laid-here w p.gone nodes now ahead p.laid d low d_in behind).held
 
   -- the rows that are left begin with those of a next destination
@@ -300,7 +348,7 @@ module _ {V : Type 0} where
     pub some : 0 < length own
     pub one : (x : Entry V) → Listed own x → block_of x.0 ≡ b
 
-  module _ {w : ℕ} {rows own others : List (Entry V)} {b : Block} (n : IsNext w own others b) {nodes : List (Node (Option V))} {now : Change (Sources (Option V))} {ahead : List (Change (Sources (Option V)))}
+  module _ {w : ℕ} {rows own others : List (Entry V)} {b : Block} (n : IsNext w own others b) {nodes : List (Node (Option V))} {now : Change (Reached V)} {ahead : List (Change (Reached V))}
       (p : IsUnderWay w rows nodes now ahead (own ++ others)) where
     own_in : (x : Entry V) → Listed own x → Listed rows x
     own_in x t = listed p x (Listed-append_left own others x t)
@@ -343,7 +391,7 @@ module _ {V : Type 0} where
 
     module _ (behind : StartBehind b.start ahead) where
       -- no block ahead ends before the destination does
-      ends_ahead : (x : Change (Sources (Option V))) → Listed ahead x → b.start + size w b ≤ x.start
+      ends_ahead : (x : Change (Reached V)) → Listed ahead x → b.start + size w b ≤ x.start
       ends_ahead x t =
           let f = first own n.some in
           let is : block_of f.0.0 ≡ b = n.one f.0 f.1 in
@@ -358,15 +406,15 @@ module _ {V : Type 0} where
           let here = order-no_longer w d s fx.0 fy.0 (prefixes p fx.0 x_in) (prefixes p fy.0 (own_in fy.0 fy.1)) before (subst (Matches w d s) (sym fx.2) at_x) (subst (Matches w d s) (sym fy.2) at_y) in
           subst (λ r. IsNoLonger r y) fx.2 (subst (IsNoLonger (row_of fx.0)) fy.2 here)
 
-      module _ (more : List (Node (Option V))) (here : Sources (Option V)) (keeps : KeepsNodes nodes more) (overlaid : (t : Shape (Option V)) → Represents nodes now.sources t → IsOverlaid w w 0 (map row_of own) more here t)
-          (new : Change (Sources (Option V))) (start_is : new.start ≡ b.start) (new_is : here ≡ new.sources) where
+      module _ (more : List (Node (Option V))) (here : Sources (Option V)) (keeps : KeepsNodes nodes more) (overlaid : (t : Shape (Option V)) → Represents nodes now.sources.trie t → IsOverlaid w w 0 (map row_of own) more here t)
+          (new : Change (Reached V)) (start_is : new.start ≡ b.start) (new_is : here ≡ new.sources.trie) (made_is : new.sources.made ≡ length more) where
         -- inside the block the rows of the destination are laid over what the pass had come to
-        inside : (d : ℕ) → b.start ≤ d → d < b.start + size w b → IsLaidAt w d (p.gone ++ own) more new.sources
+        inside : (d : ℕ) → b.start ≤ d → d < b.start + size w b → IsReachedAt w d (p.gone ++ own) more new.sources
         inside d low high =
             let le : b.start + size w b ≤ 2 ^ w = block_ends w b block in
             let l = are_laid-here w p.gone nodes now ahead p.laid d (omega (arith, starts_before)) (omega arith) (λ x t. omega (arith, ends_ahead x t)) in
-            subst (IsLaidAt w d (p.gone ++ own) more) new_is
-            (laid-own w d p.gone own nodes more now.sources l here overlaid (λ x t. subst (λ a. BlockCovers w a d) (sym (n.one x t)) (range_covers w b d block low high)) (shorter d))
+            subst (λ xs. IsLaidAt w d (p.gone ++ own) xs new.sources.trie) (sym (take_all new.sources.made more (omega (arith, made_is)))) (subst (IsLaidAt w d (p.gone ++ own) more) new_is
+            (laid-own w d p.gone own nodes more now.sources.trie l here overlaid (λ x t. subst (λ a. BlockCovers w a d) (sym (n.one x t)) (range_covers w b d block low high)) (shorter d)))
 
         -- behind the block they change nothing
         never : (d : ℕ) → b.start + size w b ≤ d → (x : Entry V) → Listed own x → BlockCovers w (block_of x.0) d → ⊥
@@ -375,7 +423,7 @@ module _ {V : Type 0} where
             omega arith
 
         -- a block that ends before the end of all is entered, and behind it comes what was come to before
-        pub way-entered : (back : Change (Sources (Option V))) → back.start ≡ b.start + size w b → now.sources ≡ back.sources → back.start < 2 ^ w → IsUnderWay w rows more new (back ∷ ahead) others
+        pub way-entered : (back : Change (Reached V)) → back.start ≡ b.start + size w b → now.sources ≡ back.sources → back.start < 2 ^ w → IsUnderWay w rows more new (back ∷ ahead) others
         way-entered back back_is same within =
             let order : StartInOrder (back ∷ ahead) = ((λ x t. omega (arith, ends_ahead x t)), p.in_order.1) in
             record {
@@ -383,20 +431,22 @@ module _ {V : Type 0} where
               rows_in_order = p.rows_in_order;
               gone = p.gone ++ own;
               whole = p.whole ∙ sym (append_assoc p.gone own others);
-              in_order = ((λ x t. elim t [ inl here ↦ subst (λ (c : Change (Sources (Option V))). new.start ≤ c.start) here (omega arith) | inr there ↦ omega (arith, ends_ahead x there) ]), order);
+              in_order = ((λ x t. elim t [ inl here ↦ subst (λ (c : Change (Reached V)). new.start ≤ c.start) here (omega arith) | inr there ↦ omega (arith, ends_ahead x there) ]), order);
               below = λ x t. elim t [
-                | inl here ↦ subst (λ (c : Change (Sources (Option V))). c.start < 2 ^ w) here (omega (arith, block.start_in_range))
-                | inr there ↦ elim there [ inl here ↦ subst (λ (c : Change (Sources (Option V))). c.start < 2 ^ w) here within | inr old ↦ p.below x (inr old) ]
+                | inl here ↦ subst (λ (c : Change (Reached V)). c.start < 2 ^ w) here (omega (arith, block.start_in_range))
+                | inr there ↦ elim there [ inl here ↦ subst (λ (c : Change (Reached V)). c.start < 2 ^ w) here within | inr old ↦ p.below x (inr old) ]
               ];
               laid = (
                 λ d low high. inside d (omega arith) (omega arith),
+                (let e = ap (λ (s : Reached V). s.made) same in omega (arith, e, p.made, made_is, keeps-length nodes more keeps)),
                 are_laid-other w p.gone own nodes more keeps back.start (λ d low. never d (omega arith)) back ahead (omega arith) order
                     (are_laid-later w p.gone nodes now back ahead (omega (arith, starts_before)) same p.laid),
               );
+              made = omega (arith, made_is);
               from = λ y t. omega (arith, rest_from y t);
               nested = λ x t y u lt. elim t [
                 | inl here ↦
-                    let is : back.start ≡ x.start = ap (λ (c : Change (Sources (Option V))). c.start) here in
+                    let is : back.start ≡ x.start = ap (λ (c : Change (Reached V)). c.start) here in
                     let within = ends_within w b (block_of y.0) block (prefixes p y (listed p y (Listed-append_right own others y u))).0 (later y u) (omega arith) in
                     omega arith
                 | inr old ↦ p.nested x old y (Listed-append_right own others y u) lt
@@ -406,7 +456,7 @@ module _ {V : Type 0} where
         -- a block up to the end of all is entered
         pub way-entered_last : 2 ^ w ≤ b.start + size w b → IsUnderWay w rows more new ahead others
         way-entered_last all =
-            let none : (x : Change (Sources (Option V))) → Listed ahead x → ⊥ = λ x t. omega (arith, ends_ahead x t, p.below x (inr t)) in
+            let none : (x : Change (Reached V)) → Listed ahead x → ⊥ = λ x t. omega (arith, ends_ahead x t, p.below x (inr t)) in
             record {
               table = p.table;
               rows_in_order = p.rows_in_order;
@@ -414,10 +464,11 @@ module _ {V : Type 0} where
               whole = p.whole ∙ sym (append_assoc p.gone own others);
               in_order = ((λ x t. absurd (none x t)), p.in_order.1);
               below = λ x t. elim t [
-                | inl here ↦ subst (λ (c : Change (Sources (Option V))). c.start < 2 ^ w) here (omega (arith, block.start_in_range))
+                | inl here ↦ subst (λ (c : Change (Reached V)). c.start < 2 ^ w) here (omega (arith, block.start_in_range))
                 | inr old ↦ p.below x (inr old)
               ];
               laid = are_laid-last w (p.gone ++ own) more new ahead none (λ d low high. inside d (omega arith) (omega arith));
+              made = omega (arith, made_is);
               from = λ y t. omega (arith, rest_from y t);
               nested = λ x t. absurd (none x t);
             }
@@ -427,8 +478,8 @@ module _ {V : Type 0} where
   Says w at rows nodes list = (none : Sources (Option V)) (d : ℕ) → d < at → IsLaidAt w d rows nodes (said_at none list d)
 
   -- up to the next change it says what the pass has come to
-  pub says-more : (w at to : ℕ) (rows left : List (Entry V)) (nodes more : List (Node (Option V))) (list after : List (Change (Sources (Option V)))) (now : Change (Sources (Option V))) (ahead : List (Change (Sources (Option V)))) → KeepsNodes nodes more →
-      IsFilled at to now.sources list after → Says w at rows nodes list → IsUnderWay w rows more now ahead left → now.start ≤ at → to ≤ 2 ^ w → ((d : ℕ) → d < to → AreQuietUpTo d ahead left) → Says w to rows more after
+  pub says-more : (w at to : ℕ) (rows left : List (Entry V)) (nodes more : List (Node (Option V))) (list after : List (Change (Sources (Option V)))) (now : Change (Reached V)) (ahead : List (Change (Reached V))) → KeepsNodes nodes more →
+      IsFilled at to now.sources.trie list after → Says w at rows nodes list → IsUnderWay w rows more now ahead left → now.start ≤ at → to ≤ 2 ^ w → ((d : ℕ) → d < to → AreQuietUpTo d ahead left) → Says w to rows more after
   says-more w at to rows left nodes more list after now ahead keeps filled says p low to_in quiet none d lt =
       elim (cases_lt d at) [
         | inl under ↦ subst (IsLaidAt w d rows more) (sym (filled.kept none d under)) (laid-grows w d rows nodes more (said_at none list d) keeps (says none d under))

@@ -4,7 +4,6 @@ ghost use Rattle.babel_prefix.specs.Width.{width_of};
 ghost use Rattle.babel_trie.specs.Boxes.{Answers, SameAnswers, IsLeastDifference};
 ghost use Rattle.babel_trie.specs.Differs.{IsFirstPair};
 ghost use Rattle.babel_trie.specs.Runs.{said_at, AreRuns, StartBehind, StartFrom, HasRuns};
-ghost use Rattle.babel_trie.specs.declared.difference.Tables.TheVariants.{One};
 
 use crate::difference::Tables;
 use crate::fit::last_address;
@@ -65,12 +64,10 @@ impl<V: LawfulOrd> Table<Option<V>> {
         left: &[Change<Sources<Option<V>>>],
         other: &Table<Option<V>>,
         right: &[Change<Sources<Option<V>>>],
-        tables: Tables,
         width: u8,
     ) -> Option<(u128, u128)>
         requires left { (f : Answers V) × HasRuns width self.now.nodes.items left.now f }
         requires right { (g : Answers V) × HasRuns width other.now.nodes.items right.now g }
-        requires one { tables ≡ One → self.now.nodes.items ≡ other.now.nodes.items }
         requires width { width ≤ 128 }
         ensures { (f g : Answers V) → HasRuns width self.now.nodes.items left.now f
             → HasRuns width other.now.nodes.items right.now g
@@ -83,7 +80,7 @@ impl<V: LawfulOrd> Table<Option<V>> {
         loop {
             let (rest, says) = behind(lefts, at, here);
             let (other_rest, other_says) = behind(rights, at, there);
-            if let Some(src) = self.first_difference(says, other, other_says, tables, width) {
+            if let Some(src) = self.first_difference(says, other, other_says, Tables::Two, width) {
                 return Some((at, src));
             }
             let end = nearer(last_before(rest, at), last_before(other_rest, at));
@@ -103,14 +100,12 @@ impl<V: LawfulOrd> Table<Option<V>> {
         left: &[Change<Sources<Option<V>>>],
         other: &Table<Option<V>>,
         right: &[Change<Sources<Option<V>>>],
-        tables: Tables,
         family: Family,
     ) -> Option<(Addr, Addr)>
         requires left { (f : Answers V)
             × HasRuns (width_of family) self.now.nodes.items left.now f }
         requires right { (g : Answers V)
             × HasRuns (width_of family) other.now.nodes.items right.now g }
-        requires one { tables ≡ One → self.now.nodes.items ≡ other.now.nodes.items }
         ensures family { IfSome result (λ p. (p.0.family ≡ family) × (p.1.family ≡ family)) }
         ensures least { (f g : Answers V)
             → HasRuns (width_of family) self.now.nodes.items left.now f
@@ -118,7 +113,7 @@ impl<V: LawfulOrd> Table<Option<V>> {
             → MatchOption result (SameAnswers (width_of family) f g)
             (λ p. IsLeastDifference (width_of family) f g p.0.bits p.1.bits) }
     {
-        let (dst, src) = self.first_pair(left, other, right, tables, family.width())?;
+        let (dst, src) = self.first_pair(left, other, right, family.width())?;
         let dst = Addr::new(family, dst).unwrap();
         let src = Addr::new(family, src).unwrap();
         Some((dst, src))

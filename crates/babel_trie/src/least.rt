@@ -1,22 +1,67 @@
 //! Where two lists of rows first answer differently.
-ghost use Rattle.std.specs.Prelude.{◌≡◌, ◌^◌, ◌≤◌, All, map, IfOk, IfSome, MatchOption};
+ghost use Rattle.std.specs.Prelude.{◌≡◌, ◌↔◌, ℕ, ◌^◌, ◌<◌, ◌≤◌, List, All, map, IfOk, IfSome, OnOk, MatchOption};
 ghost use Rattle.babel_prefix.specs.Best.{answer};
 ghost use Rattle.babel_prefix.specs.Width.{width_of};
-ghost use Rattle.babel_prefix.specs.Entries.{answers_in, row_of};
+ghost use Rattle.babel_prefix.specs.Entries.{Entry, answers_in, row_of};
 ghost use Rattle.babel_prefix.specs.BestRow.{IsTable, AreOfFamily, HasDistinctPrefixes};
 ghost use Rattle.babel_trie.specs.Boxes.{SameAnswers, IsLeastDifference};
 ghost use Rattle.babel_trie.specs.Differs.{IsFirstPair};
 ghost use Rattle.babel_trie.specs.Held.{RowOrder};
+ghost use Rattle.babel_trie.specs.Pass.{IsPassOver, IsQuietUpTo, StartRowsFrom, rows_left};
 ghost use Rattle.babel_trie.specs.Rows.{InOrder};
+ghost use Rattle.babel_trie.specs.Sound.{IsSound};
 
 use crate::difference::Tables;
 use crate::lawful::LawfulOrd;
 use crate::ordered::{in_order, sorted_copy};
 use crate::pass::{Pass, nearer_start};
 use crate::rows::{Row, Rows};
-use crate::table::Table;
+use crate::table::{Sources, Table};
 use babel_prefix::{Addr, Family};
 use std::alloc::{AllocError, Global};
+
+/// Both passes come to each change up to an address, and the next one of either is answered. Nodes
+/// that were made for blocks which end before the address can be given up first.
+fn reach_both<V: LawfulOrd, L: Rows<V>, R: Rows<V>>(
+    table: &mut Table<Option<V>>,
+    pass: &mut Pass<V, L>,
+    other: &mut Pass<V, R>,
+    width: u8,
+    at: u128,
+) -> Result<Option<u128>, AllocError>
+    requires sound { IsSound ⟦<Sources<Option<V>> as Ord>⟧.cmp
+        ⟦<Sources<Option<V>> as LawfulOrd>⟧.mark table.old.nodes.items table.old.numbers }
+    requires pass { (rows : List (Entry V))
+        × IsPassOver width L.rows rows table.old.nodes.items pass.old }
+    requires other { (rows : List (Entry V))
+        × IsPassOver width R.rows rows table.old.nodes.items other.old }
+    requires reached { pass.old.now.start ≤ at }
+    requires other_reached { other.old.now.start ≤ at }
+    requires rows { StartRowsFrom at (rows_left L.rows pass.old) }
+    requires other_rows { StartRowsFrom at (rows_left R.rows other.old) }
+    requires width { width ≤ 128 }
+    ensures sound { OnOk result (IsSound ⟦<Sources<Option<V>> as Ord>⟧.cmp
+        ⟦<Sources<Option<V>> as LawfulOrd>⟧.mark table.new.nodes.items table.new.numbers) }
+    ensures pass { OnOk result ((rows : List (Entry V))
+        → IsPassOver width L.rows rows table.old.nodes.items pass.old
+        → IsPassOver width L.rows rows table.new.nodes.items pass.new) }
+    ensures other { OnOk result ((rows : List (Entry V))
+        → IsPassOver width R.rows rows table.old.nodes.items other.old
+        → IsPassOver width R.rows rows table.new.nodes.items other.new) }
+    ensures reached { OnOk result (pass.new.now.start ≤ at) }
+    ensures other_reached { OnOk result (other.new.now.start ≤ at) }
+    ensures next { IfOk result (λ next. (to : ℕ) → IfSome next (λ start. to < start)
+        ↔ (IsQuietUpTo to L.rows pass.new × IsQuietUpTo to R.rows other.new)) }
+    ensures behind { IfOk result (λ next. IfSome next (λ start. at < start)) }
+    ensures within { IfOk result (λ next. IfSome next (λ start. start < 2 ^ width)) }
+{
+    pass.leave(at);
+    other.leave(at);
+    table.give_up_from(pass.made().max(other.made()));
+    let next = pass.reach(table, width, at)?;
+    let other_next = other.reach(table, width, at)?;
+    Ok(nearer_start(next, other_next))
+}
 
 /// The first destination that two lists of rows in order answer differently, and for it the first
 /// source. Both are passed over side by side, up to there.
@@ -39,13 +84,12 @@ fn first_pair<V: LawfulOrd, L: Rows<V>, R: Rows<V>>(
     let mut other = Pass::new(alloc, right);
     let mut at = 0u128;
     loop {
-        let next = pass.reach(&mut table, width, at)?;
-        let other_next = other.reach(&mut table, width, at)?;
+        let next = reach_both(&mut table, &mut pass, &mut other, width, at)?;
         let (here, there) = (pass.sources(), other.sources());
         if let Some(src) = table.first_difference(here, &table, there, Tables::One, width) {
             return Ok(Some((at, src)));
         }
-        let Some(start) = nearer_start(next, other_next) else {
+        let Some(start) = next else {
             return Ok(None);
         };
         at = start;

@@ -1,13 +1,13 @@
 //! The addresses at which the answers change from one destination to the next, found in one pass
 //! over sorted rows.
-ghost use Rattle.std.specs.Prelude.{◌≡◌, ◌≢◌, ◌↔◌, ℕ, ◌+◌, ◌-◌, ◌*◌, ◌^◌, ◌<◌, ◌≤◌, ◌∷◌, ◌++◌, List, map, length, reverse, slice_get, Option, Some, true, false, IfOk, IfSome, OnOk};
+ghost use Rattle.std.specs.Prelude.{◌≡◌, ◌≢◌, ◌↔◌, ℕ, ◌+◌, ◌-◌, ◌*◌, ◌^◌, ◌<◌, ◌≤◌, ◌∷◌, ◌++◌, List, map, length, take, reverse, slice_get, Option, Some, true, false, IfOk, IfSome, OnOk};
 ghost use Rattle.babel_prefix.specs.Address.{block_of};
 ghost use Rattle.babel_prefix.specs.Best.{answer};
 ghost use Rattle.babel_prefix.specs.BestRow.{IsTable};
 ghost use Rattle.babel_prefix.specs.Entries.{Entry, row_of};
 ghost use Rattle.babel_prefix.specs.Members.{Listed};
 ghost use Rattle.babel_trie.specs.Held.{RowOrder};
-ghost use Rattle.babel_trie.specs.Pass.{IsFilled, StartInOrder, IsPassOver, IsQuietUpTo, ahead_of, changes_left, rows_left};
+ghost use Rattle.babel_trie.specs.Pass.{IsFilled, StartInOrder, IsPassOver, IsQuietUpTo, StartRowsFrom, ahead_of, changes_left, rows_left};
 ghost use Rattle.babel_trie.specs.Split.{rows_of_split};
 ghost use Rattle.babel_trie.specs.Rows.{InOrder};
 ghost use Rattle.babel_trie.specs.Runs.{AreRuns, StartBelow, StartBehind, HasRuns};
@@ -78,12 +78,20 @@ fn first_destination<V: Copy, R: Rows<V>>(
     Ok(others)
 }
 
+/// What a pass comes to: a trie of sources, and how many nodes at the front of the table are enough
+/// for it and for each that comes again behind a block which is open there.
+#[derive(Clone, Copy)]
+pub struct Reached<V> {
+    trie: Sources<Option<V>>,
+    made: usize,
+}
+
 /// A pass over rows in order: the change come to, the changes back behind the blocks that are open,
 /// of which the last comes next, and the rows of which no block was come to.
 #[derive(Drop)]
 pub struct Pass<V, R> {
-    now: Change<Sources<Option<V>>>,
-    ahead: Vec<Change<Sources<Option<V>>>>,
+    now: Change<Reached<V>>,
+    ahead: Vec<Change<Reached<V>>>,
     rest: Option<(Row<V>, R)>,
     own: Vec<Row<V>>,
 }
@@ -138,7 +146,10 @@ impl<V: LawfulOrd, R: Rows<V>> Pass<V, R> {
         Pass {
             now: Change {
                 start: 0,
-                sources: Sources::Constant(None),
+                sources: Reached {
+                    trie: Sources::Constant(None),
+                    made: 0,
+                },
             },
             ahead: Vec::new(alloc),
             rest: rows.split(),
@@ -148,9 +159,19 @@ impl<V: LawfulOrd, R: Rows<V>> Pass<V, R> {
 
     /// What is answered where the pass has come to.
     pub fn sources(&self) -> Sources<Option<V>>
-        ensures { result ≡ self.entry.now.now.sources }
+        ensures { result ≡ self.entry.now.now.sources.trie }
     {
-        self.now.sources
+        self.now.sources.trie
+    }
+
+    /// So many nodes at the front of the table are enough for all that it comes to without a new
+    /// row.
+    pub fn made(&self) -> usize
+        ensures enough { (width len : ℕ) (rows : List (Entry V)) (nodes : List (Node (Option V)))
+            → result ≤ len → IsPassOver width R.rows rows nodes self.entry.now
+            → IsPassOver width R.rows rows (take len nodes) self.entry.now }
+    {
+        self.now.sources.made
     }
 
     /// Where the next change comes, if one does.
@@ -167,12 +188,11 @@ impl<V: LawfulOrd, R: Rows<V>> Pass<V, R> {
     }
 
     /// Comes to each change back up to an address.
-    fn leave(&mut self, at: u128)
+    pub fn leave(&mut self, at: u128)
         requires pass { (width : ℕ) × (rows : List (Entry V)) × (nodes : List (Node (Option V)))
             × IsPassOver width R.rows rows nodes self.old }
         requires order { self.old.now.start ≤ at }
-        requires rows { (row : Entry V) → Listed (rows_left R.rows self.old) row
-            → at ≤ (block_of row.0).start }
+        requires rows { StartRowsFrom at (rows_left R.rows self.old) }
         ensures pass { (width : ℕ) (rows : List (Entry V)) (nodes : List (Node (Option V)))
             → IsPassOver width R.rows rows nodes self.old
             → IsPassOver width R.rows rows nodes self.new }
@@ -223,14 +243,18 @@ impl<V: LawfulOrd, R: Rows<V>> Pass<V, R> {
         let others = first_destination(first, behind, &mut self.own)?;
         let start = first.0.addr().bits();
         let end = last_address(start, width - first.0.len());
-        let sources = table.overlaid(&self.own, width, self.now.sources)?;
+        let trie = table.overlaid(&self.own, width, self.now.sources.trie)?;
+        let made = table.nodes().len();
         if end < last_address(0, width) {
             self.ahead.push(Change {
                 start: end + 1,
                 sources: self.now.sources,
             })?;
         }
-        self.now = Change { start, sources };
+        self.now = Change {
+            start,
+            sources: Reached { trie, made },
+        };
         self.rest = others;
         Ok(())
     }

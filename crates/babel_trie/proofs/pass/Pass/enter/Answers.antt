@@ -1,5 +1,5 @@
 -- The rows of the destination are laid over what the pass has come to.
-use Rattle.std.proofs.Common.{◌≡◌, ◌+◌, ◌-◌, ◌^◌, inl, List, [], ◌∷◌, ◌++◌, reverse, length, Option, refl, sym, ◌∙◌, ap, subst, arith}
+use Rattle.std.proofs.Common.{◌≡◌, ◌+◌, ◌-◌, ◌^◌, inl, List, [], ◌∷◌, ◌++◌, reverse, length, refl, sym, ◌∙◌, ap, subst, arith}
 use Rattle.std.proofs.Math.Pow.{pow_mono}
 use Rattle.babel_prefix.specs.Address.{Address, block_of}
 use Rattle.babel_prefix.specs.Block.{Block}
@@ -7,8 +7,8 @@ use Rattle.babel_prefix.proofs.Members.{Listed}
 use Rattle.babel_trie.specs.Pass.{IsUnderWay, ahead_of, rows_left}
 use Rattle.babel_trie.specs.Split.{rows_of_split}
 use Rattle.babel_trie.specs.declared.pass.Pass.{Pass}
+use Rattle.babel_trie.specs.declared.pass.Reached.{Reached}
 use Rattle.babel_trie.specs.declared.runs.Change.{Change}
-use Rattle.babel_trie.specs.declared.table.Sources.{Sources}
 use Rattle.babel_trie.proofs.PassLaws.{IsNext, left_block, reverse-push, sources_in, way-held, way-entered, way-entered_last}
 use Rattle.babel_trie.proofs.Ranges.{size, block_ends}
 use Rattle.babel_trie.proofs.pass.Pass.enter.Goals.{then-end-last_address+in_ok-push, else-end-last_address}
@@ -69,19 +69,20 @@ returns-clause-pass g c rows p =
     record { some = omega (arith, ap length same, c.in_ok-others.ensures.some); one = λ x t. c.in_ok-others.ensures.one x (subst (λ xs. Listed xs x) same t) } in
     let q = subst (IsUnderWay w rows c.args.table.now.nodes.items self.now (ahead_of self)) split p in
     let more = c.overlaid.new.self.nodes.items in
-    let new : Change (Sources (Option V)) = record { start = c.bits-start.result; sources = c.in_ok-sources.sources } in
+    let new : Change (Reached V) = record { start = c.bits-start.result; sources = record { trie = c.in_ok-trie.trie; made = length c.nodes-made.result.now } } in
     let start_is : c.bits-start.result ≡ b.start = c.bits-start.ensures.value ∙ ap (λ (x : Address). x.bits) c.addr.ensures.value in
     let end_is : c.last_address-end.result + 1 ≡ b.start + size w b = omega (arith, start_is, ap (λ k. 2 ^ (w - k)) c.len.ensures.value, c.last_address-end.ensures) in
     let last_is : c.last_address.result + 1 ≡ 2 ^ w = omega (arith, c.last_address.ensures) in
-    let Under = λ (xs : List (Change (Sources (Option V)))). IsUnderWay w rows more new xs others in
+    let made_is : new.sources.made ≡ length more = ap length c.nodes-made.ensures in
+    let Under = λ (xs : List (Change (Reached V))). IsUnderWay w rows more new xs others in
     elim c.if-end-last_address.branch [
       | then-end-last_address+in_ok-push t ↦
-          let back : Change (Sources (Option V)) = record { start = c.last_address-end.result + 1; sources = self.now.sources } in
-          let entered = way-entered n q c.requires.reached more new.sources c.in_ok-sources.ensures.keeps c.in_ok-sources.ensures.overlaid new start_is refl back end_is refl (omega (arith, t.if-end-last_address.true, last_is)) in
+          let back : Change (Reached V) = record { start = c.last_address-end.result + 1; sources = self.now.sources } in
+          let entered = way-entered n q c.requires.reached more new.sources.trie c.in_ok-trie.ensures.keeps c.in_ok-trie.ensures.overlaid new start_is refl made_is back end_is refl (omega (arith, t.if-end-last_address.true, last_is)) in
           let ahead : reverse (self.ahead.items ++ back ∷ []) ≡ back ∷ reverse self.ahead.items = reverse-push self.ahead.items back in
           subst (λ (x : Pass V g.row.R.Denot). Under (reverse x.ahead.items)) (sym t.self-is)
-          (subst (λ (xs : List (Change (Sources (Option V)))). Under (reverse xs)) (sym t.in_ok-push.ensures.items) (subst Under (sym ahead) entered))
+          (subst (λ (xs : List (Change (Reached V))). Under (reverse xs)) (sym t.in_ok-push.ensures.items) (subst Under (sym ahead) entered))
       | else-end-last_address t ↦
-          let entered = way-entered_last n q c.requires.reached more new.sources c.in_ok-sources.ensures.keeps c.in_ok-sources.ensures.overlaid new start_is refl (omega (arith, t.if-end-last_address.false, last_is, end_is)) in
+          let entered = way-entered_last n q c.requires.reached more new.sources.trie c.in_ok-trie.ensures.keeps c.in_ok-trie.ensures.overlaid new start_is refl made_is (omega (arith, t.if-end-last_address.false, last_is, end_is)) in
           subst (λ (x : Pass V g.row.R.Denot). Under (reverse x.ahead.items)) (sym t.self-is) entered
     ]

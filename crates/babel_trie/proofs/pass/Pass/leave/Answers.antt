@@ -1,5 +1,5 @@
 -- The nearest change ahead is come to.
-use Rattle.std.proofs.Common.{◌≡◌, inl, inr, ◌<◌, ◌≤◌, ◌-◌, ◌∷◌, take, List, length, reverse, Some, sym, ◌∙◌, ap, subst, arith, Option}
+use Rattle.std.proofs.Common.{◌≡◌, inl, inr, ◌<◌, ◌≤◌, ◌-◌, ◌∷◌, take, List, length, reverse, Some, sym, ◌∙◌, ap, subst, arith}
 use Rattle.std.proofs.lemmas.List.{length-reverse}
 use Rattle.std.specs.List.{slice_get}
 use Rattle.std.specs.Vec.{vec_len}
@@ -8,8 +8,8 @@ use Rattle.babel_prefix.specs.Entries.{Entry}
 use Rattle.babel_prefix.proofs.Members.{Listed}
 use Rattle.babel_trie.specs.Pass.{IsUnderWay}
 use Rattle.babel_trie.specs.Split.{rows_of_split}
+use Rattle.babel_trie.specs.declared.pass.Reached.{Reached}
 use Rattle.babel_trie.specs.declared.runs.Change.{Change}
-use Rattle.babel_trie.specs.declared.table.Sources.{Sources}
 use Rattle.babel_trie.proofs.PassLaws.{nearest, nearest-behind, reverse-push, split-last, way-back}
 use Rattle.babel_trie.proofs.pass.Pass.leave.Goals as goal
 
@@ -39,7 +39,7 @@ loop-next-preserved g c =
     let next = c.in-Some.next.now in
     let new = c.pop.new.self in
     let left = rows_of_split g.R.Rows.rows old.rest in
-    let last = subst (λ (xs : List (Change (Sources (Option g.row.V.Denot)))). slice_get xs (length xs - 1) ≡ Some next) c.deref.ensures.value (sym c.in-Some.ensures.value) in
+    let last = subst (λ (xs : List (Change (Reached g.row.V.Denot))). slice_get xs (length xs - 1) ≡ Some next) c.deref.ensures.value (sym c.in-Some.ensures.value) in
     let count : vec_len old.ahead ≡ length old.ahead.items = omega (arith, old.ahead.ok.0) in
     let rest : new.items ≡ take (length old.ahead.items - 1) old.ahead.items = c.pop.ensures.rest ∙ ap (λ n. take (n - 1) old.ahead.items) count in
     let popped : reverse old.ahead.items ≡ next ∷ reverse new.items = ap reverse (split-last old.ahead.items next last) ∙ reverse-push (take (length old.ahead.items - 1) old.ahead.items) next ∙ ap (λ xs. next ∷ reverse xs) (sym rest) in
@@ -48,7 +48,7 @@ loop-next-preserved g c =
     λ row t. omega (arith, c.if-at-next.false, c.requires.rows row (subst (λ split. Listed (rows_of_split g.R.Rows.rows split) row) i.rest t)) in
     (record {
       pass = λ w rows nodes p. way-back w rows left nodes old.now next (reverse new.items) from
-          (subst (λ (xs : List (Change (Sources (Option g.row.V.Denot)))). IsUnderWay w rows nodes old.now xs left) popped (i.pass w rows nodes p));
+          (subst (λ (xs : List (Change (Reached g.row.V.Denot))). IsUnderWay w rows nodes old.now xs left) popped (i.pass w rows nodes p));
       reached = c.if-at-next.false;
       rest = i.rest;
       few = omega (arith, i.few, fewer);

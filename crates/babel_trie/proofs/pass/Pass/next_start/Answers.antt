@@ -6,22 +6,22 @@ use Rattle.babel_prefix.specs.Entries.{Entry}
 use Rattle.babel_prefix.proofs.Members.{Listed}
 use Rattle.babel_trie.specs.Pass.{StartInOrder, rows_left}
 use Rattle.babel_trie.specs.Runs.{StartBehind}
+use Rattle.babel_trie.specs.declared.pass.Reached.{Reached}
 use Rattle.babel_trie.specs.declared.runs.Change.{Change}
-use Rattle.babel_trie.specs.declared.table.Sources.{Sources}
 use Rattle.babel_trie.proofs.PassLaws.{left_order, left_in}
 use Rattle.babel_trie.proofs.pass.Pass.next_start.Goals as goal
 
 pub last_start-requires : goal.last_start-requires
 last_start-requires g c =
     let r = c.requires.pass in
-    subst (λ (xs : List (Change (Sources (Option g.row.V.Denot)))). StartInOrder (reverse xs)) (sym c.deref.ensures.value) r.3.in_order.1
+    subst (λ (xs : List (Change (Reached g.row.V.Denot))). StartInOrder (reverse xs)) (sym c.deref.ensures.value) r.3.in_order.1
 
 pub first_start-requires : goal.first_start-requires
 first_start-requires g c = let r = c.requires.pass in left_order r.3
 
 pub returns-clause-next : goal.returns-clause-next
 returns-clause-next g c at =
-    let Behind = λ (xs : List (Change (Sources (Option g.row.V.Denot)))). StartBehind at (reverse xs) in
+    let Behind = λ (xs : List (Change (Reached g.row.V.Denot))). StartBehind at (reverse xs) in
     let near = c.nearer_start.ensures.behind at in
     let back = c.last_start.ensures.nearest at in
     let row = c.first_start.ensures.first at in (
@@ -39,6 +39,6 @@ returns-clause-within g c w rows nodes p =
     let V = g.row.V.Denot in
     let self = c.args.self.now in
     c.nearer_start.ensures.within (2 ^ w)
-    (one_below (λ (x : Change (Sources (Option V))). Listed (reverse c.deref.result.now) x) (λ x. x.start) (2 ^ w) c.last_start.result c.last_start.ensures.one
-    (λ x t. p.below x (inr (subst (λ (xs : List (Change (Sources (Option V)))). Listed (reverse xs) x) c.deref.ensures.value t))))
+    (one_below (λ (x : Change (Reached V)). Listed (reverse c.deref.result.now) x) (λ x. x.start) (2 ^ w) c.last_start.result c.last_start.ensures.one
+    (λ x t. p.below x (inr (subst (λ (xs : List (Change (Reached V))). Listed (reverse xs) x) c.deref.ensures.value t))))
     (one_below (λ (x : Entry V). Listed (rows_left g.R.Rows.rows self) x) (λ x. (block_of x.0).start) (2 ^ w) c.first_start.result c.first_start.ensures.one (left_in p))

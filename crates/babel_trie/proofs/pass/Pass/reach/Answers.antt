@@ -80,6 +80,10 @@ before_none : {V R : Type 0} (rows : R → List (Entry V)) (split : Option (Entr
 before_none rows None at is row t = elim t [ ]
 before_none rows (Some split) at is row t = cc
 
+pub leave-requires-2-clause-pass : goal.leave-requires-2-clause-pass
+leave-requires-2-clause-pass g c =
+    let r = c.requires.pass in (c.args.width, r.0, c.loop-self.table.nodes.items, c.loop-self.invariant.pass r.0 r.1)
+
 pub leave-requires-2-clause-rows : goal.leave-requires-2-clause-rows
 leave-requires-2-clause-rows g c row t =
     let r = c.requires.pass in
