@@ -1,10 +1,11 @@
-"""The table of docs/PROMISES.md: how long each file of definitions is, and that each uses only those above it."""
+"""docs/PROMISES.md: how long each file of definitions is, that each uses only those above it, and the clauses that are quoted."""
 
 import re
 
 from checks import TOP
 
 ROW = re.compile(r"\| `(babel_\w+)` (\w+) \| (\d+) \|")
+QUOTED = re.compile(r"(?m)(?:^    .*\n)+")
 IMPORT = re.compile(r"use Rattle\.(babel_\w+)\.specs\.(\w+)\.")
 
 # What a function inside does, of which one record of captures has a part.
@@ -13,7 +14,11 @@ EXCEPTED = {(("babel_dump", "CaptureRun"), ("babel_dump", "Parts"))}
 
 def check(tally, _long):
     seen, lengths = set(), {}
-    for crate, name, said in ROW.findall((TOP / "docs/PROMISES.md").read_text()):
+    promises = (TOP / "docs/PROMISES.md").read_text()
+    clauses = (TOP / "crates/babel_canon/src/normal_form.rt").read_text()
+    for block in QUOTED.findall(promises):
+        tally.check("quoted clauses", "" if block in clauses else f"they do not stand in the code:\n{block}")
+    for crate, name, said in ROW.findall(promises):
         lines = (TOP / f"crates/{crate}/specs/{name}.antt").read_text().splitlines()
         length = sum(1 for line in lines if line and not line.startswith("use "))
         tally.check(f"{crate} {name}", "" if length == int(said) else f"{said} lines are stated, and there are {length}")

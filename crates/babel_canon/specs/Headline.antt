@@ -1,5 +1,5 @@
 -- What canonical octets tell of the dumps that they were made from, with or without a view: this
--- project's own. In `normalise` `Same` is `AnswerTheSame`; `Made one octets` holds of the octets
+-- project's own. In `normalise`, `Same` is `AnswerTheSame`; `Made one octets` holds of the octets
 -- that it answers for the dump `one` (*ok*), and `Refused one fault` of its faults (*err*).
 use Rattle.std.specs.Prelude.{◌≡◌, ◌↔◌, ℕ, List}
 use Rattle.babel_prefix.specs.Address.{Address}
@@ -28,8 +28,8 @@ DumpsAnswer Same limits mode one other =
     (table other_table : Routes) → IsTableOf limits mode one.sender one.dump table
     → IsTableOf limits mode other.sender other.dump other_table → Same table.rows other_table.rows
 
--- `octets` (made of `one`, by *ok*) are equal to octets made of any dump `other` exactly where
--- both dumps answer the same
+-- `octets` (made of `one`, by *ok*) are equal to octets made of any dump `other`, under the same
+-- limits, mode and body size, exactly where both dumps answer the same
 abbrev pub TellsApart : (Same : List Pair → List Pair → Type 0) → (Made : Sent → List ℕ → Type 0)
     → Bounds → Mode → Sent → List ℕ → Type 0
 TellsApart Same Made limits mode one octets =

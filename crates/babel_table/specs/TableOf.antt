@@ -11,7 +11,8 @@ use Rattle.babel_table.specs.Rows.{Routes}
 use Rattle.babel_table.specs.Holds.{HoldsAtMost, AreRowsOf}
 
 -- none of the sayings refuses the dump: each is an event, `said` is `before` and then these events,
--- and after each of them something is held for at most so many keys
+-- and after each of them something is held for at most so many keys (`entries`). `before` has the
+-- events so far, so it begins as [].
 abbrev pub AreFine : Mode → ℕ → List Event → List Saying → List Event → Type 0
 AreFine mode entries before [] said = said ≡ before
 AreFine mode entries before (saying ∷ later) said =
