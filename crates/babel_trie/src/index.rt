@@ -26,12 +26,12 @@ pub struct Index<K: Ord> {
 }
 
 /// Whether this is the number of an element in the list.
-pub fn is_number_of<K: LawfulOrd>(list: &[K], number: NodeNumber, element: K) -> bool
-    ensures { IsTrue result ↔ (slice_get list.now number.0 ≡ Some element) }
+pub fn is_number_of<K: LawfulOrd>(list: &[K], number: NodeNumber, element: &K) -> bool
+    ensures { IsTrue result ↔ (slice_get list.now number.0 ≡ Some element.now) }
 {
     match list.get(number.index()) {
         None => false,
-        Some(other) => are_same(*other, element),
+        Some(other) => are_same(*other, *element),
     }
 }
 
@@ -58,9 +58,9 @@ fn number_in(slot: u64, mark: u64) -> Option<NodeNumber>
 }
 
 /// The number in a slot, if it is that of an element with this mark.
-fn number_at<K: LawfulOrd>(slot: u64, list: &[K], element: K, mark: u64) -> Option<NodeNumber>
-    ensures some { IfSome result (λ n. slice_get list.now n.0 ≡ Some element) }
-    ensures none { IfNone result ((n : NodeNumber) → slice_get list.now n.0 ≡ Some element
+fn number_at<K: LawfulOrd>(slot: u64, list: &[K], element: &K, mark: u64) -> Option<NodeNumber>
+    ensures some { IfSome result (λ n. slice_get list.now n.0 ≡ Some element.now) }
+    ensures none { IfNone result ((n : NodeNumber) → slice_get list.now n.0 ≡ Some element.now
         → n.0 + 1 < 2 ^ 32 → slot ≢ slot_of mark n.0) }
 {
     let Some(number) = number_in(slot, mark) else {
@@ -78,13 +78,13 @@ fn number_at<K: LawfulOrd>(slot: u64, list: &[K], element: K, mark: u64) -> Opti
 fn number_among<K: LawfulOrd>(
     slots: &[u64],
     list: &[K],
-    element: K,
+    element: &K,
     mark: u64,
     at: usize,
     left: u8,
 ) -> Option<NodeNumber>
-    ensures some { IfSome result (λ n. slice_get list.now n.0 ≡ Some element) }
-    ensures none { IfNone result (IsNotAmong list.now element mark slots.now left at) }
+    ensures some { IfSome result (λ n. slice_get list.now n.0 ≡ Some element.now) }
+    ensures none { IfNone result (IsNotAmong list.now element.now mark slots.now left at) }
 {
     if left == 0 || at >= slots.len() {
         return None;
@@ -130,18 +130,18 @@ impl<K: LawfulOrd> Index<K> {
         (mark >> 32) as usize % self.slots.len().max(1)
     }
 
-    /// The number of an element in the list.
-    pub fn get(&self, list: &[K], element: K) -> Option<NodeNumber>
-        requires { IsIndexed K.cmp K.mark list.now self.now }
-        ensures some { IfSome result (λ n. slice_get list.now n.0 ≡ Some element) }
-        ensures none { IfNone result (IsAbsent list.now element) }
+    /// The number of an element in the list, by its mark.
+    pub fn get(&self, list: &[K], element: &K, mark: u64) -> Option<NodeNumber>
+        requires indexed { IsIndexed K.cmp K.mark list.now self.now }
+        requires mark { mark ≡ K.mark element.now }
+        ensures some { IfSome result (λ n. slice_get list.now n.0 ≡ Some element.now) }
+        ensures none { IfNone result (IsAbsent list.now element.now) }
     {
-        let mark = element.mark();
         let first = self.first_slot(mark);
         if let Some(number) = number_among(&self.slots, list, element, mark, first, WINDOW) {
             return Some(number);
         }
-        let kept = *self.crowded.get(&element)?;
+        let kept = *self.crowded.get(element)?;
         if is_number_of(list, kept, element) {
             Some(kept)
         } else {
@@ -149,12 +149,13 @@ impl<K: LawfulOrd> Index<K> {
         }
     }
 
-    /// Keeps the number of an element.
-    fn keep(&mut self, element: K, number: NodeNumber) -> Result<(), AllocError>
-        ensures kept { OnOk result (IsFound K.cmp K.mark self.new element number) }
-        ensures others { OnOk result (KeepsFound K.cmp K.mark self.old self.new element number) }
+    /// Keeps the number of an element with this mark.
+    fn keep(&mut self, element: &K, mark: u64, number: NodeNumber) -> Result<(), AllocError>
+        requires { mark ≡ K.mark element.now }
+        ensures kept { OnOk result (IsFound K.cmp K.mark self.new element.now number) }
+        ensures others { OnOk result (KeepsFound K.cmp K.mark self.old self.new element.now
+            number) }
     {
-        let mark = element.mark();
         let first = self.first_slot(mark);
         if let Some(place) = free_among(&self.slots, first, WINDOW) {
             if let Some(slot) = slot_of(mark, number) {
@@ -162,7 +163,7 @@ impl<K: LawfulOrd> Index<K> {
                 return Ok(());
             }
         }
-        self.crowded.insert(element, number)?;
+        self.crowded.insert(*element, number)?;
         Ok(())
     }
 
@@ -182,23 +183,32 @@ impl<K: LawfulOrd> Index<K> {
         self.slots.clear();
         self.slots.resize(4 * list.len() + 64, 0)?;
         for at in 0..list.len() {
-            self.keep(list[at], NodeNumber(at as u32))?;
+            let element = &list[at];
+            self.keep(element, element.mark(), NodeNumber(at as u32))?;
         }
         self.room = list.len() + 32;
         Ok(())
     }
 
-    /// Keeps the number of an element that the list is going to have next, and does not have.
-    pub fn add(&mut self, list: &[K], element: K, number: NodeNumber) -> Result<(), AllocError>
+    /// Keeps the number of an element with this mark that the list is going to have next, and does
+    /// not have.
+    pub fn add(
+        &mut self,
+        list: &[K],
+        element: &K,
+        mark: u64,
+        number: NodeNumber,
+    ) -> Result<(), AllocError>
         requires indexed { IsIndexed K.cmp K.mark list.now self.old }
         requires distinct { HasDistinct list.now }
         requires next { number.0 ≡ length list.now }
-        requires absent { IsAbsent list.now element }
-        ensures { OnOk result (IsIndexed K.cmp K.mark (list.now ++ element ∷ []) self.new) }
+        requires absent { IsAbsent list.now element.now }
+        requires mark { mark ≡ K.mark element.now }
+        ensures { OnOk result (IsIndexed K.cmp K.mark (list.now ++ element.now ∷ []) self.new) }
     {
         self.make_room(list)?;
         self.room -= 1;
-        self.keep(element, number)?;
+        self.keep(element, mark, number)?;
         Ok(())
     }
 }

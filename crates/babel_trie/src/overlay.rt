@@ -13,16 +13,15 @@ use crate::rows::{Row, inner_block, parts};
 use crate::table::{Loose, Sources, Table, alone};
 use std::alloc::AllocError;
 
-/// The value that the rows of a whole block set, or what was answered before where there are none.
-fn set<V: Copy>(rows: &[Row<V>], old: Loose<Option<V>>) -> Loose<Option<V>>
-    ensures is { (nodes : List (Node (Option V))) (t : Shape (Option V)) → Stands nodes old t
-        → IsSet rows.now nodes result t }
-    ensures normal { (nodes : List (Node (Option V))) → IsNormalLoose nodes old
-        → IsNormalLoose nodes result }
+/// Sets the value of the rows of a whole block, if there are any.
+fn set<V: Copy>(rows: &[Row<V>], trie: &mut Loose<Option<V>>)
+    ensures is { (nodes : List (Node (Option V))) (t : Shape (Option V)) → Stands nodes trie.old t
+        → IsSet rows.now nodes trie.new t }
+    ensures normal { (nodes : List (Node (Option V))) → IsNormalLoose nodes trie.old
+        → IsNormalLoose nodes trie.new }
 {
-    match rows.first() {
-        None => old,
-        Some(row) => Loose::Same(Some(row.2)),
+    if let Some(row) = rows.first() {
+        *trie = Loose::Same(Some(row.2));
     }
 }
 
@@ -38,20 +37,20 @@ fn only_value<V: Copy>(rows: &[Row<V>], len: u8) -> Option<V>
 }
 
 impl<V: LawfulOrd> Table<Option<V>> {
-    /// The trie of a half with the rows in it laid over it; where there are none it is as it was.
-    #[cycle(laid)]
-    fn laid_half(
+    /// Lays the rows in a half over its trie.
+    #[cycle(lay)]
+    fn lay_half(
         &mut self,
         rows: &[Row<V>],
         width: u8,
         bits: u8,
         start: u128,
-        old: Loose<Option<V>>,
-    ) -> Result<Loose<Option<V>>, AllocError>
+        trie: &mut Loose<Option<V>>,
+    ) -> Result<(), AllocError>
         requires sound { IsSound ⟦<Sources<Option<V>> as Ord>⟧.cmp
             ⟦<Sources<Option<V>> as LawfulOrd>⟧.mark self.old.nodes.items self.old.numbers }
-        requires trie { IsTrie bits self.old.nodes.items old }
-        requires normal { IsNormalLoose self.old.nodes.items old }
+        requires trie { IsTrie bits self.old.nodes.items trie.old }
+        requires normal { IsNormalLoose self.old.nodes.items trie.old }
         requires place { IsPlace width bits start }
         requires rows { InBlock source_block width bits start rows.now }
         requires one { HasOneDestination rows.now }
@@ -59,32 +58,32 @@ impl<V: LawfulOrd> Table<Option<V>> {
         ensures sound { OnOk result (IsSound ⟦<Sources<Option<V>> as Ord>⟧.cmp
             ⟦<Sources<Option<V>> as LawfulOrd>⟧.mark self.new.nodes.items self.new.numbers) }
         ensures keeps { OnOk result (KeepsNodes self.old.nodes.items self.new.nodes.items) }
-        ensures normal { IfOk result (IsNormalLoose self.new.nodes.items) }
-        ensures laid { IfOk result (λ new. (t : Shape (Option V))
-            → Stands self.old.nodes.items old t
-            → IsLaid width bits start (map row_of rows.now) self.new.nodes.items new t) }
+        ensures normal { OnOk result (IsNormalLoose self.new.nodes.items trie.new) }
+        ensures laid { OnOk result ((t : Shape (Option V))
+            → Stands self.old.nodes.items trie.old t
+            → IsLaid width bits start (map row_of rows.now) self.new.nodes.items trie.new t) }
     {
         if rows.is_empty() {
-            return Ok(old);
+            return Ok(());
         }
-        self.laid(rows, width, bits, start, old)
+        self.lay(rows, width, bits, start, trie)
     }
 
-    /// The trie of a block with rows of one destination laid over it. Over one value a row alone is
-    /// what the bits to its sources lead to.
-    #[cycle(laid)]
-    fn laid(
+    /// Lays rows of one destination over the trie of a block. Over one value a row alone is what the
+    /// bits to its sources lead to.
+    #[cycle(lay)]
+    fn lay(
         &mut self,
         rows: &[Row<V>],
         width: u8,
         bits: u8,
         start: u128,
-        old: Loose<Option<V>>,
-    ) -> Result<Loose<Option<V>>, AllocError>
+        trie: &mut Loose<Option<V>>,
+    ) -> Result<(), AllocError>
         requires sound { IsSound ⟦<Sources<Option<V>> as Ord>⟧.cmp
             ⟦<Sources<Option<V>> as LawfulOrd>⟧.mark self.old.nodes.items self.old.numbers }
-        requires trie { IsTrie bits self.old.nodes.items old }
-        requires normal { IsNormalLoose self.old.nodes.items old }
+        requires trie { IsTrie bits self.old.nodes.items trie.old }
+        requires normal { IsNormalLoose self.old.nodes.items trie.old }
         requires place { IsPlace width bits start }
         requires rows { InBlock source_block width bits start rows.now }
         requires one { HasOneDestination rows.now }
@@ -92,32 +91,33 @@ impl<V: LawfulOrd> Table<Option<V>> {
         ensures sound { OnOk result (IsSound ⟦<Sources<Option<V>> as Ord>⟧.cmp
             ⟦<Sources<Option<V>> as LawfulOrd>⟧.mark self.new.nodes.items self.new.numbers) }
         ensures keeps { OnOk result (KeepsNodes self.old.nodes.items self.new.nodes.items) }
-        ensures normal { IfOk result (IsNormalLoose self.new.nodes.items) }
-        ensures laid { IfOk result (λ new. (t : Shape (Option V))
-            → Stands self.old.nodes.items old t
-            → IsLaid width bits start (map row_of rows.now) self.new.nodes.items new t) }
+        ensures normal { OnOk result (IsNormalLoose self.new.nodes.items trie.new) }
+        ensures laid { OnOk result ((t : Shape (Option V))
+            → Stands self.old.nodes.items trie.old t
+            → IsLaid width bits start (map row_of rows.now) self.new.nodes.items trie.new t) }
     {
-        if let Some(value) = old.value() {
+        if let Some(value) = trie.value() {
             if let Some(inner) = inner_block(rows, width, bits, start) {
                 if let Some(only) = only_value(rows, width - inner.bits) {
-                    return Ok(alone(Some(only), value, bits - inner.bits, inner.path));
+                    *trie = alone(Some(only), value, bits - inner.bits, inner.path);
+                    return Ok(());
                 }
-                let inside = self.laid(rows, width, inner.bits, inner.start, old)?;
-                let whole = self.along(inside, value, bits - inner.bits, inner.path)?;
-                return Ok(whole);
+                self.lay(rows, width, inner.bits, inner.start, trie)?;
+                *trie = self.along(trie, value, bits - inner.bits, inner.path)?;
+                return Ok(());
             }
         }
         let (own, rest) = parts(rows, width, bits, start);
-        let old = set(own, old);
+        set(own, trie);
         let Some(rest) = rest else {
-            return Ok(old);
+            return Ok(());
         };
-        let numbers = old.numbers();
-        let (low, high) = self.halves(old);
-        let low = self.laid_half(rest.low, width, bits - 1, start, low)?;
-        let high = self.laid_half(rest.high, width, bits - 1, rest.middle, high)?;
-        let whole = self.joined_as(low, high, numbers)?;
-        Ok(whole)
+        let numbers = trie.numbers();
+        let (mut low, mut high) = self.halves(*trie);
+        self.lay_half(rest.low, width, bits - 1, start, &mut low)?;
+        self.lay_half(rest.high, width, bits - 1, rest.middle, &mut high)?;
+        *trie = self.joined_as(&low, &high, numbers)?;
+        Ok(())
     }
 
     /// The trie with rows of one destination laid over it. Of one row from all sources nothing is
@@ -144,9 +144,9 @@ impl<V: LawfulOrd> Table<Option<V>> {
         if let Some(value) = only_value(rows, 0) {
             return Ok(Sources::Constant(Some(value)));
         }
-        let old = self.opened(old);
-        let new = self.laid(rows, width, width, 0, old)?;
-        let sources = self.stored(new)?;
+        let mut trie = self.opened(old);
+        self.lay(rows, width, width, 0, &mut trie)?;
+        let sources = self.stored(trie)?;
         Ok(sources)
     }
 }

@@ -7,11 +7,11 @@ use Rattle.babel_trie.proofs.index.Index.keep.Goals as goal
 pub returns-in-Some-slot_of-clause-kept : goal.returns-in-Some-slot_of-clause-kept
 returns-in-Some-slot_of-clause-kept g c =
     let slots = c.args.self.now.slots.items in
-    let mark = g.K.LawfulOrd.mark c.args.element in
+    let mark = g.K.LawfulOrd.mark c.args.element.now in
     let at_result = subst (λ (xs : List ℕ). IsFreeAmong xs window c.first_slot-first.result c.in-Some.place) c.deref.ensures.value c.in-Some.ensures in
-    let first : c.first_slot-first.result ≡ first_slot slots mark = c.first_slot-first.ensures ∙ ap (first_slot slots) c.mark-mark.ensures in
+    let first : c.first_slot-first.result ≡ first_slot slots mark = c.first_slot-first.ensures ∙ ap (first_slot slots) c.requires in
     let free = subst (λ (at : ℕ). IsFreeAmong slots window at c.in-Some.place) first at_result in
-    let is : c.in-Some-slot_of.slot ≡ slot_of mark c.args.number.0 = c.in-Some-slot_of.ensures.1 ∙ ap (λ (m : ℕ). slot_of m c.args.number.0) c.mark-mark.ensures in
+    let is : c.in-Some-slot_of.slot ≡ slot_of mark c.args.number.0 = c.in-Some-slot_of.ensures.1 ∙ ap (λ (m : ℕ). slot_of m c.args.number.0) c.requires in
     inl (c.in-Some-slot_of.ensures.0, newly_found slots c.in-Some.place c.in-Some-slot_of.slot mark (slot_of mark c.args.number.0) is (omega arith) free)
 
 pub returns-in-Some-slot_of-clause-others : goal.returns-in-Some-slot_of-clause-others
@@ -26,5 +26,5 @@ returns-in-Some-slot_of-clause-others g c x n same found =
 pub returns-clause-others : goal.returns-clause-others
 returns-clause-others g c x n same found = elim found [
   | inl among ↦ inl among
-  | inr there ↦ inr (kept_in_map g.K.Ord.cmp g.met.K.LawfulOrd.exact c.args.self.now.crowded c.insert.new.self c.args.element x c.args.number n c.in_ok-insert.ensures.updates.0 same there)
+  | inr there ↦ inr (kept_in_map g.K.Ord.cmp g.met.K.LawfulOrd.exact c.args.self.now.crowded c.insert.new.self c.args.element.now x c.args.number n c.in_ok-insert.ensures.updates.0 same there)
 ]

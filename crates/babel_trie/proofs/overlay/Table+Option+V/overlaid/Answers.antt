@@ -8,36 +8,36 @@ use Rattle.babel_trie.proofs.FormLaws.{opened_trie, opened_stands, Represents-in
 use Rattle.babel_trie.proofs.PathLaws.{loose_below}
 use Rattle.babel_trie.proofs.overlay.Table+Option+V.overlaid.Goals as goal
 
-pub opened-old-requires : goal.opened-old-requires
-opened-old-requires g c = Represents-in c.args.self.now.nodes.items c.args.old c.requires.trie.trie c.requires.trie.stands
+pub opened-trie-requires : goal.opened-trie-requires
+opened-trie-requires g c = Represents-in c.args.self.now.nodes.items c.args.old c.requires.trie.trie c.requires.trie.stands
 
-pub laid-requires-clause-trie : goal.laid-requires-clause-trie
-laid-requires-clause-trie g c = opened_trie c.args.self.now.nodes.items c.args.width c.args.old c.opened-old.result c.opened-old.ensures c.requires.trie
+pub lay-requires-clause-trie : goal.lay-requires-clause-trie
+lay-requires-clause-trie g c = opened_trie c.args.self.now.nodes.items c.args.width c.args.old c.opened-trie.result c.opened-trie.ensures c.requires.trie
 
-pub laid-requires-clause-normal : goal.laid-requires-clause-normal
-laid-requires-clause-normal g c =
+pub lay-requires-clause-normal : goal.lay-requires-clause-normal
+lay-requires-clause-normal g c =
     let nodes = c.args.self.now.nodes.items in
-    opened-normal nodes (form_from_sound _ nodes c.args.self.now.numbers c.requires.sound) c.args.old c.opened-old.result c.opened-old.ensures
+    opened-normal nodes (form_from_sound _ nodes c.args.self.now.numbers c.requires.sound) c.args.old c.opened-trie.result c.opened-trie.ensures
 
 pub stored-requires-clause-below : goal.stored-requires-clause-below
 stored-requires-clause-below g c =
     let nodes = c.args.self.now.nodes.items in
-    let trie = opened_trie nodes c.args.width c.args.old c.opened-old.result c.opened-old.ensures c.requires.trie in
-    let laid = c.in_ok-new.ensures.laid trie.trie trie.stands in
-    loose_below c.laid.new.self.nodes.items c.in_ok-new.new laid.new c.in_ok-new.ensures.normal laid.stands
+    let trie = opened_trie nodes c.args.width c.args.old c.opened-trie.result c.opened-trie.ensures c.requires.trie in
+    let laid = c.in_ok-lay.ensures.laid trie.trie trie.stands in
+    loose_below c.lay.new.self.nodes.items c.lay.new.trie laid.new c.in_ok-lay.ensures.normal laid.stands
 
 pub returns-clause-keeps : goal.returns-clause-keeps
-returns-clause-keeps g c i node e = c.in_ok-sources.ensures.keeps i node (c.in_ok-new.ensures.keeps i node e)
+returns-clause-keeps g c i node e = c.in_ok-sources.ensures.keeps i node (c.in_ok-lay.ensures.keeps i node e)
 
 pub returns-clause-overlaid : goal.returns-clause-overlaid
 returns-clause-overlaid g c t p =
     let old = c.args.self.now.nodes.items in
-    let mid = c.laid.new.self.nodes.items in
+    let mid = c.lay.new.self.nodes.items in
     let new = c.stored.new.self.nodes.items in
-    let laid = c.in_ok-new.ensures.laid t (opened_stands old c.args.old c.opened-old.result t c.opened-old.ensures p) in
+    let laid = c.in_ok-lay.ensures.laid t (opened_stands old c.args.old c.opened-trie.result t c.opened-trie.ensures p) in
     record {
       new = laid.new;
-      stands = (c.in_ok-new.new, c.in_ok-sources.ensures.opens, Stands-grows mid new c.in_ok-sources.ensures.keeps c.in_ok-new.new laid.new laid.stands);
+      stands = (c.lay.new.trie, c.in_ok-sources.ensures.opens, Stands-grows mid new c.in_ok-sources.ensures.keeps c.lay.new.trie laid.new laid.stands);
       fits = laid.fits;
       reduced = laid.reduced;
       values = laid.values;
