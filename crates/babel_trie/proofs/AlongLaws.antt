@@ -257,17 +257,24 @@ module _ {V : Type 0} (nodes : List (Node V)) (v : V) where
     few_bits skip node some few fits base =
         omega (arith, path-lower nodes (along 1 path (leaf v) t) node base.stands, along-lower v 1 path t)
 
-  in_order-apart : (b : Bool) (inside low high : V) → AreHalvesBy b (Same inside) (Same v) (Same low) (Same high) → (inside ≡ v → ⊥) → low ≡ high → ⊥
-  in_order-apart true inside low high h apart e = let p = h.0 in let q = h.1 in apart (cc)
-  in_order-apart false inside low high h apart e = let p = h.0 in let q = h.1 in apart (cc)
+  in_order-apart : (b : Bool) (inside low high : V) → AreHalvesBy b inside v low high → (inside ≡ v → ⊥) → low ≡ high → ⊥
+  in_order-apart true inside low high h apart e = apart (sym h.0 ∙ e ∙ h.1)
+  in_order-apart false inside low high h apart e = apart (sym h.1 ∙ sym e ∙ h.0)
+
+  abbrev constant_trie : V → Loose V
+  constant_trie w = Same w
+
+  same_in_order : (b : Bool) (inside low high : V) → AreHalvesBy b inside v low high → AreHalvesBy b (constant_trie inside) (constant_trie v) (constant_trie low) (constant_trie high)
+  same_in_order true inside low high h = (ap constant_trie h.0, ap constant_trie h.1)
+  same_in_order false inside low high h = (ap constant_trie h.0, ap constant_trie h.1)
 
   -- two values that differ are the halves of a node
-  pub alone_node : (inside low high : V) (path : ℕ) (node : Node V) (t : Shape V) → Stands nodes (Same inside) t → AreHalvesBy (is_low 1 path) (Same inside) (Same v) (Same low) (Same high) → (inside ≡ v → ⊥) →
+  pub alone_node : (inside low high : V) (path : ℕ) (node : Node V) (t : Shape V) → Stands nodes (Same inside) t → AreHalvesBy (is_low 1 path) inside v low high → (inside ≡ v → ⊥) →
       node ≡ fork_node nodes (Constant low) (Constant high) → IsLong node (along 1 path (leaf v) t) × (t ≡ leaf v → ⊥)
   alone_node inside low high path node t p halves apart is =
       let made : AreUnited nodes (Same low) (Same high) (Split node) = subst (λ (m : Node V). AreUnited nodes (Same low) (Same high) (Split m)) (sym is)
       (united_values nodes low high (in_order-apart (is_low 1 path) inside low high halves apart)) in
-      first_bit (Same inside) path t p (is_low 1 path) (Same low) (Same high) node refl halves made
+      first_bit (Same inside) path t p (is_low 1 path) (Same low) (Same high) node refl (same_in_order (is_low 1 path) inside low high halves) made
 
   pub halves_tries : (b : Bool) (inside low high : Loose V) → AreHalvesBy b inside (Same v) low high → IsTrie 127 nodes inside → IsTrie 127 nodes low × IsTrie 127 nodes high
   halves_tries b inside low high halves h = by b halves

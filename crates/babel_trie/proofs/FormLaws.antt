@@ -1,9 +1,10 @@
 -- What has two halves, in its one form.
-use Rattle.std.proofs.Common.{◌≡◌, inl, inr, ℕ, zero, suc, ◌+◌, ◌-◌, ◌*◌, ◌%◌, ◌^◌, ◌<◌, ◌≤◌, cond, false, List, length, refl, sym, ◌∙◌, ap, subst, arith}
+use Rattle.std.proofs.Common.{◌≡◌, inl, inr, ℕ, zero, suc, ◌+◌, ◌-◌, ◌*◌, ◌%◌, ◌^◌, ◌<◌, ◌≤◌, cond, Bool, true, false, List, length, refl, sym, ◌∙◌, ap, subst, arith}
 use Rattle.std.proofs.lemmas.Bool.{eq-eqb, ne_eqb}
 use Rattle.std.proofs.Math.Nat.{mod-eq_of_lt, mul-add-mod_self_right}
 use Rattle.babel_trie.specs.Shape.{Shape, leaf, fork, is_low, height, HasHalves, IsReduced}
-use Rattle.babel_trie.specs.Interned.{Opens, inner, HaveHalves, HalvesAt, Stands, Represents, IsNoLonger, IsNormal, IsNormalLoose, AreUnited, AreApart, IsBesidePath, Joins, IsTrie, IsHalved, HasTrie}
+use Rattle.babel_trie.specs.Interned.{Opens, inner, HaveHalves, HalvesAt, Stands, Represents, IsNoLonger, IsNormal, IsNormalLoose, AreUnited, AreApart, IsBesidePath, Joins, JoinsBy, IsTrie, IsHalved, HasTrie}
+use Rattle.babel_trie.specs.Laid.{AreHalvesBy}
 use Rattle.babel_trie.specs.Sound.{KeepsNodes, IsBelow}
 use Rattle.babel_trie.specs.declared.table.Loose.{Loose}
 use Rattle.babel_trie.specs.declared.table.Loose.TheVariants.{Same, Split}
@@ -120,6 +121,13 @@ module _ {V : Type 0} (nodes : List (Node V)) where
   halves_are_not_one (Split node) l h v n (inr (inr p)) e f = let both = sym p.3 ∙ f in cc
 
   -- what has these halves joins them
+  nodes_apart : (x y : Loose V) (node other : Node V) → x ≡ Split node → y ≡ Split other → AreApart x y
+  nodes_apart x y node other e f = (
+    (λ v w is also. absurd (cc)),
+    (λ v n is also. absurd (cc)),
+    (λ v n is also. absurd (cc)),
+  )
+
   pub joins_halves : (old : List (Node V)) → KeepsNodes old nodes → (low high x : Loose V) → HalvesAt nodes x low high → IsNormalLoose nodes x → Joins old low high nodes x
   joins_halves old keeps low high x p n l h lower upper = record {
     whole = fork l h;
@@ -128,6 +136,16 @@ module _ {V : Type 0} (nodes : List (Node V)) where
     lower = omega arith;
     reduced = λ rl rh. (λ v el eh. halves_are_not_one x low high v n p (subst (Stands old low) el lower) (subst (Stands old high) eh upper), rl, rh);
   }
+
+  -- a node with one half inside, and what is stored beside it
+  pub joins_beside : (old : List (Node V)) → KeepsNodes old nodes → (low : Bool) (inside beside : Loose V) (node other : Node V) → inside ≡ Split node → beside ≡ Split other → (r s first second : Sources V) → Opens nodes r inside → Opens nodes s beside →
+      AreHalvesBy low r s first second → JoinsBy low old inside beside nodes (Split (fork_node first second)) × IsNormal nodes (fork_node first second)
+  joins_beside old keeps true inside beside node other e f r s first second p q halves =
+      let made = united_stored first second inside beside (subst (λ (k : Sources V). Opens nodes k inside) (sym halves.0) p) (subst (λ (k : Sources V). Opens nodes k beside) (sym halves.1) q) (nodes_apart inside beside node other e f) in
+      (joins_halves old keeps inside beside (Split (fork_node first second)) made.0 made.1, made.1)
+  joins_beside old keeps false inside beside node other e f r s first second p q halves =
+      let made = united_stored first second beside inside (subst (λ (k : Sources V). Opens nodes k beside) (sym halves.0) q) (subst (λ (k : Sources V). Opens nodes k inside) (sym halves.1) p) (nodes_apart beside inside other node f e) in
+      (joins_halves old keeps beside inside (Split (fork_node first second)) made.0 made.1, made.1)
 
   -- one value joins itself with itself
   pub joins_value : (low high : Loose V) (v : V) → low ≡ Same v → high ≡ Same v → (x : Loose V) → x ≡ Same v → Joins nodes low high nodes x

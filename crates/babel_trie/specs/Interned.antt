@@ -1,5 +1,5 @@
 -- Tries as constants and numbers of a table of nodes: this project's own.
-use Rattle.std.specs.Prelude.{◌≡◌, ◌↔◌, ◌⊎◌, ℕ, zero, suc, ◌+◌, ◌-◌, ◌%◌, ◌^◌, ◌<◌, ◌≤◌, ◌==◌, cond}
+use Rattle.std.specs.Prelude.{◌≡◌, ◌↔◌, ◌⊎◌, ℕ, zero, suc, ◌+◌, ◌-◌, ◌%◌, ◌^◌, ◌<◌, ◌≤◌, ◌==◌, Bool, cond}
 use Rattle.std.specs.Prelude.{true, false, max, List, Some}
 use Rattle.std.specs.Prelude.{slice_get}
 use Rattle.babel_trie.specs.Shape.{Shape, leaf, fork, is_low, height, HasHalves, IsReduced}
@@ -36,6 +36,11 @@ module _ {V : Type 0} where
       × Opens nodes node.outside high)
       ⊎ ((0 < node.skip) × (is_low node.skip node.path ≡ false) × Opens nodes node.outside low
       × (high ≡ Split (inner node)))
+
+  -- the same, of one half inside, the lower or the upper, and the other beside it
+  abbrev pub HaveHalvesBy : Bool → List (Node V) → Node V → Loose V → Loose V → Type 0
+  HaveHalvesBy low nodes node inside beside =
+      HaveHalves nodes node (cond low inside beside) (cond low beside inside)
 
   abbrev pub HalvesAt : List (Node V) → Loose V → Loose V → Loose V → Type 0
   HalvesAt nodes (Same v) low high = ⊥
@@ -132,6 +137,11 @@ module _ {V : Type 0} where
   abbrev pub Joins : List (Node V) → Loose V → Loose V → List (Node V) → Loose V → Type 0
   Joins old low high new x =
       (l h : Shape V) → Stands old low l → Stands old high h → IsJoined new x l h
+
+  -- the same, of one half inside, the lower or the upper, and the other beside it
+  abbrev pub JoinsBy : Bool → List (Node V) → Loose V → Loose V → List (Node V) → Loose V → Type 0
+  JoinsBy low old inside beside new x =
+      Joins old (cond low inside beside) (cond low beside inside) new x
 
   -- it stands for a reduced trie that looks at no more than this many bits
   pub record IsTrie (bits : ℕ) (nodes : List (Node V)) (x : Loose V) : Type 0 where

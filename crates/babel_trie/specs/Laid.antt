@@ -14,12 +14,12 @@ use Rattle.babel_trie.specs.declared.table.Loose.{Loose}
 use Rattle.babel_trie.specs.declared.table.Node.{Node}
 use Rattle.babel_trie.specs.declared.table.Sources.{Sources}
 
-module _ {V : Type 0} where
-  -- one is the lower half and the other the upper
-  abbrev pub AreHalvesBy : Bool → Loose V → Loose V → Loose V → Loose V → Type 0
-  AreHalvesBy true inside beside low high = (low ≡ inside) × (high ≡ beside)
-  AreHalvesBy false inside beside low high = (low ≡ beside) × (high ≡ inside)
+-- one is what is for the lower half and the other what is for the upper
+abbrev pub AreHalvesBy : {X : Type 0} → Bool → X → X → X → X → Type 0
+AreHalvesBy true inside beside low high = (low ≡ inside) × (high ≡ beside)
+AreHalvesBy false inside beside low high = (low ≡ beside) × (high ≡ inside)
 
+module _ {V : Type 0} where
   -- it stands for the trie in a block that these bits lead to, with this value beside it
   pub record IsAlong (nodes : List (Node V)) (x : Loose V) (skip path : ℕ) (v : V)
       (inside : Shape V) : Type 0 where

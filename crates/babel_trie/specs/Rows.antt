@@ -1,6 +1,6 @@
 -- Sorted rows inside a block, and what they make of an answer by the best match of RFC 9079, 4.
 use Rattle.std.specs.Prelude.{◌≡◌, ◌⊎◌, ℕ, ◌+◌, ◌-◌, ◌*◌, ◌^◌, ◌<◌, ◌≤◌, List, [], ◌∷◌, ◌++◌}
-use Rattle.std.specs.Prelude.{Option, Some}
+use Rattle.std.specs.Prelude.{Option, Some, Bool, true, false}
 use Rattle.babel_prefix.specs.Entries.{Entry}
 use Rattle.babel_prefix.specs.Block.{Block}
 use Rattle.babel_prefix.specs.Covers.{IsBlock}
@@ -46,6 +46,11 @@ pub record AreParted {X : Type 0} (key : X → Block) (w bits start : ℕ)
   pub longer : (x : X) → Listed (low ++ high) x → w - bits < (key x).len
   pub low_in : InBlock key w (bits - 1) start low
   pub high_in : InBlock key w (bits - 1) (start + 2 ^ (bits - 1)) high
+
+-- one half has all rows of the two, and starts there
+abbrev pub IsOnlyHalf : {X : Type 0} → List X → List X → ℕ → ℕ → Bool → List X → ℕ → Type 0
+IsOnlyHalf low high start middle true rows at = (high ≡ []) × (rows ≡ low) × (at ≡ start)
+IsOnlyHalf low high start middle false rows at = (low ≡ []) × (rows ≡ high) × (at ≡ middle)
 
 module _ {V : Type 0} where
   -- the source prefix of a row

@@ -97,7 +97,7 @@ impl<V: LawfulOrd> Comparison<V> {
         );
         let low = self.told(table, low, bits - 1)?;
         let high = self.told(table, high, bits - 1)?;
-        let whole = self.differences.joined(low, high)?;
+        let whole = self.differences.joined(&low, &high)?;
         self.known.remember(both, whole)?;
         Ok(whole)
     }
@@ -133,7 +133,7 @@ impl<V: LawfulOrd> Comparison<V> {
             right: table.opened(right),
         };
         let told = self.told(table, both, bits)?;
-        let sources = self.differences.stored(told)?;
+        let sources = self.differences.stored(&told)?;
         Ok(sources)
     }
 

@@ -3,7 +3,7 @@ ghost use Rattle.std.specs.Prelude.{◌≡◌, ◌≢◌, ℕ, ◌+◌, ◌^◌,
 ghost use Rattle.babel_trie.specs.Index.{IsNotAmong, IsFreeAmong, first_slot, slot_of, HasDistinct, IsAbsent};
 ghost use Rattle.babel_trie.specs.Index.{IsFound, KeepsFound, IsIndexed};
 
-use crate::lawful::{LawfulOrd, are_same};
+use crate::lawful::LawfulOrd;
 use crate::table::NodeNumber;
 use std::alloc::{AllocError, Global};
 use std::collections::BTreeMap;
@@ -26,12 +26,12 @@ pub struct Index<K: Ord> {
 }
 
 /// Whether this is the number of an element in the list.
-pub fn is_number_of<K: LawfulOrd>(list: &[K], number: NodeNumber, element: &K) -> bool
+fn is_number_of<K: LawfulOrd>(list: &[K], number: NodeNumber, element: &K) -> bool
     ensures { IsTrue result ↔ (slice_get list.now number.0 ≡ Some element.now) }
 {
     match list.get(number.index()) {
         None => false,
-        Some(other) => are_same(*other, *element),
+        Some(other) => other == element,
     }
 }
 

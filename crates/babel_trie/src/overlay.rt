@@ -112,11 +112,17 @@ impl<V: LawfulOrd> Table<Option<V>> {
         let Some(rest) = rest else {
             return Ok(());
         };
-        let numbers = trie.numbers();
+        if let (Loose::Split(node), Some(only)) = (&*trie, rest.only_half(start)) {
+            if let Some((mut inside, beside)) = self.half(node, only.low) {
+                self.lay(only.rows, width, bits - 1, only.start, &mut inside)?;
+                *trie = self.joined_beside(only.low, &inside, beside)?;
+                return Ok(());
+            }
+        }
         let (mut low, mut high) = self.halves(*trie);
         self.lay_half(rest.low, width, bits - 1, start, &mut low)?;
         self.lay_half(rest.high, width, bits - 1, rest.middle, &mut high)?;
-        *trie = self.joined_as(&low, &high, numbers)?;
+        *trie = self.joined(&low, &high)?;
         Ok(())
     }
 
@@ -146,7 +152,7 @@ impl<V: LawfulOrd> Table<Option<V>> {
         }
         let mut trie = self.opened(old);
         self.lay(rows, width, width, 0, &mut trie)?;
-        let sources = self.stored(trie)?;
+        let sources = self.stored(&trie)?;
         Ok(sources)
     }
 }

@@ -5,7 +5,7 @@ ghost use Rattle.babel_prefix.specs.BestRow.{HasPrefixes};
 ghost use Rattle.babel_prefix.specs.Entries.{Entry};
 ghost use Rattle.babel_prefix.specs.Members.{Listed};
 ghost use Rattle.babel_trie.specs.Held.{RowOrder, row_place};
-ghost use Rattle.babel_trie.specs.Rows.{InOrder, InBlock, IsPlace, AreParted, source_block};
+ghost use Rattle.babel_trie.specs.Rows.{InOrder, InBlock, IsPlace, IsOnlyHalf, AreParted, source_block};
 
 use crate::cut::split;
 use babel_prefix::Prefix;
@@ -101,6 +101,38 @@ pub struct Halves<'a, V> {
     pub low: &'a [Row<V>],
     pub high: &'a [Row<V>],
     pub middle: u128,
+}
+
+/// The rows of one half of a block, and where it starts.
+#[derive(Clone, Copy)]
+pub struct OneHalf<'a, V> {
+    pub low: bool,
+    pub rows: &'a [Row<V>],
+    pub start: u128,
+}
+
+impl<'a, V: Copy> Halves<'a, V> {
+    /// The half with all rows of a block that starts here, if one half has none.
+    pub fn only_half(&self, start: u128) -> Option<OneHalf<'a, V>>
+        ensures { IfSome result (λ half. IsOnlyHalf self.now.low.now self.now.high.now start
+            self.now.middle half.low half.rows.now half.start) }
+    {
+        if self.high.is_empty() {
+            return Some(OneHalf {
+                low: true,
+                rows: self.low,
+                start,
+            });
+        }
+        if self.low.is_empty() {
+            return Some(OneHalf {
+                low: false,
+                rows: self.high,
+                start: self.middle,
+            });
+        }
+        None
+    }
 }
 
 /// The address at which the upper half of a block starts.

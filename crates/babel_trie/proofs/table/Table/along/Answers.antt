@@ -10,25 +10,25 @@ use Rattle.babel_trie.proofs.table.Table.along.Goals as goal
 pub joined-requires-clause-low : goal.joined-requires-clause-low
 joined-requires-clause-low g c =
     let nodes = c.args.self.now.nodes.items in
-    (halves_tries nodes c.args.value (is_low 1 c.args.path) c.args.inside.now c.in_half-low.result.0 c.in_half-low.result.1 c.in_half-low.ensures (shorter_trie nodes c.args.value c.args.skip c.args.inside.now c.requires.some c.requires.inside)).0
+    (halves_tries nodes c.args.value (is_low 1 c.args.path) c.args.inside.now c.by_path-low.result.0 c.by_path-low.result.1 c.by_path-low.ensures (shorter_trie nodes c.args.value c.args.skip c.args.inside.now c.requires.some c.requires.inside)).0
 
 pub joined-requires-clause-high : goal.joined-requires-clause-high
 joined-requires-clause-high g c =
     let nodes = c.args.self.now.nodes.items in
-    (halves_tries nodes c.args.value (is_low 1 c.args.path) c.args.inside.now c.in_half-low.result.0 c.in_half-low.result.1 c.in_half-low.ensures (shorter_trie nodes c.args.value c.args.skip c.args.inside.now c.requires.some c.requires.inside)).1
+    (halves_tries nodes c.args.value (is_low 1 c.args.path) c.args.inside.now c.by_path-low.result.0 c.by_path-low.result.1 c.by_path-low.ensures (shorter_trie nodes c.args.value c.args.skip c.args.inside.now c.requires.some c.requires.inside)).1
 
 pub returns-in_default-clause-along : goal.returns-in_default-clause-along
 returns-in_default-clause-along g c t p =
     let new = c.joined.new.self.nodes.items in
     let stands = Stands-grows c.args.self.now.nodes.items new c.in_ok-whole.ensures.keeps c.args.inside.now t p in
-    one_value new c.args.value c.args.inside.now c.args.path t stands c.args.skip (is_low 1 c.args.path) c.in_half-low.result.0 c.in_half-low.result.1 c.in_ok-whole.whole c.in_default.field-0 c.in_half-low.ensures c.in_ok-whole.ensures.united c.in_default.is
+    one_value new c.args.value c.args.inside.now c.args.path t stands c.args.skip (is_low 1 c.args.path) c.by_path-low.result.0 c.by_path-low.result.1 c.in_ok-whole.whole c.in_default.field-0 c.by_path-low.ensures c.in_ok-whole.ensures.united c.in_default.is
 
 pub returns-then-skip-eq1-clause-along : goal.returns-then-skip-eq1-clause-along
 returns-then-skip-eq1-clause-along g c t p =
     let new = c.joined.new.self.nodes.items in
     let stands = Stands-grows c.args.self.now.nodes.items new c.in_ok-whole.ensures.keeps c.args.inside.now t p in
-    let made : AreUnited new c.in_half-low.result.0 c.in_half-low.result.1 (Split c.in-Split.node) = subst (AreUnited new c.in_half-low.result.0 c.in_half-low.result.1) c.in-Split.is c.in_ok-whole.ensures.united in
-    let first = first_bit new c.args.value c.args.inside.now c.args.path t stands (is_low 1 c.args.path) c.in_half-low.result.0 c.in_half-low.result.1 c.in-Split.node refl c.in_half-low.ensures made in
+    let made : AreUnited new c.by_path-low.result.0 c.by_path-low.result.1 (Split c.in-Split.node) = subst (AreUnited new c.by_path-low.result.0 c.by_path-low.result.1) c.in-Split.is c.in_ok-whole.ensures.united in
+    let first = first_bit new c.args.value c.args.inside.now c.args.path t stands (is_low 1 c.args.path) c.by_path-low.result.0 c.by_path-low.result.1 c.in-Split.node refl c.by_path-low.ensures made in
     one_bit new c.args.value c.args.inside.now c.args.path t stands c.args.skip c.in-Split.node c.if-skip-eq1.true c.requires.path first.0 first.1
 
 pub longer-requires-clause-skip : goal.longer-requires-clause-skip
@@ -37,16 +37,16 @@ longer-requires-clause-skip g c =
     let p = c.requires.inside.stands in
     let new = c.joined.new.self.nodes.items in
     let stands = Stands-grows c.args.self.now.nodes.items new c.in_ok-whole.ensures.keeps c.args.inside.now t p in
-    let made : AreUnited new c.in_half-low.result.0 c.in_half-low.result.1 (Split c.in-Split.node) = subst (AreUnited new c.in_half-low.result.0 c.in_half-low.result.1) c.in-Split.is c.in_ok-whole.ensures.united in
-    let first = first_bit new c.args.value c.args.inside.now c.args.path t stands (is_low 1 c.args.path) c.in_half-low.result.0 c.in_half-low.result.1 c.in-Split.node refl c.in_half-low.ensures made in
+    let made : AreUnited new c.by_path-low.result.0 c.by_path-low.result.1 (Split c.in-Split.node) = subst (AreUnited new c.by_path-low.result.0 c.by_path-low.result.1) c.in-Split.is c.in_ok-whole.ensures.united in
+    let first = first_bit new c.args.value c.args.inside.now c.args.path t stands (is_low 1 c.args.path) c.by_path-low.result.0 c.by_path-low.result.1 c.in-Split.node refl c.by_path-low.ensures made in
     few_bits new c.args.value c.args.inside.now c.args.path t stands c.args.skip c.in-Split.node c.requires.some c.requires.width c.requires.inside.fits first.0
 
 pub returns-clause-along : goal.returns-clause-along
 returns-clause-along g c t p =
     let new = c.joined.new.self.nodes.items in
     let stands = Stands-grows c.args.self.now.nodes.items new c.in_ok-whole.ensures.keeps c.args.inside.now t p in
-    let made : AreUnited new c.in_half-low.result.0 c.in_half-low.result.1 (Split c.in-Split.node) = subst (AreUnited new c.in_half-low.result.0 c.in_half-low.result.1) c.in-Split.is c.in_ok-whole.ensures.united in
-    let first = first_bit new c.args.value c.args.inside.now c.args.path t stands (is_low 1 c.args.path) c.in_half-low.result.0 c.in_half-low.result.1 c.in-Split.node refl c.in_half-low.ensures made in
+    let made : AreUnited new c.by_path-low.result.0 c.by_path-low.result.1 (Split c.in-Split.node) = subst (AreUnited new c.by_path-low.result.0 c.by_path-low.result.1) c.in-Split.is c.in_ok-whole.ensures.united in
+    let first = first_bit new c.args.value c.args.inside.now c.args.path t stands (is_low 1 c.args.path) c.by_path-low.result.0 c.by_path-low.result.1 c.in-Split.node refl c.by_path-low.ensures made in
     (more_bits new c.args.value c.args.inside.now c.args.path t stands c.args.skip c.in-Split.node c.longer.result (omega (arith, c.requires.some, c.if-skip-eq1.false)) c.requires.path c.longer.ensures first.0 first.1).0
 
 pub returns-clause-normal : goal.returns-clause-normal
@@ -55,6 +55,6 @@ returns-clause-normal g c =
     let p = c.requires.inside.stands in
     let new = c.joined.new.self.nodes.items in
     let stands = Stands-grows c.args.self.now.nodes.items new c.in_ok-whole.ensures.keeps c.args.inside.now t p in
-    let made : AreUnited new c.in_half-low.result.0 c.in_half-low.result.1 (Split c.in-Split.node) = subst (AreUnited new c.in_half-low.result.0 c.in_half-low.result.1) c.in-Split.is c.in_ok-whole.ensures.united in
-    let first = first_bit new c.args.value c.args.inside.now c.args.path t stands (is_low 1 c.args.path) c.in_half-low.result.0 c.in_half-low.result.1 c.in-Split.node refl c.in_half-low.ensures made in
+    let made : AreUnited new c.by_path-low.result.0 c.by_path-low.result.1 (Split c.in-Split.node) = subst (AreUnited new c.by_path-low.result.0 c.by_path-low.result.1) c.in-Split.is c.in_ok-whole.ensures.united in
+    let first = first_bit new c.args.value c.args.inside.now c.args.path t stands (is_low 1 c.args.path) c.by_path-low.result.0 c.by_path-low.result.1 c.in-Split.node refl c.by_path-low.ensures made in
     (more_bits new c.args.value c.args.inside.now c.args.path t stands c.args.skip c.in-Split.node c.longer.result (omega (arith, c.requires.some, c.if-skip-eq1.false)) c.requires.path c.longer.ensures first.0 first.1).1
