@@ -10,6 +10,10 @@ pub mod Headline
 pub mod Grids
 pub mod Canonical
 pub mod Normalises
+pub mod Told
+pub mod Dumps
+pub mod DumpAnswers
+pub mod AnswersTell
 pub mod Verdict
 pub mod FirstDifference
 pub mod NumberOrder

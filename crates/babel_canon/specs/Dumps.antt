@@ -1,0 +1,30 @@
+-- A dump as packets, and what it tells of routes: RFC 8966, 4.2 to 4.6. Offsets of TLVs (`at`) play
+-- no part here, and may be any numbers.
+use Rattle.std.specs.Prelude.{◌≡◌, ℕ, Bool, ◌&&◌, nat_le, List, IsFalse}
+use Rattle.std.specs.List.{AllByRecursion, flat_map, list_any}
+use Rattle.babel_prefix.specs.Address.{Address}
+use Rattle.babel_tlv.specs.declared.event.Event.{Event}
+use Rattle.babel_tlv.specs.Framing.{TlvAt, IsTlv, IsBody, body_octets, packet_octets}
+use Rattle.babel_tlv.specs.Forming.{update_encoding, sets_router_id}
+use Rattle.babel_canon.specs.Told.{is_update, start, told_by}
+
+-- whether a TLV refuses the dump (this project's own): an Update of an encoding that is not read
+-- sets a router-id, which later TLVs may need
+abbrev pub sets_unread_router_id : TlvAt → Bool
+sets_unread_router_id tlv =
+    is_update tlv && nat_le 3 (update_encoding tlv.body) && sets_router_id tlv.body
+
+-- RFC 8966, 4.2, 4.3: the TLVs are those of a packet, and none refuses the dump
+pub record IsPacket (tlvs : List TlvAt) : Type 0 where
+  pub fits : IsBody (body_octets tlvs)
+  pub each : AllByRecursion IsTlv tlvs
+  pub read : IsFalse (list_any sets_unread_router_id tlvs)
+
+-- RFC 8966, 4.2: the octets are these packets, one behind the other, and nothing else
+pub record IsDump (octets : List ℕ) (packets : List (List TlvAt)) : Type 0 where
+  pub whole : octets ≡ flat_map packet_octets packets
+  pub each : AllByRecursion IsPacket packets
+
+-- what the packets of a sender tell, in order; the context begins anew with each packet
+abbrev pub told : Address → List (List TlvAt) → List Event
+told sender packets = flat_map (told_by (start sender)) packets
