@@ -14,6 +14,7 @@ mod Entries
 mod Verdicts
 pub mod OneVerdict
 mod Normal
+pub mod Told
 mod Numbered
 mod ValueLists
 mod SinkLaws

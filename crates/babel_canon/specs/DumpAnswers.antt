@@ -1,6 +1,6 @@
 -- What a dump answers for a destination and a source address, by what it tells: RFC 8966, 2.8,
 -- 3.5.3, 4.6.9; RFC 9079, 4.
-use Rattle.std.specs.Prelude.{◌≡◌, ◌↔◌, ℕ, Bool, ◌&&◌, ◌==◌, if◌then◌else◌, is_none, List, [], ◌∷◌}
+use Rattle.std.specs.Prelude.{◌≡◌, ◌↔◌, Bool, ◌&&◌, ◌==◌, if◌then◌else◌, is_none, List, fold}
 use Rattle.std.specs.Prelude.{Option, Some, None}
 use Rattle.babel_prefix.specs.Width.{same_family}
 use Rattle.babel_prefix.specs.Address.{Address, AddressPrefix, IsAddress}
@@ -40,41 +40,34 @@ held_after mode key old (events.Retract other) = if same_key other key then retr
 held_after mode key old events.RetractAll = if is_none old then None else retracted mode
 held_after mode key old event = old
 
--- RFC 8966, 3.5.3: what is held for a key after events, in order, if this was held before them.
--- Feasibility, seqnos and the time that a route lasts are the receiver's (this project's own).
-abbrev pub held_behind : Mode → RouteKey → Option Held → List Event → Option Held
-held_behind mode key old [] = old
-held_behind mode key old (event ∷ later) =
-    held_behind mode key (held_after mode key old event) later
-
--- the events leave this for the key: at first nothing is held for it
-abbrev pub Leave : Mode → List Event → RouteKey → Held → Type 0
-Leave mode events key held = held_behind mode key None events ≡ Some held
+-- RFC 8966, 3.5.3: what is held for a key after events, in order: at first nothing. Feasibility,
+-- seqnos and the time that a route lasts are the receiver's (this project's own).
+abbrev pub held_for : Mode → List Event → RouteKey → Option Held
+held_for mode events key = fold (held_after mode key) None events
 
 -- ---- answers
 
--- RFC 9079, 4: this is left for a key that contains both addresses, and no key that contains them
--- and for which something is left is more specific
-pub record IsLeftBest (mode : Mode) (events : List Event) (d s : Address)
-    (held : Held) : Type 0 where
+-- RFC 9079, 4: this is held for a key that contains both addresses, and nothing is held for any
+-- more specific key that contains them
+pub record HasBest (mode : Mode) (events : List Event) (d s : Address) (held : Held) : Type 0 where
   pub key : RouteKey
-  pub left : Leave mode events key held
   pub matching : ContainsBoth d s key
-  pub best : (other : RouteKey) (its : Held) → Leave mode events other its
-      → ContainsBoth d s other → ¬ IsMoreSpecific other key
+  pub is_held : held_for mode events key ≡ Some held
+  pub best : (other : RouteKey) → ContainsBoth d s other → IsMoreSpecific other key
+      → held_for mode events other ≡ None
 
--- the answer of events for two addresses: nothing, if nothing is left for any key that contains both
-abbrev pub AnswerOf : Mode → List Event → Address → Address → Option Held → Type 0
-AnswerOf mode events d s None =
-    (key : RouteKey) (held : Held) → Leave mode events key held → ¬ ContainsBoth d s key
-AnswerOf mode events d s (Some held) = IsLeftBest mode events d s held
+-- the answer of events for two addresses: none, if nothing is held for any key that contains both
+abbrev pub IsAnswer : Mode → List Event → Address → Address → Option Held → Type 0
+IsAnswer mode events d s None =
+    (key : RouteKey) → ContainsBoth d s key → held_for mode events key ≡ None
+IsAnswer mode events d s (Some held) = HasBest mode events d s held
 
 -- the dump answers this for a destination and a source address
 pub record DumpAnswers (mode : Mode) (one : Sent) (d s : Address)
     (answer : Option Held) : Type 0 where
   pub packets : List (List TlvAt)
   pub is_dump : IsDump one.dump packets
-  pub answers : AnswerOf mode (told one.sender packets) d s answer
+  pub answers : IsAnswer mode (told one.sender packets) d s answer
 
 -- the dump has exactly one answer for each destination and source address of one family
 abbrev pub IsSettled : Mode → Sent → Type 0

@@ -1,4 +1,5 @@
 //! Laws of the definitions.
+ghost use Rattle.babel_canon.specs.AnswersTell.{AnswersAreTold, TableAnswers};
 ghost use Rattle.babel_canon.specs.RoundTrip.{TextReadsBack};
 ghost use Rattle.babel_canon.specs.BoxesTell.{BoxesAnswer, BoxesTellApart};
 ghost use Rattle.babel_canon.specs.DifferenceLaws.{DifferencesAreFewest, DifferencesAreOne, FirstHasLeast, NoneWhereSame};
@@ -71,4 +72,11 @@ pub fn differences_are_boxes()
 /// Two tables have at most one list of differences.
 pub fn differences_are_one()
     ensures { DifferencesAreOne }
+{}
+
+/// What a dump answers for two addresses is what its table answers; and canonical octets tell dumps apart exactly where
+/// these answers do, and, read with any sender, answer alike and are their own canonical form.
+pub fn answers_are_told()
+    ensures table { TableAnswers }
+    ensures headline { AnswersAreTold }
 {}
