@@ -15,6 +15,8 @@ mod Verdicts
 pub mod OneVerdict
 mod Normal
 pub mod Told
+pub mod Dumps
+pub mod HeldFor
 mod Numbered
 mod ValueLists
 mod SinkLaws
