@@ -34,7 +34,7 @@ same_prefix-decides p q = (
   (eq-eqb _ _ (ap (λ (f : AddressPrefix). f.address.bits) e))) (eq-eqb _ _ (ap (λ (f : AddressPrefix). f.len) e))),
 )
 
-same_key-decides : (a b : RouteKey) → Decides (same_key a b) (a ≡ b)
+pub same_key-decides : (a b : RouteKey) → Decides (same_key a b) (a ≡ b)
 same_key-decides a b = (
   (λ h. let parts = and_parts _ _ h in
   key_is a b ((same_prefix-decides a.dst b.dst).0 parts.0) ((same_prefix-decides a.src b.src).0 parts.1)),

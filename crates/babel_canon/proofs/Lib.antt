@@ -17,6 +17,10 @@ mod Normal
 pub mod Told
 pub mod Dumps
 pub mod HeldFor
+pub mod CleanKeys
+pub mod BestKeys
+pub mod TableAnswers
+pub mod AnswersTell
 mod Numbered
 mod ValueLists
 mod SinkLaws

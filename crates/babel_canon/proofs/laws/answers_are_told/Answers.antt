@@ -1,10 +1,9 @@
-use Rattle.babel_canon.proofs.Told
-use Rattle.babel_canon.proofs.Dumps
-use Rattle.babel_canon.proofs.HeldFor
+use Rattle.babel_canon.proofs.AnswersTell.{answers_are_told}
+use Rattle.babel_canon.proofs.TableAnswers.{table_answers}
 use Rattle.babel_canon.proofs.laws.answers_are_told.Goals as goal
 
 pub returns-clause-table : goal.returns-clause-table
-returns-clause-table c = ?
+returns-clause-table c = table_answers
 
 pub returns-clause-headline : goal.returns-clause-headline
-returns-clause-headline c = ?
+returns-clause-headline c = answers_are_told

@@ -1,0 +1,165 @@
+-- The prefixes of the keys that a dump tells of have zeros past their length.
+use Rattle.std.proofs.Common.{◌≡◌, ℕ, ◌+◌, ◌-◌, ◌%◌, ◌^◌, Bool, true, false, cond, not, ◌&&◌, eqb, ltb, length, take, List, [], ◌∷◌, ◌++◌, Option, Some, None, Result, Ok, Err, refl, sym, ap, subst, ◌∙◌, arith}
+use Rattle.std.specs.Prelude.{drop, fold, is_none}
+use Rattle.std.specs.List.{AllByRecursion, find}
+use Rattle.std.specs.Option.{option_map, unwrap_or}
+use Rattle.std.specs.Result.{result_ok}
+use Rattle.std.proofs.Math.Nat.{mul-mod_left}
+use Rattle.babel_prefix.specs.declared.family.Family.{Family}
+use Rattle.babel_prefix.specs.declared.family.Family.TheVariants.{V4, V6}
+use Rattle.babel_prefix.specs.Width.{width_of, octet_count}
+use Rattle.babel_prefix.specs.Block.{leading_bits}
+use Rattle.babel_prefix.specs.Address.{Address, AddressPrefix, address_of, prefix_at, whole_family}
+use Rattle.babel_tlv.specs.declared.event.Event.{Event}
+use Rattle.babel_tlv.specs.declared.event.Event.TheVariants as events
+use Rattle.babel_tlv.specs.declared.held.Held.{Held}
+use Rattle.babel_tlv.specs.declared.held.Held.TheVariants as helds
+use Rattle.babel_tlv.specs.declared.mode.Mode.{Mode}
+use Rattle.babel_tlv.specs.declared.reason.Reason.{Reason}
+use Rattle.babel_tlv.specs.declared.reason.Reason.TheVariants as reasons
+use Rattle.babel_tlv.specs.Framing.{TlvAt, tlvs_of}
+use Rattle.babel_tlv.specs.Forming.{formed, default_octets, field_len, id_of, omitted, padded, prefix_len, sets_router_id, update_encoding, update_metric}
+use Rattle.babel_tlv.specs.Route.{RouteKey, Announcement, is_reserved}
+use Rattle.babel_tlv.specs.SubTlv.{is_source, source_prefix, source_of}
+use Rattle.babel_tlv.specs.Context.{Context}
+use Rattle.babel_tlv.specs.Updating.{updated}
+use Rattle.babel_canon.specs.Told.{are_all_of, fit_update, is_update, wildcard_tells, route_tells, update_tells, tells, start, told_by}
+use Rattle.babel_canon.specs.Dumps.{told}
+use Rattle.babel_canon.specs.DumpAnswers.{same_key, retracted, held_after, held_for}
+use Rattle.babel_canon.proofs.HeldFor.{same_key-decides}
+
+-- the bits past the length are zero
+abbrev pub IsClean : AddressPrefix → Type 0
+IsClean p = p.address.bits % 2 ^ (width_of p.address.family - p.len) ≡ 0
+
+abbrev pub AreClean : RouteKey → Type 0
+AreClean key = IsClean key.dst × IsClean key.src
+
+-- the keys that an event names are clean
+abbrev IsOfClean : Event → Type 0
+IsOfClean (events.Announce key ann) = AreClean key
+IsOfClean (events.Retract key) = AreClean key
+IsOfClean event = Unit {0}
+
+-- ---- what is formed
+
+prefix_at-clean : (len : ℕ) (a : Address) → IsClean (prefix_at len a)
+prefix_at-clean len a = mul-mod_left (leading_bits (width_of a.family) len a.bits) (2 ^ (width_of a.family - len))
+
+abbrev IsCleanIfOk : Result AddressPrefix Reason → Type 0
+IsCleanIfOk (Ok p) = IsClean p
+IsCleanIfOk (Err reason) = Unit {0}
+
+formed_by : (one two three four : Bool) (a b c d : Reason) (p : AddressPrefix) → IsClean p
+    → IsCleanIfOk (cond one (Err a) (cond two (Err b) (cond three (Err c) (cond four (Err d) (Ok p)))))
+formed_by true two three four a b c d p clean = tt
+formed_by false true three four a b c d p clean = tt
+formed_by false false true four a b c d p clean = tt
+formed_by false false false true a b c d p clean = tt
+formed_by false false false false a b c d p clean = clean
+
+formed-clean : (family : Family) (default : Option Address) (body : List ℕ) → IsCleanIfOk (formed family default body)
+formed-clean family default body =
+    let address = address_of family (padded (octet_count family) (take (omitted body) (default_octets default) ++ take (field_len body) (drop 10 body))) in
+    formed_by (ltb (width_of family) (prefix_len body)) (ltb (octet_count family) (omitted body)) (ltb 0 (omitted body) && is_none default) (ltb (length body) (10 + field_len body))
+    reasons.BadPlen reasons.BadOmitted reasons.NoDefault reasons.ShortPrefix (prefix_at (prefix_len body) address) (prefix_at-clean (prefix_len body) address)
+
+whole-clean : (family : Family) → IsClean (whole_family family)
+whole-clean V4 = refl
+whole-clean V6 = refl
+
+source-clean : (family : Family) (items : List TlvAt) → IsClean (source_of family items)
+source-clean family items = by (find is_source items)
+  where
+    by : (found : Option TlvAt) → IsClean (unwrap_or (option_map (λ item. source_prefix family item.body) found) (whole_family family))
+    by None = whole-clean family
+    by (Some item) = prefix_at-clean _ _
+
+-- ---- what is told
+
+route-clean : (key : RouteKey) (body : List ℕ) (id : Option (List ℕ)) (hop : Option Address) → AreClean key → IsOfClean (route_tells key body id hop)
+route-clean key body None hop clean = tt
+route-clean key body (Some id) None clean = tt
+route-clean key body (Some id) (Some hop) clean = by (is_reserved id) _
+  where
+    by : (reserved : Bool) (ann : Announcement) → IsOfClean (cond reserved events.Nothing (events.Announce key ann))
+    by true ann = tt
+    by false ann = clean
+
+update-clean : (family : Family) (id : Option (List ℕ)) (hop : Option Address) (body : List ℕ) (is : Result AddressPrefix Reason) → IsCleanIfOk is
+    → IsOfClean (update_tells family id hop body (result_ok is))
+update-clean family id hop body (Err reason) clean = tt
+update-clean family id hop body (Ok prefix) clean =
+    let octets = drop (10 + field_len body) body in
+    let items = tlvs_of 0 octets in
+    let key : RouteKey = record { dst = prefix; src = source_of family items } in
+    let are : AreClean key = (clean, source-clean family items) in
+    let current = cond (sets_router_id body) (Some (id_of prefix.address)) id in
+    by (not (are_all_of octets items && fit_update family items)) (eqb (update_metric body) 65535) key are (route_tells key body current hop) (route-clean key body current hop are)
+  where
+    by : (left infinite : Bool) (key : RouteKey) → AreClean key → (route : Event) → IsOfClean route → IsOfClean (cond left events.Nothing (cond infinite (events.Retract key) route))
+    by true infinite key are route of = tt
+    by false true key are route of = are
+    by false false key are route of = of
+
+wildcard-clean : (b : Bool) → IsOfClean (cond b events.RetractAll events.Nothing)
+wildcard-clean true = tt
+wildcard-clean false = tt
+
+encoding_by : (none wild four six : Bool) (w a b : Event) → IsOfClean w → IsOfClean a → IsOfClean b
+    → IsOfClean (cond none events.Nothing (cond wild w (cond four a (cond six b events.Nothing))))
+encoding_by true wild four six w a b p q r = tt
+encoding_by false true four six w a b p q r = p
+encoding_by false false true six w a b p q r = q
+encoding_by false false false true w a b p q r = r
+encoding_by false false false false w a b p q r = tt
+
+tells-clean : (context : Context) (tlv : TlvAt) → IsOfClean (tells context tlv)
+tells-clean context tlv =
+    let body = tlv.body in
+    encoding_by (not (is_update tlv)) (eqb (update_encoding body) 0) (eqb (update_encoding body) 1) (eqb (update_encoding body) 2) (wildcard_tells body) _ _ (search wildcard-clean)
+    (update-clean V4 context.router_id context.next_hop_v4 body (formed V4 context.default_v4 body) (formed-clean V4 context.default_v4 body))
+    (update-clean V6 context.router_id context.next_hop_v6 body (formed V6 context.default_v6 body) (formed-clean V6 context.default_v6 body))
+
+told_by-clean : (context : Context) (tlvs : List TlvAt) → AllByRecursion IsOfClean (told_by context tlvs)
+told_by-clean context [] = tt
+told_by-clean context (tlv ∷ tlvs) = (tells-clean context tlv, told_by-clean (updated context tlv) tlvs)
+
+both_clean : (front back : List Event) → AllByRecursion IsOfClean front → AllByRecursion IsOfClean back → AllByRecursion IsOfClean (front ++ back)
+both_clean [] back of of_back = of_back
+both_clean (event ∷ front) back of of_back = (of.0, both_clean front back of.1 of_back)
+
+told-clean : (sender : Address) (packets : List (List TlvAt)) → AllByRecursion IsOfClean (told sender packets)
+told-clean sender [] = tt
+told-clean sender (tlvs ∷ packets) = both_clean (told_by (start sender) tlvs) (told sender packets) (told_by-clean (start sender) tlvs) (told-clean sender packets)
+
+-- ---- what is held
+
+abbrev IsCleanIfHeld : RouteKey → Option Held → Type 0
+IsCleanIfHeld key None = Unit {0}
+IsCleanIfHeld key (Some held) = AreClean key
+
+named_by : (b : Bool) (key other : RouteKey) (new old : Option Held) → (b ≡ true → other ≡ key) → AreClean other → IsCleanIfHeld key old → IsCleanIfHeld key (cond b new old)
+named_by false key other new old is clean before = before
+named_by true key other None old is clean before = tt
+named_by true key other (Some held) old is clean before = subst AreClean (is refl) clean
+
+wiped_by : (key : RouteKey) (old left : Option Held) → IsCleanIfHeld key old → IsCleanIfHeld key (cond (is_none old) None left)
+wiped_by key None left before = tt
+wiped_by key (Some held) None before = tt
+wiped_by key (Some held) (Some other) before = before
+
+after-clean : (mode : Mode) (key : RouteKey) (old : Option Held) (event : Event) → IsOfClean event → IsCleanIfHeld key old → IsCleanIfHeld key (held_after mode key old event)
+after-clean mode key old (events.Announce other ann) of before = named_by (same_key other key) key other (Some (helds.Route ann)) old (same_key-decides other key).0 of before
+after-clean mode key old (events.Retract other) of before = named_by (same_key other key) key other (retracted mode) old (same_key-decides other key).0 of before
+after-clean mode key old events.RetractAll of before = wiped_by key old (retracted mode) before
+after-clean mode key old events.Nothing of before = before
+after-clean mode key old (events.Ignored reason) of before = before
+
+fold-clean : (mode : Mode) (key : RouteKey) (old : Option Held) (said : List Event) → AllByRecursion IsOfClean said → IsCleanIfHeld key old → IsCleanIfHeld key (fold (held_after mode key) old said)
+fold-clean mode key old [] of before = before
+fold-clean mode key old (event ∷ later) of before = fold-clean mode key (held_after mode key old event) later of.1 (after-clean mode key old event of.0 before)
+
+-- a key for which a dump leaves something is clean
+pub held-clean : (mode : Mode) (sender : Address) (packets : List (List TlvAt)) (key : RouteKey) (held : Held) → held_for mode (told sender packets) key ≡ Some held → AreClean key
+held-clean mode sender packets key held is = subst (IsCleanIfHeld key) is (fold-clean mode key None (told sender packets) (told-clean sender packets) tt)
