@@ -2,6 +2,7 @@ ghost use Rattle.std.specs.Prelude.{IfOk, IfErr};
 ghost use Rattle.babel_prefix.specs.Address.{Address};
 ghost use Rattle.babel_table.specs.Seen.{seen_rows};
 ghost use Rattle.babel_canon.specs.Answers.{AnswerTheSame};
+ghost use Rattle.babel_canon.specs.AnswersTell.{AnswersTell};
 ghost use Rattle.babel_canon.specs.Headline.{TellsApart, ReadsAgain, sent};
 ghost use Rattle.babel_canon.specs.Normalises.{NormaliseFault, Normalises, SaysFewest, as_they_are};
 ghost use Rattle.babel_canon.specs.Views.{AnswerTheSameUnder, ReadsAgainSeen};
@@ -39,6 +40,9 @@ pub fn normalise(
         → ReadsAgain AnswerTheSame (Normalises as_they_are limits mode body)
         (NormaliseFault as_they_are limits mode)
         limits mode (sent sender dump.now) text.items any) }
+    ensures answers_tell { IfOk result (λ text.
+        AnswersTell (Normalises as_they_are limits mode body)
+        (NormaliseFault as_they_are limits mode) mode (sent sender dump.now) text.items) }
     ensures fewest { IfOk result (λ text.
         SaysFewest as_they_are limits mode body (sent sender dump.now) text.items) }
 {

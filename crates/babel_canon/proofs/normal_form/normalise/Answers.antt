@@ -2,6 +2,7 @@ use Rattle.std.specs.Prelude.{IfOk}
 use Rattle.std.proofs.lemmas.Result.{IfErr-weaker, IfOk-weaker}
 use Rattle.babel_canon.specs.Headline.{sent}
 use Rattle.babel_canon.specs.Normalises.{Normalises, as_they_are}
+use Rattle.babel_canon.proofs.AnswersTell.{answers_are_told}
 use Rattle.babel_canon.proofs.Fewest.{says_fewest}
 use Rattle.babel_canon.proofs.Headline.{headline}
 use Rattle.babel_canon.proofs.Views.{all_faults, all_normalises}
@@ -27,6 +28,10 @@ returns-clause-tells_apart c = IfOk-weaker c.normalise_under.result _ _
 pub returns-clause-reads_again : goal.returns-clause-reads_again
 returns-clause-reads_again c = IfOk-weaker c.normalise_under.result _ _
     (λ text is. (headline c.args.limits c.args.mode c.args.body c.entries.ensures.valid c.octets.ensures.valid (sent c.args.sender c.args.dump.now) text.items is).1) (normal c)
+
+pub returns-clause-answers_tell : goal.returns-clause-answers_tell
+returns-clause-answers_tell c = IfOk-weaker c.normalise_under.result _ _
+    (λ text is. answers_are_told c.args.limits c.args.mode c.args.body c.entries.ensures.valid c.octets.ensures.valid (sent c.args.sender c.args.dump.now) text.items is) (normal c)
 
 pub returns-clause-fewest : goal.returns-clause-fewest
 returns-clause-fewest c = IfOk-weaker c.normalise_under.result _ _
