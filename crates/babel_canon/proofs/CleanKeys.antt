@@ -1,9 +1,8 @@
 -- The prefixes of the keys that a dump tells of have zeros past their length.
-use Rattle.std.proofs.Common.{◌≡◌, ℕ, ◌+◌, ◌-◌, ◌%◌, ◌^◌, Bool, true, false, cond, not, ◌&&◌, eqb, ltb, length, take, List, [], ◌∷◌, ◌++◌, Option, Some, None, Result, Ok, Err, refl, sym, ap, subst, ◌∙◌, arith}
-use Rattle.std.specs.Prelude.{drop, fold, is_none}
+use Rattle.std.proofs.Common.{◌≡◌, ℕ, ◌+◌, ◌-◌, ◌%◌, ◌^◌, Bool, true, false, cond, not, ◌&&◌, ◌||◌, eqb, leb, length, take, drop, List, [], ◌∷◌, ◌++◌, Option, Some, None, refl, sym, ap, subst, ◌∙◌, arith}
+use Rattle.std.specs.Prelude.{fold, is_none, is_some}
 use Rattle.std.specs.List.{AllByRecursion, find}
 use Rattle.std.specs.Option.{option_map, unwrap_or}
-use Rattle.std.specs.Result.{result_ok}
 use Rattle.std.proofs.Math.Nat.{mul-mod_left}
 use Rattle.babel_prefix.specs.declared.family.Family.{Family}
 use Rattle.babel_prefix.specs.declared.family.Family.TheVariants.{V4, V6}
@@ -15,15 +14,14 @@ use Rattle.babel_tlv.specs.declared.event.Event.TheVariants as events
 use Rattle.babel_tlv.specs.declared.held.Held.{Held}
 use Rattle.babel_tlv.specs.declared.held.Held.TheVariants as helds
 use Rattle.babel_tlv.specs.declared.mode.Mode.{Mode}
-use Rattle.babel_tlv.specs.declared.reason.Reason.{Reason}
-use Rattle.babel_tlv.specs.declared.reason.Reason.TheVariants as reasons
-use Rattle.babel_tlv.specs.Framing.{TlvAt, tlvs_of}
-use Rattle.babel_tlv.specs.Forming.{formed, default_octets, field_len, id_of, omitted, padded, prefix_len, sets_router_id, update_encoding, update_metric}
+use Rattle.babel_tlv.specs.Framing.{TlvAt}
+use Rattle.babel_tlv.specs.Forming.{default_octets, field_len, id_of, omitted, padded, prefix_len, sets_router_id, update_encoding, update_metric}
 use Rattle.babel_tlv.specs.Route.{RouteKey, Announcement, is_reserved}
 use Rattle.babel_tlv.specs.SubTlv.{is_source, source_prefix, source_of}
-use Rattle.babel_tlv.specs.Context.{Context}
-use Rattle.babel_tlv.specs.Updating.{updated}
-use Rattle.babel_canon.specs.Told.{are_all_of, fit_update, is_update, wildcard_tells, route_tells, update_tells, tells, start, told_by}
+use Rattle.babel_tlv.specs.Context.{Context, next_hop_in_context}
+use Rattle.babel_canon.specs.Items.{are_all_of, fit_update, items_of}
+use Rattle.babel_canon.specs.Behind.{behind, formed_in, is_update, prefix_in, start}
+use Rattle.babel_canon.specs.Told.{wildcard_tells, route_tells, update_tells, tells, told_by}
 use Rattle.babel_canon.specs.Dumps.{told}
 use Rattle.babel_canon.specs.DumpAnswers.{same_key, retracted, held_after, held_for}
 use Rattle.babel_canon.proofs.HeldFor.{same_key-decides}
@@ -46,23 +44,29 @@ IsOfClean event = Unit {0}
 prefix_at-clean : (len : ℕ) (a : Address) → IsClean (prefix_at len a)
 prefix_at-clean len a = mul-mod_left (leading_bits (width_of a.family) len a.bits) (2 ^ (width_of a.family - len))
 
-abbrev IsCleanIfOk : Result AddressPrefix Reason → Type 0
-IsCleanIfOk (Ok p) = IsClean p
-IsCleanIfOk (Err reason) = Unit {0}
+abbrev IsCleanIfFormed : Option AddressPrefix → Type 0
+IsCleanIfFormed None = Unit {0}
+IsCleanIfFormed (Some prefix) = IsClean prefix
 
-formed_by : (one two three four : Bool) (a b c d : Reason) (p : AddressPrefix) → IsClean p
-    → IsCleanIfOk (cond one (Err a) (cond two (Err b) (cond three (Err c) (cond four (Err d) (Ok p)))))
-formed_by true two three four a b c d p clean = tt
-formed_by false true three four a b c d p clean = tt
-formed_by false false true four a b c d p clean = tt
-formed_by false false false true a b c d p clean = tt
-formed_by false false false false a b c d p clean = clean
+prefix_by : (b : Bool) (prefix : AddressPrefix) → IsClean prefix → IsCleanIfFormed (cond b (Some prefix) None)
+prefix_by true prefix clean = clean
+prefix_by false prefix clean = tt
 
-formed-clean : (family : Family) (default : Option Address) (body : List ℕ) → IsCleanIfOk (formed family default body)
-formed-clean family default body =
+prefix_in-clean : (family : Family) (default : Option Address) (body : List ℕ) → IsCleanIfFormed (prefix_in family default body)
+prefix_in-clean family default body =
     let address = address_of family (padded (octet_count family) (take (omitted body) (default_octets default) ++ take (field_len body) (drop 10 body))) in
-    formed_by (ltb (width_of family) (prefix_len body)) (ltb (octet_count family) (omitted body)) (ltb 0 (omitted body) && is_none default) (ltb (length body) (10 + field_len body))
-    reasons.BadPlen reasons.BadOmitted reasons.NoDefault reasons.ShortPrefix (prefix_at (prefix_len body) address) (prefix_at-clean (prefix_len body) address)
+    prefix_by (leb (prefix_len body) (width_of family) && leb (omitted body) (octet_count family) && (eqb (omitted body) 0 || is_some default) && leb (10 + field_len body) (length body))
+    (prefix_at (prefix_len body) address) (prefix_at-clean (prefix_len body) address)
+
+formed_in-clean : (context : Context) (body : List ℕ) → IsCleanIfFormed (formed_in context body)
+formed_in-clean context body =
+    by (eqb (update_encoding body) 1) (eqb (update_encoding body) 2) (prefix_in V4 context.default_v4 body) (prefix_in V6 context.default_v6 body)
+    (prefix_in-clean V4 context.default_v4 body) (prefix_in-clean V6 context.default_v6 body)
+  where
+    by : (four six : Bool) (p q : Option AddressPrefix) → IsCleanIfFormed p → IsCleanIfFormed q → IsCleanIfFormed (cond four p (cond six q None))
+    by true six p q p_clean q_clean = p_clean
+    by false true p q p_clean q_clean = q_clean
+    by false false p q p_clean q_clean = tt
 
 whole-clean : (family : Family) → IsClean (whole_family family)
 whole-clean V4 = refl
@@ -86,16 +90,17 @@ route-clean key body (Some id) (Some hop) clean = by (is_reserved id) _
     by true ann = tt
     by false ann = clean
 
-update-clean : (family : Family) (id : Option (List ℕ)) (hop : Option Address) (body : List ℕ) (is : Result AddressPrefix Reason) → IsCleanIfOk is
-    → IsOfClean (update_tells family id hop body (result_ok is))
-update-clean family id hop body (Err reason) clean = tt
-update-clean family id hop body (Ok prefix) clean =
+update-clean : (context : Context) (body : List ℕ) (prefix : Option AddressPrefix) → IsCleanIfFormed prefix → IsOfClean (update_tells context body prefix)
+update-clean context body None clean = tt
+update-clean context body (Some prefix) clean =
+    let family = prefix.address.family in
     let octets = drop (10 + field_len body) body in
-    let items = tlvs_of 0 octets in
+    let items = items_of octets in
     let key : RouteKey = record { dst = prefix; src = source_of family items } in
     let are : AreClean key = (clean, source-clean family items) in
-    let current = cond (sets_router_id body) (Some (id_of prefix.address)) id in
-    by (not (are_all_of octets items && fit_update family items)) (eqb (update_metric body) 65535) key are (route_tells key body current hop) (route-clean key body current hop are)
+    let id = cond (sets_router_id body) (Some (id_of prefix.address)) context.router_id in
+    let hop = next_hop_in_context family context in
+    by (not (are_all_of octets items && fit_update family items)) (eqb (update_metric body) 65535) key are (route_tells key body id hop) (route-clean key body id hop are)
   where
     by : (left infinite : Bool) (key : RouteKey) → AreClean key → (route : Event) → IsOfClean route → IsOfClean (cond left events.Nothing (cond infinite (events.Retract key) route))
     by true infinite key are route of = tt
@@ -106,24 +111,20 @@ wildcard-clean : (b : Bool) → IsOfClean (cond b events.RetractAll events.Nothi
 wildcard-clean true = tt
 wildcard-clean false = tt
 
-encoding_by : (none wild four six : Bool) (w a b : Event) → IsOfClean w → IsOfClean a → IsOfClean b
-    → IsOfClean (cond none events.Nothing (cond wild w (cond four a (cond six b events.Nothing))))
-encoding_by true wild four six w a b p q r = tt
-encoding_by false true four six w a b p q r = p
-encoding_by false false true six w a b p q r = q
-encoding_by false false false true w a b p q r = r
-encoding_by false false false false w a b p q r = tt
+either_clean : (none wild : Bool) (w update : Event) → IsOfClean w → IsOfClean update → IsOfClean (cond none events.Nothing (cond wild w update))
+either_clean true wild w update w_of update_of = tt
+either_clean false true w update w_of update_of = w_of
+either_clean false false w update w_of update_of = update_of
 
 tells-clean : (context : Context) (tlv : TlvAt) → IsOfClean (tells context tlv)
 tells-clean context tlv =
     let body = tlv.body in
-    encoding_by (not (is_update tlv)) (eqb (update_encoding body) 0) (eqb (update_encoding body) 1) (eqb (update_encoding body) 2) (wildcard_tells body) _ _ (search wildcard-clean)
-    (update-clean V4 context.router_id context.next_hop_v4 body (formed V4 context.default_v4 body) (formed-clean V4 context.default_v4 body))
-    (update-clean V6 context.router_id context.next_hop_v6 body (formed V6 context.default_v6 body) (formed-clean V6 context.default_v6 body))
+    either_clean (not (is_update tlv)) (eqb (update_encoding body) 0) (wildcard_tells body) (update_tells context body (formed_in context body)) (search wildcard-clean)
+    (update-clean context body (formed_in context body) (formed_in-clean context body))
 
 told_by-clean : (context : Context) (tlvs : List TlvAt) → AllByRecursion IsOfClean (told_by context tlvs)
 told_by-clean context [] = tt
-told_by-clean context (tlv ∷ tlvs) = (tells-clean context tlv, told_by-clean (updated context tlv) tlvs)
+told_by-clean context (tlv ∷ tlvs) = (tells-clean context tlv, told_by-clean (behind context tlv) tlvs)
 
 both_clean : (front back : List Event) → AllByRecursion IsOfClean front → AllByRecursion IsOfClean back → AllByRecursion IsOfClean (front ++ back)
 both_clean [] back of of_back = of_back

@@ -20,7 +20,8 @@ use Rattle.babel_table.specs.Bounds.{Bounds}
 use Rattle.babel_table.specs.Rows.{Routes}
 use Rattle.babel_table.specs.TableOf.{IsTableOf}
 use Rattle.babel_table.proofs.ReadingLaws.{framed_one}
-use Rattle.babel_canon.specs.Told.{is_update, tells, start, told_by}
+use Rattle.babel_canon.specs.Behind.{behind, is_update, start}
+use Rattle.babel_canon.specs.Told.{tells, told_by}
 use Rattle.babel_canon.specs.Dumps.{sets_unread_router_id, IsPacket, IsDump, told}
 use Rattle.babel_canon.proofs.NoFault.{AreFine-said}
 use Rattle.babel_canon.proofs.Told.{quiet, quiet_of, told-sayings}
@@ -45,7 +46,7 @@ place-octets at (tlv ∷ tlvs) = ap (λ (o : List ℕ). tlv_octets tlv ++ o) (pl
 
 place-told : (context : Context) (at : ℕ) (tlvs : List TlvAt) → told_by context (place at tlvs) ≡ told_by context tlvs
 place-told context at [] = refl
-place-told context at (tlv ∷ tlvs) = ap (λ (es : List Event). tells context tlv ∷ es) (place-told (updated context tlv) (at + length (tlv_octets tlv)) tlvs)
+place-told context at (tlv ∷ tlvs) = ap (λ (es : List Event). tells context tlv ∷ es) (place-told (behind context tlv) (at + length (tlv_octets tlv)) tlvs)
 
 abbrev place_all : ℕ → List (List TlvAt) → List (List TlvAt)
 place_all at [] = []

@@ -14,6 +14,8 @@ mod Entries
 mod Verdicts
 pub mod OneVerdict
 mod Normal
+pub mod Items
+pub mod Behind
 pub mod Told
 pub mod Dumps
 pub mod HeldFor

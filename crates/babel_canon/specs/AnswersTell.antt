@@ -1,5 +1,6 @@
--- The headline, by what dumps answer: this project's own. In `normalise`, `Made one octets` holds of
--- the octets that it answers for the dump `one` (*ok*), and `Refused one fault` of its faults (*err*).
+-- The headline, by what dumps answer: this project's own. In `normalise`, `Made one octets` holds
+-- of the octets that it answers for the dump `one` (*ok*), and `Refused one fault` of its faults
+-- (*err*).
 use Rattle.std.specs.Prelude.{◌≡◌, ◌↔◌, ℕ, List, Option}
 use Rattle.babel_prefix.specs.Address.{Address, IsAddress}
 use Rattle.babel_prefix.specs.Entries.{answer_for}

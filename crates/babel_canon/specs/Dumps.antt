@@ -6,7 +6,8 @@ use Rattle.babel_prefix.specs.Address.{Address}
 use Rattle.babel_tlv.specs.declared.event.Event.{Event}
 use Rattle.babel_tlv.specs.Framing.{TlvAt, IsTlv, IsBody, body_octets, packet_octets}
 use Rattle.babel_tlv.specs.Forming.{update_encoding, sets_router_id}
-use Rattle.babel_canon.specs.Told.{is_update, start, told_by}
+use Rattle.babel_canon.specs.Behind.{is_update, start}
+use Rattle.babel_canon.specs.Told.{told_by}
 
 -- whether a TLV refuses the dump (this project's own): an Update of an encoding that is not read
 -- sets a router-id, which later TLVs may need

@@ -10,6 +10,8 @@ pub mod Headline
 pub mod Grids
 pub mod Canonical
 pub mod Normalises
+pub mod Items
+pub mod Behind
 pub mod Told
 pub mod Dumps
 pub mod DumpAnswers
