@@ -1,23 +1,21 @@
 -- The headline by what dumps answer, from the headline by what tables answer.
-use Rattle.std.proofs.Common.{◌≡◌, ◌↔◌, ℕ, List, Option, refl, sym, ap, subst, ◌∙◌}
-use Rattle.babel_prefix.specs.Address.{Address, IsAddress}
+use Rattle.std.proofs.Common.{◌≡◌, ◌↔◌, Option, refl, sym, ◌∙◌}
 use Rattle.babel_prefix.specs.Entries.{answer_for}
 use Rattle.babel_tlv.specs.declared.held.Held.{Held}
 use Rattle.babel_tlv.specs.declared.mode.Mode.{Mode}
-use Rattle.babel_table.specs.Bounds.{Bounds, AreBounds}
+use Rattle.babel_table.specs.Bounds.{Bounds}
 use Rattle.babel_table.specs.Rows.{Routes, entries_of}
 use Rattle.babel_table.specs.TableOf.{IsTableOf}
-use Rattle.babel_canon.specs.Sizes.{IsBodySize}
 use Rattle.babel_canon.specs.Answers.{AnswerTheSame}
 use Rattle.babel_canon.specs.Headline.{Sent, sent}
-use Rattle.babel_canon.specs.Normalises.{Normalises, as_they_are}
 use Rattle.babel_canon.specs.DumpAnswers.{DumpAnswers, IsSettled, AnswerAlike}
-use Rattle.babel_canon.specs.AnswersTell.{AnswersTell, AnswersAreTold}
+use Rattle.babel_canon.specs.AnswersTell.{AnswersAreTold}
 use Rattle.babel_canon.proofs.Headline.{forms_tell, headline}
 use Rattle.babel_canon.proofs.TableAnswers.{table_answers}
 
 -- dumps answer alike exactly where their tables answer the same
-module _ (limits : Bounds) (mode : Mode) (one other : Sent) (table others : Routes) (is_table : IsTableOf limits mode one.sender one.dump table)
+module _ (limits : Bounds) (mode : Mode) (one other : Sent) (table others : Routes)
+    (is_table : IsTableOf limits mode one.sender one.dump table)
     (is_other : IsTableOf limits mode other.sender other.dump others) where
   alike-from_same : AnswerTheSame table.rows others.rows → AnswerAlike mode one other
   alike-from_same same d s d_in s_in one_family answer =
@@ -33,10 +31,12 @@ module _ (limits : Bounds) (mode : Mode) (one other : Sent) (table others : Rout
       let there = table_answers limits mode other others is_other d s d_in s_in one_family answer in
       sym (there.0 ((alike d s d_in s_in one_family answer).0 (here.1 refl)))
 
-settled : (limits : Bounds) (mode : Mode) (one : Sent) (table : Routes) → IsTableOf limits mode one.sender one.dump table → IsSettled mode one
+settled : (limits : Bounds) (mode : Mode) (one : Sent) (table : Routes)
+    → IsTableOf limits mode one.sender one.dump table → IsSettled mode one
 settled limits mode one table is_table d s d_in s_in one_family =
     let answer = answer_for (entries_of table.rows) d s in
-    let is : (a : Option Held) → DumpAnswers mode one d s a ↔ (answer ≡ a) = table_answers limits mode one table is_table d s d_in s_in one_family in
+    let is : (a : Option Held) → DumpAnswers mode one d s a ↔ (answer ≡ a) =
+    table_answers limits mode one table is_table d s d_in s_in one_family in
     (answer, (is answer).1 refl, (λ other too. sym ((is other).0 too)))
 
 pub answers_are_told : AnswersAreTold
@@ -45,13 +45,17 @@ answers_are_told limits mode body bounds size one octets normal =
     record {
       settled = settled limits mode one normal.table normal.is_table;
       tells_apart = λ other other_octets made.
-          let tell = forms_tell body size normal.table.rows made.table.rows normal.boxes made.boxes octets other_octets normal.are_boxes made.are_boxes normal.text made.text in (
-            (λ same. alike-from_same limits mode one other normal.table made.table normal.is_table made.is_table (tell.0 same)),
-            (λ alike. tell.1 (same-from_alike limits mode one other normal.table made.table normal.is_table made.is_table alike)),
+          let tell = forms_tell body size normal.table.rows made.table.rows normal.boxes made.boxes
+          octets other_octets normal.are_boxes made.are_boxes normal.text made.text in (
+            (λ same. alike-from_same limits mode one other normal.table made.table normal.is_table
+                made.is_table (tell.0 same)),
+            (λ alike. tell.1 (same-from_alike limits mode one other normal.table made.table
+                normal.is_table made.is_table alike)),
           );
       reads_alike = λ any.
           let read = again any in
-          alike-from_same limits mode (sent any octets) one read.again.table normal.table read.again.is_table normal.is_table
+          alike-from_same limits mode (sent any octets) one read.again.table normal.table
+          read.again.is_table normal.is_table
           (read.answers read.again.table normal.table read.again.is_table normal.is_table);
       again = λ any. (again any).again;
       unchanged = λ any. (again any).unchanged;

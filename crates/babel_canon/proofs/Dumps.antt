@@ -1,5 +1,7 @@
 -- A dump of packets whose TLVs lie anywhere is one of packets whose TLVs lie in their places.
-use Rattle.std.proofs.Common.{◌≡◌, ℕ, ◌+◌, ◌<◌, ◌^◌, Bool, true, false, cond, not, ◌&&◌, ◌||◌, leb, ltb, eqb, List, [], ◌∷◌, ◌++◌, length, map, Result, Ok, Err, refl, sym, ap, subst, ◌∙◌, arith, eqb-true}
+use Rattle.std.proofs.Common.{◌≡◌, ℕ, ◌+◌, Bool, true, false, ◌||◌, leb}
+use Rattle.std.proofs.Common.{ltb, List, [], ◌∷◌, ◌++◌, length, map, Result, Ok, Err, refl}
+use Rattle.std.proofs.Common.{sym, ap, subst, ◌∙◌, arith, eqb-true}
 use Rattle.std.specs.Prelude.{IsFalse}
 use Rattle.std.specs.List.{AllByRecursion, flat_map, list_any}
 use Rattle.std.proofs.lemmas.Bool.{and_parts, false_from_ne_true}
@@ -7,20 +9,20 @@ use Rattle.std.proofs.lemmas.Bool.Decides.{nat_tests}
 use Rattle.std.proofs.lemmas.List.{append-nil, map-append}
 use Rattle.babel_prefix.specs.Address.{Address}
 use Rattle.babel_tlv.specs.declared.event.Event.{Event}
-use Rattle.babel_tlv.specs.declared.event.Event.TheVariants as events
 use Rattle.babel_tlv.specs.declared.fault.Fault.{Fault}
 use Rattle.babel_tlv.specs.declared.mode.Mode.{Mode}
-use Rattle.babel_tlv.specs.Framing.{TlvAt, IsTlv, ArePlaced, ArePackets, ReadsAs, Framed, IsBody, body_octets, tlv_octets, framed, packet_octets}
+use Rattle.babel_tlv.specs.Framing.{TlvAt, IsTlv, ArePlaced, ArePackets, Framed, IsBody}
+use Rattle.babel_tlv.specs.Framing.{body_octets, tlv_octets, framed, packet_octets}
 use Rattle.babel_tlv.specs.Forming.{update_encoding, sets_router_id}
 use Rattle.babel_tlv.specs.Context.{Context}
-use Rattle.babel_tlv.specs.Says.{Saying, said, sayings, sayings_behind, update_said}
+use Rattle.babel_tlv.specs.Says.{said, sayings, sayings_behind, update_said}
 use Rattle.babel_tlv.specs.Updating.{updated}
 use Rattle.babel_tlv.proofs.Telling.{as_ok, says_in, what_of, sayings_behind-says_in}
 use Rattle.babel_table.specs.Bounds.{Bounds}
 use Rattle.babel_table.specs.Rows.{Routes}
 use Rattle.babel_table.specs.TableOf.{IsTableOf}
 use Rattle.babel_table.proofs.ReadingLaws.{framed_one}
-use Rattle.babel_canon.specs.Behind.{behind, is_update, start}
+use Rattle.babel_canon.specs.Behind.{behind, start}
 use Rattle.babel_canon.specs.Told.{tells, told_by}
 use Rattle.babel_canon.specs.Dumps.{sets_unread_router_id, IsPacket, IsDump, told}
 use Rattle.babel_canon.proofs.NoFault.{AreFine-said}
@@ -35,57 +37,81 @@ abbrev place : ℕ → List TlvAt → List TlvAt
 place at [] = []
 place at (tlv ∷ tlvs) = placed_at at tlv ∷ place (at + length (tlv_octets tlv)) tlvs
 
-place-placed : (at : ℕ) (tlvs : List TlvAt) → AllByRecursion IsTlv tlvs → ArePlaced at (place at tlvs)
+place-placed : (at : ℕ) (tlvs : List TlvAt) → AllByRecursion IsTlv tlvs
+    → ArePlaced at (place at tlvs)
 place-placed at [] each = tt
-place-placed at (tlv ∷ tlvs) each =
-    (refl, record { kind_fits = each.0.kind_fits; len_fits = each.0.len_fits; pad1 = each.0.pad1 }, place-placed (at + length (tlv_octets tlv)) tlvs each.1)
+place-placed at (tlv ∷ tlvs) each = (
+  refl,
+  record {
+    kind_fits = each.0.kind_fits;
+    len_fits = each.0.len_fits;
+    pad1 =
+        each.0.pad1;
+  },
+  place-placed (at + length (tlv_octets tlv)) tlvs each.1,
+)
 
 place-octets : (at : ℕ) (tlvs : List TlvAt) → body_octets (place at tlvs) ≡ body_octets tlvs
 place-octets at [] = refl
-place-octets at (tlv ∷ tlvs) = ap (λ (o : List ℕ). tlv_octets tlv ++ o) (place-octets (at + length (tlv_octets tlv)) tlvs)
+place-octets at (tlv ∷ tlvs) = ap (λ (o : List ℕ). tlv_octets tlv ++ o)
+    (place-octets (at + length (tlv_octets tlv)) tlvs)
 
-place-told : (context : Context) (at : ℕ) (tlvs : List TlvAt) → told_by context (place at tlvs) ≡ told_by context tlvs
+place-told : (context : Context) (at : ℕ) (tlvs : List TlvAt)
+    → told_by context (place at tlvs) ≡ told_by context tlvs
 place-told context at [] = refl
-place-told context at (tlv ∷ tlvs) = ap (λ (es : List Event). tells context tlv ∷ es) (place-told (behind context tlv) (at + length (tlv_octets tlv)) tlvs)
+place-told context at (tlv ∷ tlvs) = ap (λ (es : List Event). tells context tlv ∷ es)
+    (place-told (behind context tlv) (at + length (tlv_octets tlv)) tlvs)
 
 abbrev place_all : ℕ → List (List TlvAt) → List (List TlvAt)
 place_all at [] = []
-place_all at (tlvs ∷ packets) = place (at + 4) tlvs ∷ place_all (at + length (packet_octets tlvs)) packets
+place_all at (tlvs ∷ packets) = place (at + 4) tlvs ∷ place_all
+    (at + length (packet_octets tlvs)) packets
 
-place_all-octets : (at : ℕ) (packets : List (List TlvAt)) → flat_map packet_octets (place_all at packets) ≡ flat_map packet_octets packets
+place_all-octets : (at : ℕ) (packets : List (List TlvAt))
+    → flat_map packet_octets (place_all at packets) ≡ flat_map packet_octets packets
 place_all-octets at [] = refl
 place_all-octets at (tlvs ∷ packets) =
     let later = at + length (packet_octets tlvs) in
-    ap (λ (body : List ℕ). framed body ++ flat_map packet_octets (place_all later packets)) (place-octets (at + 4) tlvs)
+    ap (λ (body : List ℕ). framed body ++ flat_map packet_octets (place_all later packets))
+    (place-octets (at + 4) tlvs)
     ∙ ap (λ (o : List ℕ). packet_octets tlvs ++ o) (place_all-octets later packets)
 
-place_all-packets : (at : ℕ) (packets : List (List TlvAt)) → AllByRecursion IsPacket packets → ArePackets at (place_all at packets)
+place_all-packets : (at : ℕ) (packets : List (List TlvAt)) → AllByRecursion IsPacket packets
+    → ArePackets at (place_all at packets)
 place_all-packets at [] each = tt
 place_all-packets at (tlvs ∷ packets) each = (
   subst IsBody (sym (place-octets (at + 4) tlvs)) each.0.fits,
   place-placed (at + 4) tlvs each.0.each,
-  subst (λ (body : List ℕ). ArePackets (at + length (framed body)) (place_all (at + length (packet_octets tlvs)) packets)) (sym (place-octets (at + 4) tlvs))
+  subst (λ (body : List ℕ). ArePackets (at + length (framed body))
+      (place_all (at + length (packet_octets tlvs)) packets)) (sym (place-octets (at + 4) tlvs))
       (place_all-packets (at + length (packet_octets tlvs)) packets each.1),
 )
 
-place_all-told : (sender : Address) (at : ℕ) (packets : List (List TlvAt)) → told sender (place_all at packets) ≡ told sender packets
+place_all-told : (sender : Address) (at : ℕ) (packets : List (List TlvAt))
+    → told sender (place_all at packets) ≡ told sender packets
 place_all-told sender at [] = refl
 place_all-told sender at (tlvs ∷ packets) =
     let later = at + length (packet_octets tlvs) in
-    ap (λ (es : List Event). es ++ told sender (place_all later packets)) (place-told (start sender) (at + 4) tlvs)
-    ∙ ap (λ (es : List Event). told_by (start sender) tlvs ++ es) (place_all-told sender later packets)
+    ap (λ (es : List Event). es ++ told sender (place_all later packets))
+    (place-told (start sender) (at + 4) tlvs)
+    ∙ ap (λ (es : List Event). told_by (start sender) tlvs ++ es)
+    (place_all-told sender later packets)
 
-framed-from_dump : (octets : List ℕ) (packets : List (List TlvAt)) → IsDump octets packets → Framed octets (place_all 0 packets)
+framed-from_dump : (octets : List ℕ) (packets : List (List TlvAt)) → IsDump octets packets
+    → Framed octets (place_all 0 packets)
 framed-from_dump octets packets dump = record {
-  whole = dump.whole ∙ sym (place_all-octets 0 packets) ∙ sym (append-nil (flat_map packet_octets (place_all 0 packets)));
+  whole = dump.whole ∙ sym (place_all-octets 0 packets)
+      ∙ sym (append-nil (flat_map packet_octets (place_all 0 packets)));
   placed = place_all-packets 0 packets dump.each;
 }
 
 -- octets tell one thing, however their TLVs are said to lie
-pub told-framed : (sender : Address) (octets : List ℕ) (packets others : List (List TlvAt)) → IsDump octets packets → Framed octets others → told sender packets ≡ told sender others
+pub told-framed : (sender : Address) (octets : List ℕ) (packets others : List (List TlvAt))
+    → IsDump octets packets → Framed octets others → told sender packets ≡ told sender others
 told-framed sender octets packets others dump reads =
     sym (place_all-told sender 0 packets)
-    ∙ ap (told sender) (framed_one octets (place_all 0 packets) others (framed-from_dump octets packets dump) reads)
+    ∙ ap (told sender) (framed_one octets (place_all 0 packets) others
+    (framed-from_dump octets packets dump) reads)
 
 -- ---- a dump that has a table
 
@@ -93,7 +119,8 @@ abbrev IsOk : Result Event Fault → Type 0
 IsOk (Ok event) = Unit {0}
 IsOk (Err fault) = ⊥
 
-refuses : (context : Context) (at : ℕ) (body : List ℕ) → ltb (length body) 10 ≡ false → leb 3 (update_encoding body) ≡ true → sets_router_id body ≡ true
+refuses : (context : Context) (at : ℕ) (body : List ℕ) → ltb (length body) 10 ≡ false
+    → leb 3 (update_encoding body) ≡ true → sets_router_id body ≡ true
     → IsOk (update_said context (record { at = at; kind = 8; body = body })) → ⊥
 refuses context at body long unread sets ok = rw (long, unread, sets) at ok
 
@@ -101,40 +128,52 @@ long-not_short : (n : ℕ) → leb 10 n ≡ true → ltb n 10 ≡ false
 long-not_short n e = grind (arith, nat_tests)
 
 -- a TLV that says an event does not refuse the dump
-said-read : (context : Context) (tlv : TlvAt) → IsOk (said context tlv) → IsFalse (sets_unread_router_id tlv)
+said-read : (context : Context) (tlv : TlvAt) → IsOk (said context tlv)
+    → IsFalse (sets_unread_router_id tlv)
 said-read context tlv ok = false_from_ne_true (sets_unread_router_id tlv) (λ sets.
     let parts = and_parts _ _ sets in
     let front = and_parts _ _ parts.0 in
     let update = and_parts _ _ front.0 in
     refuses context tlv.at tlv.body (long-not_short (length tlv.body) update.1) front.1 parts.1
-    (subst (λ (k : ℕ). IsOk (said context (record { at = tlv.at; kind = k; body = tlv.body }))) (eqb-true tlv.kind 8 update.0) ok))
+    (subst (λ (k : ℕ). IsOk (said context (record { at = tlv.at; kind = k; body = tlv.body })))
+    (eqb-true tlv.kind 8 update.0) ok))
 
-says-read : (context : Context) (tlvs : List TlvAt) → AllByRecursion IsOk (says_in context tlvs) → IsFalse (list_any sets_unread_router_id tlvs)
+says-read : (context : Context) (tlvs : List TlvAt) → AllByRecursion IsOk (says_in context tlvs)
+    → IsFalse (list_any sets_unread_router_id tlvs)
 says-read context [] ok = refl
 says-read context (tlv ∷ tlvs) ok =
-    ap (λ (b : Bool). b || list_any sets_unread_router_id tlvs) (said-read context tlv ok.0) ∙ says-read (updated context tlv) tlvs ok.1
+    ap (λ (b : Bool). b || list_any sets_unread_router_id tlvs) (said-read context tlv ok.0)
+    ∙ says-read (updated context tlv) tlvs ok.1
 
 events_ok : (said : List Event) → AllByRecursion IsOk (map as_ok said)
 events_ok [] = tt
 events_ok (event ∷ said) = (tt, events_ok said)
 
-ok_parts : (front back : List (Result Event Fault)) → AllByRecursion IsOk (front ++ back) → AllByRecursion IsOk front × AllByRecursion IsOk back
+ok_parts : (front back : List (Result Event Fault)) → AllByRecursion IsOk (front ++ back)
+    → AllByRecursion IsOk front × AllByRecursion IsOk back
 ok_parts [] back ok = (tt, ok)
 ok_parts (one ∷ front) back ok = let rest = ok_parts front back ok.1 in ((ok.0, rest.0), rest.1)
 
 each-placed : (at : ℕ) (tlvs : List TlvAt) → ArePlaced at tlvs → AllByRecursion IsTlv tlvs
 each-placed at [] placed = tt
-each-placed at (tlv ∷ tlvs) placed = (placed.1, each-placed (at + length (tlv_octets tlv)) tlvs placed.2)
+each-placed at (tlv ∷ tlvs) placed = (
+  placed.1,
+  each-placed
+      (at + length (tlv_octets tlv)) tlvs placed.2,
+)
 
-packets-read : (sender : Address) (at : ℕ) (packets : List (List TlvAt)) → ArePackets at packets → AllByRecursion IsOk (map what_of (sayings sender packets)) → AllByRecursion IsPacket packets
+packets-read : (sender : Address) (at : ℕ) (packets : List (List TlvAt)) → ArePackets at packets
+    → AllByRecursion IsOk (map what_of (sayings sender packets)) → AllByRecursion IsPacket packets
 packets-read sender at [] placed ok = tt
 packets-read sender at (tlvs ∷ packets) placed ok =
     let here = sayings_behind sender [] tlvs in
-    let parts = ok_parts (map what_of here) (map what_of (sayings sender packets)) (subst (AllByRecursion IsOk) (map-append what_of here (sayings sender packets)) ok) in (
+    let parts = ok_parts (map what_of here) (map what_of (sayings sender packets))
+    (subst (AllByRecursion IsOk) (map-append what_of here (sayings sender packets)) ok) in (
       record {
         fits = placed.0;
         each = each-placed (at + 4) tlvs placed.1;
-        read = says-read (start sender) tlvs (subst (AllByRecursion IsOk) (sayings_behind-says_in sender [] tlvs) parts.0);
+        read = says-read (start sender) tlvs (subst (AllByRecursion IsOk)
+            (sayings_behind-says_in sender [] tlvs) parts.0);
       },
       packets-read sender (at + length (packet_octets tlvs)) packets placed.2 parts.1,
     )
@@ -143,22 +182,29 @@ quiet_oks : (said : List Event) → map quiet_of (map as_ok said) ≡ map quiet 
 quiet_oks [] = refl
 quiet_oks (event ∷ said) = ap (λ (es : List Event). quiet event ∷ es) (quiet_oks said)
 
-module _ (limits : Bounds) (mode : Mode) (sender : Address) (dump : List ℕ) (table : Routes) (is_table : IsTableOf limits mode sender dump table) where
+module _ (limits : Bounds) (mode : Mode) (sender : Address) (dump : List ℕ) (table : Routes)
+    (is_table : IsTableOf limits mode sender dump table) where
   -- a dump with a table is packets
   pub dump-from_table : IsDump dump is_table.packets
   dump-from_table =
-      let said = AreFine-said mode limits.entries [] (sayings sender is_table.packets) is_table.said is_table.fine in
+      let said = AreFine-said mode limits.entries [] (sayings sender is_table.packets) is_table.said
+      is_table.fine in
       record {
         whole = is_table.reads.whole ∙ append-nil (flat_map packet_octets is_table.packets);
-        each = packets-read sender 0 is_table.packets is_table.reads.placed (subst (AllByRecursion IsOk) (sym said.whats) (events_ok said.told));
+        each = packets-read sender 0 is_table.packets is_table.reads.placed
+            (subst (AllByRecursion IsOk) (sym said.whats) (events_ok said.told));
       }
 
   -- and tells the events of its table, without the reasons
   pub told-table : told sender is_table.packets ≡ map quiet is_table.said
   told-table =
-      let said = AreFine-said mode limits.entries [] (sayings sender is_table.packets) is_table.said is_table.fine in
-      told-sayings sender is_table.packets ∙ ap (map quiet_of) said.whats ∙ quiet_oks said.told ∙ ap (map quiet) (sym said.parts)
+      let said = AreFine-said mode limits.entries [] (sayings sender is_table.packets) is_table.said
+      is_table.fine in
+      told-sayings sender is_table.packets ∙ ap (map quiet_of) said.whats ∙ quiet_oks said.told
+      ∙ ap (map quiet) (sym said.parts)
 
   -- so does any reading of it
-  pub told-dump : (packets : List (List TlvAt)) → IsDump dump packets → told sender packets ≡ map quiet is_table.said
-  told-dump packets is_dump = told-framed sender dump packets is_table.packets is_dump is_table.reads ∙ told-table
+  pub told-dump : (packets : List (List TlvAt)) → IsDump dump packets
+      → told sender packets ≡ map quiet is_table.said
+  told-dump packets is_dump = told-framed sender dump packets is_table.packets is_dump
+      is_table.reads ∙ told-table

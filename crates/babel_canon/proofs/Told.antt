@@ -1,5 +1,7 @@
 -- What a TLV tells is what it says, where nothing stands for what is ignored or refused.
-use Rattle.std.proofs.Common.{◌≡◌, ℕ, zero, suc, ◌+◌, ◌≤◌, Bool, true, false, cond, not, ◌&&◌, ◌||◌, leb, ltb, eqb, List, [], ◌∷◌, ◌++◌, length, map, drop, Option, Some, None, Result, Ok, Err, refl, sym, ap, subst, ◌∙◌, arith, eqb-true}
+use Rattle.std.proofs.Common.{◌≡◌, ℕ, zero, suc, ◌+◌, Bool, true, false, cond, not, ◌&&◌, ◌||◌}
+use Rattle.std.proofs.Common.{leb, ltb, eqb, List, [], ◌∷◌, ◌++◌, length, map, drop, Option, Some}
+use Rattle.std.proofs.Common.{None, Result, Ok, Err, refl, sym, ap, subst, ◌∙◌, arith, eqb-true}
 use Rattle.std.specs.Prelude.{is_none}
 use Rattle.std.specs.List.{list_all}
 use Rattle.std.specs.Result.{result_ok}
@@ -15,15 +17,18 @@ use Rattle.babel_tlv.specs.declared.fault.Fault.TheVariants as faults
 use Rattle.babel_tlv.specs.declared.reason.Reason.{Reason}
 use Rattle.babel_tlv.specs.declared.reason.Reason.TheVariants as reasons
 use Rattle.babel_tlv.specs.Framing.{TlvAt, tlvs_of}
-use Rattle.babel_tlv.specs.Forming.{update_encoding, update_metric, prefix_len, omitted, field_len, formed, next_hop_in, sets_router_id}
+use Rattle.babel_tlv.specs.Forming.{update_encoding, update_metric, prefix_len, omitted, field_len}
+use Rattle.babel_tlv.specs.Forming.{formed, next_hop_in, sets_router_id}
 use Rattle.babel_tlv.specs.Route.{RouteKey, Announcement, is_reserved}
 use Rattle.babel_tlv.specs.SubTlv.{source_of}
 use Rattle.babel_tlv.specs.Context.{Context, next_hop_in_context}
-use Rattle.babel_tlv.specs.Says.{said, sayings, sayings_behind, unless_ignored, router_id_event, hop_event, wildcard_event, announce_event, current_router_id, key_event, prefix_event, update_said}
+use Rattle.babel_tlv.specs.Says.{said, sayings, sayings_behind, unless_ignored, router_id_event}
+use Rattle.babel_tlv.specs.Says.{hop_event, wildcard_event, announce_event, current_router_id}
+use Rattle.babel_tlv.specs.Says.{key_event, prefix_event, update_said}
 use Rattle.babel_tlv.specs.Updating.{updated}
 use Rattle.babel_tlv.proofs.Telling.{says_in, what_of, sayings_behind-says_in}
 use Rattle.babel_canon.specs.Items.{items_of, are_all_of, is_optional, fit_update}
-use Rattle.babel_canon.specs.Behind.{start, behind, formed_in, prefix_in}
+use Rattle.babel_canon.specs.Behind.{start, behind, prefix_in}
 use Rattle.babel_canon.specs.Told.{wildcard_tells, route_tells, update_tells, tells, told_by}
 use Rattle.babel_canon.specs.Dumps.{told}
 use Rattle.babel_canon.proofs.Items.{source-items, sub-update, sub-wildcard}
@@ -43,15 +48,19 @@ abbrev pub quiet_of : Result Event Fault → Event
 quiet_of (Ok event) = quiet event
 quiet_of (Err fault) = events.Nothing
 
-quiet-unless : (reason : Option Reason) (event : Event) → quiet (unless_ignored reason event) ≡ cond (is_none reason) (quiet event) events.Nothing
+quiet-unless : (reason : Option Reason) (event : Event)
+    → quiet (unless_ignored reason event) ≡ cond (is_none reason) (quiet event) events.Nothing
 quiet-unless None event = refl
 quiet-unless (Some reason) event = refl
 
 -- ---- Updates
 
-wildcard_by : (metric len some omit some_omit : Bool) (reason : Option Reason) (all fit : Bool) → not len ≡ some → not omit ≡ some_omit → is_none reason ≡ (all && fit)
+wildcard_by : (metric len some omit some_omit : Bool) (reason : Option Reason) (all fit : Bool)
+    → not len ≡ some → not omit ≡ some_omit → is_none reason ≡ (all && fit)
     → cond (metric && len && omit && all && fit) events.RetractAll events.Nothing
-    ≡ quiet (cond (not metric) (events.Ignored reasons.WildcardFinite) (cond (some || some_omit) (events.Ignored reasons.WildcardPrefix) (unless_ignored reason events.RetractAll)))
+    ≡ quiet (cond (not metric) (events.Ignored reasons.WildcardFinite)
+    (cond (some || some_omit) (events.Ignored reasons.WildcardPrefix)
+    (unless_ignored reason events.RetractAll)))
 wildcard_by false len some omit some_omit reason all fit e f g = refl
 wildcard_by true false true omit some_omit reason all fit e f g = refl
 wildcard_by true false false omit some_omit reason all fit e f g = absurd cc
@@ -60,7 +69,8 @@ wildcard_by true true false false true reason all fit e f g = refl
 wildcard_by true true false false false reason all fit e f g = absurd cc
 wildcard_by true true false true true reason all fit e f g = absurd cc
 wildcard_by true true false true false reason all fit e f g =
-    sym (quiet-unless reason events.RetractAll ∙ ap (λ (b : Bool). cond b events.RetractAll events.Nothing) g)
+    sym (quiet-unless reason events.RetractAll ∙ ap (λ (b : Bool).
+    cond b events.RetractAll events.Nothing) g)
 
 some-not_zero : (n : ℕ) → not (eqb n 0) ≡ ltb 0 n
 some-not_zero n = grind (arith, nat_tests)
@@ -68,29 +78,37 @@ some-not_zero n = grind (arith, nat_tests)
 wildcard-quiet : (body : List ℕ) → wildcard_tells body ≡ quiet (wildcard_event body)
 wildcard-quiet body =
     let octets = drop 10 body in
-    wildcard_by (eqb (update_metric body) 65535) (eqb (prefix_len body) 0) (ltb 0 (prefix_len body)) (eqb (omitted body) 0) (ltb 0 (omitted body)) _
+    wildcard_by (eqb (update_metric body) 65535) (eqb (prefix_len body) 0) (ltb 0 (prefix_len body))
+    (eqb (omitted body) 0) (ltb 0 (omitted body)) _
     (are_all_of octets (items_of octets)) (list_all is_optional (items_of octets))
     (some-not_zero (prefix_len body)) (some-not_zero (omitted body)) (search sub-wildcard)
 
-route-quiet : (key : RouteKey) (body : List ℕ) (id : Option (List ℕ)) (hop : Option Address) → route_tells key body id hop ≡ quiet (announce_event key body id hop)
+route-quiet : (key : RouteKey) (body : List ℕ) (id : Option (List ℕ)) (hop : Option Address)
+    → route_tells key body id hop ≡ quiet (announce_event key body id hop)
 route-quiet key body None hop = refl
 route-quiet key body (Some id) None = by (is_reserved id)
   where
-    by : (reserved : Bool) → events.Nothing ≡ quiet (cond reserved (events.Ignored reasons.ReservedRouterId) (events.Ignored reasons.NoNextHop))
+    by : (reserved : Bool) → events.Nothing ≡ quiet (cond reserved
+        (events.Ignored reasons.ReservedRouterId) (events.Ignored reasons.NoNextHop))
     by true = refl
     by false = refl
 route-quiet key body (Some id) (Some hop) = by (is_reserved id) _
   where
-    by : (reserved : Bool) (ann : Announcement) → cond reserved events.Nothing (events.Announce key ann) ≡ quiet (cond reserved (events.Ignored reasons.ReservedRouterId) (events.Announce key ann))
+    by : (reserved : Bool) (ann : Announcement) → cond reserved events.Nothing
+        (events.Announce key ann) ≡ quiet (cond reserved (events.Ignored reasons.ReservedRouterId)
+        (events.Announce key ann))
     by true ann = refl
     by false ann = refl
 
-prefix_by : (stands infinite : Bool) (reason : Option Reason) (key : RouteKey) (route announced event : Event) → is_none reason ≡ stands → route ≡ quiet announced
+prefix_by : (stands infinite : Bool) (reason : Option Reason) (key : RouteKey)
+    (route announced event : Event) → is_none reason ≡ stands → route ≡ quiet announced
     → cond infinite (events.Retract key) announced ≡ event
-    → cond (not stands) events.Nothing (cond infinite (events.Retract key) route) ≡ quiet (unless_ignored reason event)
+    → cond (not stands) events.Nothing (cond infinite (events.Retract key) route)
+    ≡ quiet (unless_ignored reason event)
 prefix_by true infinite None key route announced event e same is = by infinite ∙ ap quiet is
   where
-    by : (b : Bool) → cond b (events.Retract key) route ≡ quiet (cond b (events.Retract key) announced)
+    by : (b : Bool) → cond b (events.Retract key) route
+        ≡ quiet (cond b (events.Retract key) announced)
     by true = refl
     by false = same
 prefix_by false infinite (Some reason) key route announced event e same is = refl
@@ -101,7 +119,8 @@ abbrev key_with : AddressPrefix → AddressPrefix → RouteKey
 key_with dst src = record { dst = dst; src = src }
 
 update-quiet : (context : Context) (body : List ℕ) (prefix : AddressPrefix)
-    → update_tells context body (Some prefix) ≡ quiet (prefix_event prefix.address.family context body (Ok prefix))
+    → update_tells context body (Some prefix) ≡ quiet (prefix_event prefix.address.family context
+    body (Ok prefix))
 update-quiet context body prefix =
     let family = prefix.address.family in
     let octets = drop (10 + field_len body) body in
@@ -110,32 +129,43 @@ update-quiet context body prefix =
     let id = current_router_id context body prefix in
     let hop = next_hop_in_context family context in
     let key : RouteKey = key_with prefix (source_of family (tlvs_of 0 octets)) in
-    ap (λ (src : AddressPrefix). cond (not stands) events.Nothing (cond infinite (events.Retract (key_with prefix src)) (route_tells (key_with prefix src) body id hop))) (source-items family octets)
-    ∙ prefix_by stands infinite _ key (route_tells key body id hop) (announce_event key body id hop) (key_event family context body prefix key)
+    ap (λ (src : AddressPrefix). cond (not stands) events.Nothing
+    (cond infinite (events.Retract (key_with prefix src))
+    (route_tells (key_with prefix src) body id hop))) (source-items family octets)
+    ∙ prefix_by stands infinite _ key (route_tells key body id hop) (announce_event key body id hop)
+    (key_event family context body prefix key)
     (search sub-update) (route-quiet key body id hop) refl
 
 -- what is formed tells what it says; what forms nothing tells nothing
-prefix-quiet : (family : Family) (context : Context) (body : List ℕ) (formed_prefix : Option AddressPrefix) (is : Result AddressPrefix Reason)
-    → IsOfFamily family formed_prefix → formed_prefix ≡ result_ok is → update_tells context body formed_prefix ≡ quiet (prefix_event family context body is)
+prefix-quiet : (family : Family) (context : Context) (body : List ℕ)
+    (formed_prefix : Option AddressPrefix) (is : Result AddressPrefix Reason)
+    → IsOfFamily family formed_prefix → formed_prefix ≡ result_ok is
+    → update_tells context body formed_prefix ≡ quiet (prefix_event family context body is)
 prefix-quiet family context body None (Err reason) of same = refl
 prefix-quiet family context body None (Ok prefix) of same = absurd cc
 prefix-quiet family context body (Some prefix) (Err reason) of same = absurd cc
 prefix-quiet family context body (Some prefix) (Ok other) of same =
     let is : prefix ≡ other = cc in
-    update-quiet context body prefix ∙ ap (λ (f : Family). quiet (prefix_event f context body (Ok prefix))) of
+    update-quiet context body prefix ∙ ap (λ (f : Family).
+    quiet (prefix_event f context body (Ok prefix))) of
     ∙ ap (λ (p : AddressPrefix). quiet (prefix_event family context body (Ok p))) is
 
 -- ---- any TLV
 
 -- which encodings are read
-encoding_by : (n : ℕ) (wild one two none : Event) (refused : Result Event Fault) (wild_said one_said two_said : Event)
-    → none ≡ events.Nothing → quiet_of refused ≡ events.Nothing → wild ≡ quiet wild_said → one ≡ quiet one_said → two ≡ quiet two_said
+encoding_by : (n : ℕ) (wild one two none : Event) (refused : Result Event Fault)
+    (wild_said one_said two_said : Event)
+    → none ≡ events.Nothing → quiet_of refused ≡ events.Nothing → wild ≡ quiet wild_said
+    → one ≡ quiet one_said → two ≡ quiet two_said
     → cond (eqb n 0) wild (cond (eqb n 1) one (cond (eqb n 2) two none))
-    ≡ quiet_of (cond (leb 3 n) refused (cond (eqb n 0) (Ok wild_said) (cond (eqb n 1) (Ok one_said) (Ok two_said))))
+    ≡ quiet_of (cond (leb 3 n) refused (cond (eqb n 0) (Ok wild_said)
+    (cond (eqb n 1) (Ok one_said) (Ok two_said))))
 encoding_by zero wild one two none refused wild_said one_said two_said is_none r w o t = w
 encoding_by (suc zero) wild one two none refused wild_said one_said two_said is_none r w o t = o
-encoding_by (suc (suc zero)) wild one two none refused wild_said one_said two_said is_none r w o t = t
-encoding_by (suc (suc (suc n))) wild one two none refused wild_said one_said two_said is_none r w o t =
+encoding_by (suc (suc zero)) wild one two none refused wild_said one_said two_said is_none r w o t =
+    t
+encoding_by (suc (suc (suc n))) wild one two none refused wild_said one_said two_said is_none r w o
+    t =
     let k : ℕ = suc (suc (suc n)) in
     let zero_not : eqb k 0 ≡ false = grind (arith, nat_tests) in
     let one_not : eqb k 1 ≡ false = grind (arith, nat_tests) in
@@ -144,12 +174,14 @@ encoding_by (suc (suc (suc n))) wild one two none refused wild_said one_said two
     rw (zero_not, one_not, two_not, unread) (is_none ∙ sym r)
 
 tells-cond : (context : Context) (body : List ℕ) (a b : Bool) (x y : Option AddressPrefix)
-    → update_tells context body (cond a x (cond b y None)) ≡ cond a (update_tells context body x) (cond b (update_tells context body y) events.Nothing)
+    → update_tells context body (cond a x (cond b y None))
+    ≡ cond a (update_tells context body x) (cond b (update_tells context body y) events.Nothing)
 tells-cond context body true b x y = refl
 tells-cond context body false true x y = refl
 tells-cond context body false false x y = refl
 
-unread-quiet : (sets : Bool) (at : ℕ) → quiet_of (cond sets (Err (faults.EncodingSetsRouterId at)) (Ok (events.Ignored reasons.UnknownEncoding))) ≡ events.Nothing
+unread-quiet : (sets : Bool) (at : ℕ) → quiet_of (cond sets (Err (faults.EncodingSetsRouterId at))
+    (Ok (events.Ignored reasons.UnknownEncoding))) ≡ events.Nothing
 unread-quiet true at = refl
 unread-quiet false at = refl
 
@@ -157,41 +189,53 @@ whole-long : (n : ℕ) → leb 10 n ≡ not (ltb n 10)
 whole-long n = grind (arith, nat_tests)
 
 length_by : (short : Bool) (told : Event) (says : Result Event Fault) → told ≡ quiet_of says
-    → cond (not (not short)) events.Nothing told ≡ quiet_of (cond short (Ok (events.Ignored reasons.Short)) says)
+    → cond (not (not short)) events.Nothing told ≡ quiet_of
+    (cond short (Ok (events.Ignored reasons.Short)) says)
 length_by true told says same = refl
 length_by false told says same = same
 
 abbrev tlv_at : ℕ → ℕ → List ℕ → TlvAt
 tlv_at at kind body = record { at = at; kind = kind; body = body }
 
-update-told : (context : Context) (at : ℕ) (body : List ℕ) → tells context (tlv_at at 8 body) ≡ quiet_of (update_said context (tlv_at at 8 body))
+update-told : (context : Context) (at : ℕ) (body : List ℕ)
+    → tells context (tlv_at at 8 body) ≡ quiet_of (update_said context (tlv_at at 8 body))
 update-told context at body =
     let four = prefix_in V4 context.default_v4 body in
     let six = prefix_in V6 context.default_v6 body in
     rw (whole-long (length body)) (length_by (ltb (length body) 10) _ _
-    (ap (λ (e : Event). cond (eqb (update_encoding body) 0) (wildcard_tells body) e) (tells-cond context body (eqb (update_encoding body) 1) (eqb (update_encoding body) 2) four six)
-    ∙ encoding_by (update_encoding body) (wildcard_tells body) (update_tells context body four) (update_tells context body six) events.Nothing _ (wildcard_event body) _ _
+    (ap (λ (e : Event). cond (eqb (update_encoding body) 0) (wildcard_tells body) e)
+    (tells-cond context body (eqb (update_encoding body) 1)
+    (eqb (update_encoding body) 2) four six)
+    ∙ encoding_by (update_encoding body) (wildcard_tells body) (update_tells context body four)
+    (update_tells context body six) events.Nothing _ (wildcard_event body) _ _
     refl (unread-quiet (sets_router_id body) at) (wildcard-quiet body)
-    (prefix-quiet V4 context body four (formed V4 context.default_v4 body) (prefix_in-family V4 context.default_v4 body) (prefix-formed V4 context.default_v4 body))
-    (prefix-quiet V6 context body six (formed V6 context.default_v6 body) (prefix_in-family V6 context.default_v6 body) (prefix-formed V6 context.default_v6 body))))
+    (prefix-quiet V4 context body four (formed V4 context.default_v4 body)
+    (prefix_in-family V4 context.default_v4 body) (prefix-formed V4 context.default_v4 body))
+    (prefix-quiet V6 context body six (formed V6 context.default_v6 body)
+    (prefix_in-family V6 context.default_v6 body) (prefix-formed V6 context.default_v6 body))))
 
-short-quiet : (short : Bool) (event : Event) → quiet event ≡ events.Nothing → quiet (cond short (events.Ignored reasons.Short) event) ≡ events.Nothing
+short-quiet : (short : Bool) (event : Event) → quiet event ≡ events.Nothing
+    → quiet (cond short (events.Ignored reasons.Short) event) ≡ events.Nothing
 short-quiet true event none = refl
 short-quiet false event none = none
 
-unless-nothing : (reason : Option Reason) → quiet (unless_ignored reason events.Nothing) ≡ events.Nothing
+unless-nothing : (reason : Option Reason) → quiet (unless_ignored reason events.Nothing)
+    ≡ events.Nothing
 unless-nothing None = refl
 unless-nothing (Some reason) = refl
 
 id-quiet : (body : List ℕ) → quiet (router_id_event body) ≡ events.Nothing
 id-quiet body = short-quiet (ltb (length body) 10) _ (search unless-nothing)
 
-hop-quiet : (body : List ℕ) (is : Result Address Reason) → quiet (hop_event body is) ≡ events.Nothing
+hop-quiet : (body : List ℕ) (is : Result Address Reason)
+    → quiet (hop_event body is) ≡ events.Nothing
 hop-quiet body (Err reason) = refl
 hop-quiet body (Ok hop) = search unless-nothing
 
-other_by : (id hop : Bool) (id_says hop_says : Event) (update : Result Event Fault) → quiet id_says ≡ events.Nothing → quiet hop_says ≡ events.Nothing
-    → events.Nothing ≡ quiet_of (cond id (Ok id_says) (cond hop (Ok hop_says) (cond false update (Ok events.Nothing))))
+other_by : (id hop : Bool) (id_says hop_says : Event) (update : Result Event Fault)
+    → quiet id_says ≡ events.Nothing → quiet hop_says ≡ events.Nothing
+    → events.Nothing ≡ quiet_of (cond id (Ok id_says) (cond hop (Ok hop_says)
+    (cond false update (Ok events.Nothing))))
 other_by true hop id_says hop_says update i h = sym i
 other_by false true id_says hop_says update i h = sym h
 other_by false false id_says hop_says update i h = refl
@@ -203,25 +247,34 @@ tells-said context tlv = by (eqb tlv.kind 8) refl
     by : (b : Bool) → eqb tlv.kind 8 ≡ b → tells context tlv ≡ quiet_of (said context tlv)
     by true is =
         let kind : 8 ≡ tlv.kind = sym (eqb-true tlv.kind 8 is) in
-        subst (λ (k : ℕ). tells context (tlv_at tlv.at k tlv.body) ≡ quiet_of (said context (tlv_at tlv.at k tlv.body))) kind (update-told context tlv.at tlv.body)
-    by false is = rw is (other_by (eqb tlv.kind 6) (eqb tlv.kind 7) (router_id_event tlv.body) (hop_event tlv.body (next_hop_in tlv.body)) (update_said context tlv)
+        subst (λ (k : ℕ). tells context (tlv_at tlv.at k tlv.body)
+        ≡ quiet_of (said context (tlv_at tlv.at k tlv.body))) kind
+        (update-told context tlv.at tlv.body)
+    by false is = rw is (other_by (eqb tlv.kind 6) (eqb tlv.kind 7) (router_id_event tlv.body)
+        (hop_event tlv.body (next_hop_in tlv.body)) (update_said context tlv)
         (id-quiet tlv.body) (hop-quiet tlv.body (next_hop_in tlv.body)))
 
 -- ---- packets and dumps
 
-told_by-says_in : (context : Context) (tlvs : List TlvAt) → told_by context tlvs ≡ map quiet_of (says_in context tlvs)
+told_by-says_in : (context : Context) (tlvs : List TlvAt)
+    → told_by context tlvs ≡ map quiet_of (says_in context tlvs)
 told_by-says_in context [] = refl
 told_by-says_in context (tlv ∷ tlvs) =
     ap (λ (e : Event). e ∷ told_by (behind context tlv) tlvs) (tells-said context tlv)
-    ∙ ap (λ (c : Context). quiet_of (said context tlv) ∷ told_by c tlvs) (behind-updated context tlv)
-    ∙ ap (λ (es : List Event). quiet_of (said context tlv) ∷ es) (told_by-says_in (updated context tlv) tlvs)
+    ∙ ap (λ (c : Context). quiet_of (said context tlv) ∷ told_by c tlvs)
+    (behind-updated context tlv)
+    ∙ ap (λ (es : List Event). quiet_of (said context tlv) ∷ es)
+    (told_by-says_in (updated context tlv) tlvs)
 
 -- what a dump tells is what its TLVs say, without the reasons
-pub told-sayings : (sender : Address) (packets : List (List TlvAt)) → told sender packets ≡ map quiet_of (map what_of (sayings sender packets))
+pub told-sayings : (sender : Address) (packets : List (List TlvAt))
+    → told sender packets ≡ map quiet_of (map what_of (sayings sender packets))
 told-sayings sender [] = refl
 told-sayings sender (tlvs ∷ packets) =
     let here = sayings_behind sender [] tlvs in
     ap (λ (es : List Event). es ++ told sender packets)
-    (told_by-says_in (start sender) tlvs ∙ ap (map quiet_of) (sym (sayings_behind-says_in sender [] tlvs)))
+    (told_by-says_in (start sender) tlvs ∙ ap (map quiet_of)
+    (sym (sayings_behind-says_in sender [] tlvs)))
     ∙ ap (λ (es : List Event). map quiet_of (map what_of here) ++ es) (told-sayings sender packets)
-    ∙ sym (ap (map quiet_of) (map-append what_of here (sayings sender packets)) ∙ map-append quiet_of (map what_of here) (map what_of (sayings sender packets)))
+    ∙ sym (ap (map quiet_of) (map-append what_of here (sayings sender packets))
+    ∙ map-append quiet_of (map what_of here) (map what_of (sayings sender packets)))

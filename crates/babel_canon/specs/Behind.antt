@@ -23,7 +23,7 @@ is_update tlv = tlv.kind == 8 && nat_le 10 (length tlv.body)
 abbrev pub prefix_in : Family → Option Address → List ℕ → Option AddressPrefix
 prefix_in family default body =
     if nat_le (prefix_len body) (width_of family) && nat_le (omitted body) (octet_count family)
-        && (omitted body == 0 || is_some default) && nat_le (10 + field_len body) (length body)
+    && (omitted body == 0 || is_some default) && nat_le (10 + field_len body) (length body)
     then Some (prefix_from family (prefix_len body)
     (take (omitted body) (default_octets default) ++ take (field_len body) (drop 10 body)))
     else None

@@ -1,6 +1,6 @@
 -- What the TLVs of a packet tell of routes: RFC 8966, 4.6; RFC 9079, 5.2, 7. A TLV that is ignored
 -- tells nothing. (Says has the same with the reasons.)
-use Rattle.std.specs.Prelude.{ℕ, ◌+◌, Bool, not, ◌&&◌, ◌==◌, if◌then◌else◌, List, [], ◌∷◌, drop}
+use Rattle.std.specs.Prelude.{ℕ, ◌+◌, not, ◌&&◌, ◌==◌, if◌then◌else◌, List, [], ◌∷◌, drop}
 use Rattle.std.specs.Prelude.{Option, Some, None}
 use Rattle.std.specs.List.{list_all}
 use Rattle.babel_prefix.specs.Address.{Address, AddressPrefix}
@@ -22,7 +22,7 @@ wildcard_tells body =
     let octets = drop 10 body in
     let items = items_of octets in
     if update_metric body == 65535 && prefix_len body == 0 && omitted body == 0
-        && are_all_of octets items && list_all is_optional items
+    && are_all_of octets items && list_all is_optional items
     then events.RetractAll else events.Nothing
 
 -- RFC 8966, 4.1.3, 4.6.9: an Update announces a route if it has a router-id, which is not reserved
