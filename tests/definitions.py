@@ -1,7 +1,9 @@
-"""docs/PROMISES.md: how long each file of definitions is, that each uses only those above it, and the clauses that are quoted."""
+"""docs/PROMISES.md: how long each file of definitions is, that each uses only those above it, those that the headline
+needs, and the clauses that are quoted."""
 
 import re
 
+import headline
 from checks import TOP
 
 ROW = re.compile(r"\| `(babel_\w+)` (\w+) \| (\d+) \|")
@@ -18,6 +20,11 @@ def check(tally, _long):
     clauses = (TOP / "crates/babel_canon/src/normal_form.rt").read_text()
     for block in QUOTED.findall(promises):
         tally.check("quoted clauses", "" if block in clauses else f"they do not stand in the code:\n{block}")
+    length, rows = headline.reading_list()
+    running = re.sub(r"\s+", " ", promises)
+    tally.check("the headline's length", "" if length in running else f"it is not stated; it is {length}")
+    table = "\n".join(rows)
+    tally.check("the headline's definitions", "" if table in promises else f"the table does not name them:\n{table}")
     for crate, name, said in ROW.findall(promises):
         lines = (TOP / f"crates/{crate}/specs/{name}.antt").read_text().splitlines()
         length = sum(1 for line in lines if line and not line.startswith("use "))
@@ -27,5 +34,4 @@ def check(tally, _long):
         tally.check(f"{crate} {name}", "".join(f"it uses {' '.join(each)}, which is not above it\n" for each in late))
         seen.add((crate, name))
         lengths[crate] = lengths.get(crate, 0) + length
-    whole = sum(lengths.values())
-    print(f"definitions: {whole} lines ({', '.join(f'{crate} {length}' for crate, length in lengths.items())})")
+    print(f"definitions: {sum(lengths.values())} lines ({', '.join(f'{crate} {length}' for crate, length in lengths.items())})")

@@ -25,7 +25,7 @@ use Rattle.babel_table.specs.Rows.{Routes, entries_of}
 use Rattle.babel_table.specs.TableOf.{IsTableOf}
 use Rattle.babel_table.proofs.HoldsLaws.{Holds-stands, stands-Holds}
 use Rattle.babel_canon.specs.DumpAnswers.{held_for, IsAnswer}
-use Rattle.babel_canon.specs.AnswersTell.{TableAnswers}
+use Rattle.babel_canon.specs.AnswersAreTold.{TableAnswers}
 use Rattle.babel_canon.proofs.BestKeys.{MostSpecific, NoneMatches, clean_one, key_one, none_or_most}
 use Rattle.babel_canon.proofs.Boxes.{FromPair, entry_of, pair_of_row, row_of_pair}
 use Rattle.babel_canon.proofs.CleanKeys.{AreClean, held-clean}

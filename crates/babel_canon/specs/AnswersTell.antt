@@ -1,20 +1,13 @@
 -- The headline, by what dumps answer: this project's own. In `normalise`, `Made one octets` holds
 -- of the octets that it answers for the dump `one` (*ok*), and `Refused one fault` of its faults
 -- (*err*).
-use Rattle.std.specs.Prelude.{◌≡◌, ◌↔◌, ℕ, List, Option}
-use Rattle.babel_prefix.specs.Address.{Address, IsAddress}
-use Rattle.babel_prefix.specs.Entries.{answer_for}
+use Rattle.std.specs.Prelude.{◌≡◌, ◌↔◌, ℕ, List}
+use Rattle.babel_prefix.specs.Address.{Address}
 use Rattle.babel_tlv.specs.declared.fault.Fault.{Fault}
 use Rattle.babel_tlv.specs.declared.fault.Fault.TheVariants as faults
-use Rattle.babel_tlv.specs.declared.held.Held.{Held}
 use Rattle.babel_tlv.specs.declared.mode.Mode.{Mode}
-use Rattle.babel_table.specs.Bounds.{Bounds, AreBounds}
-use Rattle.babel_table.specs.Rows.{Routes, entries_of}
-use Rattle.babel_table.specs.TableOf.{IsTableOf}
 use Rattle.babel_canon.specs.Headline.{Sent, sent}
-use Rattle.babel_canon.specs.Normalises.{Normalises, NormaliseFault, as_they_are}
-use Rattle.babel_canon.specs.Sizes.{IsBodySize}
-use Rattle.babel_canon.specs.DumpAnswers.{DumpAnswers, IsSettled, AnswerAlike}
+use Rattle.babel_canon.specs.DumpAnswers.{IsSettled, AnswerAlike}
 
 -- What octets tell that were made of a dump:
 -- * the dump has one answer for each two addresses;
@@ -31,19 +24,3 @@ pub record AnswersTell (Made : Sent → List ℕ → Type 0) (Refused : Sent →
   pub unchanged : (any : Address) (other : List ℕ) → Made (sent any octets) other → other ≡ octets
   pub only_memory : (any : Address) (fault : Fault) → Refused (sent any octets) fault
       → fault ≡ faults.Memory
-
--- the headline over the definitions alone
-abbrev pub AnswersAreTold : Type 0
-AnswersAreTold =
-    (limits : Bounds) (mode : Mode) (body : ℕ) → AreBounds limits → IsBodySize body
-    → (one : Sent) (octets : List ℕ) → Normalises as_they_are limits mode body one octets
-    → AnswersTell (Normalises as_they_are limits mode body)
-    (NormaliseFault as_they_are limits mode) mode one octets
-
--- what a dump answers is what its table answers, if it has one
-abbrev pub TableAnswers : Type 0
-TableAnswers =
-    (limits : Bounds) (mode : Mode) (one : Sent) (table : Routes)
-    → IsTableOf limits mode one.sender one.dump table
-    → (d s : Address) → IsAddress d → IsAddress s → d.family ≡ s.family → (answer : Option Held)
-    → DumpAnswers mode one d s answer ↔ (answer_for (entries_of table.rows) d s ≡ answer)

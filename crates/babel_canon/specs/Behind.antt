@@ -18,8 +18,9 @@ abbrev pub is_update : TlvAt → Bool
 is_update tlv = tlv.kind == 8 && nat_le 10 (length tlv.body)
 
 -- RFC 8966, 4.5, 4.6.9: the prefix that an Update of a family forms: its omitted octets, which are
--- those of the default prefix, then those of the field, then zeros. It forms one if neither length
--- is too great, there is a default prefix if octets are omitted, and the field is whole.
+-- those of the default prefix, then those of the field, then zeros. It forms one if there is a
+-- default prefix, where octets are omitted, and (this project's own) if neither Plen nor Omitted is
+-- more than an address has, and the field is whole. More may be omitted than Plen needs.
 abbrev pub prefix_in : Family → Option Address → List ℕ → Option AddressPrefix
 prefix_in family default body =
     if nat_le (prefix_len body) (width_of family) && nat_le (omitted body) (octet_count family)

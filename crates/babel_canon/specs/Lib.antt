@@ -16,6 +16,7 @@ pub mod Told
 pub mod Dumps
 pub mod DumpAnswers
 pub mod AnswersTell
+pub mod AnswersAreTold
 pub mod Verdict
 pub mod FirstDifference
 pub mod NumberOrder

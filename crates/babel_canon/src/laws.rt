@@ -1,5 +1,5 @@
 //! Laws of the definitions.
-ghost use Rattle.babel_canon.specs.AnswersTell.{AnswersAreTold, TableAnswers};
+ghost use Rattle.babel_canon.specs.AnswersAreTold.{AnswersAreTold, TableAnswers};
 ghost use Rattle.babel_canon.specs.RoundTrip.{TextReadsBack};
 ghost use Rattle.babel_canon.specs.BoxesTell.{BoxesAnswer, BoxesTellApart};
 ghost use Rattle.babel_canon.specs.DifferenceLaws.{DifferencesAreFewest, DifferencesAreOne, FirstHasLeast, NoneWhereSame};

@@ -33,6 +33,9 @@ pub fn normalise(
     ensures ok { IfOk result (λ text.
         Normalises as_they_are limits mode body (sent sender dump.now) text.items) }
     ensures err { IfErr result (NormaliseFault as_they_are limits mode (sent sender dump.now)) }
+    ensures answers_tell { IfOk result (λ text.
+        AnswersTell (Normalises as_they_are limits mode body)
+        (NormaliseFault as_they_are limits mode) mode (sent sender dump.now) text.items) }
     ensures tells_apart { IfOk result (λ text.
         TellsApart AnswerTheSame (Normalises as_they_are limits mode body)
         limits mode (sent sender dump.now) text.items) }
@@ -40,9 +43,6 @@ pub fn normalise(
         → ReadsAgain AnswerTheSame (Normalises as_they_are limits mode body)
         (NormaliseFault as_they_are limits mode)
         limits mode (sent sender dump.now) text.items any) }
-    ensures answers_tell { IfOk result (λ text.
-        AnswersTell (Normalises as_they_are limits mode body)
-        (NormaliseFault as_they_are limits mode) mode (sent sender dump.now) text.items) }
     ensures fewest { IfOk result (λ text.
         SaysFewest as_they_are limits mode body (sent sender dump.now) text.items) }
 {
