@@ -230,7 +230,7 @@ update_by context body true false false apart p q p_of q_of =
 one-not_two : (n : ℕ) → eqb n 1 ≡ true → eqb n 2 ≡ false
 one-not_two n e = grind (arith, nat_tests)
 
-abbrev tlv_at : ℕ → ℕ → List ℕ → TlvAt
+abbrev pub tlv_at : ℕ → ℕ → List ℕ → TlvAt
 tlv_at at kind body = record { at = at; kind = kind; body = body }
 
 update-behind : (context : Context) (at : ℕ) (body : List ℕ)

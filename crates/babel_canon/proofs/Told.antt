@@ -33,6 +33,7 @@ use Rattle.babel_canon.specs.Told.{wildcard_tells, route_tells, update_tells, te
 use Rattle.babel_canon.specs.Dumps.{told}
 use Rattle.babel_canon.proofs.Items.{source-items, sub-update, sub-wildcard}
 use Rattle.babel_canon.proofs.Behind.{IsOfFamily, behind-updated, prefix-formed, prefix_in-family}
+use Rattle.babel_canon.proofs.Behind.{tlv_at}
 
 -- ---- events without reasons
 
@@ -193,9 +194,6 @@ length_by : (short : Bool) (told : Event) (says : Result Event Fault) → told �
     (cond short (Ok (events.Ignored reasons.Short)) says)
 length_by true told says same = refl
 length_by false told says same = same
-
-abbrev tlv_at : ℕ → ℕ → List ℕ → TlvAt
-tlv_at at kind body = record { at = at; kind = kind; body = body }
 
 update-told : (context : Context) (at : ℕ) (body : List ℕ)
     → tells context (tlv_at at 8 body) ≡ quiet_of (update_said context (tlv_at at 8 body))

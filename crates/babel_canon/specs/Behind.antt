@@ -1,7 +1,8 @@
 -- The context behind each TLV of a packet, without reasons: RFC 8966, 4.5, 4.6.7 to 4.6.9. (Forming
 -- and Context have the same with them.)
 use Rattle.std.specs.Prelude.{ℕ, ◌+◌, Bool, true, ◌&&◌, ◌||◌, ◌==◌, nat_le, if◌then◌else◌}
-use Rattle.std.specs.Prelude.{List, ◌++◌, length, take, drop, slice_index, Option, Some, None, is_some}
+use Rattle.std.specs.Prelude.{List, ◌++◌, length, take, drop, slice_index, Option, Some, None}
+use Rattle.std.specs.Prelude.{is_some}
 use Rattle.babel_prefix.specs.declared.family.Family.{Family}
 use Rattle.babel_prefix.specs.declared.family.Family.TheVariants.{V4, V6}
 use Rattle.babel_prefix.specs.Width.{width_of, octet_count}
