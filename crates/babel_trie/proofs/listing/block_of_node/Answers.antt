@@ -1,5 +1,5 @@
 -- A path is shorter than the bits that are left.
-use Rattle.std.proofs.Common.{◌≡◌, ◌+◌, ◌-◌, ◌*◌, ◌<◌, ◌%◌, ◌^◌, sym, ap, subst, arith}
+use Rattle.std.proofs.Common.{◌-◌, ◌%◌, ap, arith}
 use Rattle.std.proofs.Math.Pow.{pow_mono}
 use Rattle.std.proofs.lemmas.Nat.{pow_pos}
 use Rattle.babel_prefix.specs.Width.{width_of}

@@ -1,5 +1,5 @@
 -- Rows of the lower half come first, and then those of the upper.
-use Rattle.std.proofs.Common.{get_or, ◌≡◌, ℕ, ◌≤◌, ◌<◌, ◌+◌, ◌-◌, ◌*◌, List, [], ◌++◌, Option, map, refl, sym, ◌∙◌, ap, subst, arith, rules}
+use Rattle.std.proofs.Common.{get_or, ◌≡◌, ℕ, ◌≤◌, ◌<◌, ◌+◌, ◌-◌, ◌*◌, List, [], ◌++◌, Option, map, sym, ap, subst, arith, rules}
 use Rattle.std.proofs.lemmas.Result.{err_from_is_err_and, on_err_weaker, on_ok_weaker}
 use Rattle.babel_prefix.specs.Address.{block_of}
 use Rattle.babel_prefix.specs.Best.{Row}
@@ -12,7 +12,7 @@ use Rattle.babel_trie.specs.declared.table.Loose.TheVariants.{Split}
 use Rattle.babel_trie.specs.declared.table.Node.{Node}
 use Rattle.babel_trie.specs.declared.table.Sources.{Sources}
 use Rattle.babel_trie.proofs.FormLaws.{some_bits}
-use Rattle.babel_trie.proofs.HalfLaws.{halved, half_tries, fork_halves, width_most}
+use Rattle.babel_trie.proofs.HalfLaws.{halved, half_tries, fork_halves}
 use Rattle.babel_trie.proofs.ListLaws.{rows_of_halves}
 use Rattle.babel_trie.proofs.NumberLaws.{one_shape, stored_node}
 use Rattle.babel_trie.proofs.PushLaws as push
