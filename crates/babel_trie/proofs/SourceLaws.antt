@@ -19,8 +19,8 @@ use Rattle.babel_trie.specs.declared.table.Loose.TheVariants.{Same}
 use Rattle.babel_trie.proofs.BitLaws.{pow_twice}
 use Rattle.babel_trie.proofs.Reduced.{value_at-low, value_at-high}
 use Rattle.babel_prefix.proofs.Members.{Listed-append_left, Listed-append_right}
-use Rattle.babel_trie.proofs.OverlayLaws.{overlays_none, overlays_top}
-use Rattle.babel_trie.proofs.PlaceLaws.{whole_covers}
+use Rattle.babel_trie.proofs.OverlayLaws.{overlays_none, overlays_top, overlays_then}
+use Rattle.babel_trie.proofs.PlaceLaws.{whole_covers, block_rest}
 use Rattle.babel_trie.proofs.PartLaws.{from_map, to_map, high_is_apart, low_is_apart, own_covers, mapped_parts, overlays_low, overlays_high}
 
 module _ {V : Type 0} where
@@ -87,6 +87,59 @@ module _ {V : Type 0} where
       ] in
       overlaid_set w bits start rows rows nodes (Same (Some value)) old place rows_in one refl lens set
 
+  -- parts of rows of one destination
+  pub one_left : (xs ys : List (Entry V)) → HasOneDestination (xs ++ ys) → HasOneDestination xs
+  one_left xs ys one x y t u = one x y (Listed-append_left xs ys x t) (Listed-append_left xs ys y u)
+
+  pub one_right : (xs ys : List (Entry V)) → HasOneDestination (xs ++ ys) → HasOneDestination ys
+  one_right xs ys one x y t u = one x y (Listed-append_right xs ys x t) (Listed-append_right xs ys y u)
+
+  -- a row of the whole block is no longer than one of a half
+  own_no_longer : (w bits start : ℕ) (rows own low high : List (Entry V)) → AreParted source_block w bits start rows own low high → HasOneDestination rows →
+      (x y : Row V) → Listed (map row_of own) x → Listed (map row_of (low ++ high)) y → IsNoLonger x y
+  own_no_longer w bits start rows own low high p one x y t u =
+      let fx = from_map row_of own x t in
+      let fy = from_map row_of (low ++ high) y u in
+      let same : (block_of fx.0.0) ≡ (block_of fy.0.0) = one fx.0 fy.0 (subst (λ r. Listed r fx.0) (sym p.whole) (Listed-append_left own (low ++ high) fx.0 fx.1)) (subst (λ r. Listed r fy.0) (sym p.whole) (Listed-append_right own (low ++ high) fy.0 fy.1)) in
+      let x_len : (block_of fx.0.1).len ≡ w - bits = p.own_len fx.0 fx.1 in
+      let y_len : w - bits < (block_of fy.0.1).len = p.longer fy.0 fy.1 in
+      let here : IsNoLonger (row_of fx.0) (row_of fy.0) = inr (same, omega arith) in
+      subst (λ r. IsNoLonger r y) fx.2 (subst (IsNoLonger (row_of fx.0)) fy.2 here)
+
+  -- the rows of the halves alone
+  pub rest_parted : (w bits start : ℕ) (rows own low high : List (Entry V)) → AreParted source_block w bits start rows own low high → AreParted source_block w bits start (low ++ high) [] low high
+  rest_parted w bits start rows own low high p = record {
+    some = p.some;
+    place = p.place;
+    rows_in = block_rest source_block w bits start rows own (low ++ high) p.rows_in p.whole;
+    whole = refl;
+    own_len = λ x none. absurd none;
+    longer = p.longer;
+    low_in = p.low_in;
+    high_in = p.high_in;
+  }
+
+  -- the rows of the halves are laid over what those of the whole block set
+  pub laid_over_set : (w bits start : ℕ) (rows own low high : List (Entry V)) → AreParted source_block w bits start rows own low high → HasOneDestination rows →
+      (nodes1 nodes2 : List (Node (Option V))) (n1 n : Loose (Option V)) (old : Shape (Option V)) → (set : IsSet own nodes1 n1 old) →
+      IsLaid w bits start (map row_of (low ++ high)) nodes2 n set.new → IsLaid w bits start (map row_of rows) nodes2 n old
+  laid_over_set w bits start rows own low high p one nodes1 nodes2 n1 n old set laid =
+      let whole : map row_of rows ≡ map row_of own ++ map row_of (low ++ high) = ap (map row_of) p.whole ∙ map-append row_of own (low ++ high) in
+      let own_one : HasOneDestination own = one_left own (low ++ high) (subst HasOneDestination p.whole one) in
+      record {
+        new = laid.new;
+        stands = laid.stands;
+        fits = λ f. laid.fits (set_fits own old set.new bits set.is f);
+        reduced = λ r. laid.reduced (set_reduced own old set.new set.is r);
+        values = λ d a dst a_in.
+            let dst_own : (row : Row V) → Listed (map row_of own) row → BlockCovers w row.dst d = λ row t. dst row (subst (λ r. Listed r row) (sym whole) (Listed-append_left (map row_of own) (map row_of (low ++ high)) row t)) in
+            let dst_rest : (row : Row V) → Listed (map row_of (low ++ high)) row → BlockCovers w row.dst d = λ row t. dst row (subst (λ r. Listed r row) (sym whole) (Listed-append_right (map row_of own) (map row_of (low ++ high)) row t)) in
+            let first = set_overlays w bits start own old set.new set.is own_one p.own_len (own_covers source_block w bits start rows own low high p) d a dst_own a_in in
+            subst (λ r. Overlays w r d (start + a) (value_at old bits a) (value_at laid.new bits a)) (sym whole)
+            (overlays_then w (map row_of own) (map row_of (low ++ high)) d (start + a) (value_at old bits a) (value_at set.new bits a) (value_at laid.new bits a)
+            (λ x y t u _ _. own_no_longer w bits start rows own low high p one x y t u) first (laid.values d a dst_rest a_in));
+      }
+
   -- the halves, with their rows laid over them, are joined
   pub overlaid_joined : (w bits start : ℕ) (rows own low high : List (Entry V)) → AreParted source_block w bits start rows own low high → HasOneDestination rows →
       (nodes1 nodes2 nodes3 nodes4 : List (Node (Option V))) (n1 l1 h1 l h n : Loose (Option V)) (old : Shape (Option V)) →
@@ -104,16 +157,9 @@ module _ {V : Type 0} where
       let twice = pow_twice bits some in
       let whole = mapped_parts rows own low high p.whole in
       let m : ℕ = 2 ^ (bits - 1) in
-      let own_one : HasOneDestination own = λ x y t u.
-      one x y (subst (λ r. Listed r x) (sym p.whole) (Listed-append_left own (low ++ high) x t)) (subst (λ r. Listed r y) (sym p.whole) (Listed-append_left own (low ++ high) y u)) in
+      let own_one : HasOneDestination own = one_left own (low ++ high) (subst HasOneDestination p.whole one) in
       let no_longer : (x y : Row V) → Listed (map row_of own) x → Listed (map row_of low ++ map row_of high) y → IsNoLonger x y = λ x y t u.
-      let fx = from_map row_of own x t in
-      let fy = from_map row_of (low ++ high) y (subst (λ r. Listed r y) (sym (map-append row_of low high)) u) in
-      let same : (block_of fx.0.0) ≡ (block_of fy.0.0) = one fx.0 fy.0 (subst (λ r. Listed r fx.0) (sym p.whole) (Listed-append_left own (low ++ high) fx.0 fx.1)) (subst (λ r. Listed r fy.0) (sym p.whole) (Listed-append_right own (low ++ high) fy.0 fy.1)) in
-      let x_len : (block_of fx.0.1).len ≡ w - bits = p.own_len fx.0 fx.1 in
-      let y_len : w - bits < (block_of fy.0.1).len = p.longer fy.0 fy.1 in
-      let here : IsNoLonger (row_of fx.0) (row_of fy.0) = inr (same, omega arith) in
-      subst (λ r. IsNoLonger r y) fx.2 (subst (IsNoLonger (row_of fx.0)) fy.2 here) in
+      own_no_longer w bits start rows own low high p one x y t (subst (λ r. Listed r y) (sym (map-append row_of low high)) u) in
       record {
         new = joined.whole;
         stands = joined.stands;
@@ -165,10 +211,3 @@ module _ {V : Type 0} where
         record { trie = halved.low_half; stands = halved.low_stands; fits = omega (arith, halved.low_lower); reduced = both.0 },
         record { trie = halved.high_half; stands = halved.high_stands; fits = omega (arith, halved.high_lower); reduced = both.1 },
       )
-
-  -- parts of rows of one destination
-  pub one_left : (xs ys : List (Entry V)) → HasOneDestination (xs ++ ys) → HasOneDestination xs
-  one_left xs ys one x y t u = one x y (Listed-append_left xs ys x t) (Listed-append_left xs ys y u)
-
-  pub one_right : (xs ys : List (Entry V)) → HasOneDestination (xs ++ ys) → HasOneDestination ys
-  one_right xs ys one x y t u = one x y (Listed-append_right xs ys x t) (Listed-append_right xs ys y u)
