@@ -26,6 +26,6 @@ pub record IsDump (octets : List ℕ) (packets : List (List TlvAt)) : Type 0 whe
   pub whole : octets ≡ flat_map packet_octets packets
   pub each : AllByRecursion IsPacket packets
 
--- what the packets of a sender tell, in order; the context begins anew with each packet
+-- what the packets of a sender tell, in order; the parser state begins anew with each packet
 abbrev pub told : Address → List (List TlvAt) → List Event
 told sender packets = flat_map (told_by (start sender)) packets
