@@ -277,7 +277,8 @@ module _ (state : ParserState) (context : Context) (like : IsLike state context)
       None context)
   update_by body false four six apart p q p_of q_of =
       nothing-like (sets_default body) (sets_router_id body)
-  update_by body true true true apart p q p_of q_of = absurd (let e : true ≡ false = apart refl in cc)
+  update_by body true true true apart p q p_of q_of =
+      absurd (let e : true ≡ false = apart refl in cc)
   update_by body true true false apart None q p_of q_of =
       nothing-like (sets_default body) (sets_router_id body)
   update_by body true true false apart (Some p) q p_of q_of =

@@ -32,8 +32,8 @@ use Rattle.babel_canon.specs.Behind.{ParserState, start, behind, prefix_in}
 use Rattle.babel_canon.specs.Told.{wildcard_tells, route_tells, update_tells, tells, told_by}
 use Rattle.babel_canon.specs.Dumps.{told}
 use Rattle.babel_canon.proofs.Items.{source-items, sub-update, sub-wildcard}
-use Rattle.babel_canon.proofs.Behind.{IsLike, IsOfFamily, behind-like, formed-same, prefix_in-family}
-use Rattle.babel_canon.proofs.Behind.{start-like, tlv_at}
+use Rattle.babel_canon.proofs.Behind.{IsLike, IsOfFamily, behind-like, formed-same}
+use Rattle.babel_canon.proofs.Behind.{prefix_in-family, start-like, tlv_at}
 
 -- ---- events without reasons
 
