@@ -12,14 +12,14 @@ use Rattle.babel_tlv.specs.Forming.{prefix_from, update_encoding, sets_default, 
 use Rattle.babel_tlv.specs.Forming.{prefix_len, omitted, field_len, default_octets, id_of}
 use Rattle.babel_tlv.specs.Forming.{hop_len, hop_address, router_id_in}
 
--- RFC 8966, 4.5: the parser state: of each family the address of the default prefix, and the next
--- hop; and the router-id
+-- RFC 8966, 4.5: the parser state: of each family the address of the default prefix (encodings 1
+-- and 2, one for each family, are all that have one), and the next hop; and the router-id
 pub record ParserState : Type 0 where
   pub default : Family → Option Address
   pub next_hop : Family → Option Address
   pub router_id : Option (List ℕ)
 
--- this address for its family, and what there is for the other
+-- what `old` has, but for the family of this address: the address
 abbrev pub set_in : Address → (Family → Option Address) → Family → Option Address
 set_in a old family = if same_family a.family family then Some a else old family
 
@@ -39,7 +39,8 @@ is_update tlv = tlv.kind == 8 && nat_le 10 (length tlv.body)
 -- RFC 8966, 4.5, 4.6.9: the prefix that an Update of a family forms: its omitted octets, which are
 -- those of the default prefix, then those of the field, then zeros. It forms one if there is a
 -- default prefix, where octets are omitted, and (this project's own) if neither Plen nor Omitted is
--- more than an address has, and the field is whole. More may be omitted than Plen needs.
+-- more than an address has, and the field is whole. More may be omitted than Plen needs; the bits
+-- past Plen are zeros then, too (this project's own).
 abbrev pub prefix_in : Family → Option Address → List ℕ → Option AddressPrefix
 prefix_in family default body =
     if nat_le (prefix_len body) (width_of family) && nat_le (omitted body) (octet_count family)
@@ -54,7 +55,8 @@ formed_in state body =
     if update_encoding body == 1 then prefix_in V4 (state.default V4) body
     else if update_encoding body == 2 then prefix_in V6 (state.default V6) body else None
 
--- RFC 8966, 4.6.8: the address in a Next Hop, if it is of encoding 1, 2 or 3 and whole
+-- RFC 8966, 4.6.8: the address in a Next Hop, behind its encoding and a reserved octet, if it is of
+-- encoding 1, 2 or 3 and whole
 abbrev pub hop_in : List ℕ → Option Address
 hop_in body =
     let ae = slice_index body 0 in
@@ -67,7 +69,8 @@ behind_next_hop state None = state
 behind_next_hop state (Some hop) = record state { next_hop = set_in hop state.next_hop }
 
 -- RFC 8966, 4.6.9: an Update that forms a prefix sets by its flags the default prefix of the family
--- and the router-id
+-- and the router-id. One that forms none sets nothing, whatever its flags (this project's own): its
+-- sender did not keep to 4.6.9, and what was set before it stays.
 abbrev pub behind_update : ParserState → List ℕ → Option AddressPrefix → ParserState
 behind_update state body None = state
 behind_update state body (Some prefix) = record {
@@ -77,8 +80,8 @@ behind_update state body (Some prefix) = record {
 }
 
 -- RFC 8966, 4.5: the parser state behind a TLV: a Router-Id (type 6) sets the router-id, a Next Hop
--- (type 7) a next hop, and an Update as above. So does one that is ignored, if what it sets can be
--- read (4.4; this project's own where that is for no mandatory sub-TLV).
+-- (type 7) a next hop, and an Update as above. So does one that is ignored (4.5). What cannot be
+-- read, as in a Router-Id that is too short, sets nothing (this project's own).
 abbrev pub behind : ParserState → TlvAt → ParserState
 behind state tlv =
     let body = tlv.body in
