@@ -1,9 +1,9 @@
 -- The rows of the whole block set a constant, and the others are laid over its halves.
-use Rattle.std.proofs.Common.{◌≡◌, inl, ℕ, ◌-◌, ◌+◌, ◌*◌, ◌^◌, ◌<◌, ◌≤◌, [], ◌++◌, Some, map, refl, subst, arith, rules}
+use Rattle.std.proofs.Common.{◌≡◌, ℕ, ◌-◌, ◌+◌, ◌*◌, ◌^◌, ◌<◌, ◌≤◌, [], ◌++◌, Some, map, subst, arith, rules}
 use Rattle.babel_trie.specs.declared.table.Loose.TheVariants.{Same}
 use Rattle.babel_trie.specs.Inner.{IsInner}
 use Rattle.babel_trie.specs.Interned.{IsTrie, IsNormalLoose}
-use Rattle.babel_trie.specs.Laid.{HasOneDestination, IsSet, IsLaid}
+use Rattle.babel_trie.specs.Laid.{HasOneDestination, IsLaid}
 use Rattle.babel_prefix.specs.Entries.{row_of}
 use Rattle.babel_trie.specs.Shape.{height, IsReduced}
 use Rattle.babel_trie.specs.Rows.{source_block, AreParted, InBlock, IsPlace}
@@ -271,11 +271,10 @@ lay_halves-returns-clause-laid g t c u p =
     let nodes2 = c.lay_half.new.self.nodes.items in
     let nodes3 = c.lay_half-2.new.self.nodes.items in
     let fits : height u ≤ a.bits = subst (λ x. height x ≤ a.bits) (one_shape nodes1 a.trie.now c.requires.trie.trie u c.requires.trie.stands p) c.requires.trie.fits in
-    let set : IsSet [] nodes1 a.trie.now u = record { new = u; stands = p; is = inl (refl, refl) } in
     let halved = halved nodes1 a.trie.now low_half high_half c.halves-low.ensures.one c.halves-low.ensures.node u p in
     let in_low = c.in_ok-lay_half.ensures.laid halved.low_half halved.low_stands in
     let there = c.in_ok-lay_half-2.ensures.laid halved.high_half (Stands-grows nodes1 nodes2 c.in_ok-lay_half.ensures.keeps high_half halved.high_half halved.high_stands) in
     let in_high = subst (λ m. IsLaid a.width (a.bits - 1) m (map row_of high) nodes3 c.lay_half-2.new.trie halved.high_half) c.requires.middle there in
     let joined = c.in_ok-trie.ensures.joins in_low.new in_high.new (Stands-grows nodes2 nodes3 c.in_ok-lay_half-2.ensures.keeps c.lay_half.new.trie in_low.new in_low.stands) in_high.stands in
-    overlaid_joined a.width a.bits a.start (low ++ high) [] low high c.requires.rows c.requires.one nodes1 nodes2 nodes3 c.joined.new.self.nodes.items a.trie.now low_half high_half c.lay_half.new.trie c.lay_half-2.new.trie c.in_ok-trie.field-0 u
-    set halved in_low in_high joined fits
+    overlaid_joined a.width a.bits a.start low high c.requires.rows nodes1 nodes2 nodes3 c.joined.new.self.nodes.items low_half high_half c.lay_half.new.trie c.lay_half-2.new.trie c.in_ok-trie.field-0 u
+    halved in_low in_high joined fits
