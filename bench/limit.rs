@@ -1720,6 +1720,22 @@ impl<'a, A: Address> Sweep<'a, A> {
         }
     }
 
+    /// The pass behind so many rows, of which only the ones matter whose destinations reach this address. What is said of
+    /// lower addresses is of no consequence.
+    fn behind(table: &'a Rows<A>, front: usize, at: A, forks: &mut Forks<A>) -> Sweep<'a, A> {
+        let mut sweep = Sweep::new(table);
+        let (passed, rest) = table.rows.split_at(front);
+        for own in passed.chunk_by(|row, next| row.key.dst() == next.key.dst()) {
+            let block = Block::of(own[0].key.dst());
+            if block.start.last(block.bits) >= at {
+                let function = sweep.open_rows(own, forks);
+                sweep.next = Some((A::ZERO, function));
+            }
+        }
+        sweep.rows = rest;
+        sweep
+    }
+
     /// The next run. The one before it is not needed any more.
     fn run(&mut self, forks: &mut Forks<A>) -> Option<Run<A>> {
         let (first, mut function) = self.next.take()?;
@@ -1795,7 +1811,13 @@ impl<'a, A: Address> Sweep<'a, A> {
             .count();
         let (own, rest) = self.rows.split_at(1 + many);
         self.rows = rest;
-        let function = if many == 0 && own[0].key.source() == 0 {
+        self.open_rows(own, forks)
+    }
+
+    /// Opens the destination prefix of these rows, which are all that it has.
+    fn open_rows(&mut self, own: &[Row<A>], forks: &mut Forks<A>) -> Function {
+        let dst = own[0].key.dst();
+        let function = if own.len() == 1 && own[0].key.source() == 0 {
             Function(own[0].value())
         } else {
             let around = self.open.last().map_or(Function::NOTHING, |o| o.function);
@@ -1919,10 +1941,35 @@ struct Difference<A> {
     right: u64,
 }
 
+/// How many rows both tables begin with, up to a destination that has not the same rows in both.
+fn common_front<A: Address>(left: &Rows<A>, right: &Rows<A>) -> usize {
+    let are_one = |(row, other): &(&Row<A>, &Row<A>)| {
+        row.key.dst() == other.key.dst()
+            && row.value() == other.value()
+            && left.source(row) == right.source(other)
+    };
+    let mut front = left.rows.iter().zip(&right.rows).take_while(are_one).count();
+    let dst = |rows: &[Row<A>], place: usize| rows.get(place).map(|row| row.key.dst());
+    while front > 0 {
+        let last = dst(&left.rows, front - 1);
+        if dst(&left.rows, front) != last && dst(&right.rows, front) != last {
+            break;
+        }
+        front -= 1;
+    }
+    front
+}
+
 /// The least pair of addresses that the tables of a family answer differently.
 fn first_difference<A: Address>(left: &Rows<A>, right: &Rows<A>) -> Option<Difference<A>> {
+    let front = common_front(left, right);
+    let starts = [left.rows.get(front), right.rows.get(front)];
+    let at = starts.into_iter().flatten().map(|row| row.key.bits).min()?;
     let mut forks = Forks::new();
-    let mut sweeps = (Sweep::new(left), Sweep::new(right));
+    let mut sweeps = (
+        Sweep::behind(left, front, at, &mut forks),
+        Sweep::behind(right, front, at, &mut forks),
+    );
     let mut left = sweeps.0.run(&mut forks)?;
     let mut right = sweeps.1.run(&mut forks)?;
     loop {

@@ -2,6 +2,7 @@
 """The definitions of the headline, in reading order. Run by itself, this prints them on one page."""
 
 import re
+from itertools import takewhile
 
 from checks import TOP
 
@@ -62,7 +63,26 @@ def reading_list():
     return length, rows
 
 
+def variants():
+    """The paragraph of docs/PROMISES.md on the variants that these name."""
+    return re.search(r"`TlvAt` has an offset.*?\n\n", (TOP / "docs/PROMISES.md").read_text(), re.DOTALL)[0]
+
+
+def head(file):
+    """What a file is for: its first comment."""
+    crate, name = file
+    lines = (TOP / f"crates/{crate}/specs/{name}.antt").read_text().splitlines()
+    return "\n".join(takewhile(lambda line: line.startswith("--"), lines))
+
+
+def page():
+    """The definitions, behind the variants that they name; each file's behind what it is for."""
+    yield "\n".join(f"-- {line}" for line in variants().splitlines() if line)
+    for file, definitions in path().items():
+        yield f"-- ==== {' '.join(file)}"
+        yield head(file)
+        yield from definitions.values()
+
+
 if __name__ == "__main__":
-    for (crate, name), definitions in path().items():
-        print(f"-- ==== {crate} {name}\n")
-        print("\n\n".join(definitions.values()), end="\n\n")
+    print("\n\n".join(page()))

@@ -1,6 +1,6 @@
--- The context behind a TLV is the one that the parser state is kept as.
+-- The parser state behind a TLV is the context that it makes of the one before it.
 use Rattle.std.proofs.Common.{◌≡◌, ℕ, ◌+◌, Bool, true, false, cond, not, ◌&&◌, ◌||◌}
-use Rattle.std.proofs.Common.{leb, ltb, eqb, List, ◌++◌, length, drop, take, Option, Some, None}
+use Rattle.std.proofs.Common.{leb, ltb, eqb, List, [], ◌++◌, length, drop, take, Option, Some, None}
 use Rattle.std.proofs.Common.{Ok, Err, refl, sym, ap, subst, ◌∙◌, arith, eqb-true}
 use Rattle.std.specs.Prelude.{is_none, is_some, slice_index}
 use Rattle.std.specs.Option.{option_and_then, option_map, option_or}
@@ -16,10 +16,10 @@ use Rattle.babel_tlv.specs.Framing.{TlvAt}
 use Rattle.babel_tlv.specs.Forming.{default_octets, field_len, formed, hop_address, hop_len, id_of}
 use Rattle.babel_tlv.specs.Forming.{next_hop_in, omitted, prefix_from, prefix_len, router_id_in}
 use Rattle.babel_tlv.specs.Forming.{sets_default, sets_router_id, update_encoding}
-use Rattle.babel_tlv.specs.Context.{Context, of_family}
-use Rattle.babel_tlv.specs.Updating.{updated, with_default, with_next_hop, with_router_id}
-use Rattle.babel_canon.specs.Behind.{behind, behind_next_hop, behind_update, hop_in}
-use Rattle.babel_canon.specs.Behind.{prefix_in}
+use Rattle.babel_tlv.specs.Context.{Context, context_after, next_hop_in_context, of_family}
+use Rattle.babel_tlv.specs.Updating.{default_in, updated}
+use Rattle.babel_canon.specs.Behind.{ParserState, behind, behind_next_hop, behind_update, hop_in}
+use Rattle.babel_canon.specs.Behind.{prefix_in, set_in, start}
 
 -- ---- what is formed
 
@@ -132,7 +132,13 @@ hop-formed body =
     reasons.ShortPrefix hop
     (short-cut (length body) (hop_len ae))
 
--- ---- what a TLV gives
+-- ---- contexts
+
+-- a parser state has what a context has
+pub record IsLike (state : ParserState) (context : Context) : Type 0 where
+  pub default : (family : Family) → state.default family ≡ default_in family context
+  pub next_hop : (family : Family) → state.next_hop family ≡ next_hop_in_context family context
+  pub router_id : state.router_id ≡ context.router_id
 
 abbrev address_in : Option AddressPrefix → Option Address
 address_in prefix = option_map (λ p. p.address) prefix
@@ -152,80 +158,139 @@ given four six default id hop context = record {
   next_hop_v6 = option_or (option_and_then (of_family V6) hop) context.next_hop_v6;
 }
 
-given-nothing : (default id : Bool) (context : Context)
-    → given None None default (cond id None None) None context ≡ context
-given-nothing true true context = refl
-given-nothing true false context = refl
-given-nothing false true context = refl
-given-nothing false false context = refl
+-- the context with what an Update gives that forms this prefix of the family
+abbrev given_of : Family → AddressPrefix → Bool → Bool → Context → Context
+given_of V4 prefix default id context =
+    given (Some prefix) None default (cond id (Some (id_of prefix.address)) None) None context
+given_of V6 prefix default id context =
+    given None (Some prefix) default (cond id (Some (id_of prefix.address)) None) None context
 
-given-id : (default : Bool) (id : List ℕ) (context : Context)
-    → given None None default (Some id) None context ≡ with_router_id true id context
-given-id true id context = refl
-given-id false id context = refl
-
-given-hop : (default id : Bool) (hop : Option Address) (context : Context)
-    → given None None default (cond id None None) hop context ≡ behind_next_hop context hop
-given-hop default id None context = given-nothing default id context
-given-hop default id (Some hop) context = by default id hop.family hop.bits
-  where
-    by : (d i : Bool) (family : Family) (bits : ℕ) → given None None d (cond i None None)
-        (Some (record { family = family; bits = bits })) context
-        ≡ with_next_hop family (record { family = family; bits = bits }) context
-    by true true V4 bits = refl
-    by true false V4 bits = refl
-    by false true V4 bits = refl
-    by false false V4 bits = refl
-    by true true V6 bits = refl
-    by true false V6 bits = refl
-    by false true V6 bits = refl
-    by false false V6 bits = refl
-
-given-four : (default id : Bool) (prefix : AddressPrefix) (context : Context)
-    → with_router_id id (id_of prefix.address) (with_default default V4 prefix.address context)
-    ≡ given (Some prefix) None default (cond id (Some (id_of prefix.address)) None) None context
-given-four true true prefix context = refl
-given-four true false prefix context = refl
-given-four false true prefix context = refl
-given-four false false prefix context = refl
-
-given-six : (default id : Bool) (prefix : AddressPrefix) (context : Context)
-    → with_router_id id (id_of prefix.address) (with_default default V6 prefix.address context)
-    ≡ given None (Some prefix) default (cond id (Some (id_of prefix.address)) None) None context
-given-six true true prefix context = refl
-given-six true false prefix context = refl
-given-six false true prefix context = refl
-given-six false false prefix context = refl
-
--- ---- the context behind a TLV
+abbrev address_at : Family → ℕ → Address
+address_at family bits = record { family = family; bits = bits }
 
 abbrev where_read : Bool → Option AddressPrefix → Option AddressPrefix
 where_read read prefix = cond read prefix None
 
-update_by : (context : Context) (body : List ℕ) (whole four six : Bool)
-    → (four ≡ true → six ≡ false) → (p q : Option AddressPrefix) → IsOfFamily V4 p → IsOfFamily V6 q
-    → cond whole (behind_update context body (cond four p (cond six q None))) context
-    ≡ given (where_read (whole && four) p) (where_read (whole && six) q) (sets_default body)
-    (cond (sets_router_id body) (id_in (option_or (where_read (whole && four) p)
-    (where_read (whole && six) q))) None) None context
-update_by context body false four six apart p q p_of q_of =
-    sym (given-nothing (sets_default body) (sets_router_id body) context)
-update_by context body true true true apart p q p_of q_of =
-    absurd (let e : true ≡ false = apart refl in cc)
-update_by context body true true false apart None q p_of q_of =
-    sym (given-nothing (sets_default body) (sets_router_id body) context)
-update_by context body true true false apart (Some p) q p_of q_of =
-    ap (λ (f : Family). with_router_id (sets_router_id body) (id_of p.address)
-    (with_default (sets_default body) f p.address context)) p_of
-    ∙ given-four (sets_default body) (sets_router_id body) p context
-update_by context body true false true apart p None p_of q_of =
-    sym (given-nothing (sets_default body) (sets_router_id body) context)
-update_by context body true false true apart p (Some q) p_of q_of =
-    ap (λ (f : Family). with_router_id (sets_router_id body) (id_of q.address)
-    (with_default (sets_default body) f q.address context)) q_of
-    ∙ given-six (sets_default body) (sets_router_id body) q context
-update_by context body true false false apart p q p_of q_of =
-    sym (given-nothing (sets_default body) (sets_router_id body) context)
+module _ (state : ParserState) (context : Context) (like : IsLike state context) where
+  default-same : (default : Bool) (id : Option (List ℕ)) (hop : Option Address) (family : Family)
+      → state.default family ≡ default_in family (given None None default id hop context)
+  default-same true id hop V4 = like.default V4
+  default-same true id hop V6 = like.default V6
+  default-same false id hop V4 = like.default V4
+  default-same false id hop V6 = like.default V6
+
+  id-same : (id : Bool) → state.router_id ≡ option_or (cond id None None) context.router_id
+  id-same true = like.router_id
+  id-same false = like.router_id
+
+  hop-same : (four six : Option AddressPrefix) (default : Bool) (id : Option (List ℕ))
+      (family : Family)
+      → state.next_hop family ≡ next_hop_in_context family (given four six default id None context)
+  hop-same four six default id V4 = like.next_hop V4
+  hop-same four six default id V6 = like.next_hop V6
+
+  nothing-like : (default id : Bool)
+      → IsLike state (given None None default (cond id None None) None context)
+  nothing-like default id = record {
+    default = default-same default (cond id None None) None;
+    next_hop = hop-same None None default (cond id None None);
+    router_id = id-same id;
+  }
+
+  id-like : (default : Bool) (id : List ℕ)
+      → IsLike (record state { router_id = Some id })
+      (given None None default (Some id) None context)
+  id-like default id = record {
+    default = default-same default (Some id) None;
+    next_hop = hop-same None None default (Some id);
+    router_id = refl;
+  }
+
+  set-hop : (default id : Bool) (family : Family) (bits : ℕ) (other : Family)
+      → set_in (address_at family bits) state.next_hop other ≡ next_hop_in_context other
+      (given None None default (cond id None None) (Some (address_at family bits)) context)
+  set-hop default id V4 bits V4 = refl
+  set-hop default id V4 bits V6 = like.next_hop V6
+  set-hop default id V6 bits V4 = like.next_hop V4
+  set-hop default id V6 bits V6 = refl
+
+  hop-like : (default id : Bool) (hop : Option Address)
+      → IsLike (behind_next_hop state hop)
+      (given None None default (cond id None None) hop context)
+  hop-like default id None = nothing-like default id
+  hop-like default id (Some hop) = record {
+    default = default-same default (cond id None None) (Some hop);
+    next_hop = set-hop default id hop.family hop.bits;
+    router_id = id-same id;
+  }
+
+  -- ---- Updates
+
+  set-default : (default id : Bool) (family : Family) (bits len : ℕ) (other : Family)
+      → (cond default (set_in (address_at family bits) state.default) state.default) other
+      ≡ default_in other
+      (given_of family (record { address = address_at family bits; len = len }) default id context)
+  set-default true id V4 bits len V4 = refl
+  set-default true id V4 bits len V6 = like.default V6
+  set-default true id V6 bits len V4 = like.default V4
+  set-default true id V6 bits len V6 = refl
+  set-default false id V4 bits len V4 = like.default V4
+  set-default false id V4 bits len V6 = like.default V6
+  set-default false id V6 bits len V4 = like.default V4
+  set-default false id V6 bits len V6 = like.default V6
+
+  kept-hop : (default id : Bool) (prefix : AddressPrefix) (family other : Family)
+      → state.next_hop other
+      ≡ next_hop_in_context other (given_of family prefix default id context)
+  kept-hop default id prefix V4 V4 = like.next_hop V4
+  kept-hop default id prefix V4 V6 = like.next_hop V6
+  kept-hop default id prefix V6 V4 = like.next_hop V4
+  kept-hop default id prefix V6 V6 = like.next_hop V6
+
+  set-id : (default id : Bool) (prefix : AddressPrefix) (family : Family)
+      → cond id (Some (id_of prefix.address)) state.router_id
+      ≡ (given_of family prefix default id context).router_id
+  set-id default true prefix V4 = refl
+  set-id default true prefix V6 = refl
+  set-id default false prefix V4 = like.router_id
+  set-id default false prefix V6 = like.router_id
+
+  formed-like : (body : List ℕ) (prefix : AddressPrefix)
+      → IsLike (behind_update state body (Some prefix))
+      (given_of prefix.address.family prefix (sets_default body) (sets_router_id body) context)
+  formed-like body prefix =
+      let default = sets_default body in
+      let id = sets_router_id body in
+      let family = prefix.address.family in
+      record {
+        default = set-default default id family prefix.address.bits prefix.len;
+        next_hop = kept-hop default id prefix family;
+        router_id = set-id default id prefix family;
+      }
+
+  update_by : (body : List ℕ) (whole four six : Bool) → (four ≡ true → six ≡ false)
+      → (p q : Option AddressPrefix) → IsOfFamily V4 p → IsOfFamily V6 q
+      → IsLike (cond whole (behind_update state body (cond four p (cond six q None))) state)
+      (given (where_read (whole && four) p) (where_read (whole && six) q) (sets_default body)
+      (cond (sets_router_id body)
+      (id_in (option_or (where_read (whole && four) p) (where_read (whole && six) q))) None)
+      None context)
+  update_by body false four six apart p q p_of q_of =
+      nothing-like (sets_default body) (sets_router_id body)
+  update_by body true true true apart p q p_of q_of =
+      absurd (let e : true ≡ false = apart refl in cc)
+  update_by body true true false apart None q p_of q_of =
+      nothing-like (sets_default body) (sets_router_id body)
+  update_by body true true false apart (Some p) q p_of q_of =
+      subst (λ (f : Family). IsLike (behind_update state body (Some p))
+      (given_of f p (sets_default body) (sets_router_id body) context)) p_of (formed-like body p)
+  update_by body true false true apart p None p_of q_of =
+      nothing-like (sets_default body) (sets_router_id body)
+  update_by body true false true apart p (Some q) p_of q_of =
+      subst (λ (f : Family). IsLike (behind_update state body (Some q))
+      (given_of f q (sets_default body) (sets_router_id body) context)) q_of (formed-like body q)
+  update_by body true false false apart p q p_of q_of =
+      nothing-like (sets_default body) (sets_router_id body)
 
 one-not_two : (n : ℕ) → eqb n 1 ≡ true → eqb n 2 ≡ false
 one-not_two n e = grind (arith, nat_tests)
@@ -233,61 +298,90 @@ one-not_two n e = grind (arith, nat_tests)
 abbrev pub tlv_at : ℕ → ℕ → List ℕ → TlvAt
 tlv_at at kind body = record { at = at; kind = kind; body = body }
 
-update-behind : (context : Context) (at : ℕ) (body : List ℕ)
-    → behind context (tlv_at at 8 body) ≡ updated context (tlv_at at 8 body)
-update-behind context at body =
-    let whole = leb 10 (length body) in
-    let four = eqb (update_encoding body) 1 in
-    let six = eqb (update_encoding body) 2 in
-    let both : Option AddressPrefix → Option AddressPrefix → Context = λ p q.
-    given (where_read (whole && four) p) (where_read (whole && six) q) (sets_default body)
-    (cond (sets_router_id body) (id_in (option_or (where_read (whole && four) p)
-    (where_read (whole && six) q))) None) None context in
-    update_by context body whole four six (one-not_two (update_encoding body))
-    (prefix_in V4 context.default_v4 body) (prefix_in V6 context.default_v6 body)
-    (prefix_in-family V4 context.default_v4 body) (prefix_in-family V6 context.default_v6 body)
-    ∙ ap (λ (p : Option AddressPrefix). both p (prefix_in V6 context.default_v6 body))
-    (prefix-formed V4 context.default_v4 body)
-    ∙ ap (λ (q : Option AddressPrefix). both (result_ok (formed V4 context.default_v4 body)) q)
-    (prefix-formed V6 context.default_v6 body)
+-- ---- the parser state behind a TLV
 
-hop-behind : (context : Context) (at : ℕ) (body : List ℕ)
-    → behind context (tlv_at at 7 body) ≡ updated context (tlv_at at 7 body)
-hop-behind context at body =
-    ap (behind_next_hop context) (hop-formed body) ∙ sym
-    (given-hop (sets_default body) (sets_router_id body) (result_ok (next_hop_in body)) context)
+module _ (state : ParserState) (context : Context) (like : IsLike state context) where
+  -- what an Update of a family forms in the one it forms in the other
+  pub formed-same : (family : Family) (body : List ℕ) → prefix_in family (state.default family) body
+      ≡ result_ok (formed family (default_in family context) body)
+  formed-same family body =
+      ap (λ (a : Option Address). prefix_in family a body) (like.default family)
+      ∙ prefix-formed family (default_in family context) body
 
-id-behind : (context : Context) (at : ℕ) (body : List ℕ)
-    → behind context (tlv_at at 6 body) ≡ updated context (tlv_at at 6 body)
-id-behind context at body = by (leb 10 (length body))
+  update-behind : (at : ℕ) (body : List ℕ)
+      → IsLike (behind state (tlv_at at 8 body)) (updated context (tlv_at at 8 body))
+  update-behind at body =
+      let whole = leb 10 (length body) in
+      let four = eqb (update_encoding body) 1 in
+      let six = eqb (update_encoding body) 2 in
+      let p = prefix_in V4 (state.default V4) body in
+      let q = prefix_in V6 (state.default V6) body in
+      let both : Option AddressPrefix → Option AddressPrefix → Context = λ f s.
+      given (where_read (whole && four) f) (where_read (whole && six) s) (sets_default body)
+      (cond (sets_router_id body)
+      (id_in (option_or (where_read (whole && four) f) (where_read (whole && six) s))) None)
+      None context in
+      subst (IsLike (behind state (tlv_at at 8 body)))
+      (ap (λ (f : Option AddressPrefix). both f q) (formed-same V4 body)
+      ∙ ap (λ (s : Option AddressPrefix). both (result_ok (formed V4 context.default_v4 body)) s)
+      (formed-same V6 body))
+      (update_by state context like body whole four six (one-not_two (update_encoding body)) p q
+      (prefix_in-family V4 (state.default V4) body) (prefix_in-family V6 (state.default V6) body))
+
+  hop-behind : (at : ℕ) (body : List ℕ)
+      → IsLike (behind state (tlv_at at 7 body)) (updated context (tlv_at at 7 body))
+  hop-behind at body =
+      subst (λ (hop : Option Address). IsLike (behind_next_hop state hop)
+      (updated context (tlv_at at 7 body))) (sym (hop-formed body))
+      (hop-like state context like (sets_default body) (sets_router_id body)
+      (result_ok (next_hop_in body)))
+
+  id-behind : (at : ℕ) (body : List ℕ)
+      → IsLike (behind state (tlv_at at 6 body)) (updated context (tlv_at at 6 body))
+  id-behind at body = by (leb 10 (length body))
+    where
+      by : (whole : Bool)
+          → IsLike (cond whole (record state { router_id = Some (router_id_in body) }) state)
+          (given None None (sets_default body) (cond whole (Some (router_id_in body)) None)
+          None context)
+      by true = id-like state context like (sets_default body) (router_id_in body)
+      by false = nothing-like state context like (sets_default body) true
+
+  other-behind : (tlv : TlvAt) → eqb tlv.kind 6 ≡ false → eqb tlv.kind 7 ≡ false
+      → eqb tlv.kind 8 ≡ false → IsLike (behind state tlv) (updated context tlv)
+  other-behind tlv not_id not_hop not_update =
+      rw (not_id, not_hop, not_update)
+      (nothing-like state context like (sets_default tlv.body) (sets_router_id tlv.body))
+
+  -- the parser state behind a TLV has what the context behind it has
+  pub behind-like : (tlv : TlvAt) → IsLike (behind state tlv) (updated context tlv)
+  behind-like tlv = by (eqb tlv.kind 6) (eqb tlv.kind 7) (eqb tlv.kind 8) refl refl refl
+    where
+      of_kind : (kind : ℕ) → ((at : ℕ) (body : List ℕ)
+          → IsLike (behind state (tlv_at at kind body)) (updated context (tlv_at at kind body)))
+          → eqb tlv.kind kind ≡ true → IsLike (behind state tlv) (updated context tlv)
+      of_kind kind each is =
+          subst (λ (k : ℕ). IsLike (behind state (tlv_at tlv.at k tlv.body))
+          (updated context (tlv_at tlv.at k tlv.body)))
+          (sym (eqb-true tlv.kind kind is)) (each tlv.at tlv.body)
+
+      by : (id hop update : Bool) → eqb tlv.kind 6 ≡ id → eqb tlv.kind 7 ≡ hop
+          → eqb tlv.kind 8 ≡ update → IsLike (behind state tlv) (updated context tlv)
+      by true hop update i h u = of_kind 6 id-behind i
+      by false true update i h u = of_kind 7 hop-behind h
+      by false false true i h u = of_kind 8 update-behind u
+      by false false false i h u = other-behind tlv i h u
+
+-- a packet begins with what its context has at the start
+pub start-like : (sender : Address) → IsLike (start sender) (context_after sender [])
+start-like sender = record { default = default_is; next_hop = hop_is; router_id = refl }
   where
-    by : (whole : Bool) → cond whole (with_router_id true (router_id_in body) context) context
-        ≡ given None None (sets_default body) (cond whole (Some (router_id_in body)) None) None
-        context
-    by true = sym (given-id (sets_default body) (router_id_in body) context)
-    by false = sym (given-nothing (sets_default body) true context)
+    default_is : (family : Family)
+        → (start sender).default family ≡ default_in family (context_after sender [])
+    default_is V4 = refl
+    default_is V6 = refl
 
-other-behind : (context : Context) (tlv : TlvAt) → eqb tlv.kind 6 ≡ false → eqb tlv.kind 7 ≡ false
-    → eqb tlv.kind 8 ≡ false → behind context tlv ≡ updated context tlv
-other-behind context tlv not_id not_hop not_update =
-    rw (not_id, not_hop, not_update) (sym (given-nothing (sets_default tlv.body)
-    (sets_router_id tlv.body) context))
-
--- the context behind a TLV is the one that it makes of the context before it
-pub behind-updated : (context : Context) (tlv : TlvAt) → behind context tlv ≡ updated context tlv
-behind-updated context tlv = by (eqb tlv.kind 6) (eqb tlv.kind 7) (eqb tlv.kind 8) refl refl refl
-  where
-    of_kind : (kind : ℕ) → ((at : ℕ) (body : List ℕ) → behind context (tlv_at at kind body)
-        ≡ updated context (tlv_at at kind body)) → eqb tlv.kind kind ≡ true
-        → behind context tlv ≡ updated context tlv
-    of_kind kind each is =
-        subst (λ (k : ℕ). behind context (tlv_at tlv.at k tlv.body)
-        ≡ updated context (tlv_at tlv.at k tlv.body)) (sym (eqb-true tlv.kind kind is))
-        (each tlv.at tlv.body)
-
-    by : (id hop update : Bool) → eqb tlv.kind 6 ≡ id → eqb tlv.kind 7 ≡ hop
-        → eqb tlv.kind 8 ≡ update → behind context tlv ≡ updated context tlv
-    by true hop update i h u = of_kind 6 (id-behind context) i
-    by false true update i h u = of_kind 7 (hop-behind context) h
-    by false false true i h u = of_kind 8 (update-behind context) u
-    by false false false i h u = other-behind context tlv i h u
+    hop_is : (family : Family)
+        → (start sender).next_hop family ≡ next_hop_in_context family (context_after sender [])
+    hop_is V4 = refl
+    hop_is V6 = refl

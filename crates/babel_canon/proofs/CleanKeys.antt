@@ -21,9 +21,8 @@ use Rattle.babel_tlv.specs.Forming.{default_octets, field_len, id_of, omitted, p
 use Rattle.babel_tlv.specs.Forming.{sets_router_id, update_encoding, update_metric}
 use Rattle.babel_tlv.specs.Route.{RouteKey, Announcement, is_reserved}
 use Rattle.babel_tlv.specs.SubTlv.{is_source, source_prefix, source_of}
-use Rattle.babel_tlv.specs.Context.{Context, next_hop_in_context}
 use Rattle.babel_canon.specs.Items.{are_all_of, fit_update, items_of}
-use Rattle.babel_canon.specs.Behind.{behind, formed_in, is_update, prefix_in, start}
+use Rattle.babel_canon.specs.Behind.{ParserState, behind, formed_in, is_update, prefix_in, start}
 use Rattle.babel_canon.specs.Told.{wildcard_tells, route_tells, update_tells, tells, told_by}
 use Rattle.babel_canon.specs.Dumps.{told}
 use Rattle.babel_canon.specs.DumpAnswers.{same_key, retracted, held_after, held_for}
@@ -66,11 +65,11 @@ prefix_in-clean family default body =
     (eqb (omitted body) 0 || is_some default) && leb (10 + field_len body) (length body))
     (prefix_at (prefix_len body) address) (prefix_at-clean (prefix_len body) address)
 
-formed_in-clean : (context : Context) (body : List ℕ) → IsCleanIfFormed (formed_in context body)
-formed_in-clean context body =
+formed_in-clean : (state : ParserState) (body : List ℕ) → IsCleanIfFormed (formed_in state body)
+formed_in-clean state body =
     by (eqb (update_encoding body) 1) (eqb (update_encoding body) 2)
-    (prefix_in V4 context.default_v4 body) (prefix_in V6 context.default_v6 body)
-    (prefix_in-clean V4 context.default_v4 body) (prefix_in-clean V6 context.default_v6 body)
+    (prefix_in V4 (state.default V4) body) (prefix_in V6 (state.default V6) body)
+    (prefix_in-clean V4 (state.default V4) body) (prefix_in-clean V6 (state.default V6) body)
   where
     by : (four six : Bool) (p q : Option AddressPrefix) → IsCleanIfFormed p → IsCleanIfFormed q
         → IsCleanIfFormed (cond four p (cond six q None))
@@ -103,17 +102,17 @@ route-clean key body (Some id) (Some hop) clean = by (is_reserved id) _
     by true ann = tt
     by false ann = clean
 
-update-clean : (context : Context) (body : List ℕ) (prefix : Option AddressPrefix)
-    → IsCleanIfFormed prefix → IsOfClean (update_tells context body prefix)
-update-clean context body None clean = tt
-update-clean context body (Some prefix) clean =
+update-clean : (state : ParserState) (body : List ℕ) (prefix : Option AddressPrefix)
+    → IsCleanIfFormed prefix → IsOfClean (update_tells state body prefix)
+update-clean state body None clean = tt
+update-clean state body (Some prefix) clean =
     let family = prefix.address.family in
     let octets = drop (10 + field_len body) body in
     let items = items_of octets in
     let key : RouteKey = record { dst = prefix; src = source_of family items } in
     let are : AreClean key = (clean, source-clean family items) in
-    let id = cond (sets_router_id body) (Some (id_of prefix.address)) context.router_id in
-    let hop = next_hop_in_context family context in
+    let id = cond (sets_router_id body) (Some (id_of prefix.address)) state.router_id in
+    let hop = state.next_hop family in
     by (not (are_all_of octets items && fit_update family items))
     (eqb (update_metric body) 65535) key are (route_tells key body id hop)
     (route-clean key body id hop are)
@@ -134,20 +133,20 @@ either_clean true wild w update w_of update_of = tt
 either_clean false true w update w_of update_of = w_of
 either_clean false false w update w_of update_of = update_of
 
-tells-clean : (context : Context) (tlv : TlvAt) → IsOfClean (tells context tlv)
-tells-clean context tlv =
+tells-clean : (state : ParserState) (tlv : TlvAt) → IsOfClean (tells state tlv)
+tells-clean state tlv =
     let body = tlv.body in
     either_clean (not (is_update tlv)) (eqb (update_encoding body) 0) (wildcard_tells body)
-    (update_tells context body (formed_in context body)) (search wildcard-clean)
-    (update-clean context body (formed_in context body) (formed_in-clean context body))
+    (update_tells state body (formed_in state body)) (search wildcard-clean)
+    (update-clean state body (formed_in state body) (formed_in-clean state body))
 
-told_by-clean : (context : Context) (tlvs : List TlvAt)
-    → AllByRecursion IsOfClean (told_by context tlvs)
-told_by-clean context [] = tt
-told_by-clean context (tlv ∷ tlvs) = (
-  tells-clean context tlv,
+told_by-clean : (state : ParserState) (tlvs : List TlvAt)
+    → AllByRecursion IsOfClean (told_by state tlvs)
+told_by-clean state [] = tt
+told_by-clean state (tlv ∷ tlvs) = (
+  tells-clean state tlv,
   told_by-clean
-      (behind context tlv) tlvs,
+      (behind state tlv) tlvs,
 )
 
 both_clean : (front back : List Event) → AllByRecursion IsOfClean front

@@ -14,7 +14,7 @@ use Rattle.babel_tlv.specs.declared.mode.Mode.{Mode}
 use Rattle.babel_tlv.specs.Framing.{TlvAt, IsTlv, ArePlaced, ArePackets, Framed, IsBody}
 use Rattle.babel_tlv.specs.Framing.{body_octets, tlv_octets, framed, packet_octets}
 use Rattle.babel_tlv.specs.Forming.{update_encoding, sets_router_id}
-use Rattle.babel_tlv.specs.Context.{Context}
+use Rattle.babel_tlv.specs.Context.{Context, context_after}
 use Rattle.babel_tlv.specs.Says.{said, sayings, sayings_behind, update_said}
 use Rattle.babel_tlv.specs.Updating.{updated}
 use Rattle.babel_tlv.proofs.Telling.{as_ok, says_in, what_of, sayings_behind-says_in}
@@ -22,7 +22,7 @@ use Rattle.babel_table.specs.Bounds.{Bounds}
 use Rattle.babel_table.specs.Rows.{Routes}
 use Rattle.babel_table.specs.TableOf.{IsTableOf}
 use Rattle.babel_table.proofs.ReadingLaws.{framed_one}
-use Rattle.babel_canon.specs.Behind.{behind, start}
+use Rattle.babel_canon.specs.Behind.{ParserState, behind, start}
 use Rattle.babel_canon.specs.Told.{tells, told_by}
 use Rattle.babel_canon.specs.Dumps.{sets_unread_router_id, IsPacket, IsDump, told}
 use Rattle.babel_canon.proofs.NoFault.{AreFine-said}
@@ -56,11 +56,11 @@ place-octets at [] = refl
 place-octets at (tlv ∷ tlvs) = ap (λ (o : List ℕ). tlv_octets tlv ++ o)
     (place-octets (at + length (tlv_octets tlv)) tlvs)
 
-place-told : (context : Context) (at : ℕ) (tlvs : List TlvAt)
-    → told_by context (place at tlvs) ≡ told_by context tlvs
-place-told context at [] = refl
-place-told context at (tlv ∷ tlvs) = ap (λ (es : List Event). tells context tlv ∷ es)
-    (place-told (behind context tlv) (at + length (tlv_octets tlv)) tlvs)
+place-told : (state : ParserState) (at : ℕ) (tlvs : List TlvAt)
+    → told_by state (place at tlvs) ≡ told_by state tlvs
+place-told state at [] = refl
+place-told state at (tlv ∷ tlvs) = ap (λ (es : List Event). tells state tlv ∷ es)
+    (place-told (behind state tlv) (at + length (tlv_octets tlv)) tlvs)
 
 abbrev place_all : ℕ → List (List TlvAt) → List (List TlvAt)
 place_all at [] = []
@@ -172,7 +172,7 @@ packets-read sender at (tlvs ∷ packets) placed ok =
       record {
         fits = placed.0;
         each = each-placed (at + 4) tlvs placed.1;
-        read = says-read (start sender) tlvs (subst (AllByRecursion IsOk)
+        read = says-read (context_after sender []) tlvs (subst (AllByRecursion IsOk)
             (sayings_behind-says_in sender [] tlvs) parts.0);
       },
       packets-read sender (at + length (packet_octets tlvs)) packets placed.2 parts.1,

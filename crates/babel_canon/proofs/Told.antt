@@ -18,22 +18,22 @@ use Rattle.babel_tlv.specs.declared.reason.Reason.{Reason}
 use Rattle.babel_tlv.specs.declared.reason.Reason.TheVariants as reasons
 use Rattle.babel_tlv.specs.Framing.{TlvAt, tlvs_of}
 use Rattle.babel_tlv.specs.Forming.{update_encoding, update_metric, prefix_len, omitted, field_len}
-use Rattle.babel_tlv.specs.Forming.{formed, next_hop_in, sets_router_id}
+use Rattle.babel_tlv.specs.Forming.{formed, id_of, next_hop_in, sets_router_id}
 use Rattle.babel_tlv.specs.Route.{RouteKey, Announcement, is_reserved}
 use Rattle.babel_tlv.specs.SubTlv.{source_of}
-use Rattle.babel_tlv.specs.Context.{Context, next_hop_in_context}
+use Rattle.babel_tlv.specs.Context.{Context, context_after, next_hop_in_context}
 use Rattle.babel_tlv.specs.Says.{said, sayings, sayings_behind, unless_ignored, router_id_event}
 use Rattle.babel_tlv.specs.Says.{hop_event, wildcard_event, announce_event, current_router_id}
 use Rattle.babel_tlv.specs.Says.{key_event, prefix_event, update_said}
 use Rattle.babel_tlv.specs.Updating.{updated}
 use Rattle.babel_tlv.proofs.Telling.{says_in, what_of, sayings_behind-says_in}
 use Rattle.babel_canon.specs.Items.{items_of, are_all_of, is_optional, fit_update}
-use Rattle.babel_canon.specs.Behind.{start, behind, prefix_in}
+use Rattle.babel_canon.specs.Behind.{ParserState, start, behind, prefix_in}
 use Rattle.babel_canon.specs.Told.{wildcard_tells, route_tells, update_tells, tells, told_by}
 use Rattle.babel_canon.specs.Dumps.{told}
 use Rattle.babel_canon.proofs.Items.{source-items, sub-update, sub-wildcard}
-use Rattle.babel_canon.proofs.Behind.{IsOfFamily, behind-updated, prefix-formed, prefix_in-family}
-use Rattle.babel_canon.proofs.Behind.{tlv_at}
+use Rattle.babel_canon.proofs.Behind.{IsLike, IsOfFamily, behind-like, formed-same}
+use Rattle.babel_canon.proofs.Behind.{prefix_in-family, start-like, tlv_at}
 
 -- ---- events without reasons
 
@@ -119,37 +119,42 @@ prefix_by false infinite None key route announced event e same is = absurd cc
 abbrev key_with : AddressPrefix → AddressPrefix → RouteKey
 key_with dst src = record { dst = dst; src = src }
 
-update-quiet : (context : Context) (body : List ℕ) (prefix : AddressPrefix)
-    → update_tells context body (Some prefix) ≡ quiet (prefix_event prefix.address.family context
-    body (Ok prefix))
-update-quiet context body prefix =
-    let family = prefix.address.family in
-    let octets = drop (10 + field_len body) body in
-    let stands = are_all_of octets (items_of octets) && fit_update family (items_of octets) in
-    let infinite = eqb (update_metric body) 65535 in
-    let id = current_router_id context body prefix in
-    let hop = next_hop_in_context family context in
-    let key : RouteKey = key_with prefix (source_of family (tlvs_of 0 octets)) in
-    ap (λ (src : AddressPrefix). cond (not stands) events.Nothing
-    (cond infinite (events.Retract (key_with prefix src))
-    (route_tells (key_with prefix src) body id hop))) (source-items family octets)
-    ∙ prefix_by stands infinite _ key (route_tells key body id hop) (announce_event key body id hop)
-    (key_event family context body prefix key)
-    (search sub-update) (route-quiet key body id hop) refl
+module _ (state : ParserState) (context : Context) (like : IsLike state context) where
+  update-quiet : (body : List ℕ) (prefix : AddressPrefix) → update_tells state body (Some prefix)
+      ≡ quiet (prefix_event prefix.address.family context body (Ok prefix))
+  update-quiet body prefix =
+      let family = prefix.address.family in
+      let octets = drop (10 + field_len body) body in
+      let stands = are_all_of octets (items_of octets) && fit_update family (items_of octets) in
+      let infinite = eqb (update_metric body) 65535 in
+      let id = current_router_id context body prefix in
+      let hop = next_hop_in_context family context in
+      let key : RouteKey = key_with prefix (source_of family (tlvs_of 0 octets)) in
+      let told_with : AddressPrefix → Option (List ℕ) → Option Address → Event = λ src r h.
+      cond (not stands) events.Nothing (cond infinite (events.Retract (key_with prefix src))
+      (route_tells (key_with prefix src) body
+      (cond (sets_router_id body) (Some (id_of prefix.address)) r) h)) in
+      ap (λ (src : AddressPrefix). told_with src state.router_id (state.next_hop family))
+      (source-items family octets)
+      ∙ ap (λ (r : Option (List ℕ)). told_with key.src r (state.next_hop family)) like.router_id
+      ∙ ap (λ (h : Option Address). told_with key.src context.router_id h) (like.next_hop family)
+      ∙ prefix_by stands infinite _ key (route_tells key body id hop)
+      (announce_event key body id hop) (key_event family context body prefix key)
+      (search sub-update) (route-quiet key body id hop) refl
 
--- what is formed tells what it says; what forms nothing tells nothing
-prefix-quiet : (family : Family) (context : Context) (body : List ℕ)
-    (formed_prefix : Option AddressPrefix) (is : Result AddressPrefix Reason)
-    → IsOfFamily family formed_prefix → formed_prefix ≡ result_ok is
-    → update_tells context body formed_prefix ≡ quiet (prefix_event family context body is)
-prefix-quiet family context body None (Err reason) of same = refl
-prefix-quiet family context body None (Ok prefix) of same = absurd cc
-prefix-quiet family context body (Some prefix) (Err reason) of same = absurd cc
-prefix-quiet family context body (Some prefix) (Ok other) of same =
-    let is : prefix ≡ other = cc in
-    update-quiet context body prefix ∙ ap (λ (f : Family).
-    quiet (prefix_event f context body (Ok prefix))) of
-    ∙ ap (λ (p : AddressPrefix). quiet (prefix_event family context body (Ok p))) is
+  -- what is formed tells what it says; what forms nothing tells nothing
+  prefix-quiet : (family : Family) (body : List ℕ) (formed_prefix : Option AddressPrefix)
+      (is : Result AddressPrefix Reason) → IsOfFamily family formed_prefix
+      → formed_prefix ≡ result_ok is
+      → update_tells state body formed_prefix ≡ quiet (prefix_event family context body is)
+  prefix-quiet family body None (Err reason) of same = refl
+  prefix-quiet family body None (Ok prefix) of same = absurd cc
+  prefix-quiet family body (Some prefix) (Err reason) of same = absurd cc
+  prefix-quiet family body (Some prefix) (Ok other) of same =
+      let is : prefix ≡ other = cc in
+      update-quiet body prefix
+      ∙ ap (λ (f : Family). quiet (prefix_event f context body (Ok prefix))) of
+      ∙ ap (λ (p : AddressPrefix). quiet (prefix_event family context body (Ok p))) is
 
 -- ---- any TLV
 
@@ -174,12 +179,12 @@ encoding_by (suc (suc (suc n))) wild one two none refused wild_said one_said two
     let unread : leb 3 k ≡ true = grind (arith, nat_tests) in
     rw (zero_not, one_not, two_not, unread) (is_none ∙ sym r)
 
-tells-cond : (context : Context) (body : List ℕ) (a b : Bool) (x y : Option AddressPrefix)
-    → update_tells context body (cond a x (cond b y None))
-    ≡ cond a (update_tells context body x) (cond b (update_tells context body y) events.Nothing)
-tells-cond context body true b x y = refl
-tells-cond context body false true x y = refl
-tells-cond context body false false x y = refl
+tells-cond : (state : ParserState) (body : List ℕ) (a b : Bool) (x y : Option AddressPrefix)
+    → update_tells state body (cond a x (cond b y None))
+    ≡ cond a (update_tells state body x) (cond b (update_tells state body y) events.Nothing)
+tells-cond state body true b x y = refl
+tells-cond state body false true x y = refl
+tells-cond state body false false x y = refl
 
 unread-quiet : (sets : Bool) (at : ℕ) → quiet_of (cond sets (Err (faults.EncodingSetsRouterId at))
     (Ok (events.Ignored reasons.UnknownEncoding))) ≡ events.Nothing
@@ -194,23 +199,6 @@ length_by : (short : Bool) (told : Event) (says : Result Event Fault) → told �
     (cond short (Ok (events.Ignored reasons.Short)) says)
 length_by true told says same = refl
 length_by false told says same = same
-
-update-told : (context : Context) (at : ℕ) (body : List ℕ)
-    → tells context (tlv_at at 8 body) ≡ quiet_of (update_said context (tlv_at at 8 body))
-update-told context at body =
-    let four = prefix_in V4 context.default_v4 body in
-    let six = prefix_in V6 context.default_v6 body in
-    rw (whole-long (length body)) (length_by (ltb (length body) 10) _ _
-    (ap (λ (e : Event). cond (eqb (update_encoding body) 0) (wildcard_tells body) e)
-    (tells-cond context body (eqb (update_encoding body) 1)
-    (eqb (update_encoding body) 2) four six)
-    ∙ encoding_by (update_encoding body) (wildcard_tells body) (update_tells context body four)
-    (update_tells context body six) events.Nothing _ (wildcard_event body) _ _
-    refl (unread-quiet (sets_router_id body) at) (wildcard-quiet body)
-    (prefix-quiet V4 context body four (formed V4 context.default_v4 body)
-    (prefix_in-family V4 context.default_v4 body) (prefix-formed V4 context.default_v4 body))
-    (prefix-quiet V6 context body six (formed V6 context.default_v6 body)
-    (prefix_in-family V6 context.default_v6 body) (prefix-formed V6 context.default_v6 body))))
 
 short-quiet : (short : Bool) (event : Event) → quiet event ≡ events.Nothing
     → quiet (cond short (events.Ignored reasons.Short) event) ≡ events.Nothing
@@ -238,31 +226,46 @@ other_by true hop id_says hop_says update i h = sym i
 other_by false true id_says hop_says update i h = sym h
 other_by false false id_says hop_says update i h = refl
 
--- what a TLV tells is what it says, without the reasons
-pub tells-said : (context : Context) (tlv : TlvAt) → tells context tlv ≡ quiet_of (said context tlv)
-tells-said context tlv = by (eqb tlv.kind 8) refl
-  where
-    by : (b : Bool) → eqb tlv.kind 8 ≡ b → tells context tlv ≡ quiet_of (said context tlv)
-    by true is =
-        let kind : 8 ≡ tlv.kind = sym (eqb-true tlv.kind 8 is) in
-        subst (λ (k : ℕ). tells context (tlv_at tlv.at k tlv.body)
-        ≡ quiet_of (said context (tlv_at tlv.at k tlv.body))) kind
-        (update-told context tlv.at tlv.body)
-    by false is = rw is (other_by (eqb tlv.kind 6) (eqb tlv.kind 7) (router_id_event tlv.body)
-        (hop_event tlv.body (next_hop_in tlv.body)) (update_said context tlv)
-        (id-quiet tlv.body) (hop-quiet tlv.body (next_hop_in tlv.body)))
+module _ (state : ParserState) (context : Context) (like : IsLike state context) where
+  update-told : (at : ℕ) (body : List ℕ)
+      → tells state (tlv_at at 8 body) ≡ quiet_of (update_said context (tlv_at at 8 body))
+  update-told at body =
+      let four = prefix_in V4 (state.default V4) body in
+      let six = prefix_in V6 (state.default V6) body in
+      rw (whole-long (length body)) (length_by (ltb (length body) 10) _ _
+      (ap (λ (e : Event). cond (eqb (update_encoding body) 0) (wildcard_tells body) e)
+      (tells-cond state body (eqb (update_encoding body) 1) (eqb (update_encoding body) 2) four six)
+      ∙ encoding_by (update_encoding body) (wildcard_tells body) (update_tells state body four)
+      (update_tells state body six) events.Nothing _ (wildcard_event body) _ _
+      refl (unread-quiet (sets_router_id body) at) (wildcard-quiet body)
+      (prefix-quiet state context like V4 body four (formed V4 context.default_v4 body)
+      (prefix_in-family V4 (state.default V4) body) (formed-same state context like V4 body))
+      (prefix-quiet state context like V6 body six (formed V6 context.default_v6 body)
+      (prefix_in-family V6 (state.default V6) body) (formed-same state context like V6 body))))
+
+  -- what a TLV tells is what it says, without the reasons
+  pub tells-said : (tlv : TlvAt) → tells state tlv ≡ quiet_of (said context tlv)
+  tells-said tlv = by (eqb tlv.kind 8) refl
+    where
+      by : (b : Bool) → eqb tlv.kind 8 ≡ b → tells state tlv ≡ quiet_of (said context tlv)
+      by true is =
+          let kind : 8 ≡ tlv.kind = sym (eqb-true tlv.kind 8 is) in
+          subst (λ (k : ℕ). tells state (tlv_at tlv.at k tlv.body)
+          ≡ quiet_of (said context (tlv_at tlv.at k tlv.body))) kind (update-told tlv.at tlv.body)
+      by false is = rw is (other_by (eqb tlv.kind 6) (eqb tlv.kind 7) (router_id_event tlv.body)
+          (hop_event tlv.body (next_hop_in tlv.body)) (update_said context tlv)
+          (id-quiet tlv.body) (hop-quiet tlv.body (next_hop_in tlv.body)))
 
 -- ---- packets and dumps
 
-told_by-says_in : (context : Context) (tlvs : List TlvAt)
-    → told_by context tlvs ≡ map quiet_of (says_in context tlvs)
-told_by-says_in context [] = refl
-told_by-says_in context (tlv ∷ tlvs) =
-    ap (λ (e : Event). e ∷ told_by (behind context tlv) tlvs) (tells-said context tlv)
-    ∙ ap (λ (c : Context). quiet_of (said context tlv) ∷ told_by c tlvs)
-    (behind-updated context tlv)
+told_by-says_in : (state : ParserState) (context : Context) → IsLike state context
+    → (tlvs : List TlvAt) → told_by state tlvs ≡ map quiet_of (says_in context tlvs)
+told_by-says_in state context like [] = refl
+told_by-says_in state context like (tlv ∷ tlvs) =
+    ap (λ (e : Event). e ∷ told_by (behind state tlv) tlvs) (tells-said state context like tlv)
     ∙ ap (λ (es : List Event). quiet_of (said context tlv) ∷ es)
-    (told_by-says_in (updated context tlv) tlvs)
+    (told_by-says_in (behind state tlv) (updated context tlv) (behind-like state context like tlv)
+    tlvs)
 
 -- what a dump tells is what its TLVs say, without the reasons
 pub told-sayings : (sender : Address) (packets : List (List TlvAt))
@@ -271,8 +274,8 @@ told-sayings sender [] = refl
 told-sayings sender (tlvs ∷ packets) =
     let here = sayings_behind sender [] tlvs in
     ap (λ (es : List Event). es ++ told sender packets)
-    (told_by-says_in (start sender) tlvs ∙ ap (map quiet_of)
-    (sym (sayings_behind-says_in sender [] tlvs)))
+    (told_by-says_in (start sender) (context_after sender []) (start-like sender) tlvs
+    ∙ ap (map quiet_of) (sym (sayings_behind-says_in sender [] tlvs)))
     ∙ ap (λ (es : List Event). map quiet_of (map what_of here) ++ es) (told-sayings sender packets)
     ∙ sym (ap (map quiet_of) (map-append what_of here (sayings sender packets))
     ∙ map-append quiet_of (map what_of here) (map what_of (sayings sender packets)))

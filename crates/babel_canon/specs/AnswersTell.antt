@@ -9,7 +9,8 @@ use Rattle.babel_tlv.specs.declared.mode.Mode.{Mode}
 use Rattle.babel_canon.specs.Headline.{Sent, sent}
 use Rattle.babel_canon.specs.DumpAnswers.{IsSettled, AnswerAlike}
 
--- What octets tell that were made of a dump:
+-- What octets tell that were made of a dump, by `normalise`: it answers octets that are `Made` of
+-- the dump (*ok*), or a fault that it is `Refused` with (*err*):
 -- * the dump has one answer for each two addresses;
 -- * octets made of any other dump are the same exactly where both dumps answer alike;
 -- * read with any sender, the octets answer as the dump does, what is made of them is themselves

@@ -48,7 +48,8 @@ held_for mode events key = fold (held_after mode key) None events
 -- ---- answers
 
 -- RFC 9079, 4: this is held for a key that contains both addresses, and nothing is held for any
--- more specific key that contains them
+-- more specific key that contains them. (Something is held only for prefixes that Updates formed.
+-- These have zeros past their length, so two of one length that contain one address are one.)
 pub record HasBest (mode : Mode) (events : List Event) (d s : Address) (held : Held) : Type 0 where
   pub key : RouteKey
   pub matching : ContainsBoth d s key
@@ -72,9 +73,9 @@ pub record DumpAnswers (mode : Mode) (one : Sent) (d s : Address)
 -- the dump has exactly one answer for each destination and source address of one family
 abbrev pub IsSettled : Mode → Sent → Type 0
 IsSettled mode one =
-    (d s : Address) → IsAddress d → IsAddress s → d.family ≡ s.family → (answer : Option Held)
-    × DumpAnswers mode one d s answer
-    × ((other : Option Held) → DumpAnswers mode one d s other → other ≡ answer)
+    (d s : Address) → IsAddress d → IsAddress s → d.family ≡ s.family
+    → ((answer : Option Held) × DumpAnswers mode one d s answer
+    × ((other : Option Held) → DumpAnswers mode one d s other → other ≡ answer))
 
 -- two dumps answer the same for each destination and source address of one family
 abbrev pub AnswerAlike : Mode → Sent → Sent → Type 0

@@ -9,8 +9,8 @@ use Rattle.babel_tlv.specs.Forming.{update_encoding, sets_router_id}
 use Rattle.babel_canon.specs.Behind.{is_update, start}
 use Rattle.babel_canon.specs.Told.{told_by}
 
--- whether a TLV refuses the dump (this project's own): an Update of an encoding that is not read
--- sets a router-id, which later TLVs may need
+-- whether a TLV refuses the dump (this project's own): an Update sets a router-id that later TLVs
+-- may need, and its encoding is not read here, though its sender may have kept to the RFCs
 abbrev pub sets_unread_router_id : TlvAt → Bool
 sets_unread_router_id tlv =
     is_update tlv && nat_le 3 (update_encoding tlv.body) && sets_router_id tlv.body
@@ -21,11 +21,12 @@ pub record IsPacket (tlvs : List TlvAt) : Type 0 where
   pub each : AllByRecursion IsTlv tlvs
   pub read : IsFalse (list_any sets_unread_router_id tlvs)
 
--- RFC 8966, 4.2: the octets are these packets, one behind the other, and nothing else
+-- RFC 8966, 4.2: the octets are these packets, one behind the other, and nothing else (this
+-- project's own: a router passes over other packets, and over what is behind a body)
 pub record IsDump (octets : List ℕ) (packets : List (List TlvAt)) : Type 0 where
   pub whole : octets ≡ flat_map packet_octets packets
   pub each : AllByRecursion IsPacket packets
 
--- what the packets of a sender tell, in order; the context begins anew with each packet
+-- what the packets of a sender tell, in order; the parser state begins anew with each packet
 abbrev pub told : Address → List (List TlvAt) → List Event
 told sender packets = flat_map (told_by (start sender)) packets

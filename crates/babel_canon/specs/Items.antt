@@ -7,9 +7,10 @@ use Rattle.babel_prefix.specs.declared.family.Family.{Family}
 use Rattle.babel_tlv.specs.Framing.{TlvAt, tlv_octets}
 use Rattle.babel_tlv.specs.SubTlv.{is_source, is_bad_source}
 
--- RFC 8966, 4.4: the sub-TLVs that octets begin with, at most so many: a 0 alone (Pad1), or a type,
--- a length and as many octets; up to the end of the octets, or to where none begins. They are laid
--- out as TLVs are. Where one lies is not asked (`at`).
+-- RFC 8966, 4.4: the sub-TLVs that octets begin with: a 0 alone (Pad1), or a type, a length and as
+-- many octets; up to the end of the octets, or to where none begins. They are laid out as TLVs are.
+-- Where one lies is not asked (`at`). They are at most so many: that is there only for an end that
+-- is plain, and `items_of` gives a number that is never used up.
 abbrev pub items_in : ℕ → List ℕ → List TlvAt
 items_in zero octets = []
 items_in (suc most) [] = []
@@ -21,7 +22,7 @@ items_in (suc most) (suc kind ∷ len ∷ octets) =
     else (record { at = 0; kind = suc kind; body = take len octets }
     ∷ items_in most (drop len octets))
 
--- all sub-TLVs that octets begin with, which are no more than the octets
+-- all sub-TLVs that octets begin with: each takes an octet, so they are no more than these
 abbrev pub items_of : List ℕ → List TlvAt
 items_of octets = items_in (length octets) octets
 

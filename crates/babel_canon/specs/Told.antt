@@ -11,9 +11,8 @@ use Rattle.babel_tlv.specs.Forming.{update_encoding, sets_router_id, prefix_len,
 use Rattle.babel_tlv.specs.Forming.{update_seqno, update_metric, field_len, id_of}
 use Rattle.babel_tlv.specs.SubTlv.{source_of}
 use Rattle.babel_tlv.specs.Route.{RouteKey, is_reserved}
-use Rattle.babel_tlv.specs.Context.{Context, next_hop_in_context}
 use Rattle.babel_canon.specs.Items.{items_of, are_all_of, is_optional, fit_update}
-use Rattle.babel_canon.specs.Behind.{is_update, formed_in, behind}
+use Rattle.babel_canon.specs.Behind.{ParserState, is_update, formed_in, behind}
 
 -- RFC 8966, 4.6.9; RFC 9079, 5.2: an Update of encoding 0 (a wildcard) retracts all routes, if its
 -- metric is 65535, it has no prefix, and all of its sub-TLVs may be passed over
@@ -40,11 +39,11 @@ route_tells key body id hop = events.Nothing
 
 -- RFC 8966, 4.6.9; RFC 9079, 7: what an Update tells by the prefix that it forms, if it forms one.
 -- The sub-TLVs, behind the prefix, give the source prefix. A metric of 65535 retracts the key. Any
--- other announces a route, by the router-id that the Update sets, else by that of the context, and
--- by the context's next hop of the family.
-abbrev pub update_tells : Context → List ℕ → Option AddressPrefix → Event
-update_tells context body None = events.Nothing
-update_tells context body (Some prefix) =
+-- other announces a route, by the router-id that the Update sets, else by that of the parser state,
+-- and by the next hop of the family.
+abbrev pub update_tells : ParserState → List ℕ → Option AddressPrefix → Event
+update_tells state body None = events.Nothing
+update_tells state body (Some prefix) =
     let family = prefix.address.family in
     let octets = drop (10 + field_len body) body in
     let items = items_of octets in
@@ -52,18 +51,18 @@ update_tells context body (Some prefix) =
     if not (are_all_of octets items && fit_update family items) then events.Nothing
     else if update_metric body == 65535 then events.Retract key
     else route_tells key body
-    (if sets_router_id body then Some (id_of prefix.address) else context.router_id)
-    (next_hop_in_context family context)
+    (if sets_router_id body then Some (id_of prefix.address) else state.router_id)
+    (state.next_hop family)
 
--- RFC 8966, 4.6: what a TLV tells in a context: only an Update tells anything, and nothing in an
--- encoding from 3 on, which is not read (this project's own)
-abbrev pub tells : Context → TlvAt → Event
-tells context tlv =
+-- RFC 8966, 4.6: what a TLV tells in a parser state: only an Update tells anything, and nothing in
+-- an encoding from 3 on, which is not read (this project's own)
+abbrev pub tells : ParserState → TlvAt → Event
+tells state tlv =
     if not (is_update tlv) then events.Nothing
     else if update_encoding tlv.body == 0 then wildcard_tells tlv.body
-    else update_tells context tlv.body (formed_in context tlv.body)
+    else update_tells state tlv.body (formed_in state tlv.body)
 
--- what TLVs tell, in order, from a context on
-abbrev pub told_by : Context → List TlvAt → List Event
-told_by context [] = []
-told_by context (tlv ∷ tlvs) = tells context tlv ∷ told_by (behind context tlv) tlvs
+-- what TLVs tell, in order, from a parser state on
+abbrev pub told_by : ParserState → List TlvAt → List Event
+told_by state [] = []
+told_by state (tlv ∷ tlvs) = tells state tlv ∷ told_by (behind state tlv) tlvs

@@ -1,4 +1,5 @@
--- The row that a destination and a source address are forwarded by, in addresses and prefixes: RFC 9079, 4.
+-- The row that a destination and a source address are forwarded by, in addresses and prefixes: RFC
+-- 9079, 4.
 use Rattle.std.specs.Prelude.{◌≡◌, ◌⊎◌, ◌<◌, List, Option, Contains, MatchOption}
 use Rattle.babel_prefix.specs.Address.{Address}
 use Rattle.babel_prefix.specs.Covers.{Covers}
@@ -12,7 +13,8 @@ ContainsBoth dst src key = Covers key.dst dst × Covers key.src src
 
 -- a longer destination prefix, or one as long and a longer source prefix
 abbrev pub IsMoreSpecific : RouteKey → RouteKey → Type 0
-IsMoreSpecific other key = (key.dst.len < other.dst.len) ⊎ ((other.dst.len ≡ key.dst.len) × (key.src.len < other.src.len))
+IsMoreSpecific other key = (key.dst.len < other.dst.len)
+    ⊎ ((other.dst.len ≡ key.dst.len) × (key.src.len < other.src.len))
 
 -- no row contains both addresses
 pub record HasNoMatch (rows : List Pair) (dst src : Address) : Type 0 where
@@ -23,8 +25,10 @@ pub record HasBestMatch (rows : List Pair) (dst src : Address) (held : Held) : T
   pub key : RouteKey
   pub listed : Contains rows (key, held)
   pub matching : ContainsBoth dst src key
-  pub best : (row : Pair) → Contains rows row → ContainsBoth dst src row.0 → ¬ IsMoreSpecific row.0 key
+  pub best : (row : Pair) → Contains rows row → ContainsBoth dst src row.0
+      → ¬ IsMoreSpecific row.0 key
 
 -- what stands in the best match among the rows, or nothing where no row contains both addresses
 abbrev pub IsBestMatch : List Pair → Address → Address → Option Held → Type 0
-IsBestMatch rows dst src found = MatchOption found (HasNoMatch rows dst src) (HasBestMatch rows dst src)
+IsBestMatch rows dst src found =
+    MatchOption found (HasNoMatch rows dst src) (HasBestMatch rows dst src)

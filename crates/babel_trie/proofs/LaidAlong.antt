@@ -1,4 +1,4 @@
--- Rows of a block that some bits lead to, laid over one value.
+-- Rows of a block that some bits lead to, laid over a trie with one value beside it.
 use Rattle.std.proofs.Common.{◌≡◌, ◌⊎◌, inl, inr, ℕ, zero, suc, ◌+◌, ◌-◌, ◌*◌, ◌%◌, ◌^◌, ◌<◌, ◌≤◌, cond, true, false, List, Option, map, sym, ◌∙◌, ap, subst, arith}
 use Rattle.std.proofs.lemmas.Bool.{cases_lt}
 use Rattle.std.proofs.lemmas.Nat.{pow_pos, pow-add}
@@ -8,10 +8,9 @@ use Rattle.babel_prefix.specs.Best.{Row}
 use Rattle.babel_prefix.specs.Covers.{BlockCovers}
 use Rattle.babel_prefix.specs.Entries.{Entry, row_of}
 use Rattle.babel_trie.specs.Held.{along}
-use Rattle.babel_trie.specs.Interned.{IsTrie}
-use Rattle.babel_trie.specs.declared.table.Loose.TheVariants.{Same}
+use Rattle.babel_trie.specs.Inner.{IsInner, IsInside}
 use Rattle.babel_trie.specs.Laid.{IsAlong, IsLaid}
-use Rattle.babel_trie.specs.Rows.{InBlock, IsPlace, NoneMatches, Overlays, source_block}
+use Rattle.babel_trie.specs.Rows.{NoneMatches, Overlays, source_block}
 use Rattle.babel_trie.specs.Shape.{Shape, leaf, fork, is_low, height, value_at}
 use Rattle.babel_trie.specs.declared.table.Loose.{Loose}
 use Rattle.babel_trie.specs.declared.table.Node.{Node}
@@ -125,42 +124,46 @@ module _ {X : Type 0} (v : X) (t : Shape X) where
         room : (path m s : ℕ) → path < m → path * s + s ≤ m * s
         room path m s lt = let most : suc path * s ≤ m * s = mul-le-mul_right s (omega arith) in omega (arith, most)
 
-module _ {V : Type 0} (w bits start n s path : ℕ) (rows : List (Entry V)) (place : IsPlace w n s) (rows_in : InBlock source_block w n s rows) (few : n ≤ bits) (path_in : path < 2 ^ (bits - n)) (s_is : s ≡ start + path * 2 ^ n) where
+module _ {V : Type 0} (w bits start n s path : ℕ) (rows : List (Entry V)) (inner : IsInner source_block w bits start rows n s path) where
   -- outside the block no row matches
   none_outside : (d a : ℕ) → ((a < s) ⊎ (s + 2 ^ n ≤ a)) → NoneMatches w (map row_of rows) d a
   none_outside d a out row t match =
       let f = from_map row_of rows row t in
       let covers : BlockCovers w (block_of f.0.1) a = subst (λ (r : Row V). BlockCovers w r.src a) (sym f.2) match.1 in
-      outside_misses w n s (block_of f.0.1) a place (rows_in.no_shorter f.0 f.1) (rows_in.from_start f.0 f.1) (rows_in.before_end f.0 f.1) out covers
+      outside_misses w n s (block_of f.0.1) a inner.place (inner.rows_in.no_shorter f.0 f.1) (inner.rows_in.from_start f.0 f.1) (inner.rows_in.before_end f.0 f.1) out covers
 
-  pub laid_along : (nodes1 nodes2 : List (Node (Option V))) (x y : Loose (Option V)) (v : Option V) → (inner : IsLaid w n s (map row_of rows) nodes1 x (leaf v)) → IsAlong nodes2 y (bits - n) path v inner.new → IsLaid w bits start (map row_of rows) nodes2 y (leaf v)
-  laid_along nodes1 nodes2 x y v inner whole =
-      let fits : height inner.new ≤ n = inner.fits (omega arith) in
-      let all : n + (bits - n) ≡ bits = omega (arith, few) in
+  -- what is laid over the trie in the block, with the bits before, is laid over the whole
+  pub laid_along : (nodes nodes1 nodes2 : List (Node (Option V))) (z x y : Loose (Option V)) (v : Option V) (u : Shape (Option V)) → (old : IsInside nodes z (bits - n) path v u) → height old.inside ≤ n →
+      (laid : IsLaid w n s (map row_of rows) nodes1 x old.inside) → IsAlong nodes2 y (bits - n) path v laid.new → IsLaid w bits start (map row_of rows) nodes2 y u
+  laid_along nodes nodes1 nodes2 z x y v u old old_fits laid whole =
+      let fits : height laid.new ≤ n = laid.fits old_fits in
+      let all : n + (bits - n) ≡ bits = omega (arith, inner.smaller) in
       record {
         new = whole.whole;
         stands = whole.stands;
-        fits = λ _. omega (arith, whole.lower, fits, few);
-        reduced = λ r. whole.reduced (inner.reduced r);
+        fits = λ _. omega (arith, whole.lower, fits, inner.smaller);
+        reduced = λ r. whole.reduced (laid.reduced (old.reduced r));
         values = λ d a dst a_in.
-            let found = values v inner.new n fits (bits - n) path a path_in (subst (λ m. a < 2 ^ m) (sym all) a_in) in
-            let here : value_at whole.whole bits a ≡ value_at (along (bits - n) path (leaf v) inner.new) (n + (bits - n)) a = whole.values bits a ∙ ap (λ m. value_at (along (bits - n) path (leaf v) inner.new) m a) (sym all) in
-            let beside : ((start + a < s) ⊎ (s + 2 ^ n ≤ start + a)) → Overlays w (map row_of rows) d (start + a) v (value_at whole.whole bits a) = λ out.
-            inr (none_outside d (start + a) out, here ∙ found.beside (λ led. elim out [ inl lt ↦ omega (arith, led.0, s_is, lt) | inr ge ↦ omega (arith, led.1, s_is, ge) ])) in
+            let within : a < 2 ^ (n + (bits - n)) = subst (λ m. a < 2 ^ m) (sym all) a_in in
+            let before = values v old.inside n old_fits (bits - n) path a inner.path_in within in
+            let after = values v laid.new n fits (bits - n) path a inner.path_in within in
+            let was : value_at u bits a ≡ value_at (along (bits - n) path (leaf v) old.inside) (n + (bits - n)) a = old.values bits a ∙ ap (λ m. value_at (along (bits - n) path (leaf v) old.inside) m a) (sym all) in
+            let is : value_at whole.whole bits a ≡ value_at (along (bits - n) path (leaf v) laid.new) (n + (bits - n)) a = whole.values bits a ∙ ap (λ m. value_at (along (bits - n) path (leaf v) laid.new) m a) (sym all) in
+            let beside : ((start + a < s) ⊎ (s + 2 ^ n ≤ start + a)) → Overlays w (map row_of rows) d (start + a) (value_at u bits a) (value_at whole.whole bits a) = λ out.
+            let apart : IsLedTo v laid.new n fits path a → ⊥ = λ led. elim out [ inl lt ↦ omega (arith, led.0, inner.start_is, lt) | inr ge ↦ omega (arith, led.1, inner.start_is, ge) ] in
+            inr (none_outside d (start + a) out, is ∙ after.beside apart ∙ sym (was ∙ before.beside apart)) in
             elim (cases_lt (start + a) s) [
               | inl lt ↦ beside (inl lt)
               | inr from ↦ elim (cases_lt (start + a) (s + 2 ^ n)) [
-                | inl before ↦
+                | inl ends ↦
                     let b : ℕ = a - path * 2 ^ n in
-                    let at : s + b ≡ start + a = omega (arith, s_is, from) in
-                    let value : value_at inner.new n b ≡ value_at whole.whole bits a = sym (here ∙ found.inside (omega (arith, s_is, from), omega (arith, s_is, before))) in
-                    subst (λ p. Overlays w (map row_of rows) d p v (value_at whole.whole bits a)) at
-                    (subst (λ z. Overlays w (map row_of rows) d (s + b) v z) value (inner.values d b dst (omega (arith, s_is, before))))
+                    let at : s + b ≡ start + a = omega (arith, inner.start_is, from) in
+                    let led : IsLedTo v laid.new n fits path a = (omega (arith, inner.start_is, from), omega (arith, inner.start_is, ends)) in
+                    let there : Overlays w (map row_of rows) d (s + b) (value_at old.inside n b) (value_at laid.new n b) = laid.values d b dst (omega (arith, inner.start_is, ends)) in
+                    subst (λ p. Overlays w (map row_of rows) d p (value_at u bits a) (value_at whole.whole bits a)) at
+                    (subst (λ q. Overlays w (map row_of rows) d (s + b) q (value_at whole.whole bits a)) (sym (was ∙ before.inside led))
+                    (subst (Overlays w (map row_of rows) d (s + b) (value_at old.inside n b)) (sym (is ∙ after.inside led)) there))
                 | inr ge ↦ beside (inr ge)
               ]
             ];
       }
-
--- one value is a trie
-pub one_trie : {V : Type 0} (bits : ℕ) (nodes : List (Node V)) (x : Loose V) (v : V) → x ≡ Same v → IsTrie bits nodes x
-one_trie bits nodes x v is = record { trie = leaf v; stands = is; fits = omega arith; reduced = tt }

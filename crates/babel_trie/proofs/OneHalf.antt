@@ -18,7 +18,7 @@ use Rattle.babel_trie.proofs.NumberLaws.{Stands-grows, Opens-grows, halves-norma
 use Rattle.babel_trie.proofs.OverlayLaws.{overlays_none}
 use Rattle.babel_trie.proofs.PartLaws.{upper_place, upper_rows}
 use Rattle.babel_trie.proofs.PlaceLaws.{place_low}
-use Rattle.babel_trie.proofs.SourceLaws.{overlaid_joined, halved_tries, one_left, one_right}
+use Rattle.babel_trie.proofs.SourceLaws.{overlaid_joined, laid_over_set, rest_parted, set_fits, halved_tries, one_left, one_right}
 
 module _ {V : Type 0} (w bits start middle : ℕ) (rows own low high : List (Entry V)) (parts : AreParted source_block w bits start rows own low high) (middle_is : middle ≡ start + 2 ^ (bits - 1)) (one : HasOneDestination rows) where
   rest_one : HasOneDestination (low ++ high)
@@ -48,6 +48,12 @@ module _ {V : Type 0} (w bits start middle : ℕ) (rows own low high : List (Ent
   }
 
   module _ (nodes : List (Node (Option V))) (n : Loose (Option V)) (node : Node (Option V)) (u : Shape (Option V)) (set : IsSet own nodes n u) (is : n ≡ Split node) (fits : height u ≤ bits) (reduced : IsReduced u) (inside x : Loose (Option V)) where
+    rest : AreParted source_block w bits start (low ++ high) [] low high
+    rest = rest_parted w bits start rows own low high parts
+
+    set_low : height set.new ≤ bits
+    set_low = set_fits own u set.new bits set.is fits
+
     halved_at : (l h : Loose (Option V)) → HaveHalves nodes node l h → IsHalved nodes set.new l h
     halved_at l h have = halved_split nodes (Split node) l h have set.new (subst (λ (y : Loose (Option V)). Stands nodes y set.new) is set.stands)
 
@@ -66,13 +72,15 @@ module _ {V : Type 0} (w bits start middle : ℕ) (rows own low high : List (Ent
         let there = laid halved.low_half halved.low_stands in
         let in_low = subst (λ m. IsLaid w (bits - 1) m (map row_of low) nodes2 y halved.low_half) half.2 (subst (λ (xs : List (Entry V)). IsLaid w (bits - 1) at (map row_of xs) nodes2 y halved.low_half) half.1 there) in
         let in_high = none_laid (bits - 1) (start + 2 ^ (bits - 1)) high half.0 nodes2 x halved.high_half (Stands-grows nodes nodes2 keeps x halved.high_half halved.high_stands) in
-        overlaid_joined w bits start rows own low high parts one nodes nodes2 nodes2 nodes3 n inside x y x whole u set halved in_low in_high (joins in_low.new in_high.new in_low.stands in_high.stands) fits
+        laid_over_set w bits start rows own low high parts one nodes nodes3 n whole u set
+        (overlaid_joined w bits start low high rest nodes nodes2 nodes2 nodes3 inside x y x whole set.new halved in_low in_high (joins in_low.new in_high.new in_low.stands in_high.stands) set_low)
     laid_by false only at half have nodes2 nodes3 y whole keeps laid joins =
         let halved = halved_at x inside have in
         let there = laid halved.high_half halved.high_stands in
         let in_high = subst (λ m. IsLaid w (bits - 1) m (map row_of high) nodes2 y halved.high_half) middle_is (subst (λ m. IsLaid w (bits - 1) m (map row_of high) nodes2 y halved.high_half) half.2 (subst (λ (xs : List (Entry V)). IsLaid w (bits - 1) at (map row_of xs) nodes2 y halved.high_half) half.1 there)) in
         let in_low = none_laid (bits - 1) start low half.0 nodes2 x halved.low_half (Stands-grows nodes nodes2 keeps x halved.low_half halved.low_stands) in
-        overlaid_joined w bits start rows own low high parts one nodes nodes2 nodes2 nodes3 n x inside x y whole u set halved in_low in_high (joins in_low.new in_high.new in_low.stands in_high.stands) fits
+        laid_over_set w bits start rows own low high parts one nodes nodes3 n whole u set
+        (overlaid_joined w bits start low high rest nodes nodes2 nodes2 nodes3 x inside x y whole set.new halved in_low in_high (joins in_low.new in_high.new in_low.stands in_high.stands) set_low)
 
 -- what is stored beside a half is a trie
 pub stored_trie : {V : Type 0} (bits : ℕ) (nodes new : List (Node V)) (s : Sources V) (x : Loose V) → KeepsNodes nodes new → Opens nodes s x → IsTrie bits nodes x → bits ≤ 127 → HasTrie 127 new s

@@ -1,20 +1,15 @@
--- The parts of the rows of a block, and what they make of an answer together.
+-- The parts of the rows of a block.
 use Rattle.std.proofs.Common.{◌≡◌, inl, inr, ℕ, ◌+◌, ◌-◌, ◌^◌, ◌<◌, ◌≤◌, List, [], ◌∷◌, ◌++◌, Option, Some, None, map, refl, sym, ◌∙◌, ap, subst, arith, Bool, false, length, ◌==◌, nat_lt}
-use Rattle.std.proofs.lemmas.List.{map-append}
 use Rattle.std.proofs.lemmas.Bool.{cases_order, false≢true}
 use Rattle.std.specs.List.{slice_get}
 use Rattle.std.specs.Option.{IfSome, IfNone}
 use Rattle.std.specs.List.Sorted.{IsPartitionedBy}
 use Rattle.babel_prefix.specs.Block.{Block}
 use Rattle.babel_prefix.specs.Covers.{BlockCovers}
-use Rattle.babel_prefix.specs.Best.{Row}
-use Rattle.babel_prefix.specs.BestRow.{IsNoLonger}
-use Rattle.babel_prefix.specs.Entries.{Entry, row_of}
 use Rattle.babel_prefix.proofs.Members.{Listed}
-use Rattle.babel_trie.specs.Rows.{IsPlace, InBlock, AreParted, NoneMatches, Overlays}
+use Rattle.babel_trie.specs.Rows.{IsPlace, InBlock, AreParted}
 use Rattle.babel_prefix.proofs.Members.{Listed-append_left}
 use Rattle.babel_trie.proofs.PlaceLaws.{place_high, block_rest, lower_first, some_bit, block_low, block_high, high_misses, low_misses, whole_covers}
-use Rattle.babel_trie.proofs.OverlayLaws.{overlays_left, overlays_right, overlays_then}
 
 -- a member of a mapped list comes from a member
 pub from_map : {P Q : Type 0} (f : P → Q) (xs : List P) (y : Q) → Listed (map f xs) y → (x : P) × Listed xs x × (f x ≡ y)
@@ -95,24 +90,6 @@ module _ {X : Type 0} (key : X → Block) where
     own_covers x t a a_in =
         let in_rows : Listed rows x = subst (λ r. Listed r x) (sym p.whole) (Listed-append_left own (low ++ high) x t) in
         whole_covers w bits start (key x) p.place (p.rows_in.from_start x in_rows) (p.rows_in.before_end x in_rows) (p.own_len x t) a a_in
-
-module _ {V : Type 0} where
-  -- the rows of the block, part by part
-  pub mapped_parts : (rows own low high : List (Entry V)) → rows ≡ own ++ (low ++ high) → map row_of rows ≡ map row_of own ++ (map row_of low ++ map row_of high)
-  mapped_parts rows own low high e = ap (map row_of) e ∙ map-append row_of own (low ++ high) ∙ ap (λ r. map row_of own ++ r) (map-append row_of low high)
-
-  -- at an address of the lower half the rows of the upper do nothing
-  pub overlays_low : (w : ℕ) (rows own low high : List (Row V)) (d s : ℕ) (old mid new : Option V) → rows ≡ own ++ (low ++ high) → NoneMatches w high d s →
-      ((x y : Row V) → Listed own x → Listed (low ++ high) y → IsNoLonger x y) → Overlays w own d s old mid → Overlays w low d s mid new → Overlays w rows d s old new
-  overlays_low w rows own low high d s old mid new whole never shorter first second =
-      subst (λ r. Overlays w r d s old new) (sym whole)
-      (overlays_then w own (low ++ high) d s old mid new (λ x y t u _ _. shorter x y t u) first (overlays_left w low high d s mid new never second))
-
-  pub overlays_high : (w : ℕ) (rows own low high : List (Row V)) (d s : ℕ) (old mid new : Option V) → rows ≡ own ++ (low ++ high) → NoneMatches w low d s →
-      ((x y : Row V) → Listed own x → Listed (low ++ high) y → IsNoLonger x y) → Overlays w own d s old mid → Overlays w high d s mid new → Overlays w rows d s old new
-  overlays_high w rows own low high d s old mid new whole never shorter first second =
-      subst (λ r. Overlays w r d s old new) (sym whole)
-      (overlays_then w own (low ++ high) d s old mid new (λ x y t u _ _. shorter x y t u) first (overlays_right w low high d s mid new never second))
 
 -- the first member
 pub first_listed : {X : Type 0} (xs : List X) (x : X) → slice_get xs 0 ≡ Some x → Listed xs x

@@ -12,6 +12,7 @@ ghost use Rattle.babel_trie.specs.Rows.{InOrder};
 ghost use Rattle.babel_trie.specs.Sound.{IsSound};
 
 use crate::difference::Tables;
+use crate::front::{Reaching, first_unshared};
 use crate::lawful::LawfulOrd;
 use crate::ordered::{in_order, sorted_copy};
 use crate::pass::{Pass, nearer_start};
@@ -65,7 +66,7 @@ fn reach_both<V: LawfulOrd, L: Rows<V>, R: Rows<V>>(
 
 /// The first destination that two lists of rows in order answer differently, and for it the first
 /// source. Both are passed over side by side, up to there.
-fn first_pair<V: LawfulOrd, L: Rows<V>, R: Rows<V>>(
+fn first_pair_passed<V: LawfulOrd, L: Rows<V>, R: Rows<V>>(
     alloc: Global,
     width: u8,
     left: L,
@@ -94,6 +95,37 @@ fn first_pair<V: LawfulOrd, L: Rows<V>, R: Rows<V>>(
         };
         at = start;
     }
+}
+
+/// The same, where what both lists begin with is passed over but for the rows that reach behind it.
+fn first_pair<V: LawfulOrd, L: Rows<V>, R: Rows<V>>(
+    alloc: Global,
+    width: u8,
+    left: L,
+    right: R,
+) -> Result<Option<(u128, u128)>, AllocError>
+    requires left_order { InOrder RowOrder (L.rows left) }
+    requires left_table { IsTable width (map row_of (L.rows left)) }
+    requires right_order { InOrder RowOrder (R.rows right) }
+    requires right_table { IsTable width (map row_of (R.rows right)) }
+    requires width { width ≤ 128 }
+    ensures { IfOk result (IsFirstPair (2 ^ width) (2 ^ width)
+        (answer width (map row_of (L.rows left))) (answer width (map row_of (R.rows right)))) }
+{
+    let Some(at) = first_unshared(left, right) else {
+        return Ok(None);
+    };
+    let reaching = Reaching {
+        rows: left,
+        width,
+        at,
+    };
+    let other_reaching = Reaching {
+        rows: right,
+        width,
+        at,
+    };
+    first_pair_passed(alloc, width, reaching, other_reaching)
 }
 
 /// The least pair of a destination and a source, by destination, then source, that two lists of

@@ -1,5 +1,5 @@
 //! The rows of a list of changes.
-ghost use Rattle.std.specs.Prelude.{◌≡◌, ◌+◌, ◌-◌, ◌*◌, ◌^◌, ◌<◌, ◌≤◌, ◌++◌, List, map, length, OnOk, OnErr, Option, None, true, false};
+ghost use Rattle.std.specs.Prelude.{◌≡◌, ◌+◌, ◌-◌, ◌*◌, ◌^◌, ◌%◌, ◌<◌, ◌≤◌, ◌++◌, List, map, length, OnOk, OnErr, Option, None, true, false};
 ghost use Rattle.babel_prefix.specs.Address.{block_of};
 ghost use Rattle.babel_prefix.specs.Covers.{IsAddressPrefix, IsBlock};
 ghost use Rattle.babel_prefix.specs.Entries.{Entry};
@@ -7,14 +7,14 @@ ghost use Rattle.babel_prefix.specs.Members.{Listed};
 ghost use Rattle.babel_prefix.specs.Width.{width_of};
 ghost use Rattle.babel_trie.specs.Cut.{block_from, largest_in};
 ghost use Rattle.babel_trie.specs.Held.{sources_at};
-ghost use Rattle.babel_trie.specs.Interned.{Stands, IsTrie, HasTrie};
-ghost use Rattle.babel_trie.specs.Nested.{HasRowsOf, entry_at, node_block, leaves, rows_at, rows_of};
+ghost use Rattle.babel_trie.specs.Interned.{Stands, Represents, IsTrie, HasTrie};
+ghost use Rattle.babel_trie.specs.Nested.{entry_at, node_block, leaves, rows_at, rows_of};
 ghost use Rattle.babel_trie.specs.Runs.{AreRuns, StartBelow};
-ghost use Rattle.babel_trie.specs.Shape.{Shape};
+ghost use Rattle.babel_trie.specs.Shape.{Shape, leaf};
 ghost use Rattle.babel_trie.specs.Sinks.{StopsAmong};
 ghost use Rattle.babel_trie.specs.Spans.{each_with, run_rows};
 ghost use Rattle.babel_trie.specs.declared.runs.Change.{Change};
-ghost use Rattle.babel_trie.specs.declared.table.Node.{Node};
+ghost use Rattle.babel_trie.specs.declared.table.Loose.TheVariants.{Split};
 ghost use Rattle.babel_trie.specs.declared.table.Sources.{Sources};
 ghost use Rattle.babel_trie.specs.declared.table.Sources.TheVariants.{Constant};
 
@@ -24,7 +24,7 @@ use crate::lawful::LawfulOrd;
 use crate::rows::Row;
 use crate::runs::Change;
 use crate::sink::Sink;
-use crate::table::{Loose, Sources, Table, bit_at, fork};
+use crate::table::{Loose, Node, Sources, Table, bit_at};
 use babel_prefix::{Addr, Family, Prefix};
 
 /// The place, shifted by this many bits.
@@ -88,73 +88,167 @@ fn answers_nothing<V: Copy>(sources: Sources<Option<V>>) -> bool
     }
 }
 
-/// A block that has all rows of this one, with its bits and its place: where nothing is answered
-/// beside a path, the block that the path leads to.
-fn block_with_rows<V: LawfulOrd>(
-    whole: Loose<Option<V>>,
+/// Whether nothing is answered beside the block of a node.
+fn has_nothing_beside<V: Copy>(node: &Node<Option<V>>) -> bool
+    ensures yes { result ≡ true → 0 < node.now.skip → node.now.outside ≡ Constant None }
+{
+    node.skip == 0 || answers_nothing(node.outside)
+}
+
+/// The bits that are left in the block of a node, and its place.
+fn block_of_node<V: Copy>(
+    node: &Node<Option<V>>,
     family: Family,
     bits: u8,
     place: u128,
-) -> (Loose<Option<V>>, u8, u128)
-    requires trie { (nodes : List (Node (Option V))) × IsTrie bits nodes whole }
+) -> (u8, u128)
+    requires skip { node.now.skip < bits }
     requires bits { bits ≤ width_of family }
     requires place { place < 2 ^ (width_of family - bits) }
-    ensures bits { result.1 ≤ bits }
-    ensures place { result.2 < 2 ^ (width_of family - result.1) }
-    ensures rows { (nodes : List (Node (Option V))) (t : Shape (Option V)) → Stands nodes whole t
-        → HasRowsOf (width_of family) bits place t nodes result.0 result.1 result.2 }
+    ensures bits { result.0 ≡ bits - node.now.skip }
+    ensures place { result.1 ≡ place * 2 ^ node.now.skip + node.now.path % 2 ^ node.now.skip }
+    ensures inside { result.1 < 2 ^ (width_of family - result.0) }
 {
-    let Loose::Split(node) = whole else {
-        return (whole, bits, place);
+    let first = shifted(place, node.skip, family);
+    (bits - node.skip, first + node.path % bit_at(node.skip))
+}
+
+/// Puts out the row of one destination prefix and the sources of a block, where something is
+/// answered there.
+fn push_constant<V: Copy, S: Sink<V>>(
+    constant: Option<V>,
+    family: Family,
+    dst: Prefix,
+    bits: u8,
+    place: u128,
+    out: &mut S,
+) -> Result<(), S::Error>
+    requires dst_family { dst.address.family ≡ family }
+    requires bits { bits ≤ width_of family }
+    requires place { place < 2 ^ (width_of family - bits) }
+    requires can { S.can_put out.old }
+    ensures can { OnOk result (S.can_put out.new) }
+    ensures ok { OnOk result ((t : Shape (Option V)) (start : S) (rows : List (Entry V))
+        → leaf constant ≡ t → S.has start out.old rows
+        → S.has start out.new (rows ++ map (entry_at family)
+        (rows_at (block_of dst) (leaves (width_of family) bits place t)))) }
+    ensures err { OnErr result ((t : Shape (Option V)) (start : S) (rows : List (Entry V))
+        → leaf constant ≡ t → S.has start out.old rows
+        → StopsAmong (S.stopped start out.new) rows (map (entry_at family)
+        (rows_at (block_of dst) (leaves (width_of family) bits place t)))) }
+{
+    let Some(value) = constant else {
+        return Ok(());
     };
-    if answers_nothing(node.outside) {
-        let block = Loose::Split(fork(node.low, node.high));
-        let left = bits - node.skip;
-        let first = shifted(place, node.skip, family);
-        return (block, left, first + node.path % bit_at(node.skip));
-    }
-    (Loose::Split(node), bits, place)
+    out.put((dst, node_prefix(family, bits, place), value))?;
+    Ok(())
 }
 
 impl<V: LawfulOrd> Table<Option<V>> {
     /// Puts out the rows of one destination prefix and the sources of a block, in order.
-    pub fn push_rows<S: Sink<V>>(
+    #[cycle(push_rows)]
+    fn push_sources<S: Sink<V>>(
         &self,
-        whole: Loose<Option<V>>,
+        sources: &Sources<Option<V>>,
         family: Family,
         dst: Prefix,
         bits: u8,
         place: u128,
         out: &mut S,
     ) -> Result<(), S::Error>
-        requires trie { IsTrie bits self.now.nodes.items whole }
+        requires trie { HasTrie bits self.now.nodes.items sources.now }
         requires dst_family { dst.address.family ≡ family }
         requires bits { bits ≤ width_of family }
         requires place { place < 2 ^ (width_of family - bits) }
         requires can { S.can_put out.old }
         ensures can { OnOk result (S.can_put out.new) }
         ensures ok { OnOk result ((t : Shape (Option V)) (start : S) (rows : List (Entry V))
-            → Stands self.now.nodes.items whole t → S.has start out.old rows
+            → Represents self.now.nodes.items sources.now t → S.has start out.old rows
             → S.has start out.new (rows ++ map (entry_at family)
             (rows_at (block_of dst) (leaves (width_of family) bits place t)))) }
         ensures err { OnErr result ((t : Shape (Option V)) (start : S) (rows : List (Entry V))
-            → Stands self.now.nodes.items whole t → S.has start out.old rows
+            → Represents self.now.nodes.items sources.now t → S.has start out.old rows
             → StopsAmong (S.stopped start out.new) rows (map (entry_at family)
             (rows_at (block_of dst) (leaves (width_of family) bits place t)))) }
     {
-        let (block, bits, place) = block_with_rows(whole, family, bits, place);
-        let Loose::Same(constant) = block else {
+        match sources {
+            Sources::Constant(constant) => push_constant(*constant, family, dst, bits, place, out),
+            Sources::Stored(number) => {
+                let node = &self.nodes()[number.index()];
+                self.push_node(node, family, dst, bits, place, out)
+            }
+        }
+    }
+
+    /// The same of the sources that a node stands for: where nothing is answered beside its block,
+    /// of the two halves of that.
+    #[cycle(push_rows)]
+    fn push_node<S: Sink<V>>(
+        &self,
+        node: &Node<Option<V>>,
+        family: Family,
+        dst: Prefix,
+        bits: u8,
+        place: u128,
+        out: &mut S,
+    ) -> Result<(), S::Error>
+        requires trie { IsTrie bits self.now.nodes.items (Split node.now) }
+        requires dst_family { dst.address.family ≡ family }
+        requires bits { bits ≤ width_of family }
+        requires place { place < 2 ^ (width_of family - bits) }
+        requires can { S.can_put out.old }
+        ensures can { OnOk result (S.can_put out.new) }
+        ensures ok { OnOk result ((t : Shape (Option V)) (start : S) (rows : List (Entry V))
+            → Stands self.now.nodes.items (Split node.now) t → S.has start out.old rows
+            → S.has start out.new (rows ++ map (entry_at family)
+            (rows_at (block_of dst) (leaves (width_of family) bits place t)))) }
+        ensures err { OnErr result ((t : Shape (Option V)) (start : S) (rows : List (Entry V))
+            → Stands self.now.nodes.items (Split node.now) t → S.has start out.old rows
+            → StopsAmong (S.stopped start out.new) rows (map (entry_at family)
+            (rows_at (block_of dst) (leaves (width_of family) bits place t)))) }
+    {
+        if has_nothing_beside(node) {
+            let (bits, place) = block_of_node(node, family, bits, place);
             let (low_place, high_place) = places(family, bits, place);
-            let (low, high) = self.halves(block);
-            self.push_rows(low, family, dst, bits - 1, low_place, out)?;
-            self.push_rows(high, family, dst, bits - 1, high_place, out)?;
-            return Ok(());
-        };
-        let Some(value) = constant else {
-            return Ok(());
-        };
-        out.put((dst, node_prefix(family, bits, place), value))?;
-        Ok(())
+            self.push_sources(&node.low, family, dst, bits - 1, low_place, out)?;
+            return self.push_sources(&node.high, family, dst, bits - 1, high_place, out);
+        }
+        let (low, high) = self.halves(Loose::Split(*node));
+        let (low_place, high_place) = places(family, bits, place);
+        self.push_rows(&low, family, dst, bits - 1, low_place, out)?;
+        self.push_rows(&high, family, dst, bits - 1, high_place, out)
+    }
+
+    /// The same of sources that are not stored.
+    #[cycle(push_rows)]
+    pub fn push_rows<S: Sink<V>>(
+        &self,
+        whole: &Loose<Option<V>>,
+        family: Family,
+        dst: Prefix,
+        bits: u8,
+        place: u128,
+        out: &mut S,
+    ) -> Result<(), S::Error>
+        requires trie { IsTrie bits self.now.nodes.items whole.now }
+        requires dst_family { dst.address.family ≡ family }
+        requires bits { bits ≤ width_of family }
+        requires place { place < 2 ^ (width_of family - bits) }
+        requires can { S.can_put out.old }
+        ensures can { OnOk result (S.can_put out.new) }
+        ensures ok { OnOk result ((t : Shape (Option V)) (start : S) (rows : List (Entry V))
+            → Stands self.now.nodes.items whole.now t → S.has start out.old rows
+            → S.has start out.new (rows ++ map (entry_at family)
+            (rows_at (block_of dst) (leaves (width_of family) bits place t)))) }
+        ensures err { OnErr result ((t : Shape (Option V)) (start : S) (rows : List (Entry V))
+            → Stands self.now.nodes.items whole.now t → S.has start out.old rows
+            → StopsAmong (S.stopped start out.new) rows (map (entry_at family)
+            (rows_at (block_of dst) (leaves (width_of family) bits place t)))) }
+    {
+        match whole {
+            Loose::Same(constant) => push_constant(*constant, family, dst, bits, place, out),
+            Loose::Split(node) => self.push_node(node, family, dst, bits, place, out),
+        }
     }
 
     /// Puts out the rows of one destination prefix and any source, in order: one row where one value
@@ -180,7 +274,7 @@ impl<V: LawfulOrd> Table<Option<V>> {
             (rows_at (block_of dst) (leaves (width_of family) (width_of family) 0 t)))) }
     {
         let Loose::Same(constant) = whole else {
-            return self.push_rows(whole, family, dst, family.width(), 0, out);
+            return self.push_rows(&whole, family, dst, family.width(), 0, out);
         };
         let Some(value) = constant else {
             return Ok(());

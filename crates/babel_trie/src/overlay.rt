@@ -1,15 +1,16 @@
 //! The rows of one destination, laid over a trie of sources.
-ghost use Rattle.std.specs.Prelude.{◌≡◌, ◌+◌, ◌-◌, ◌^◌, ◌<◌, ◌≤◌, ◌∷◌, List, [], map, length, IfOk, IfSome, OnOk, Option};
+ghost use Rattle.std.specs.Prelude.{◌≡◌, ℕ, ◌+◌, ◌-◌, ◌^◌, ◌<◌, ◌≤◌, ◌∷◌, ◌++◌, List, [], map, length, IfOk, IfSome, OnOk, Option};
 ghost use Rattle.babel_trie.specs.Shape.{Shape};
 ghost use Rattle.babel_trie.specs.Interned.{Stands, IsNormalLoose, IsTrie, Represents, HasTrie};
 ghost use Rattle.babel_trie.specs.Laid.{HasOneDestination, IsSet, IsLaid, IsOverlaid};
 ghost use Rattle.babel_prefix.specs.Entries.{Entry, row_of};
-ghost use Rattle.babel_trie.specs.Rows.{source_block, InBlock, IsPlace};
+ghost use Rattle.babel_trie.specs.Inner.{IsInner, IsInside};
+ghost use Rattle.babel_trie.specs.Rows.{source_block, AreParted, InBlock, IsPlace};
 ghost use Rattle.babel_trie.specs.Sound.{IsSound, KeepsNodes};
 ghost use Rattle.babel_trie.specs.declared.table.Node.{Node};
 
 use crate::lawful::LawfulOrd;
-use crate::rows::{Row, inner_block, parts};
+use crate::rows::{Halves, Inner, Row, inner_block, parts};
 use crate::table::{Loose, Sources, Table, alone};
 use std::alloc::AllocError;
 
@@ -33,6 +34,62 @@ fn only_value<V: Copy>(rows: &[Row<V>], len: u8) -> Option<V>
     match rows {
         [row] if row.1.len() == len => Some(row.2),
         _ => None,
+    }
+}
+
+/// A block inside another, the trie there, and the one value beside it.
+#[derive(Clone, Copy)]
+struct Narrowed<V> {
+    block: Inner,
+    trie: Loose<V>,
+    beside: V,
+}
+
+/// The smallest block that all rows lie in and the bits before the trie's block lead to, if it is
+/// not the whole block and one value is beside it.
+fn narrow<V: LawfulOrd>(
+    rows: &[Row<V>],
+    width: u8,
+    bits: u8,
+    start: u128,
+    trie: &Loose<Option<V>>,
+) -> Option<Narrowed<Option<V>>>
+    requires place { IsPlace width bits start }
+    requires rows { InBlock source_block width bits start rows.now }
+    requires width { width ≤ 128 }
+    requires trie { (nodes : List (Node (Option V))) × IsTrie bits nodes trie.now }
+    ensures inner { IfSome result (λ r. IsInner source_block width bits start rows.now
+        r.block.bits r.block.start r.block.path) }
+    ensures normal { IfSome result (λ r. (nodes : List (Node (Option V)))
+        → IsNormalLoose nodes trie.now → IsNormalLoose nodes r.trie) }
+    ensures inside { IfSome result (λ r. (nodes : List (Node (Option V))) (t : Shape (Option V))
+        → IsNormalLoose nodes trie.now → Stands nodes trie.now t
+        → IsInside nodes r.trie (bits - r.block.bits) r.block.path r.beside t) }
+{
+    match trie {
+        Loose::Same(value) => {
+            let block = inner_block(rows, width, bits, start)?;
+            Some(Narrowed {
+                block,
+                trie: *trie,
+                beside: *value,
+            })
+        }
+        Loose::Split(node) => {
+            let Sources::Constant(beside) = node.outside else {
+                return None;
+            };
+            if node.skip == 0 {
+                return None;
+            }
+            let inner = inner_block(rows, width, bits, start)?;
+            let block = inner.shared(bits, start, node.skip, node.path)?;
+            Some(Narrowed {
+                block,
+                trie: Loose::Split(node.past(bits - block.bits)),
+                beside,
+            })
+        }
     }
 }
 
@@ -69,8 +126,83 @@ impl<V: LawfulOrd> Table<Option<V>> {
         self.lay(rows, width, bits, start, trie)
     }
 
-    /// Lays rows of one destination over the trie of a block. Over one value a row alone is what the
-    /// bits to its sources lead to.
+    /// Lays the rows of both halves of a block over its trie.
+    #[cycle(lay)]
+    fn lay_halves(
+        &mut self,
+        rows: &Halves<'_, V>,
+        width: u8,
+        bits: u8,
+        start: u128,
+        trie: &mut Loose<Option<V>>,
+    ) -> Result<(), AllocError>
+        requires sound { IsSound ⟦<Sources<Option<V>> as Ord>⟧.cmp
+            ⟦<Sources<Option<V>> as LawfulOrd>⟧.mark self.old.nodes.items self.old.numbers }
+        requires trie { IsTrie bits self.old.nodes.items trie.old }
+        requires normal { IsNormalLoose self.old.nodes.items trie.old }
+        requires middle { rows.now.middle ≡ start + 2 ^ (bits - 1) }
+        requires rows { AreParted source_block width bits start (rows.now.low.now
+            ++ rows.now.high.now) [] rows.now.low.now rows.now.high.now }
+        requires one { HasOneDestination (rows.now.low.now ++ rows.now.high.now) }
+        requires width { width ≤ 128 }
+        ensures sound { OnOk result (IsSound ⟦<Sources<Option<V>> as Ord>⟧.cmp
+            ⟦<Sources<Option<V>> as LawfulOrd>⟧.mark self.new.nodes.items self.new.numbers) }
+        ensures keeps { OnOk result (KeepsNodes self.old.nodes.items self.new.nodes.items) }
+        ensures normal { OnOk result (IsNormalLoose self.new.nodes.items trie.new) }
+        ensures laid { OnOk result ((t : Shape (Option V))
+            → Stands self.old.nodes.items trie.old t
+            → IsLaid width bits start (map row_of (rows.now.low.now ++ rows.now.high.now))
+            self.new.nodes.items trie.new t) }
+    {
+        let (mut low, mut high) = self.halves(*trie);
+        self.lay_half(rows.low, width, bits - 1, start, &mut low)?;
+        self.lay_half(rows.high, width, bits - 1, rows.middle, &mut high)?;
+        *trie = self.joined(&low, &high)?;
+        Ok(())
+    }
+
+    /// What rows make of the trie of a block around the block that they lie in. A row alone is what
+    /// the bits to its sources lead to.
+    #[cycle(lay)]
+    fn laid_inside(
+        &mut self,
+        rows: &[Row<V>],
+        width: u8,
+        bits: u8,
+        narrowed: &Narrowed<Option<V>>,
+    ) -> Result<Loose<Option<V>>, AllocError>
+        requires sound { IsSound ⟦<Sources<Option<V>> as Ord>⟧.cmp
+            ⟦<Sources<Option<V>> as LawfulOrd>⟧.mark self.old.nodes.items self.old.numbers }
+        requires inner { (start : ℕ) × IsInner source_block width bits start rows.now
+            narrowed.now.block.bits narrowed.now.block.start narrowed.now.block.path }
+        requires trie { IsTrie narrowed.now.block.bits self.old.nodes.items narrowed.now.trie }
+        requires normal { IsNormalLoose self.old.nodes.items narrowed.now.trie }
+        requires one { HasOneDestination rows.now }
+        requires width { width ≤ 128 }
+        requires bits { bits ≤ width }
+        ensures sound { OnOk result (IsSound ⟦<Sources<Option<V>> as Ord>⟧.cmp
+            ⟦<Sources<Option<V>> as LawfulOrd>⟧.mark self.new.nodes.items self.new.numbers) }
+        ensures keeps { OnOk result (KeepsNodes self.old.nodes.items self.new.nodes.items) }
+        ensures normal { IfOk result (IsNormalLoose self.new.nodes.items) }
+        ensures laid { IfOk result (λ x. (start : ℕ) (t : Shape (Option V))
+            → IsInner source_block width bits start rows.now narrowed.now.block.bits
+            narrowed.now.block.start narrowed.now.block.path
+            → IsInside self.old.nodes.items narrowed.now.trie (bits - narrowed.now.block.bits)
+            narrowed.now.block.path narrowed.now.beside t
+            → IsLaid width bits start (map row_of rows.now) self.new.nodes.items x t) }
+    {
+        let block = narrowed.block;
+        let skip = bits - block.bits;
+        if let Some(only) = only_value(rows, width - block.bits) {
+            return Ok(alone(Some(only), narrowed.beside, skip, block.path));
+        }
+        let mut inside = narrowed.trie;
+        self.lay(rows, width, block.bits, block.start, &mut inside)?;
+        let laid = self.along(&inside, narrowed.beside, skip, block.path)?;
+        Ok(laid)
+    }
+
+    /// Lays rows of one destination over the trie of a block.
     #[cycle(lay)]
     fn lay(
         &mut self,
@@ -96,16 +228,9 @@ impl<V: LawfulOrd> Table<Option<V>> {
             → Stands self.old.nodes.items trie.old t
             → IsLaid width bits start (map row_of rows.now) self.new.nodes.items trie.new t) }
     {
-        if let Some(value) = trie.value() {
-            if let Some(inner) = inner_block(rows, width, bits, start) {
-                if let Some(only) = only_value(rows, width - inner.bits) {
-                    *trie = alone(Some(only), value, bits - inner.bits, inner.path);
-                    return Ok(());
-                }
-                self.lay(rows, width, inner.bits, inner.start, trie)?;
-                *trie = self.along(trie, value, bits - inner.bits, inner.path)?;
-                return Ok(());
-            }
+        if let Some(narrowed) = narrow(rows, width, bits, start, trie) {
+            *trie = self.laid_inside(rows, width, bits, &narrowed)?;
+            return Ok(());
         }
         let (own, rest) = parts(rows, width, bits, start);
         set(own, trie);
@@ -119,10 +244,7 @@ impl<V: LawfulOrd> Table<Option<V>> {
                 return Ok(());
             }
         }
-        let (mut low, mut high) = self.halves(*trie);
-        self.lay_half(rest.low, width, bits - 1, start, &mut low)?;
-        self.lay_half(rest.high, width, bits - 1, rest.middle, &mut high)?;
-        *trie = self.joined(&low, &high)?;
+        self.lay_halves(&rest, width, bits, start, trie)?;
         Ok(())
     }
 

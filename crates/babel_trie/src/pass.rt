@@ -109,7 +109,7 @@ fn last_start<F: Copy>(ahead: &[Change<F>]) -> Option<u128>
 }
 
 /// Where the destination of the first of rows in order starts.
-fn first_start<V: Copy, R: Rows<V>>(split: Option<(Row<V>, R)>) -> Option<u128>
+pub fn first_start<V: Copy, R: Rows<V>>(split: Option<(Row<V>, R)>) -> Option<u128>
     requires { InOrder RowOrder (rows_of_split R.rows split) }
     ensures first { (at : ℕ) → ((row : Entry V) → Listed (rows_of_split R.rows split) row
         → at < (block_of row.0).start) ↔ IfSome result (λ start. at < start) }

@@ -5,6 +5,7 @@ ghost use Rattle.babel_prefix.specs.BestRow.{HasPrefixes};
 ghost use Rattle.babel_prefix.specs.Entries.{Entry};
 ghost use Rattle.babel_prefix.specs.Members.{Listed};
 ghost use Rattle.babel_trie.specs.Held.{RowOrder, row_place};
+ghost use Rattle.babel_trie.specs.Inner.{IsInner};
 ghost use Rattle.babel_trie.specs.Rows.{InOrder, InBlock, IsPlace, IsOnlyHalf, AreParted, source_block};
 
 use crate::cut::split;
@@ -250,17 +251,50 @@ pub struct Inner {
     pub path: u128,
 }
 
+impl Inner {
+    /// The block around this one that the bits lead to which its path and another one share, if
+    /// they share some.
+    pub fn shared(self, bits: u8, start: u128, skip: u8, path: u128) -> Option<Inner>
+        requires some { 0 < skip }
+        requires skip { skip ≤ 128 }
+        requires bits { bits ≤ 128 }
+        requires smaller { self.bits < bits }
+        requires path_in { self.path < 2 ^ (bits - self.bits) }
+        requires room { start + 2 ^ bits ≤ 2 ^ 128 }
+        ensures around { IfSome result (λ r. self.bits ≤ r.bits) }
+        ensures smaller { IfSome result (λ r. r.bits < bits) }
+        ensures few { IfSome result (λ r. bits - r.bits ≤ skip) }
+        ensures own { IfSome result (λ r. r.path ≡ self.path / 2 ^ (r.bits - self.bits)) }
+        ensures other { IfSome result (λ r. r.path ≡ path / 2 ^ (skip - (bits - r.bits))) }
+        ensures start { IfSome result (λ r. r.start ≡ start + r.path * 2 ^ r.bits) }
+    {
+        let len = bits - self.bits;
+        let least = len.min(skip);
+        let own = self.path >> (len - least);
+        let other = path >> (skip - least);
+        let differing = common_bits(own.min(other), own.max(other));
+        let shared = least.checked_sub(differing)?;
+        if shared == 0 {
+            return None;
+        }
+        let bits = bits - shared;
+        let path = own >> differing;
+        Some(Inner {
+            bits,
+            start: start + (path << bits),
+            path,
+        })
+    }
+}
+
 /// The smallest block that all rows of a block lie in, if there are rows and it is not the whole
 /// block.
 pub fn inner_block<V>(rows: &[Row<V>], width: u8, bits: u8, start: u128) -> Option<Inner>
     requires place { IsPlace width bits start }
     requires rows { InBlock source_block width bits start rows.now }
     requires width { width ≤ 128 }
-    ensures smaller { IfSome result (λ r. r.bits < bits) }
-    ensures path { IfSome result (λ r. r.path < 2 ^ (bits - r.bits)) }
-    ensures start { IfSome result (λ r. r.start ≡ start + r.path * 2 ^ r.bits) }
-    ensures place { IfSome result (λ r. IsPlace width r.bits r.start) }
-    ensures rows { IfSome result (λ r. InBlock source_block width r.bits r.start rows.now) }
+    ensures { IfSome result (λ r. IsInner source_block width bits start rows.now
+        r.bits r.start r.path) }
 {
     let first = &rows.first()?.1;
     let from = first.addr().bits();

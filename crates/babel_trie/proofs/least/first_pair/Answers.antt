@@ -1,91 +1,40 @@
--- Up to the next change of either both passes have come to one thing each.
-use Rattle.std.proofs.Common.{ℕ, ◌^◌, ◌<◌, Option, refl, sym, subst, arith}
-use Rattle.std.proofs.lemmas.Nat.{pow_pos}
-use Rattle.std.specs.Option.{IfSome}
-use Rattle.babel_trie.specs.Pass.{ahead_of, rows_left}
-use Rattle.babel_trie.specs.declared.table.Sources.TheVariants.{Constant, Stored}
-use Rattle.babel_trie.proofs.NodeLaws.{sound_by}
-use Rattle.babel_trie.proofs.PairLaws.{come, rows_from, agree-more, differ-here}
+-- What both lists begin with tells them apart nowhere.
+use Rattle.std.proofs.Common.{◌^◌, Result, Ok, Err, map, filter}
+use Rattle.std.specs.Result.{IfOk}
+use Rattle.babel_prefix.specs.Best.{answer}
+use Rattle.babel_prefix.specs.Entries.{row_of}
+use Rattle.babel_trie.specs.Front.{reaches, ShareFront}
+use Rattle.babel_trie.specs.Held.{RowOrder}
+use Rattle.babel_trie.proofs.FrontLaws.{filter-in_order, filter-table, first_pair-by, front-same}
+use Rattle.babel_trie.proofs.PartLaws.{some_holds}
 use Rattle.babel_trie.proofs.least.first_pair.Goals as goal
 
-pub loop-other-init : goal.loop-other-init
-loop-other-init g c =
+if_ok_by : {T E : Type 0} (P Q : T → Type 0) → ((x : T) → P x → Q x) → (r : Result T E) → IfOk r P → IfOk r Q
+if_ok_by P Q by (Ok x) p = by x p
+if_ok_by P Q by (Err e) p = tt
+
+pub first_pair_passed-requires-clause-left_order : goal.first_pair_passed-requires-clause-left_order
+first_pair_passed-requires-clause-left_order g c = filter-in_order RowOrder (reaches c.args.width c.in-Some.at) (g.L.Rows.rows c.args.left) c.requires.left_order
+
+pub first_pair_passed-requires-clause-left_table : goal.first_pair_passed-requires-clause-left_table
+first_pair_passed-requires-clause-left_table g c = filter-table c.args.width (reaches c.args.width c.in-Some.at) (g.L.Rows.rows c.args.left) c.requires.left_table
+
+pub first_pair_passed-requires-clause-right_order : goal.first_pair_passed-requires-clause-right_order
+first_pair_passed-requires-clause-right_order g c = filter-in_order RowOrder (reaches c.args.width c.in-Some.at) (g.R.Rows.rows c.args.right) c.requires.right_order
+
+pub first_pair_passed-requires-clause-right_table : goal.first_pair_passed-requires-clause-right_table
+first_pair_passed-requires-clause-right_table g c = filter-table c.args.width (reaches c.args.width c.in-Some.at) (g.R.Rows.rows c.args.right) c.requires.right_table
+
+pub returns : goal.returns
+returns g c =
     let w = c.args.width in
-    let table = c.new-table.result in
-    record {
-      sound = sound_by table.nodes.items table.numbers (elim [ Constant v ↦ elim [ Constant u ↦ refl | Stored m ↦ refl ] | Stored k ↦ elim [ Constant v ↦ refl | Stored m ↦ refl ] ]) c.new-table.ensures.sound;
-      pass = c.new-pass.ensures.pass w table.nodes.items c.requires.left_order c.requires.left_table;
-      other = c.new-other.ensures.pass w table.nodes.items c.requires.right_order c.requires.right_table;
-      reached = omega (arith, c.new-pass.ensures.start);
-      other_reached = omega (arith, c.new-other.ensures.start);
-      rows = λ row t. omega arith;
-      other_rows = λ row t. omega arith;
-      within = pow_pos w;
-      below = λ d lt. absurd (omega arith);
-    }
-
-pub reach_both-requires-clause-sound : goal.reach_both-requires-clause-sound
-reach_both-requires-clause-sound g c =
-    sound_by c.loop-other.table.nodes.items c.loop-other.table.numbers (elim [ Constant v ↦ elim [ Constant u ↦ refl | Stored m ↦ refl ] | Stored k ↦ elim [ Constant v ↦ refl | Stored m ↦ refl ] ]) c.loop-other.invariant.sound
-
-pub first_difference-requires-clause-trie : goal.first_difference-requires-clause-trie
-first_difference-requires-clause-trie g c =
-    let i = c.loop-other.invariant in
-    let at = c.loop-other.at in
-    let reach = c.in_ok-next.ensures in
-    (come (reach.pass _ i.pass) at reach.reached i.within ((reach.next at).0 reach.behind).0 c.sources-here.result c.sources-here.ensures).held
-
-pub first_difference-requires-clause-other_trie : goal.first_difference-requires-clause-other_trie
-first_difference-requires-clause-other_trie g c =
-    let i = c.loop-other.invariant in
-    let at = c.loop-other.at in
-    let reach = c.in_ok-next.ensures in
-    (come (reach.other _ i.other) at reach.other_reached i.within ((reach.next at).0 reach.behind).1 c.sources-there.result c.sources-there.ensures).held
-
-pub returns-in-Some : goal.returns-in-Some
-returns-in-Some g c =
-    let i = c.loop-other.invariant in
-    let at = c.loop-other.at in
-    let reach = c.in_ok-next.ensures in
-    let quiet = (reach.next at).0 reach.behind in
-    let l = come (reach.pass _ i.pass) at reach.reached i.within quiet.0 c.sources-here.result c.sources-here.ensures in
-    let r = come (reach.other _ i.other) at reach.other_reached i.within quiet.1 c.sources-there.result c.sources-there.ensures in
-    differ-here l r i.below i.within c.in-Some.src (c.in-Some.ensures l.held.trie r.held.trie l.held.stands r.held.stands)
-
-pub returns-in_default-next : goal.returns-in_default-next
-returns-in_default-next g c =
-    let i = c.loop-other.invariant in
-    let at = c.loop-other.at in
-    let reach = c.in_ok-next.ensures in
-    let quiet = (reach.next at).0 reach.behind in
-    let l = come (reach.pass _ i.pass) at reach.reached i.within quiet.0 c.sources-here.result c.sources-here.ensures in
-    let r = come (reach.other _ i.other) at reach.other_reached i.within quiet.1 c.sources-there.result c.sources-there.ensures in
-    agree-more l r i.below (2 ^ c.args.width) (omega arith) (λ d lt. (reach.next d).0 (subst (λ (o : Option ℕ). IfSome o (λ start. d < start)) (sym c.in_default-next.is) tt))
-    (c.in_default.ensures l.held.trie r.held.trie l.held.stands r.held.stands)
-
-pub loop-other-preserved : goal.loop-other-preserved
-loop-other-preserved g c =
-    let i = c.loop-other.invariant in
-    let at = c.loop-other.at in
-    let reach = c.in_ok-next.ensures in
-    let pass = c.reach_both.new.pass in
-    let other = c.reach_both.new.other in
-    let table = c.reach_both.new.table in
-    let quiet = (reach.next at).0 reach.behind in
-    let l = come (reach.pass _ i.pass) at reach.reached i.within quiet.0 c.sources-here.result c.sources-here.ensures in
-    let r = come (reach.other _ i.other) at reach.other_reached i.within quiet.1 c.sources-there.result c.sources-there.ensures in
-    let start = c.in-Some-next.start in
-    let near = λ (d : ℕ) (lt : d < start). (reach.next d).0 (subst (λ (o : Option ℕ). IfSome o (λ next. d < next)) (sym c.in-Some-next.is) lt) in
-    let behind : at < start = subst (λ (o : Option ℕ). IfSome o (λ next. at < next)) c.in-Some-next.is reach.behind in
-    let within : start < 2 ^ c.args.width = subst (λ (o : Option ℕ). IfSome o (λ next. next < 2 ^ c.args.width)) c.in-Some-next.is reach.within in
-    record {
-      sound = sound_by table.nodes.items table.numbers (elim [ Constant v ↦ elim [ Constant u ↦ refl | Stored m ↦ refl ] | Stored k ↦ elim [ Constant v ↦ refl | Stored m ↦ refl ] ]) reach.sound;
-      pass = reach.pass _ i.pass;
-      other = reach.other _ i.other;
-      reached = omega (arith, reach.reached);
-      other_reached = omega (arith, reach.other_reached);
-      rows = rows_from (ahead_of pass) (rows_left g.L.Rows.rows pass) start (λ d lt. (near d lt).0);
-      other_rows = rows_from (ahead_of other) (rows_left g.R.Rows.rows other) start (λ d lt. (near d lt).1);
-      within = within;
-      below = agree-more l r i.below start (omega arith) near (c.in_default.ensures l.held.trie r.held.trie l.held.stands r.held.stands);
-    }
+    let at = c.in-Some.at in
+    let left = g.L.Rows.rows c.args.left in
+    let right = g.R.Rows.rows c.args.right in
+    let p = reaches w at in
+    let shared = some_holds (ShareFront left right) c.first_unshared.ensures.some c.in-Some.is in
+    let f = answer w (map row_of left) in
+    let g' = answer w (map row_of right) in
+    let f' = answer w (map row_of (filter p left)) in
+    let g'' = answer w (map row_of (filter p right)) in
+    if_ok_by _ _ (first_pair-by (2 ^ w) (2 ^ w) f g' f' g'' (λ d s _ _. front-same w at left right c.requires.left_table c.requires.right_table shared d s)) c.first_pair_passed.result c.first_pair_passed.ensures

@@ -8,7 +8,7 @@ use Rattle.babel_trie.specs.Marks.{option_mark, sources_mark}
 use Rattle.babel_trie.specs.Pass.{IsPassOver, StartRowsFrom, rows_left}
 use Rattle.babel_trie.specs.Sound.{IsSound}
 use Rattle.babel_trie.proofs.NodeLaws.{sources_cmp}
-use Rattle.babel_trie.proofs.least.first_pair.Given as goal
+use Rattle.babel_trie.proofs.least.first_pair_passed.Given as goal
 
 abbrev pub invariant-loop-other : goal.invariant-loop-other
 invariant-loop-other g l = record {
