@@ -192,25 +192,33 @@ def write_sources(path, rng):
     dump.close()
 
 
+def write_routes(path, routes):
+    dump = Dump(path)
+    for route in routes:
+        dump.put(*route)
+    dump.close()
+
+
 def write_with_other(folder, name, routes):
     """The routes; and the same with one other metric at the last."""
-    for path, other in ((f"{name}.dump", 0), (f"{name}-other.dump", 1)):
-        dump = Dump(folder / path)
-        for place, (family, bits, length, (router_id, seqno, metric), source) in enumerate(routes, 1):
-            metric += other if place == len(routes) else 0
-            dump.put(family, bits, length, (router_id, seqno, metric), source)
-        dump.close()
+    *before, (family, bits, length, (router_id, seqno, metric), source) = routes
+    write_routes(folder / f"{name}.dump", routes)
+    write_routes(folder / f"{name}-other.dump", [*before, (family, bits, length, (router_id, seqno, metric + 1), source)])
 
 
 def write_shared(folder, name, rng, count):
     """So many sources of all destinations, and nearly as many destinations that each have one of them otherwise. Nearly all
-    that the destinations answer is shared by all of them."""
+    that the destinations answer is shared by all of them. Split, the dump answers the same, but its rows are others from the
+    first on: one source has a route for each half of the destinations in place of one for all."""
     sources = disjoint(rng, 4, 100 << 24, {24: 1}, count, 1 << 8)
     destinations = disjoint(rng, 4, 1 << 24, {24: 1}, count - 1, 1 << 8)
     anns = announcements(rng, 20)
     routes = [(4, 0, 0, rng.choice(anns), source) for source in sources]
     routes += [(4, *destination, rng.choice(anns), source) for destination, source in zip(destinations, sources)]
     write_with_other(folder, name, routes)
+    (family, _, _, *rest), *others = routes
+    halves = [(family, half, 1, *rest) for half in (0, 1 << 31)]
+    write_routes(folder / f"{name}-split.dump", halves + others)
 
 
 def hosts(rng, family, count):

@@ -37,6 +37,8 @@ COMPARED = (
     ("sources", "sources"),
     ("shared", "shared-other"),
     ("shared-131k", "shared-131k-other"),
+    ("shared-split", "shared-other"),
+    ("shared-131k-split", "shared-131k-other"),
     ("hosts-ipv6", "hosts-ipv6"),
     ("hosts-from-hosts", "hosts-from-hosts-other"),
     ("deep", "deep-other"),

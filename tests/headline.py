@@ -1,5 +1,6 @@
 #!/usr/bin/env python3
-"""The definitions of the headline, in reading order. Run by itself, this prints them on one page."""
+"""The definitions of the headline, in reading order. Run by itself, this prints them on one page, with what
+docs/PROMISES.md says of how they are read, and of the clauses that they stand for."""
 
 import re
 from itertools import takewhile
@@ -63,9 +64,10 @@ def reading_list():
     return length, rows
 
 
-def variants():
-    """The paragraph of docs/PROMISES.md on the variants that these name."""
-    return re.search(r"`TlvAt` has an offset.*?\n\n", (TOP / "docs/PROMISES.md").read_text(), re.DOTALL)[0]
+def promised(begin, end):
+    """What docs/PROMISES.md has from some words up to others."""
+    text = (TOP / "docs/PROMISES.md").read_text()
+    return text[(start := text.index(begin)) : text.index(end, start)].strip()
 
 
 def head(file):
@@ -76,12 +78,15 @@ def head(file):
 
 
 def page():
-    """The definitions, behind the variants that they name; each file's behind what it is for."""
-    yield "\n".join(f"-- {line}" for line in variants().splitlines() if line)
+    """How definitions are read, and the variants that they name; the definitions, those of each file behind what it is for;
+    and the clauses."""
+    yield promised("### How a definition is read", "Not needed for the headline:")
+    yield promised("`TlvAt` has an offset", "The clauses of `normalise(")
     for file, definitions in path().items():
         yield f"-- ==== {' '.join(file)}"
         yield head(file)
         yield from definitions.values()
+    yield promised("The clauses of `normalise(", "### The headline over tables")
 
 
 if __name__ == "__main__":
