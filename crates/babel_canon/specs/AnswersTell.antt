@@ -1,6 +1,4 @@
--- The headline, by what dumps answer: this project's own. In `normalise`, `Made one octets` holds
--- of the octets that it answers for the dump `one` (*ok*), and `Refused one fault` of its faults
--- (*err*).
+-- The headline, by what dumps answer: this project's own.
 use Rattle.std.specs.Prelude.{◌≡◌, ◌↔◌, ℕ, List}
 use Rattle.babel_prefix.specs.Address.{Address}
 use Rattle.babel_tlv.specs.declared.fault.Fault.{Fault}
@@ -9,8 +7,9 @@ use Rattle.babel_tlv.specs.declared.mode.Mode.{Mode}
 use Rattle.babel_canon.specs.Headline.{Sent, sent}
 use Rattle.babel_canon.specs.DumpAnswers.{IsSettled, AnswerAlike}
 
--- What octets tell that were made of a dump, by `normalise`: it answers octets that are `Made` of
--- the dump (*ok*), or a fault that it is `Refused` with (*err*):
+-- What octets tell that `normalise` made of the dump `one`. `Made` holds of each dump and the octets
+-- that it answers for it (*ok*), and `Refused` of each dump and the fault that it answers in their
+-- place (*err*); more of them is not needed:
 -- * the dump has one answer for each two addresses;
 -- * octets made of any other dump are the same exactly where both dumps answer alike;
 -- * read with any sender, the octets answer as the dump does, what is made of them is themselves

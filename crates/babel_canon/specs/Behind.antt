@@ -1,5 +1,4 @@
--- The parser state behind each TLV of a packet, without reasons: RFC 8966, 4.5, 4.6.7 to 4.6.9.
--- (Forming has the same with them, and Context by looking back.)
+-- The parser state behind each TLV of a packet: RFC 8966, 4.5, 4.6.7 to 4.6.9.
 use Rattle.std.specs.Prelude.{ℕ, ◌+◌, Bool, ◌&&◌, ◌||◌, ◌==◌, nat_le, if◌then◌else◌}
 use Rattle.std.specs.Prelude.{List, ◌++◌, length, take, drop, slice_index, Option, Some, None}
 use Rattle.std.specs.Prelude.{is_some}
@@ -39,8 +38,8 @@ is_update tlv = tlv.kind == 8 && nat_le 10 (length tlv.body)
 -- RFC 8966, 4.5, 4.6.9: the prefix that an Update of a family forms: its omitted octets, which are
 -- those of the default prefix, then those of the field, then zeros. It forms one if there is a
 -- default prefix, where octets are omitted, and (this project's own) if neither Plen nor Omitted is
--- more than an address has, and the field is whole. More may be omitted than Plen needs; the bits
--- past Plen are zeros then, too (this project's own).
+-- more than an address has, and the field is whole. More may be omitted than Plen needs (this
+-- project's own): with Plen 8 and Omitted 2 the field is empty, and the second octet is cleared.
 abbrev pub prefix_in : Family → Option Address → List ℕ → Option AddressPrefix
 prefix_in family default body =
     if nat_le (prefix_len body) (width_of family) && nat_le (omitted body) (octet_count family)
@@ -69,8 +68,9 @@ behind_next_hop state None = state
 behind_next_hop state (Some hop) = record state { next_hop = set_in hop state.next_hop }
 
 -- RFC 8966, 4.6.9: an Update that forms a prefix sets by its flags the default prefix of the family
--- and the router-id. One that forms none sets nothing, whatever its flags (this project's own): its
--- sender did not keep to 4.6.9, and what was set before it stays.
+-- and the router-id. One that forms none sets nothing, whatever its flags (this project's own): a
+-- wildcard (encoding 0) has no address; the sender of one of encoding 1 or 2 did not keep to 4.6.9;
+-- one of an encoding from 3 on that sets the router-id refuses the dump (`sets_unread_router_id`).
 abbrev pub behind_update : ParserState → List ℕ → Option AddressPrefix → ParserState
 behind_update state body None = state
 behind_update state body (Some prefix) = record {

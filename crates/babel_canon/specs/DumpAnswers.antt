@@ -27,12 +27,14 @@ abbrev pub same_key : RouteKey → RouteKey → Bool
 same_key key other = same_prefix key.dst other.dst && same_prefix key.src other.src
 
 -- RFC 8966, 2.8, 3.5.4: what a retraction leaves: in mode Plain nothing, as after the hold time; in
--- mode Hold unreachable (this project's own: also where no event announced the key)
+-- mode Hold unreachable
 abbrev pub retracted : Mode → Option Held
 retracted modes.Plain = None
 retracted modes.Hold = Some helds.Unreachable
 
--- RFC 8966, 4.6.9: what is held for a key after an event, if this was held before it
+-- RFC 8966, 4.6.9: what is held for a key after an event, if this was held before it. A wildcard
+-- leaves a key that nothing is held for with nothing; a retraction of that very key does not (this
+-- project's own).
 abbrev pub held_after : Mode → RouteKey → Option Held → Event → Option Held
 held_after mode key old (events.Announce other ann) =
     if same_key other key then Some (helds.Route ann) else old
@@ -47,9 +49,9 @@ held_for mode events key = fold (held_after mode key) None events
 
 -- ---- answers
 
--- RFC 9079, 4: this is held for a key that contains both addresses, and nothing is held for any
--- more specific key that contains them. (Something is held only for prefixes that Updates formed.
--- These have zeros past their length, so two of one length that contain one address are one.)
+-- RFC 9079, 4: there is a key that contains both addresses, for which this is held, and nothing is
+-- held for any more specific key that contains them. (That there is only one such answer is a part
+-- of the headline: `settled`.)
 pub record HasBest (mode : Mode) (events : List Event) (d s : Address) (held : Held) : Type 0 where
   pub key : RouteKey
   pub matching : ContainsBoth d s key

@@ -1,6 +1,4 @@
--- What canonical octets tell of the dumps that they were made from, with or without a view: this
--- project's own. In `normalise`, `Same` is `AnswerTheSame`; `Made one octets` holds of the octets
--- that it answers for the dump `one` (*ok*), and `Refused one fault` of its faults (*err*).
+-- Dumps, and what canonical octets tell of them: this project's own.
 use Rattle.std.specs.Prelude.{◌≡◌, ◌↔◌, ℕ, List}
 use Rattle.babel_prefix.specs.Address.{Address}
 use Rattle.babel_tlv.specs.declared.fault.Fault.{Fault}
@@ -19,6 +17,9 @@ pub record Sent : Type 0 where
 
 abbrev pub sent : Address → List ℕ → Sent
 sent sender dump = record { sender = sender; dump = dump }
+
+-- With or without a view; in `normalise`, `Same` is `AnswerTheSame`. `Made one octets` holds of the
+-- octets that it answers for the dump `one` (*ok*), and `Refused one fault` of its faults (*err*).
 
 -- each table of the one dump and each of the other answer the same (a dump has one table at most,
 -- and a dump of which octets are made has one)

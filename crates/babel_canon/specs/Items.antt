@@ -1,5 +1,4 @@
--- The sub-TLVs of an Update, without reasons and offsets: RFC 8966, 4.4; RFC 9079, 5.2, 7. (SubTlv
--- has the same with them.)
+-- The sub-TLVs of an Update: RFC 8966, 4.4; RFC 9079, 5.2, 7.
 use Rattle.std.specs.Prelude.{ℕ, zero, suc, Bool, not, ◌&&◌, ◌||◌, ◌==◌, nat_lt, nat_le}
 use Rattle.std.specs.Prelude.{if◌then◌else◌, List, [], ◌∷◌, length, take, drop, filter}
 use Rattle.std.specs.List.{flat_map, list_all}
@@ -9,8 +8,8 @@ use Rattle.babel_tlv.specs.SubTlv.{is_source, is_bad_source}
 
 -- RFC 8966, 4.4: the sub-TLVs that octets begin with: a 0 alone (Pad1), or a type, a length and as
 -- many octets; up to the end of the octets, or to where none begins. They are laid out as TLVs are.
--- Where one lies is not asked (`at`). They are at most so many: that is there only for an end that
--- is plain, and `items_of` gives a number that is never used up.
+-- Where one lies is not asked (`at`). The number counts down only so that an end is plain: each
+-- sub-TLV takes an octet at least, so that of `items_of` is never used up.
 abbrev pub items_in : ℕ → List ℕ → List TlvAt
 items_in zero octets = []
 items_in (suc most) [] = []
@@ -22,7 +21,7 @@ items_in (suc most) (suc kind ∷ len ∷ octets) =
     else (record { at = 0; kind = suc kind; body = take len octets }
     ∷ items_in most (drop len octets))
 
--- all sub-TLVs that octets begin with: each takes an octet, so they are no more than these
+-- all sub-TLVs that octets begin with
 abbrev pub items_of : List ℕ → List TlvAt
 items_of octets = items_in (length octets) octets
 

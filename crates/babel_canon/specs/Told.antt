@@ -1,5 +1,5 @@
 -- What the TLVs of a packet tell of routes: RFC 8966, 4.6; RFC 9079, 5.2, 7. A TLV that is ignored
--- tells nothing. (Says has the same with the reasons.)
+-- tells nothing.
 use Rattle.std.specs.Prelude.{ℕ, ◌+◌, not, ◌&&◌, ◌==◌, if◌then◌else◌, List, [], ◌∷◌, drop}
 use Rattle.std.specs.Prelude.{Option, Some, None}
 use Rattle.std.specs.List.{list_all}

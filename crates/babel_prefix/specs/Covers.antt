@@ -1,4 +1,4 @@
--- Which addresses a prefix has, and what holds of every prefix: RFC 8966, 4.1.5.
+-- Which addresses a prefix has: RFC 8966, 4.1.5.
 use Rattle.std.specs.Prelude.{◌≡◌, ℕ, ◌-◌, ◌%◌, ◌^◌, ◌<◌, ◌≤◌}
 use Rattle.babel_prefix.specs.Width.{width_of}
 use Rattle.babel_prefix.specs.Block.{Block, block_at, leading_bits}
