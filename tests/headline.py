@@ -77,16 +77,22 @@ def head(file):
     return "\n".join(takewhile(lambda line: line.startswith("--"), lines))
 
 
+def section(file, definitions):
+    yield f"-- ==== {' '.join(file)}"
+    yield head(file)
+    yield from definitions.values()
+
+
 def page():
     """How definitions are read, and the variants that they name; the definitions, those of each file behind what it is for;
-    and the clauses."""
+    before those of the last file, by which they are said, the clauses."""
     yield promised("### How a definition is read", "Not needed for the headline:")
-    yield promised("`TlvAt` has an offset", "The clauses of `normalise(")
-    for file, definitions in path().items():
-        yield f"-- ==== {' '.join(file)}"
-        yield head(file)
-        yield from definitions.values()
+    yield promised("The variants that they name", "The clauses of `normalise(")
+    *before, (last, headline) = path().items()
+    for file, definitions in before:
+        yield from section(file, definitions)
     yield promised("The clauses of `normalise(", "### The headline over tables")
+    yield from section(last, headline)
 
 
 if __name__ == "__main__":

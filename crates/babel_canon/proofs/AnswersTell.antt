@@ -7,7 +7,7 @@ use Rattle.babel_table.specs.Bounds.{Bounds}
 use Rattle.babel_table.specs.Rows.{Routes, entries_of}
 use Rattle.babel_table.specs.TableOf.{IsTableOf}
 use Rattle.babel_canon.specs.Answers.{AnswerTheSame}
-use Rattle.babel_canon.specs.Headline.{Sent, sent}
+use Rattle.babel_canon.specs.Sent.{Sent, sent}
 use Rattle.babel_canon.specs.DumpAnswers.{DumpAnswers, IsSettled, AnswerAlike}
 use Rattle.babel_canon.specs.AnswersAreTold.{AnswersAreTold}
 use Rattle.babel_canon.proofs.Headline.{forms_tell, headline}

@@ -32,7 +32,7 @@ use Rattle.babel_table.specs.Bounds.{Bounds}
 use Rattle.babel_table.specs.Rows.{entries_of}
 use Rattle.babel_canon.specs.Boxes.{AreBoxes}
 use Rattle.babel_canon.specs.Fewest.{AreApart, DoNotOverlap, AreDisjoint, BoxesAreFewest}
-use Rattle.babel_canon.specs.Headline.{Sent}
+use Rattle.babel_canon.specs.Sent.{Sent}
 use Rattle.babel_canon.specs.Normalises.{Normalises, SaysFewest}
 use Rattle.babel_canon.proofs.PairRows.{rising-apart}
 use Rattle.babel_canon.proofs.Boxes.{held_test, entry_of, pair-is, pair_of_row, row_of_pair, all_in, same_in, boxes_answer}

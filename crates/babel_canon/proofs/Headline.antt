@@ -23,7 +23,8 @@ use Rattle.babel_canon.specs.Sizes.{IsBodySize}
 use Rattle.babel_canon.specs.RoundTrip.{IsRoute, AreReadableIn, TellsPairs, ReadsBack}
 use Rattle.babel_canon.specs.Boxes.{AreBoxes}
 use Rattle.babel_canon.specs.Answers.{AnswerTheSame}
-use Rattle.babel_canon.specs.Headline.{Sent, sent, DumpsAnswer, TellsApart, ReadsAgain}
+use Rattle.babel_canon.specs.Headline.{DumpsAnswer, TellsApart, ReadsAgain}
+use Rattle.babel_canon.specs.Sent.{Sent, sent}
 use Rattle.babel_canon.specs.Normalises.{Normalises, NormaliseFault, as_they_are, Headline}
 use Rattle.babel_canon.proofs.NoFault.{oks_one}
 use Rattle.babel_canon.proofs.PairRows.{rising-apart}

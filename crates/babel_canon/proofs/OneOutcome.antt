@@ -13,7 +13,7 @@ use Rattle.babel_table.specs.TableOf.{IsTableOf}
 use Rattle.babel_table.proofs.OutcomeLaws.{fault_is_one, table_is_one}
 use Rattle.babel_canon.specs.Boxes.{AreBoxes}
 use Rattle.babel_canon.specs.Answers.{AnswerTheSame}
-use Rattle.babel_canon.specs.Headline.{Sent}
+use Rattle.babel_canon.specs.Sent.{Sent}
 use Rattle.babel_canon.specs.Normalises.{Normalises, NormaliseFault, as_they_are}
 use Rattle.babel_canon.specs.OneOutcome.{NormalFormIsOne, NormaliseFaultIsOne, NormalFormHasNoFault}
 use Rattle.babel_canon.proofs.Boxes.{boxes_one}

@@ -29,7 +29,8 @@ use Rattle.babel_table.proofs.SeenLaws.{all_rows, seen_are_rows}
 use Rattle.babel_canon.specs.Boxes.{AreBoxes}
 use Rattle.babel_canon.specs.Answers.{AnswerTheSame}
 use Rattle.babel_canon.specs.Canonical.{HasManyBoxes}
-use Rattle.babel_canon.specs.Headline.{Sent, sent, DumpsAnswer, TellsApart}
+use Rattle.babel_canon.specs.Headline.{DumpsAnswer, TellsApart}
+use Rattle.babel_canon.specs.Sent.{Sent, sent}
 use Rattle.babel_canon.specs.Normalises.{Normalises, NormaliseFault, as_they_are}
 use Rattle.babel_canon.specs.RoundTrip.{AreReadableIn}
 use Rattle.babel_canon.specs.Sizes.{IsBodySize}

@@ -8,7 +8,7 @@ use Rattle.babel_tlv.specs.declared.mode.Mode.{Mode}
 use Rattle.babel_table.specs.Bounds.{Bounds, AreBounds}
 use Rattle.babel_table.specs.Rows.{Routes, entries_of}
 use Rattle.babel_table.specs.TableOf.{IsTableOf}
-use Rattle.babel_canon.specs.Headline.{Sent}
+use Rattle.babel_canon.specs.Sent.{Sent}
 use Rattle.babel_canon.specs.Normalises.{Normalises, NormaliseFault, as_they_are}
 use Rattle.babel_canon.specs.Sizes.{IsBodySize}
 use Rattle.babel_canon.specs.DumpAnswers.{DumpAnswers}

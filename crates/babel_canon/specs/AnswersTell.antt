@@ -4,7 +4,7 @@ use Rattle.babel_prefix.specs.Address.{Address}
 use Rattle.babel_tlv.specs.declared.fault.Fault.{Fault}
 use Rattle.babel_tlv.specs.declared.fault.Fault.TheVariants as faults
 use Rattle.babel_tlv.specs.declared.mode.Mode.{Mode}
-use Rattle.babel_canon.specs.Headline.{Sent, sent}
+use Rattle.babel_canon.specs.Sent.{Sent, sent}
 use Rattle.babel_canon.specs.DumpAnswers.{IsSettled, AnswerAlike}
 
 -- What octets tell that `normalise` made of the dump `one`. `Made` holds of each dump and the octets

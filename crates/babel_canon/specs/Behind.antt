@@ -80,8 +80,9 @@ behind_update state body (Some prefix) = record {
 }
 
 -- RFC 8966, 4.5: the parser state behind a TLV: a Router-Id (type 6) sets the router-id, a Next Hop
--- (type 7) a next hop, and an Update as above. So does one that is ignored (4.5). What cannot be
--- read, as in a Router-Id that is too short, sets nothing (this project's own).
+-- (type 7) a next hop, and an Update as above. Metric and sub-TLVs are not looked at: a TLV that is
+-- ignored for them sets the state, too (4.5). What cannot be read, as in a Router-Id that is too
+-- short, sets nothing (this project's own).
 abbrev pub behind : ParserState → TlvAt → ParserState
 behind state tlv =
     let body = tlv.body in

@@ -13,7 +13,7 @@ use Rattle.babel_tlv.specs.declared.mode.Mode.TheVariants as modes
 use Rattle.babel_tlv.specs.Framing.{TlvAt}
 use Rattle.babel_tlv.specs.Route.{RouteKey}
 use Rattle.babel_table.specs.BestMatch.{ContainsBoth, IsMoreSpecific}
-use Rattle.babel_canon.specs.Headline.{Sent}
+use Rattle.babel_canon.specs.Sent.{Sent}
 use Rattle.babel_canon.specs.Dumps.{IsDump, told}
 
 -- ---- what is held for a key
@@ -33,8 +33,9 @@ retracted modes.Plain = None
 retracted modes.Hold = Some helds.Unreachable
 
 -- RFC 8966, 4.6.9: what is held for a key after an event, if this was held before it. A wildcard
--- leaves a key that nothing is held for with nothing; a retraction of that very key does not (this
--- project's own).
+-- retraction leaves a key that nothing is held for as it is. A retraction of that very key makes it
+-- unreachable in mode Hold (this project's own; by 3.5.3 it would be ignored), so that canonical
+-- octets can say so by one TLV.
 abbrev pub held_after : Mode → RouteKey → Option Held → Event → Option Held
 held_after mode key old (events.Announce other ann) =
     if same_key other key then Some (helds.Route ann) else old
@@ -50,8 +51,8 @@ held_for mode events key = fold (held_after mode key) None events
 -- ---- answers
 
 -- RFC 9079, 4: there is a key that contains both addresses, for which this is held, and nothing is
--- held for any more specific key that contains them. (That there is only one such answer is a part
--- of the headline: `settled`.)
+-- held for any more specific key that contains them. (There is one such key at most: prefixes that
+-- Updates form have zeros past their length. So there is one answer, which `settled` says.)
 pub record HasBest (mode : Mode) (events : List Event) (d s : Address) (held : Held) : Type 0 where
   pub key : RouteKey
   pub matching : ContainsBoth d s key

@@ -1,5 +1,4 @@
--- A dump as packets, and what it tells of routes: RFC 8966, 4.2 to 4.6. Offsets of TLVs (`at`) play
--- no part here, and may be any numbers.
+-- A dump as packets, and what it tells of routes: RFC 8966, 4.2 to 4.6.
 use Rattle.std.specs.Prelude.{◌≡◌, ℕ, Bool, ◌&&◌, nat_le, List, IsFalse}
 use Rattle.std.specs.List.{AllByRecursion, flat_map, list_any}
 use Rattle.babel_prefix.specs.Address.{Address}

@@ -1,4 +1,5 @@
--- Dumps, and what canonical octets tell of them: this project's own.
+-- What canonical octets tell of the tables of the dumps that they were made from: this project's
+-- own.
 use Rattle.std.specs.Prelude.{◌≡◌, ◌↔◌, ℕ, List}
 use Rattle.babel_prefix.specs.Address.{Address}
 use Rattle.babel_tlv.specs.declared.fault.Fault.{Fault}
@@ -9,14 +10,7 @@ use Rattle.babel_table.specs.Bounds.{Bounds}
 use Rattle.babel_table.specs.Rows.{Routes}
 use Rattle.babel_table.specs.TableOf.{IsTableOf}
 use Rattle.babel_table.specs.DumpFault.{HasNoFault}
-
--- a dump, and who sent it
-pub record Sent : Type 0 where
-  pub sender : Address
-  pub dump : List ℕ
-
-abbrev pub sent : Address → List ℕ → Sent
-sent sender dump = record { sender = sender; dump = dump }
+use Rattle.babel_canon.specs.Sent.{Sent, sent}
 
 -- With or without a view; in `normalise`, `Same` is `AnswerTheSame`. `Made one octets` holds of the
 -- octets that it answers for the dump `one` (*ok*), and `Refused one fault` of its faults (*err*).

@@ -6,6 +6,7 @@ pub mod Answers
 pub mod Boxes
 pub mod BoxesTell
 pub mod Fewest
+pub mod Sent
 pub mod Headline
 pub mod Grids
 pub mod Canonical

@@ -16,7 +16,8 @@ use Rattle.babel_canon.specs.Answers.{AnswerTheSame}
 use Rattle.babel_canon.specs.Boxes.{AreBoxes}
 use Rattle.babel_canon.specs.Canonical.{HasManyBoxes}
 use Rattle.babel_canon.specs.Fewest.{AreFewest}
-use Rattle.babel_canon.specs.Headline.{Sent, TellsApart, ReadsAgain}
+use Rattle.babel_canon.specs.Headline.{TellsApart, ReadsAgain}
+use Rattle.babel_canon.specs.Sent.{Sent}
 
 -- the rows as they are
 abbrev pub as_they_are : List Pair → List Pair

@@ -54,8 +54,9 @@ update_tells state body (Some prefix) =
     (if sets_router_id body then Some (id_of prefix.address) else state.router_id)
     (state.next_hop family)
 
--- RFC 8966, 4.6: what a TLV tells in a parser state: only an Update tells anything, and nothing in
--- an encoding from 3 on, which is not read (this project's own)
+-- RFC 8966, 4.6: what a TLV tells in a parser state: only an Update tells anything. In an encoding
+-- from 3 on, which is not read, it tells nothing (this project's own; if it sets a router-id, the
+-- dump is refused).
 abbrev pub tells : ParserState → TlvAt → Event
 tells state tlv =
     if not (is_update tlv) then events.Nothing

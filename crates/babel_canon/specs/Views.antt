@@ -10,7 +10,8 @@ use Rattle.babel_table.specs.Bounds.{Bounds, AreBounds}
 use Rattle.babel_table.specs.Rows.{entries_of}
 use Rattle.babel_table.specs.Seen.{seen_rows}
 use Rattle.babel_canon.specs.Sizes.{IsBodySize}
-use Rattle.babel_canon.specs.Headline.{Sent, TellsApart, ReadsAgain}
+use Rattle.babel_canon.specs.Headline.{TellsApart, ReadsAgain}
+use Rattle.babel_canon.specs.Sent.{Sent}
 use Rattle.babel_canon.specs.Normalises.{Normalises, NormaliseFault, as_they_are}
 
 -- the same answer under a view for each destination and source of one family

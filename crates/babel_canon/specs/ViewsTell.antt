@@ -8,7 +8,7 @@ use Rattle.babel_table.specs.Bounds.{Bounds}
 use Rattle.babel_table.specs.Seen.{seen_rows}
 use Rattle.babel_table.specs.TableRows.{AreRows}
 use Rattle.babel_canon.specs.Answers.{AnswerTheSame}
-use Rattle.babel_canon.specs.Headline.{Sent}
+use Rattle.babel_canon.specs.Sent.{Sent}
 use Rattle.babel_canon.specs.Normalises.{Normalises, as_they_are}
 use Rattle.babel_canon.specs.Views.{AnswerTheSameUnder}
 

@@ -3,7 +3,8 @@ ghost use Rattle.babel_prefix.specs.Address.{Address};
 ghost use Rattle.babel_table.specs.Seen.{seen_rows};
 ghost use Rattle.babel_canon.specs.Answers.{AnswerTheSame};
 ghost use Rattle.babel_canon.specs.AnswersTell.{AnswersTell};
-ghost use Rattle.babel_canon.specs.Headline.{TellsApart, ReadsAgain, sent};
+ghost use Rattle.babel_canon.specs.Headline.{TellsApart, ReadsAgain};
+ghost use Rattle.babel_canon.specs.Sent.{sent};
 ghost use Rattle.babel_canon.specs.Normalises.{NormaliseFault, Normalises, SaysFewest, as_they_are};
 ghost use Rattle.babel_canon.specs.Views.{AnswerTheSameUnder, ReadsAgainSeen};
 

@@ -14,7 +14,7 @@ use Rattle.babel_canon.specs.Sizes.{IsBodySize}
 use Rattle.babel_canon.specs.Canonical.{AreCanonical, CanonicalFault, HasManyBoxes, SaysCanonical}
 use Rattle.babel_canon.specs.Answers.{AnswerTheSame}
 use Rattle.babel_canon.specs.Fewest.{AreFewest}
-use Rattle.babel_canon.specs.Headline.{Sent, sent}
+use Rattle.babel_canon.specs.Sent.{Sent, sent}
 use Rattle.babel_canon.specs.Normalises.{Headline, Normalises, SaysFewest, as_they_are}
 use Rattle.babel_canon.specs.Packing.{TextIsOne}
 use Rattle.babel_canon.specs.Views.{HeadlineUnder}

@@ -16,7 +16,7 @@ use Rattle.babel_canon.specs.Boxes.{AreBoxes}
 use Rattle.babel_canon.specs.Canonical.{HasManyBoxes}
 use Rattle.babel_canon.specs.Differences.{AreDifferences}
 use Rattle.babel_canon.specs.Verdict.{IsVerdict}
-use Rattle.babel_canon.specs.Headline.{sent}
+use Rattle.babel_canon.specs.Sent.{sent}
 use Rattle.babel_canon.specs.Normalises.{Normalises}
 use Rattle.babel_canon.specs.declared.every_difference.Difference.{Difference}
 use Rattle.babel_canon.specs.declared.verdict.Verdict.{Verdict}

@@ -16,7 +16,8 @@ use Rattle.babel_canon.specs.Canonical.{Canonical, HasManyBoxes, IsCanonical}
 use Rattle.babel_canon.specs.Differences.{AreDifferences}
 use Rattle.babel_canon.specs.Answers.{AnswerTheSame}
 use Rattle.babel_canon.specs.Fewest.{AreFewest}
-use Rattle.babel_canon.specs.Headline.{ReadsAgain, Sent, TellsApart, sent}
+use Rattle.babel_canon.specs.Headline.{ReadsAgain, TellsApart}
+use Rattle.babel_canon.specs.Sent.{Sent, sent}
 use Rattle.babel_canon.specs.Normalises.{NormaliseFault, Normalises, SaysFewest, as_they_are}
 use Rattle.babel_canon.specs.Verdict.{IsVerdict}
 use Rattle.babel_canon.specs.Views.{AnswerTheSameUnder, ReadsAgainSeen}

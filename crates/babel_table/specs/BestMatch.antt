@@ -11,7 +11,7 @@ use Rattle.babel_tlv.specs.Route.{RouteKey}
 abbrev pub ContainsBoth : Address → Address → RouteKey → Type 0
 ContainsBoth dst src key = Covers key.dst dst × Covers key.src src
 
--- a longer destination prefix, or one as long and a longer source prefix
+-- `other` has a longer destination prefix, or one as long and a longer source prefix
 abbrev pub IsMoreSpecific : RouteKey → RouteKey → Type 0
 IsMoreSpecific other key = (key.dst.len < other.dst.len)
     ⊎ ((other.dst.len ≡ key.dst.len) × (key.src.len < other.src.len))

@@ -7,7 +7,7 @@ use Rattle.babel_prefix.specs.BestRow.{IsTable, Matches}
 use Rattle.babel_prefix.specs.Covers.{BlockCovers}
 use Rattle.babel_prefix.specs.Entries.{Entry, row_of}
 use Rattle.babel_prefix.proofs.AnswerLaws.{IsTop, answer-top, top-from_answer, top_is_one}
-use Rattle.babel_prefix.proofs.Members.{Listed, Listed-append_cases, Listed-from_Contains, Contains-from_Listed, Listed-append_left}
+use Rattle.babel_prefix.proofs.Members.{Listed, Listed-append_cases, Listed-from_Contains, Contains-from_Listed, Listed-append_left, Listed-filter, filter-Listed}
 use Rattle.babel_trie.specs.Boxes.{Answers}
 use Rattle.babel_trie.specs.Differs.{IsFirstPair}
 use Rattle.babel_trie.specs.Front.{reaches, ShareFront}
@@ -63,26 +63,6 @@ module _ {V : Type 0} where
         )
 
 -- ---- rows that matter for a destination
-
-module _ {X : Type 0} (p : X → Bool) where
-  pub Listed-filter : (xs : List X) (x : X) → Listed (filter p xs) x → Listed xs x × (p x ≡ true)
-  Listed-filter [] x none = elim none [ ]
-  Listed-filter (y ∷ ys) x t = step (Listed-filter ys x) (p y) refl t
-    where
-      step : (Listed (filter p ys) x → Listed ys x × (p x ≡ true)) → (b : Bool) → p y ≡ b → Listed (cond b (y ∷ filter p ys) (filter p ys)) x → Listed (y ∷ ys) x × (p x ≡ true)
-      step rest true e (inl same) = (inl same, ap p (sym same) ∙ e)
-      step rest true e (inr t) = let f = rest t in (inr f.0, f.1)
-      step rest false e t = let f = rest t in (inr f.0, f.1)
-
-  pub filter-Listed : (xs : List X) (x : X) → Listed xs x → p x ≡ true → Listed (filter p xs) x
-  filter-Listed [] x none passes = elim none [ ]
-  filter-Listed (y ∷ ys) x t passes = step (λ u. filter-Listed ys x u passes) (p y) refl t
-    where
-      step : (Listed ys x → Listed (filter p ys) x) → (b : Bool) → p y ≡ b → Listed (y ∷ ys) x → Listed (cond b (y ∷ filter p ys) (filter p ys)) x
-      step rest true e (inl same) = inl same
-      step rest true e (inr t) = inr (rest t)
-      step rest false e (inl same) = let both : true ≡ false = sym passes ∙ ap p (sym same) ∙ e in absurd (cc)
-      step rest false e (inr t) = rest t
 
 module _ {X : Type 0} (R : X → X → Type 0) (p : X → Bool) where
   pub filter-in_order : (xs : List X) → InOrder R xs → InOrder R (filter p xs)

@@ -1,5 +1,5 @@
 -- What is found by its slot stays found where a free slot is filled, and what fills it is found.
-use Rattle.std.proofs.Common.{◌≡◌, inl, inr, ℕ, zero, suc, ◌+◌, ◌-◌, ◌/◌, ◌%◌, ◌^◌, ◌<◌, max, cond, List, [], ◌∷◌, ◌++◌, length, take, get_or, Option, Some, None, IfSome, IfNone, refl, sym, ◌∙◌, ap, subst, arith, length-append}
+use Rattle.std.proofs.Common.{◌≡◌, inl, inr, ℕ, zero, suc, ◌+◌, ◌-◌, ◌*◌, ◌/◌, ◌%◌, ◌^◌, ◌<◌, cond, List, [], ◌∷◌, ◌++◌, length, take, get_or, Option, Some, None, IfSome, IfNone, refl, sym, ◌∙◌, ap, subst, arith, length-append}
 use Rattle.std.specs.List.{slice_get}
 use Rattle.std.specs.BTreeMap.{BTreeMap, get, is_at}
 use Rattle.std.specs.Ordering.{is_eq}
@@ -60,7 +60,7 @@ pub still_found : (slots : List ℕ) (place value mark slot : ℕ) → get_or sl
     IsAmong slots window (first_slot slots mark) slot →
     IsAmong (set slots place value) window (first_slot (set slots place value) mark) slot
 still_found slots place value mark slot free among =
-    subst (λ (k : ℕ). IsAmong (set slots place value) window (mark / 2 ^ 32 % max k 1) slot)
+    subst (λ (k : ℕ). IsAmong (set slots place value) window (mark / 2 ^ 32 * k % 2 ^ 64 / 2 ^ 32) slot)
     (sym (length-set slots place value))
     (still_among slots place value window (first_slot slots mark) slot free among)
 
@@ -68,7 +68,7 @@ pub newly_found : (slots : List ℕ) (place value mark slot : ℕ) → value ≡
     IsFreeAmong slots window (first_slot slots mark) place →
     IsAmong (set slots place value) window (first_slot (set slots place value) mark) slot
 newly_found slots place value mark slot is some free =
-    subst (λ (k : ℕ). IsAmong (set slots place value) window (mark / 2 ^ 32 % max k 1) slot)
+    subst (λ (k : ℕ). IsAmong (set slots place value) window (mark / 2 ^ 32 * k % 2 ^ 64 / 2 ^ 32) slot)
     (sym (length-set slots place value))
     (subst (λ (v : ℕ). IsAmong (set slots place v) window (first_slot slots mark) slot) (sym is)
     (filled_among slots window (first_slot slots mark) place slot some free))

@@ -1,5 +1,5 @@
 -- Where the elements of a list are found again: this project's own.
-use Rattle.std.specs.Prelude.{◌≡◌, ◌⊎◌, ℕ, zero, suc, ◌+◌, ◌*◌, ◌/◌, ◌%◌, ◌^◌, ◌<◌, max, List, length}
+use Rattle.std.specs.Prelude.{◌≡◌, ◌⊎◌, ℕ, zero, suc, ◌+◌, ◌*◌, ◌/◌, ◌%◌, ◌^◌, ◌<◌, List, length}
 use Rattle.std.specs.Prelude.{get_or, Some, slice_get}
 use Rattle.std.specs.BTreeMap.{get}
 use Rattle.std.specs.declared.cmp.Ordering.{Ordering}
@@ -27,9 +27,10 @@ IsFreeAmong slots (suc left) at place =
 abbrev pub window : ℕ
 window = 16
 
--- the slot at which a search for a mark begins
+-- the slot at which a search for a mark begins: as far among the slots as the upper half of the mark
+-- among all
 abbrev pub first_slot : List ℕ → ℕ → ℕ
-first_slot slots mark = mark / 2 ^ 32 % max (length slots) 1
+first_slot slots mark = mark / 2 ^ 32 * length slots % 2 ^ 64 / 2 ^ 32
 
 -- no element stands twice
 abbrev pub HasDistinct : {K : Type 0} → List K → Type 0

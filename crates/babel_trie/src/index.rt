@@ -123,11 +123,19 @@ impl<K: LawfulOrd> Index<K> {
         }
     }
 
-    /// The slot at which a search for a mark begins.
+    /// The slot at which a search for a mark begins: as far among the slots as the upper half of the
+    /// mark among all.
     fn first_slot(&self, mark: u64) -> usize
         ensures { result ≡ first_slot self.now.slots.items mark }
     {
-        (mark >> 32) as usize % self.slots.len().max(1)
+        ((mark >> 32).wrapping_mul(self.slots.len() as u64) >> 32) as usize
+    }
+
+    /// How many more numbers are kept before the slots are made anew.
+    pub fn room(&self) -> usize
+        ensures { result ≡ self.now.room }
+    {
+        self.room
     }
 
     /// The number of an element in the list, by its mark.
@@ -168,7 +176,8 @@ impl<K: LawfulOrd> Index<K> {
     }
 
     /// Makes the slots anew where half of them are taken, and finds each element of the list its
-    /// place among them.
+    /// place among them. There is room for three times as many elements more, so that few are ever
+    /// placed again.
     fn make_room(&mut self, list: &[K]) -> Result<(), AllocError>
         requires indexed { IsIndexed K.cmp K.mark list.now self.old }
         requires distinct { HasDistinct list.now }
@@ -181,12 +190,12 @@ impl<K: LawfulOrd> Index<K> {
         }
         self.crowded.clear();
         self.slots.clear();
-        self.slots.resize(4 * list.len() + 64, 0)?;
+        self.slots.resize(8 * list.len() + 64, 0)?;
         for at in 0..list.len() {
             let element = &list[at];
             self.keep(element, element.mark(), NodeNumber(at as u32))?;
         }
-        self.room = list.len() + 32;
+        self.room = 3 * list.len() + 32;
         Ok(())
     }
 

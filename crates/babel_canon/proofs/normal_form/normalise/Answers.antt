@@ -1,6 +1,6 @@
 use Rattle.std.specs.Prelude.{IfOk}
 use Rattle.std.proofs.lemmas.Result.{IfErr-weaker, IfOk-weaker}
-use Rattle.babel_canon.specs.Headline.{sent}
+use Rattle.babel_canon.specs.Sent.{sent}
 use Rattle.babel_canon.specs.Normalises.{Normalises, as_they_are}
 use Rattle.babel_canon.proofs.AnswersTell.{answers_are_told}
 use Rattle.babel_canon.proofs.Fewest.{says_fewest}

@@ -3,7 +3,7 @@ use Rattle.std.proofs.lemmas.Result.{err_from_is_err_and}
 use Rattle.babel_table.specs.Rows.{Routes}
 use Rattle.babel_canon.specs.Boxes.{AreBoxes}
 use Rattle.babel_table.specs.Seen.{seen_rows}
-use Rattle.babel_canon.specs.Headline.{sent}
+use Rattle.babel_canon.specs.Sent.{sent}
 use Rattle.babel_canon.specs.Normalises.{Normalises}
 use Rattle.babel_canon.proofs.Normal.{of_dump_under, of_form_under}
 use Rattle.babel_canon.proofs.Fewest.{says_fewest}
