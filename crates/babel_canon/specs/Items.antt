@@ -9,7 +9,7 @@ use Rattle.babel_tlv.specs.SubTlv.{is_source, is_bad_source}
 -- RFC 8966, 4.4: the sub-TLVs that octets begin with: a 0 alone (Pad1), or a type, a length and as
 -- many octets; up to the end of the octets, or to where none begins. They are laid out as TLVs are.
 -- The number counts down only so that an end is plain: each sub-TLV takes an octet at least, so
--- that of `items_of` is never used up.
+-- that of `items_of` is not used up before the octets are.
 abbrev pub items_in : ℕ → List ℕ → List TlvAt
 items_in zero octets = []
 items_in (suc most) [] = []
