@@ -7,9 +7,9 @@ use Rattle.babel_tlv.specs.declared.mode.Mode.{Mode}
 use Rattle.babel_canon.specs.Sent.{Sent, sent}
 use Rattle.babel_canon.specs.DumpAnswers.{IsSettled, AnswerAlike}
 
--- What octets tell that `normalise` made of the dump `one`. `Made` holds of each dump and the octets
--- that it answers for it (*ok*), and `Refused` of each dump and the fault that it answers in their
--- place (*err*); more of them is not needed:
+-- What octets tell that `normalise` made of the dump `one`. `Made` holds of each dump and the
+-- octets that it answers for it (*ok*), and `Refused` of each dump and the fault that it answers in
+-- their place (*err*); more of them is not needed:
 -- * the dump has one answer for each two addresses;
 -- * octets made of any other dump are the same exactly where both dumps answer alike;
 -- * read with any sender, the octets answer as the dump does, what is made of them is themselves

@@ -37,11 +37,11 @@ abbrev pub is_update : TlvAt → Bool
 is_update tlv = tlv.kind == 8 && nat_le 10 (length tlv.body)
 
 -- RFC 8966, 4.5, 4.6.9: the prefix that an Update of a family forms: its omitted octets, which are
--- those of the default prefix, then those of the field, then zeros: with Plen 48 and Omitted 4, four
--- of the default prefix and two of the field. It forms one if neither Plen nor Omitted is more than
--- an address has (this project's own), if there is a default prefix where octets are omitted, and if
--- the field is whole. More may be omitted than Plen needs (this project's own): with Plen 8 and
--- Omitted 2 the field is empty, and the second octet is cleared.
+-- those of the default prefix, then those of the field, then zeros: with Plen 48 and Omitted 4,
+-- four of the default prefix and two of the field. It forms one if neither Plen nor Omitted is more
+-- than an address has (this project's own), if there is a default prefix where octets are omitted,
+-- and if the field is whole. More may be omitted than Plen needs (this project's own): with Plen 8
+-- and Omitted 2 the field is empty, and the second octet is cleared.
 abbrev pub prefix_in : Family → Option Address → List ℕ → Option AddressPrefix
 prefix_in family default body =
     if nat_le (prefix_len body) (width_of family) && nat_le (omitted body) (octet_count family)
@@ -71,9 +71,9 @@ behind_next_hop state (Some hop) = record state { next_hop = set_in hop state.ne
 
 -- RFC 8966, 4.6.9: an Update that forms a prefix sets by its flags the default prefix of the family
 -- and the router-id. One that forms none has no address to set, whatever its flags, though 4.5 has
--- an ignored TLV set the state (this project's own): a wildcard (encoding 0) has none; the sender of
--- one of encoding 1 or 2 did not keep to 4.6.9; one of an encoding from 3 on that sets the router-id
--- refuses the dump (`sets_unread_router_id`).
+-- an ignored TLV set the state (this project's own): a wildcard (encoding 0) has none; the sender
+-- of one of encoding 1 or 2 did not keep to 4.6.9; one of an encoding from 3 on that sets the
+-- router-id refuses the dump (`sets_unread_router_id`).
 abbrev pub behind_update : ParserState → List ℕ → Option AddressPrefix → ParserState
 behind_update state body None = state
 behind_update state body (Some prefix) = record {

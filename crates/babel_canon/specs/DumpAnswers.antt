@@ -33,9 +33,9 @@ retracted modes.Plain = None
 retracted modes.Hold = Some helds.Unreachable
 
 -- RFC 8966, 4.6.9: what is held for a key after an event, if this was held before it. What is said
--- of another key changes nothing. Where nothing is held, a wildcard retraction leaves nothing in both
--- modes; a retraction of that very key makes it unreachable in mode Hold (this project's own; by
--- 3.5.3 it would be ignored), so that canonical octets can say so by one TLV.
+-- of another key changes nothing. Where nothing is held, a wildcard retraction leaves nothing in
+-- both modes; a retraction of that very key makes it unreachable in mode Hold (this project's own;
+-- by 3.5.3 it would be ignored), so that canonical octets can say so by one TLV.
 abbrev pub held_after : Mode → RouteKey → Option Held → Event → Option Held
 held_after mode key old (events.Announce other ann) =
     if same_key other key then Some (helds.Route ann) else old
@@ -51,9 +51,9 @@ held_for mode events key = fold (held_after mode key) None events
 -- ---- answers
 
 -- RFC 9079, 4: there is a key that contains both addresses, for which this is held, and nothing is
--- held for any more specific key that contains them. (There is one such key at most: nothing is held
--- for a key that no event names, and prefixes that Updates form have zeros past their length. So
--- there is one answer, which `settled` says.)
+-- held for any more specific key that contains them. (There is one such key at most: nothing is
+-- held for a key that no event names, and prefixes that Updates form have zeros past their length.
+-- So there is one answer, which `settled` says.)
 pub record HasBest (mode : Mode) (events : List Event) (d s : Address) (held : Held) : Type 0 where
   pub key : RouteKey
   pub matching : ContainsBoth d s key

@@ -38,9 +38,9 @@ route_tells key body (Some id) (Some hop) =
 route_tells key body id hop = events.Nothing
 
 -- RFC 8966, 4.6.9; RFC 9079, 7: what an Update tells by the prefix that it forms, if it forms one.
--- The sub-TLVs, behind the prefix, give the source prefix. A metric of 65535 retracts the key, which
--- needs neither router-id nor next hop. Any other announces a route, by the router-id that the
--- Update sets, else by that of the parser state, and by the next hop of the family.
+-- The sub-TLVs, behind the prefix, give the source prefix. A metric of 65535 retracts the key,
+-- which needs neither router-id nor next hop. Any other announces a route, by the router-id that
+-- the Update sets, else by that of the parser state, and by the next hop of the family.
 abbrev pub update_tells : ParserState → List ℕ → Option AddressPrefix → Event
 update_tells state body None = events.Nothing
 update_tells state body (Some prefix) =
