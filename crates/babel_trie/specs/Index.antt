@@ -23,6 +23,10 @@ IsFreeAmong slots (suc left) at place =
     ((at < length slots) × (get_or slots at 0 ≡ 0) × (place ≡ at))
     ⊎ ((0 < get_or slots at 0) × IsFreeAmong slots left (at + 1) place)
 
+-- none of so many slots from this one on is free
+abbrev pub IsFull : List ℕ → ℕ → ℕ → Type 0
+IsFull slots left at = (place : ℕ) → IsFreeAmong slots left at place → ⊥
+
 -- in how many slots an element can stand
 abbrev pub window : ℕ
 window = 16
@@ -48,12 +52,13 @@ module _ {K : Type 0} where
       IsAmong slots left at (slot_of mark n.0) → ⊥
 
 module _ {K : Type 0} (cmp : K → K → Ordering) (mark : K → ℕ) where
-  -- a search for the element comes to this number
+  -- a search for the element comes to this number: in a slot, or where none is free in the map
   abbrev pub IsFound : Index K → K → NodeNumber → Type 0
   IsFound index x number =
       ((number.0 + 1 < 2 ^ 32) × IsAmong index.slots.items window
       (first_slot index.slots.items (mark x)) (slot_of (mark x) number.0))
-      ⊎ (get cmp index.crowded x ≡ Some number)
+      ⊎ (IsFull index.slots.items window (first_slot index.slots.items (mark x))
+      × (get cmp index.crowded x ≡ Some number))
 
   -- a search for each of so many elements comes to its number
   pub record IsIndexedTo (count : ℕ) (list : List K) (index : Index K) : Type 0 where

@@ -1,7 +1,8 @@
 //! Where the elements of a list are found again.
 ghost use Rattle.std.specs.Prelude.{◌≡◌, ◌≢◌, ℕ, ◌+◌, ◌^◌, ◌<◌, ◌↔◌, ◌++◌, ◌∷◌, [], length, slice_get, Some, IfSome, IfNone, IsTrue, OnOk};
-ghost use Rattle.babel_trie.specs.Index.{IsNotAmong, IsFreeAmong, first_slot, slot_of, HasDistinct, IsAbsent};
+ghost use Rattle.babel_trie.specs.Index.{IsNotAmong, IsFreeAmong, IsFull, window, first_slot, slot_of, HasDistinct, IsAbsent};
 ghost use Rattle.babel_trie.specs.Index.{IsFound, KeepsFound, IsIndexed};
+ghost use Rattle.babel_trie.specs.declared.index.Search.TheVariants.{Number, Free, Full};
 
 use crate::lawful::LawfulOrd;
 use crate::table::NodeNumber;
@@ -73,43 +74,62 @@ fn number_at<K: LawfulOrd>(slot: u64, list: &[K], element: &K, mark: u64) -> Opt
     }
 }
 
-/// The number of an element with this mark that one of so many slots from this one on has, if none
-/// before it is free.
-fn number_among<K: LawfulOrd>(
+/// What a search for an element among the slots in which it can stand comes to.
+#[derive(Clone, Copy)]
+enum Search {
+    /// The element's number.
+    Number(NodeNumber),
+    /// A free slot, before which none has the element's number.
+    Free,
+    /// All slots are taken, and none has the element's number.
+    Full,
+}
+
+/// Searches the slots from this one on for the number of an element with this mark.
+fn searched<K: LawfulOrd>(
     slots: &[u64],
     list: &[K],
     element: &K,
     mark: u64,
-    at: usize,
-    left: u8,
-) -> Option<NodeNumber>
-    ensures some { IfSome result (λ n. slice_get list.now n.0 ≡ Some element.now) }
-    ensures none { IfNone result (IsNotAmong list.now element.now mark slots.now left at) }
+    first: usize,
+) -> Search
+    ensures number { (n : NodeNumber) → result ≡ Number n
+        → slice_get list.now n.0 ≡ Some element.now }
+    ensures free { result ≡ Free → (IsFull slots.now window first → ⊥)
+        × IsNotAmong list.now element.now mark slots.now window first }
+    ensures full { result ≡ Full → IsNotAmong list.now element.now mark slots.now window first }
 {
-    if left == 0 || at >= slots.len() {
-        return None;
+    let mut at = first;
+    let mut left = WINDOW;
+    while left > 0 && at < slots.len() {
+        let slot = slots[at];
+        if slot == 0 {
+            return Search::Free;
+        }
+        if let Some(number) = number_at(slot, list, element, mark) {
+            return Search::Number(number);
+        }
+        at += 1;
+        left -= 1;
     }
-    let slot = slots[at];
-    if slot == 0 {
-        return None;
-    }
-    if let Some(number) = number_at(slot, list, element, mark) {
-        return Some(number);
-    }
-    number_among(slots, list, element, mark, at + 1, left - 1)
+    Search::Full
 }
 
-/// The first of so many slots from this one on that is free.
-fn free_among(slots: &[u64], at: usize, left: u8) -> Option<usize>
-    ensures { IfSome result (λ place. IsFreeAmong slots.now left at place) }
+/// The first of the slots from this one on that is free.
+fn free_place(slots: &[u64], first: usize) -> Option<usize>
+    ensures some { IfSome result (λ place. IsFreeAmong slots.now window first place) }
+    ensures none { IfNone result (IsFull slots.now window first) }
 {
-    if left == 0 || at >= slots.len() {
-        return None;
+    let mut at = first;
+    let mut left = WINDOW;
+    while left > 0 && at < slots.len() {
+        if slots[at] == 0 {
+            return Some(at);
+        }
+        at += 1;
+        left -= 1;
     }
-    if slots[at] == 0 {
-        return Some(at);
-    }
-    free_among(slots, at + 1, left - 1)
+    None
 }
 
 impl<K: LawfulOrd> Index<K> {
@@ -138,22 +158,25 @@ impl<K: LawfulOrd> Index<K> {
         self.room
     }
 
-    /// The number of an element in the list, by its mark.
+    /// The number of an element in the list, by its mark. The map is asked only where all slots are
+    /// taken in which the element can stand.
     pub fn get(&self, list: &[K], element: &K, mark: u64) -> Option<NodeNumber>
         requires indexed { IsIndexed K.cmp K.mark list.now self.now }
         requires mark { mark ≡ K.mark element.now }
         ensures some { IfSome result (λ n. slice_get list.now n.0 ≡ Some element.now) }
         ensures none { IfNone result (IsAbsent list.now element.now) }
     {
-        let first = self.first_slot(mark);
-        if let Some(number) = number_among(&self.slots, list, element, mark, first, WINDOW) {
-            return Some(number);
-        }
-        let kept = *self.crowded.get(element)?;
-        if is_number_of(list, kept, element) {
-            Some(kept)
-        } else {
-            None
+        match searched(&self.slots, list, element, mark, self.first_slot(mark)) {
+            Search::Number(number) => Some(number),
+            Search::Free => None,
+            Search::Full => {
+                let kept = *self.crowded.get(element)?;
+                if is_number_of(list, kept, element) {
+                    Some(kept)
+                } else {
+                    None
+                }
+            }
         }
     }
 
@@ -165,13 +188,14 @@ impl<K: LawfulOrd> Index<K> {
             number) }
     {
         let first = self.first_slot(mark);
-        if let Some(place) = free_among(&self.slots, first, WINDOW) {
-            if let Some(slot) = slot_of(mark, number) {
-                self.slots[place] = slot;
-                return Ok(());
-            }
-        }
-        self.crowded.insert(*element, number)?;
+        let Some(place) = free_place(&self.slots, first) else {
+            self.crowded.insert(*element, number)?;
+            return Ok(());
+        };
+        let Some(slot) = slot_of(mark, number) else {
+            return Err(AllocError);
+        };
+        self.slots[place] = slot;
         Ok(())
     }
 
