@@ -240,7 +240,7 @@ impl<V: LawfulOrd> Table<Option<V>> {
         if let (Loose::Split(node), Some(only)) = (&*trie, rest.only_half(start)) {
             if let Some((mut inside, beside)) = self.half(node, only.low) {
                 self.lay(only.rows, width, bits - 1, only.start, &mut inside)?;
-                *trie = self.joined_beside(only.low, &inside, beside)?;
+                self.join_beside(only.low, &inside, beside, trie)?;
                 return Ok(());
             }
         }

@@ -108,8 +108,8 @@ lay-lay-requires g t c κs within =
     let one : HasOneDestination only.rows.now = only_one a.width a.bits a.start rest.middle a.rows.now c.parts.result.0.now rest.low.now rest.high.now parts middle c.requires.one only.low only.rows.now only.start half in
     search rules
 
-pub lay-joined_beside-requires-clause-inside : goal.lay-joined_beside-requires-clause-inside
-lay-joined_beside-requires-clause-inside g t c =
+pub lay-join_beside-requires-clause-inside : goal.lay-join_beside-requires-clause-inside
+lay-join_beside-requires-clause-inside g t c =
     let a = c.args in
     let nodes = a.self.now.nodes.items in
     let rest = c.in-Some-rest.rest in
@@ -123,8 +123,8 @@ lay-joined_beside-requires-clause-inside g t c =
     let fits : height laid.new ≤ 127 = omega (arith, laid.fits tries.0.fits, c.requires.place.bits_in, c.requires.width) in
     record { trie = laid.new; stands = laid.stands; fits = fits; reduced = laid.reduced tries.0.reduced }
 
-pub lay-joined_beside-requires-clause-beside : goal.lay-joined_beside-requires-clause-beside
-lay-joined_beside-requires-clause-beside g t c =
+pub lay-join_beside-requires-clause-beside : goal.lay-join_beside-requires-clause-beside
+lay-join_beside-requires-clause-beside g t c =
     let a = c.args in
     let nodes = a.self.now.nodes.items in
     let rest = c.in-Some-rest.rest in
@@ -137,7 +137,7 @@ lay-joined_beside-requires-clause-beside g t c =
     stored_trie (a.bits - 1) nodes c.lay.new.self.nodes.items c.in-Some-half.beside x.0 c.in_ok-lay.ensures.keeps x.1 tries.1 (omega (arith, c.requires.place.bits_in, c.requires.width))
 
 pub lay-returns-in-Some-half-clause-keeps : goal.lay-returns-in-Some-half-clause-keeps
-lay-returns-in-Some-half-clause-keeps g t c i node e = c.in_ok-trie-2.ensures.keeps i node (c.in_ok-lay.ensures.keeps i node e)
+lay-returns-in-Some-half-clause-keeps g t c i node e = c.in_ok-join_beside.ensures.keeps i node (c.in_ok-lay.ensures.keeps i node e)
 
 pub lay-returns-in-Some-half-clause-laid : goal.lay-returns-in-Some-half-clause-laid
 lay-returns-in-Some-half-clause-laid g t c u p =
@@ -158,7 +158,7 @@ lay-returns-in-Some-half-clause-laid g t c u p =
     let have = some_holds _ c.half.ensures.halves c.in-Some-half.is x.0 x.1 in
     let keeps = c.in_ok-lay.ensures.keeps in
     laid_by a.width a.bits a.start rest.middle a.rows.now c.parts.result.0.now rest.low.now rest.high.now parts middle c.requires.one nodes c.set.new.trie c.in-Split-Some.node u set c.in-Split-Some.is-0 fits reduced c.in-Some-half.inside x.0 only.low only.rows.now only.start half have
-    nodes2 c.joined_beside.new.self.nodes.items c.lay.new.trie c.in_ok-trie-2.field-0 keeps c.in_ok-lay.ensures.laid (c.in_ok-trie-2.ensures.joins x.0 (Opens-grows nodes nodes2 keeps beside x.0 x.1))
+    nodes2 c.join_beside.new.self.nodes.items c.lay.new.trie c.join_beside.new.whole keeps c.in_ok-lay.ensures.laid (c.in_ok-join_beside.ensures.joins x.0 (Opens-grows nodes nodes2 keeps beside x.0 x.1))
 
 pub lay-lay_halves-requires : goal.lay-lay_halves-requires
 lay-lay_halves-requires g t c κs within =

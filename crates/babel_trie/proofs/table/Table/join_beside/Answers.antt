@@ -9,7 +9,7 @@ use Rattle.babel_trie.specs.declared.table.Sources.TheVariants.{Stored}
 use Rattle.babel_trie.proofs.NumberLaws.{Opens-grows}
 use Rattle.babel_trie.proofs.FormLaws.{Represents-in, joins_beside}
 use Rattle.babel_trie.proofs.PathLaws.{loose_below}
-use Rattle.babel_trie.proofs.table.Table.joined_beside.Goals as goal
+use Rattle.babel_trie.proofs.table.Table.join_beside.Goals as goal
 
 pub interned-requires-clause-halves : goal.interned-requires-clause-halves
 interned-requires-clause-halves g c =
