@@ -86,13 +86,7 @@ enum Search {
 }
 
 /// Searches the slots from this one on for the number of an element with this mark.
-fn searched<K: LawfulOrd>(
-    slots: &[u64],
-    list: &[K],
-    element: &K,
-    mark: u64,
-    first: usize,
-) -> Search
+fn searched<K: LawfulOrd>(slots: &[u64], list: &[K], element: &K, mark: u64, first: usize) -> Search
     ensures number { (n : NodeNumber) → result ≡ Number n
         → slice_get list.now n.0 ≡ Some element.now }
     ensures free { result ≡ Free → (IsFull slots.now window first → ⊥)

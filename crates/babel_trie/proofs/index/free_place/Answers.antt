@@ -1,5 +1,5 @@
 -- A free slot is the first, a taken one is passed, and behind the last none is left.
-use Rattle.std.proofs.Common.{◌≡◌, ◌<◌, ◌≤◌, length, get_or, arith}
+use Rattle.std.proofs.Common.{◌<◌, get_or, arith}
 use Rattle.babel_trie.proofs.IndexLaws.{free_first, free_later, free_behind, full_at_end}
 use Rattle.babel_trie.proofs.index.free_place.Goals as goal
 

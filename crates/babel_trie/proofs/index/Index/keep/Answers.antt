@@ -1,5 +1,5 @@
 -- The free slot has the number, or where none is free the map has it; what was found stays found.
-use Rattle.std.proofs.Common.{rules, ◌≡◌, ◌∙◌, ◌<◌, ℕ, List, Some, length, inl, inr, sym, ap, subst, arith}
+use Rattle.std.proofs.Common.{rules, ◌≡◌, ◌∙◌, ◌<◌, ℕ, List, Some, inl, inr, ap, subst, arith}
 use Rattle.std.specs.BTreeMap.{get}
 use Rattle.babel_trie.specs.Index.{IsFreeAmong, IsFull, window, first_slot, slot_of}
 use Rattle.babel_trie.proofs.IndexLaws.{free_slot, still_found, still_full, newly_found, kept_in_map}
