@@ -8,8 +8,10 @@ It takes those cases whose load is there: the dumps of loads.py, and the capture
 For each command and load it first compares what the two write, then runs them in turn, and prints the minimum and median
 of processor time (user and system), the peak memory, and the program's figures divided by the limit's; and the
 microseconds of the program for each TLV read (show, lookup), row or canonical pair, whichever are more, or KiB of a capture.
-The last column says whether both ratios are at most 3, over a capture 2; of two times below 2 ms and of two memories below
-8 MB it does not ask.
+In each round the limit runs before the program and after it, and the program's time is divided by the mean of those two, so
+that a machine whose speed changes from run to run changes it for both; the ratio of times is the median of the rounds'.
+The last column says whether both ratios are at most 3, over a capture 2; of times below 2 ms and of memories below 8 MB it
+does not ask.
 """
 
 import argparse
@@ -128,9 +130,20 @@ def size_of(plain, load, command, loads, sizes):
     return 2 * size["rows"] if command == "compare" else size["most"]
 
 
-def verdict(most, time, plain_time, memory, plain_memory):
+def rounds_of(measurer, sides, count):
+    """In each round the times of the program and of the limit before and after it; and the peak memory of both."""
+    times, memories = [], ([], [])
+    for _ in range(count):
+        (before, plain_memory), (time, memory), (after, _) = (measure(measurer, sides[side]) for side in (1, 0, 1))
+        times.append((time, before, after))
+        memories[0].append(memory)
+        memories[1].append(plain_memory)
+    return times, max(memories[0]), max(memories[1])
+
+
+def verdict(most, ratio, time, memory, plain_memory):
     far = []
-    if time > most * plain_time and time > 0.002:
+    if ratio > most and time > 0.002:
         far.append("time")
     if memory > most * plain_memory and memory > 8:
         far.append("memory")
@@ -151,8 +164,8 @@ def main():
         folder = pathlib.Path(folder)
         plain, plain_of_captures = build(options.plain, folder), build(PLAIN_OF_CAPTURES, folder)
         measurer = build(HERE / "measure.rs", folder)
-        print("| load | command | program min / median ms | limit min / median ms | time min / median | program MB | limit MB | memory | µs each | within |")
-        print("|---|---|---|---|---|---|---|---|---|---|")
+        print("| load | command | program min / median ms | limit min / median ms | time | program MB | limit MB | memory | µs each | limit's | within |")
+        print("|---|---|---|---|---|---|---|---|---|---|---|")
         for load, command in cases():
             name = " ".join(word for word in command[:2] if word != "--from")
             if options.only not in f"{load} {name}" or not file_of(load, options.loads).exists():
@@ -160,21 +173,21 @@ def main():
             beside = plain_of_captures if is_capture(load) else plain
             sides = [words_of(side, load, command, options.loads) for side in (program, beside)]
             same = outcome(sides[0]) == outcome(sides[1])
-            runs = [[measure(measurer, side) for side in sides] for _ in range(options.rounds)]
-            (low, mid, memory), (low_2, mid_2, memory_2) = (
-                (min(t for t, _ in side), statistics.median(t for t, _ in side), max(m for _, m in side))
-                for side in zip(*runs)
-            )
+            times, memory, memory_2 = rounds_of(measurer, sides, options.rounds)
+            own, plain_own = [time for time, _, _ in times], [time for _, *both in times for time in both]
+            ratio = statistics.median(2 * time / (before + after) for time, before, after in times)
+            low, mid, low_2, mid_2 = min(own), statistics.median(own), min(plain_own), statistics.median(plain_own)
             size = size_of(plain, load, command[0], options.loads, sizes)
             most = MOST_OVER_CAPTURES if is_capture(load) else MOST
-            answer = verdict(most, low, low_2, memory, memory_2)
+            answer = verdict(most, ratio, mid, memory, memory_2)
             differing += not same
             within += answer == "yes"
             measured += 1
             print(
                 f"| {load} | {name} | {low * 1e3:.1f} / {mid * 1e3:.1f} | {low_2 * 1e3:.1f} / {mid_2 * 1e3:.1f} "
-                f"| {low / low_2:.2f} / {mid / mid_2:.2f} | {memory:.1f} | {memory_2:.1f} | {memory / memory_2:.2f} "
-                f"| {low * 1e6 / size:.2f} | {answer} |" + ("" if same else " THE TWO WRITE DIFFERENT TEXTS"),
+                f"| {ratio:.2f} | {memory:.1f} | {memory_2:.1f} | {memory / memory_2:.2f} "
+                f"| {mid * 1e6 / size:.2f} | {mid_2 * 1e6 / size:.2f} | {answer} |"
+                + ("" if same else " THE TWO WRITE DIFFERENT TEXTS"),
                 flush=True,
             )
     print(f"{within} of {measured} cases within {MOST} times the limit, over captures {MOST_OVER_CAPTURES} times")
