@@ -10,6 +10,8 @@ of processor time (user and system), the peak memory, and the program's figures 
 microseconds of the program for each TLV read (show, lookup), row or canonical pair, whichever are more, or KiB of a capture.
 In each round the limit runs before the program and after it, and the program's time is divided by the mean of those two, so
 that a machine whose speed changes from run to run changes it for both; the ratio of times is the median of the rounds'.
+Microseconds are given as they are, and as they would be on a machine on which the limit takes 20 ms to normalise the load
+ipv4, which runs once more in each round: so they can be compared from one machine to another.
 The last column says whether both ratios are at most 3, over a capture 2; of times below 2 ms and of memories below 8 MB it
 does not ask.
 """
@@ -27,6 +29,8 @@ PLAIN = HERE / "limit.rs"
 PLAIN_OF_CAPTURES = HERE / "capture_limit.rs"
 MOST = 3
 MOST_OVER_CAPTURES = 2
+REFERENCE = "ipv4"
+REFERENCE_SECONDS = 0.020
 FROM = ["--from", "192.0.2.1"]
 LOOKUP = ["--to", "10.0.0.1", "--src", "192.0.2.7"]
 LOOKUP_IPV6 = ["--to", "2001:db8::1", "--src", "2001:db8::2"]
@@ -130,12 +134,13 @@ def size_of(plain, load, command, loads, sizes):
     return 2 * size["rows"] if command == "compare" else size["most"]
 
 
-def rounds_of(measurer, sides, count):
-    """In each round the times of the program and of the limit before and after it; and the peak memory of both."""
+def rounds_of(measurer, sides, reference, count):
+    """In each round the times of the program, of the limit before and after it, and of the reference; and both peak memories."""
     times, memories = [], ([], [])
     for _ in range(count):
-        (before, plain_memory), (time, memory), (after, _) = (measure(measurer, sides[side]) for side in (1, 0, 1))
-        times.append((time, before, after))
+        runs = [measure(measurer, words) for words in (sides[1], sides[0], sides[1], reference)]
+        (before, plain_memory), (time, memory), (after, _), (standard, _) = runs
+        times.append((time, before, after, standard))
         memories[0].append(memory)
         memories[1].append(plain_memory)
     return times, max(memories[0]), max(memories[1])
@@ -164,7 +169,8 @@ def main():
         folder = pathlib.Path(folder)
         plain, plain_of_captures = build(options.plain, folder), build(PLAIN_OF_CAPTURES, folder)
         measurer = build(HERE / "measure.rs", folder)
-        print("| load | command | program min / median ms | limit min / median ms | time | program MB | limit MB | memory | µs each | limit's | within |")
+        reference = words_of(plain, REFERENCE, ["normalise", *FROM], options.loads)
+        print("| load | command | program min / median ms | limit min / median ms | time | program MB | limit MB | memory | µs each | scaled | within |")
         print("|---|---|---|---|---|---|---|---|---|---|---|")
         for load, command in cases():
             name = " ".join(word for word in command[:2] if word != "--from")
@@ -173,9 +179,10 @@ def main():
             beside = plain_of_captures if is_capture(load) else plain
             sides = [words_of(side, load, command, options.loads) for side in (program, beside)]
             same = outcome(sides[0]) == outcome(sides[1])
-            times, memory, memory_2 = rounds_of(measurer, sides, options.rounds)
-            own, plain_own = [time for time, _, _ in times], [time for _, *both in times for time in both]
-            ratio = statistics.median(2 * time / (before + after) for time, before, after in times)
+            times, memory, memory_2 = rounds_of(measurer, sides, reference, options.rounds)
+            own, plain_own = [time for time, *_ in times], [time for _, *both, _ in times for time in both]
+            ratio = statistics.median(2 * time / (before + after) for time, before, after, _ in times)
+            scaled = statistics.median(time / standard for time, *_, standard in times) * REFERENCE_SECONDS
             low, mid, low_2, mid_2 = min(own), statistics.median(own), min(plain_own), statistics.median(plain_own)
             size = size_of(plain, load, command[0], options.loads, sizes)
             most = MOST_OVER_CAPTURES if is_capture(load) else MOST
@@ -186,7 +193,7 @@ def main():
             print(
                 f"| {load} | {name} | {low * 1e3:.1f} / {mid * 1e3:.1f} | {low_2 * 1e3:.1f} / {mid_2 * 1e3:.1f} "
                 f"| {ratio:.2f} | {memory:.1f} | {memory_2:.1f} | {memory / memory_2:.2f} "
-                f"| {mid * 1e6 / size:.2f} | {mid_2 * 1e6 / size:.2f} | {answer} |"
+                f"| {mid * 1e6 / size:.2f} | {scaled * 1e6 / size:.2f} | {answer} |"
                 + ("" if same else " THE TWO WRITE DIFFERENT TEXTS"),
                 flush=True,
             )
