@@ -3,8 +3,10 @@ use Rattle.std.proofs.Common.{◌≡◌, ◌≢◌, ℕ, ◌<◌, Bool, true, fa
 use Rattle.std.specs.Prelude.{◌==◌}
 use Rattle.std.specs.List.{list_all}
 use Rattle.std.specs.Int.{w64, from_be_bytes, to_be_bytes}
+use Rattle.std.specs.Str.{bytes_eq}
 use Rattle.std.proofs.lemmas.Bool.Decides.{nat_tests}
 use Rattle.std.proofs.lemmas.Nat.{be_bytes_8}
+use Rattle.std.proofs.lemmas.Slice.Eq.{bytes_eq-Decides}
 use Rattle.babel_tlv.specs.Route.{is_reserved}
 
 all_same : (k : ℕ) (id : List ℕ) → list_all (λ octet. octet == k) id ≡ true → id ≡ replicate (length id) k
@@ -35,3 +37,20 @@ reserved_else id n eight octets is some =
     let ones : nat_eq n 18446744073709551615 ≡ list_all (λ octet. octet == 255) id = same_number 255 n id eight octets is refl in
     let none : nat_eq n 0 ≡ false = grind (arith, nat_tests) in
     rw (← zeros, ← ones, none) refl
+
+-- eight octets are eight others exactly if their numbers are one
+pub same_ids : (id other : List ℕ) (m n : ℕ) → length id ≡ 8 → ((i : ℕ) → get_or id i 0 < 256)
+    → length other ≡ 8 → ((i : ℕ) → get_or other i 0 < 256)
+    → m ≡ from_be_bytes w64 id → n ≡ from_be_bytes w64 other → nat_eq m n ≡ bytes_eq id other
+same_ids id other m n eight octets other_eight other_octets is other_is = by (bytes_eq id other) refl
+  where
+    by : (b : Bool) → bytes_eq id other ≡ b → nat_eq m n ≡ b
+    by true same =
+        let equal : m ≡ n = is ∙ ap (from_be_bytes w64) ((bytes_eq-Decides id other).0 same) ∙ sym other_is in
+        grind (arith, nat_tests)
+    by false differ =
+        let unequal : m ≢ n = λ equal.
+        let one : id ≡ other = sym (be_bytes_8 id m eight octets is) ∙ ap (to_be_bytes w64) equal ∙ be_bytes_8 other n other_eight other_octets other_is in
+        let same : bytes_eq id other ≡ true = (bytes_eq-Decides id other).1 one in
+        cc in
+        grind (arith, nat_tests)
