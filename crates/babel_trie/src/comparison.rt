@@ -97,7 +97,8 @@ impl<V: LawfulOrd> Comparison<V> {
         );
         let low = self.told(table, low, bits - 1)?;
         let high = self.told(table, high, bits - 1)?;
-        let whole = self.differences.joined(&low, &high)?;
+        let mut whole = Loose::Same(None);
+        self.differences.join(&low, &high, &mut whole)?;
         self.known.remember(both, whole)?;
         Ok(whole)
     }

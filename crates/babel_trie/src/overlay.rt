@@ -157,20 +157,21 @@ impl<V: LawfulOrd> Table<Option<V>> {
         let (mut low, mut high) = self.halves(*trie);
         self.lay_half(rows.low, width, bits - 1, start, &mut low)?;
         self.lay_half(rows.high, width, bits - 1, rows.middle, &mut high)?;
-        *trie = self.joined(&low, &high)?;
+        self.join(&low, &high, trie)?;
         Ok(())
     }
 
-    /// What rows make of the trie of a block around the block that they lie in. A row alone is what
-    /// the bits to its sources lead to.
+    /// Writes what rows make of the trie of a block around the block that they lie in. A row alone is
+    /// what the bits to its sources lead to.
     #[cycle(lay)]
-    fn laid_inside(
+    fn lay_inside(
         &mut self,
         rows: &[Row<V>],
         width: u8,
         bits: u8,
         narrowed: &Narrowed<Option<V>>,
-    ) -> Result<Loose<Option<V>>, AllocError>
+        trie: &mut Loose<Option<V>>,
+    ) -> Result<(), AllocError>
         requires sound { IsSound ⟦<Sources<Option<V>> as Ord>⟧.cmp
             ⟦<Sources<Option<V>> as LawfulOrd>⟧.mark self.old.nodes.items self.old.numbers }
         requires inner { (start : ℕ) × IsInner source_block width bits start rows.now
@@ -183,23 +184,24 @@ impl<V: LawfulOrd> Table<Option<V>> {
         ensures sound { OnOk result (IsSound ⟦<Sources<Option<V>> as Ord>⟧.cmp
             ⟦<Sources<Option<V>> as LawfulOrd>⟧.mark self.new.nodes.items self.new.numbers) }
         ensures keeps { OnOk result (KeepsNodes self.old.nodes.items self.new.nodes.items) }
-        ensures normal { IfOk result (IsNormalLoose self.new.nodes.items) }
-        ensures laid { IfOk result (λ x. (start : ℕ) (t : Shape (Option V))
+        ensures normal { OnOk result (IsNormalLoose self.new.nodes.items trie.new) }
+        ensures laid { OnOk result ((start : ℕ) (t : Shape (Option V))
             → IsInner source_block width bits start rows.now narrowed.now.block.bits
             narrowed.now.block.start narrowed.now.block.path
             → IsInside self.old.nodes.items narrowed.now.trie (bits - narrowed.now.block.bits)
             narrowed.now.block.path narrowed.now.beside t
-            → IsLaid width bits start (map row_of rows.now) self.new.nodes.items x t) }
+            → IsLaid width bits start (map row_of rows.now) self.new.nodes.items trie.new t) }
     {
         let block = narrowed.block;
         let skip = bits - block.bits;
         if let Some(only) = only_value(rows, width - block.bits) {
-            return Ok(alone(Some(only), narrowed.beside, skip, block.path));
+            *trie = alone(Some(only), narrowed.beside, skip, block.path);
+            return Ok(());
         }
-        let mut inside = narrowed.trie;
-        self.lay(rows, width, block.bits, block.start, &mut inside)?;
-        let laid = self.along(&inside, narrowed.beside, skip, block.path)?;
-        Ok(laid)
+        *trie = narrowed.trie;
+        self.lay(rows, width, block.bits, block.start, trie)?;
+        self.lead_to(trie, narrowed.beside, skip, block.path)?;
+        Ok(())
     }
 
     /// Lays rows of one destination over the trie of a block.
@@ -229,7 +231,7 @@ impl<V: LawfulOrd> Table<Option<V>> {
             → IsLaid width bits start (map row_of rows.now) self.new.nodes.items trie.new t) }
     {
         if let Some(narrowed) = narrow(rows, width, bits, start, trie) {
-            *trie = self.laid_inside(rows, width, bits, &narrowed)?;
+            self.lay_inside(rows, width, bits, &narrowed, trie)?;
             return Ok(());
         }
         let (own, rest) = parts(rows, width, bits, start);

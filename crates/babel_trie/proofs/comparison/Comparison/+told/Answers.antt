@@ -56,8 +56,8 @@ told-requires-2 g t c κs within =
     let right : IsTrie (a.bits - 1) nodes c.halves-2.result.1 = rights.1 in
     search rules
 
-pub joined-requires-clause-low : goal.joined-requires-clause-low
-joined-requires-clause-low g t c =
+pub join-requires-clause-low : goal.join-requires-clause-low
+join-requires-clause-low g t c =
     let a = c.args in
     let nodes = a.table.now.nodes.items in
     let some : 0 < a.bits = c.in_default.ensures.fork a.bits nodes nodes c.requires.left c.requires.right in
@@ -67,8 +67,8 @@ joined-requires-clause-low g t c =
     let fits : height low.0 ≤ 127 = low.2.fits 127 (omega (arith, p.low_lower, c.requires.left.fits, c.requires.width)) (omega (arith, q.low_lower, c.requires.right.fits, c.requires.width)) in
     IsTrie-grows c.told.new.self.differences.nodes.items c.told-2.new.self.differences.nodes.items c.in_ok-high.ensures.keeps 127 c.in_ok-low.low (record { trie = low.0; stands = low.1; fits = fits; reduced = low.2.reduced })
 
-pub joined-requires-clause-high : goal.joined-requires-clause-high
-joined-requires-clause-high g t c =
+pub join-requires-clause-high : goal.join-requires-clause-high
+join-requires-clause-high g t c =
     let a = c.args in
     let nodes = a.table.now.nodes.items in
     let p = halved nodes a.both.left c.halves.result.0 c.halves.result.1 c.halves.ensures.one c.halves.ensures.node c.requires.left.trie c.requires.left.stands in
@@ -77,17 +77,17 @@ joined-requires-clause-high g t c =
     let fits : height high.0 ≤ 127 = high.2.fits 127 (omega (arith, p.high_lower, c.requires.left.fits, c.requires.width)) (omega (arith, q.high_lower, c.requires.right.fits, c.requires.width)) in
     record { trie = high.0; stands = high.1; fits = fits; reduced = high.2.reduced }
 
-pub joined-requires-clause-low_normal : goal.joined-requires-clause-low_normal
-joined-requires-clause-low_normal g t c =
+pub join-requires-clause-low_normal : goal.join-requires-clause-low_normal
+join-requires-clause-low_normal g t c =
     IsNormalLoose-grows c.told.new.self.differences.nodes.items c.told-2.new.self.differences.nodes.items c.in_ok-high.ensures.keeps c.in_ok-low.low c.in_ok-low.ensures.normal
 
 pub returns-clause-known : goal.returns-clause-known
 returns-clause-known g t c =
     let a = c.args in
     let nodes = a.table.now.nodes.items in
-    let new = c.joined.new.self.nodes.items in
-    let knows = KnowsTold-grows nodes c.told-2.new.self.differences.nodes.items new c.told-2.new.self.known.found c.in_ok-whole.ensures.keeps c.in_ok-high.ensures.known in
-    KnowsTold-more nodes new c.told-2.new.self.known.found c.remember.new.self.found a.both c.in_ok-whole.whole knows c.in_ok-whole.ensures.normal
+    let new = c.join.new.self.nodes.items in
+    let knows = KnowsTold-grows nodes c.told-2.new.self.differences.nodes.items new c.told-2.new.self.known.found c.in_ok-join.ensures.keeps c.in_ok-high.ensures.known in
+    KnowsTold-more nodes new c.told-2.new.self.known.found c.remember.new.self.found a.both c.join.new.whole knows c.in_ok-join.ensures.normal
     (λ u v stands stands'.
     let nodes2 = c.told.new.self.differences.nodes.items in
     let nodes3 = c.told-2.new.self.differences.nodes.items in
@@ -95,8 +95,8 @@ returns-clause-known g t c =
     let q = halved nodes a.both.right c.halves-2.result.0 c.halves-2.result.1 c.halves-2.ensures.one c.halves-2.ensures.node v stands' in
     let low = c.in_ok-low.ensures.told p.low_half q.low_half p.low_stands q.low_stands in
     let high = c.in_ok-high.ensures.told p.high_half q.high_half p.high_stands q.high_stands in
-    let joined = c.in_ok-whole.ensures.joins low.0 high.0 (Stands-grows nodes2 nodes3 c.in_ok-high.ensures.keeps c.in_ok-low.low low.0 low.1) high.1 in
-    told_halves nodes c.joined.new.self.nodes.items a.both.left a.both.right c.halves.result.0 c.halves.result.1 c.halves-2.result.0 c.halves-2.result.1 c.in_ok-whole.whole u v low.0 high.0 p q
+    let joined = c.in_ok-join.ensures.joins low.0 high.0 (Stands-grows nodes2 nodes3 c.in_ok-high.ensures.keeps c.in_ok-low.low low.0 low.1) high.1 in
+    told_halves nodes c.join.new.self.nodes.items a.both.left a.both.right c.halves.result.0 c.halves.result.1 c.halves-2.result.0 c.halves-2.result.1 c.join.new.whole u v low.0 high.0 p q
     (λ bits t_in u_in. c.in_default.ensures.fork bits nodes nodes (record { trie = u; stands = stands; fits = t_in; reduced = subst IsReduced (one_shape nodes a.both.left c.requires.left.trie u c.requires.left.stands stands) c.requires.left.reduced })
     (record { trie = v; stands = stands'; fits = u_in; reduced = subst IsReduced (one_shape nodes a.both.right c.requires.right.trie v c.requires.right.stands stands') c.requires.right.reduced })) low.2 high.2 joined)
     c.in_ok-remember.ensures
@@ -111,7 +111,7 @@ returns-clause-told g t c u v stands stands' =
     let q = halved nodes a.both.right c.halves-2.result.0 c.halves-2.result.1 c.halves-2.ensures.one c.halves-2.ensures.node v stands' in
     let low = c.in_ok-low.ensures.told p.low_half q.low_half p.low_stands q.low_stands in
     let high = c.in_ok-high.ensures.told p.high_half q.high_half p.high_stands q.high_stands in
-    let joined = c.in_ok-whole.ensures.joins low.0 high.0 (Stands-grows nodes2 nodes3 c.in_ok-high.ensures.keeps c.in_ok-low.low low.0 low.1) high.1 in
-    told_halves nodes c.joined.new.self.nodes.items a.both.left a.both.right c.halves.result.0 c.halves.result.1 c.halves-2.result.0 c.halves-2.result.1 c.in_ok-whole.whole u v low.0 high.0 p q
+    let joined = c.in_ok-join.ensures.joins low.0 high.0 (Stands-grows nodes2 nodes3 c.in_ok-high.ensures.keeps c.in_ok-low.low low.0 low.1) high.1 in
+    told_halves nodes c.join.new.self.nodes.items a.both.left a.both.right c.halves.result.0 c.halves.result.1 c.halves-2.result.0 c.halves-2.result.1 c.join.new.whole u v low.0 high.0 p q
     (λ bits t_in u_in. c.in_default.ensures.fork bits nodes nodes (record { trie = u; stands = stands; fits = t_in; reduced = subst IsReduced (one_shape nodes a.both.left c.requires.left.trie u c.requires.left.stands stands) c.requires.left.reduced })
     (record { trie = v; stands = stands'; fits = u_in; reduced = subst IsReduced (one_shape nodes a.both.right c.requires.right.trie v c.requires.right.stands stands') c.requires.right.reduced })) low.2 high.2 joined

@@ -19,11 +19,11 @@ use Rattle.babel_trie.proofs.SourceLaws.{overlaid_set, overlaid_one, overlaid_jo
 use Rattle.babel_trie.proofs.LaidAlong.{laid_along}
 use Rattle.babel_trie.proofs.overlay.Table+Option+V.+lay.Goals as goal
 
-pub laid_inside-returns-in-Some-clause-normal : goal.laid_inside-returns-in-Some-clause-normal
-laid_inside-returns-in-Some-clause-normal g t c = c.alone.ensures.normal c.args.self.now.nodes.items
+pub lay_inside-returns-in-Some-clause-normal : goal.lay_inside-returns-in-Some-clause-normal
+lay_inside-returns-in-Some-clause-normal g t c = c.alone.ensures.normal c.args.self.now.nodes.items
 
-pub laid_inside-returns-in-Some-clause-laid : goal.laid_inside-returns-in-Some-clause-laid
-laid_inside-returns-in-Some-clause-laid g t c start u inner inside =
+pub lay_inside-returns-in-Some-clause-laid : goal.lay_inside-returns-in-Some-clause-laid
+lay_inside-returns-in-Some-clause-laid g t c start u inner inside =
     let a = c.args in
     let block = a.narrowed.now.block in
     let nodes = a.self.now.nodes.items in
@@ -32,27 +32,27 @@ laid_inside-returns-in-Some-clause-laid g t c start u inner inside =
     let laid = overlaid_one a.width block.bits block.start a.rows.now one.0 nodes inside.inside c.in-Some.only inner.place inner.rows_in c.requires.one one.1 one.2 one.3 in
     laid_along a.width a.bits start block.bits block.start block.path a.rows.now inner nodes nodes nodes a.narrowed.now.trie (Same (Some c.in-Some.only)) c.alone.result a.narrowed.now.beside u inside fits laid (c.alone.ensures.along nodes laid.new laid.stands)
 
-pub laid_inside-along-requires-clause-inside : goal.laid_inside-along-requires-clause-inside
-laid_inside-along-requires-clause-inside g t c =
+pub lay_inside-lead_to-requires-clause-inside : goal.lay_inside-lead_to-requires-clause-inside
+lay_inside-lead_to-requires-clause-inside g t c =
     let laid = c.in_ok-lay.ensures.laid c.requires.trie.trie c.requires.trie.stands in
     let fits : height laid.new ≤ 128 - (c.args.bits - c.args.narrowed.now.block.bits) = omega (arith, laid.fits c.requires.trie.fits, c.requires.inner.1.smaller, c.requires.bits, c.requires.width) in
     record { trie = laid.new; stands = laid.stands; fits = fits; reduced = laid.reduced c.requires.trie.reduced }
 
-pub laid_inside-returns-clause-keeps : goal.laid_inside-returns-clause-keeps
-laid_inside-returns-clause-keeps g t c i node e = c.in_ok-laid.ensures.keeps i node (c.in_ok-lay.ensures.keeps i node e)
+pub lay_inside-returns-clause-keeps : goal.lay_inside-returns-clause-keeps
+lay_inside-returns-clause-keeps g t c i node e = c.in_ok-lead_to.ensures.keeps i node (c.in_ok-lay.ensures.keeps i node e)
 
-pub laid_inside-returns-clause-laid : goal.laid_inside-returns-clause-laid
-laid_inside-returns-clause-laid g t c start u inner inside =
+pub lay_inside-returns-clause-laid : goal.lay_inside-returns-clause-laid
+lay_inside-returns-clause-laid g t c start u inner inside =
     let a = c.args in
     let block = a.narrowed.now.block in
     let nodes = a.self.now.nodes.items in
     let fits : height inside.inside ≤ block.bits = subst (λ x. height x ≤ block.bits) (one_shape nodes a.narrowed.now.trie c.requires.trie.trie inside.inside c.requires.trie.stands inside.stands) c.requires.trie.fits in
     let laid = c.in_ok-lay.ensures.laid inside.inside inside.stands in
-    laid_along a.width a.bits start block.bits block.start block.path a.rows.now inner nodes c.lay.new.self.nodes.items c.along.new.self.nodes.items a.narrowed.now.trie c.lay.new.trie c.in_ok-laid.laid a.narrowed.now.beside u inside fits laid
-    (c.in_ok-laid.ensures.along laid.new laid.stands)
+    laid_along a.width a.bits start block.bits block.start block.path a.rows.now inner nodes c.lay.new.self.nodes.items c.lead_to.new.self.nodes.items a.narrowed.now.trie c.lay.new.trie c.lead_to.new.trie a.narrowed.now.beside u inside fits laid
+    (c.in_ok-lead_to.ensures.along laid.new laid.stands)
 
-pub lay-laid_inside-requires : goal.lay-laid_inside-requires
-lay-laid_inside-requires g t c κs within =
+pub lay-lay_inside-requires : goal.lay-lay_inside-requires
+lay-lay_inside-requires g t c κs within =
     let a = c.args in
     let nodes = a.self.now.nodes.items in
     let narrowed = c.in-Some.narrowed in
@@ -69,7 +69,7 @@ lay-laid_inside-requires g t c κs within =
 pub lay-returns-in-Some-clause-laid : goal.lay-returns-in-Some-clause-laid
 lay-returns-in-Some-clause-laid g t c u p =
     let ensures = c.in-Some.ensures in
-    c.in_ok-trie.ensures.laid c.args.start u ensures.inner (ensures.inside c.args.self.now.nodes.items u c.requires.normal p)
+    c.in_ok-lay_inside.ensures.laid c.args.start u ensures.inner (ensures.inside c.args.self.now.nodes.items u c.requires.normal p)
 
 pub lay-returns-in_default-rest-clause-laid : goal.lay-returns-in_default-rest-clause-laid
 lay-returns-in_default-rest-clause-laid g t c u p =
@@ -226,8 +226,8 @@ lay_halves-lay_half-requires-2 g t c κs within =
     let one : HasOneDestination a.rows.now.high.now = one_right a.rows.now.low.now a.rows.now.high.now c.requires.one in
     search rules
 
-pub lay_halves-joined-requires-clause-low : goal.lay_halves-joined-requires-clause-low
-lay_halves-joined-requires-clause-low g t c =
+pub lay_halves-join-requires-clause-low : goal.lay_halves-join-requires-clause-low
+lay_halves-join-requires-clause-low g t c =
     let a = c.args in
     let nodes = a.self.now.nodes.items in
     let low = c.halves-low.result.0 in
@@ -239,8 +239,8 @@ lay_halves-joined-requires-clause-low g t c =
     let fits : height laid.new ≤ 127 = omega (arith, laid.fits trie.fits, c.requires.rows.place.bits_in, c.requires.width) in
     IsTrie-grows c.lay_half.new.self.nodes.items c.lay_half-2.new.self.nodes.items c.in_ok-lay_half-2.ensures.keeps 127 c.lay_half.new.trie (record { trie = laid.new; stands = laid.stands; fits = fits; reduced = laid.reduced trie.reduced })
 
-pub lay_halves-joined-requires-clause-high : goal.lay_halves-joined-requires-clause-high
-lay_halves-joined-requires-clause-high g t c =
+pub lay_halves-join-requires-clause-high : goal.lay_halves-join-requires-clause-high
+lay_halves-join-requires-clause-high g t c =
     let a = c.args in
     let nodes = a.self.now.nodes.items in
     let low = c.halves-low.result.0 in
@@ -252,13 +252,13 @@ lay_halves-joined-requires-clause-high g t c =
     let fits : height laid.new ≤ 127 = omega (arith, laid.fits trie.fits, c.requires.rows.place.bits_in, c.requires.width) in
     record { trie = laid.new; stands = laid.stands; fits = fits; reduced = laid.reduced trie.reduced }
 
-pub lay_halves-joined-requires-clause-low_normal : goal.lay_halves-joined-requires-clause-low_normal
-lay_halves-joined-requires-clause-low_normal g t c =
+pub lay_halves-join-requires-clause-low_normal : goal.lay_halves-join-requires-clause-low_normal
+lay_halves-join-requires-clause-low_normal g t c =
     IsNormalLoose-grows c.lay_half.new.self.nodes.items c.lay_half-2.new.self.nodes.items c.in_ok-lay_half-2.ensures.keeps c.lay_half.new.trie c.in_ok-lay_half.ensures.normal
 
 pub lay_halves-returns-clause-keeps : goal.lay_halves-returns-clause-keeps
 lay_halves-returns-clause-keeps g t c i node e =
-    c.in_ok-trie.ensures.keeps i node (c.in_ok-lay_half-2.ensures.keeps i node (c.in_ok-lay_half.ensures.keeps i node e))
+    c.in_ok-join.ensures.keeps i node (c.in_ok-lay_half-2.ensures.keeps i node (c.in_ok-lay_half.ensures.keeps i node e))
 
 pub lay_halves-returns-clause-laid : goal.lay_halves-returns-clause-laid
 lay_halves-returns-clause-laid g t c u p =
@@ -275,6 +275,6 @@ lay_halves-returns-clause-laid g t c u p =
     let in_low = c.in_ok-lay_half.ensures.laid halved.low_half halved.low_stands in
     let there = c.in_ok-lay_half-2.ensures.laid halved.high_half (Stands-grows nodes1 nodes2 c.in_ok-lay_half.ensures.keeps high_half halved.high_half halved.high_stands) in
     let in_high = subst (λ m. IsLaid a.width (a.bits - 1) m (map row_of high) nodes3 c.lay_half-2.new.trie halved.high_half) c.requires.middle there in
-    let joined = c.in_ok-trie.ensures.joins in_low.new in_high.new (Stands-grows nodes2 nodes3 c.in_ok-lay_half-2.ensures.keeps c.lay_half.new.trie in_low.new in_low.stands) in_high.stands in
-    overlaid_joined a.width a.bits a.start low high c.requires.rows nodes1 nodes2 nodes3 c.joined.new.self.nodes.items low_half high_half c.lay_half.new.trie c.lay_half-2.new.trie c.in_ok-trie.field-0 u
+    let joined = c.in_ok-join.ensures.joins in_low.new in_high.new (Stands-grows nodes2 nodes3 c.in_ok-lay_half-2.ensures.keeps c.lay_half.new.trie in_low.new in_low.stands) in_high.stands in
+    overlaid_joined a.width a.bits a.start low high c.requires.rows nodes1 nodes2 nodes3 c.join.new.self.nodes.items low_half high_half c.lay_half.new.trie c.lay_half-2.new.trie c.join.new.whole u
     halved in_low in_high joined fits

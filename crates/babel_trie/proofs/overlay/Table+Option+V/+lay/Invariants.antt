@@ -12,5 +12,5 @@ decreases-lay_half g l = 3 * l.bits + 1
 abbrev pub decreases-lay_halves : goal.decreases-lay_halves
 decreases-lay_halves g l = 3 * l.bits - 1
 
-abbrev pub decreases-laid_inside : goal.decreases-laid_inside
-decreases-laid_inside g l = 3 * l.narrowed.now.block.bits + 1
+abbrev pub decreases-lay_inside : goal.decreases-lay_inside
+decreases-lay_inside g l = 3 * l.narrowed.now.block.bits + 1
