@@ -46,9 +46,6 @@ held_order = fun_ext (λ a. fun_ext (λ b. one a b))
     one helds.Unreachable (helds.Route b) = search rules
     one helds.Unreachable helds.Unreachable = search rules
 
-pub held_same : (a b : Held) → ghosts.cmp a b ≡ Equal → a ≡ b
-held_same a b e = held_exact a b (subst (λ (k : Held → Held → Ordering). k a b ≡ Equal) held_order e)
-
 pub numbered_after_push : (values : List Held) (numbers after : BTreeMap Held ℕ) (held : Held) (number : ℕ) → number ≡ length values → AreNumbered values numbers
     → get held_cmp numbers held ≡ None → ((q : Held) → get held_cmp after q ≡ cond (is_at (held_cmp held) q) (Some number) (get held_cmp numbers q)) → AreNumbered (values ++ held ∷ []) after
 numbered_after_push values numbers after held number is_last numbered absent update = record { exact = λ q n. (to q n, from q n) }

@@ -6,7 +6,6 @@ ghost use Rattle.babel_canon.specs.Values.{AreNumbered, HasFiniteMetric, IsPacke
 use babel_tlv::{Ann, Held};
 use babel_trie::LawfulOrd;
 use std::alloc::{AllocError, Global};
-use std::cmp::Ordering;
 use std::collections::BTreeMap;
 
 /// A value: the number of its origin, and its seqno and metric, which are 0 and infinite where it
@@ -70,6 +69,21 @@ fn origin_of(held: &Held) -> Held
     }
 }
 
+/// Whether two values are one. Router-ids are compared as numbers, and not octet by octet.
+fn are_one(known: &Held, held: &Held) -> bool
+    ensures { result ≡ true → known.now ≡ held.now }
+{
+    match (known, held) {
+        (Held::Route(ann), Held::Route(other)) => {
+            let fields = (ann.seqno(), ann.metric(), ann.next_hop());
+            u64::from_be_bytes(ann.router_id()) == u64::from_be_bytes(other.router_id())
+                && fields == (other.seqno(), other.metric(), other.next_hop())
+        }
+        (Held::Unreachable, Held::Unreachable) => true,
+        _ => false,
+    }
+}
+
 /// The seqno and the metric of a value: RFC 8966, 4.6.9.
 fn seqno_and_metric(held: &Held) -> (u16, u16)
     ensures seqno { result.0 ≡ held_seqno held.now }
@@ -98,8 +112,10 @@ impl Values {
     fn is_number(&self, number: u32, origin: &Held) -> bool
         ensures { result ≡ true → slice_get self.now.list.items number ≡ Some origin.now }
     {
-        let at = number as usize;
-        at < self.list.len() && self.list[at].cmp(origin) == Ordering::Equal
+        let Some(known) = self.list.get(number as usize) else {
+            return false;
+        };
+        are_one(known, origin)
     }
 
     /// The number of an origin, which is added if it is not there.
