@@ -1,17 +1,19 @@
 -- Sub-TLVs that are read from the left, with the source prefix that they give.
-use Rattle.std.proofs.Common.{true≢false, ◌≡◌, ℕ, ◌+◌, ◌-◌, ◌<◌, Bool, true, false, cond, List, [], ◌∷◌, ◌++◌, length, Option, Some, None, refl, sym, ap, subst, ◌∙◌, arith}
+use Rattle.std.proofs.Common.{true≢false, ◌≡◌, ◌≢◌, ℕ, zero, suc, ◌+◌, ◌-◌, ◌<◌, ◌≤◌, Bool, true, false, cond, List, [], ◌∷◌, ◌++◌, length, Option, Some, None, refl, sym, ap, subst, ◌∙◌, arith}
 use Rattle.std.specs.Prelude.{◌==◌, ◌||◌, nat_le, is_some, IfSome}
 use Rattle.std.specs.List.{list_any, find}
 use Rattle.std.specs.Option.{option_or, option_map}
 use Rattle.std.proofs.lemmas.Bool.Decides.{nat_tests}
+use Rattle.std.proofs.lemmas.List.{length-append}
 use Rattle.babel_prefix.specs.declared.family.Family.{Family}
 use Rattle.babel_prefix.specs.Address.{AddressPrefix}
 use Rattle.babel_tlv.specs.declared.place.Place.{Place}
 use Rattle.babel_tlv.specs.declared.place.Place.TheVariants as places
 use Rattle.babel_tlv.specs.declared.reason.Reason.{Reason}
+use Rattle.babel_tlv.specs.declared.reason.Reason.TheVariants as reasons
 use Rattle.babel_tlv.specs.Framing.{TlvAt, tlvs_of}
 use Rattle.babel_tlv.specs.Left.{BeginsTlv}
-use Rattle.babel_tlv.specs.SubTlv.{sub_reason, item_reason, is_source, source_prefix}
+use Rattle.babel_tlv.specs.SubTlv.{sub_reason, item_reason, mandatory_reason, is_source, source_prefix}
 use Rattle.babel_tlv.specs.Reading.{source_in}
 use Rattle.babel_tlv.proofs.Reading.{one, tlvs_of-begins}
 use Rattle.babel_tlv.proofs.SubReading.{FaultSoFar, fault_from, fault_from-begins, item_reason-at, list_any-push, reason_or}
@@ -64,18 +66,26 @@ or_false false = refl
 abbrev either_source : Option AddressPrefix → Option AddressPrefix → Option AddressPrefix
 either_source a b = option_or a b
 
+other_reason : (place : Place) (again : Bool) (kind : ℕ) (body : List ℕ) → (kind == 128) ≡ false → item_reason place again (one 0 kind body) ≡ mandatory_reason (one 0 kind body)
+other_reason (places.InUpdate family) again kind body other = rw other refl
+other_reason places.InWildcard again kind body other = rw other refl
+other_reason places.Elsewhere again kind body other = refl
+
 mandatory_none : (place : Place) (again : Bool) (kind : ℕ) (body : List ℕ) → kind < 128 → item_reason place again (one 0 kind body) ≡ None
-mandatory_none (places.InUpdate family) again kind body optional =
-    let other : (kind == 128) ≡ false = grind (arith, nat_tests) in
+mandatory_none place again kind body optional =
     let low : nat_le 128 kind ≡ false = grind (arith, nat_tests) in
-    rw (other, low) refl
-mandatory_none places.InWildcard again kind body optional =
-    let other : (kind == 128) ≡ false = grind (arith, nat_tests) in
-    let low : nat_le 128 kind ≡ false = grind (arith, nat_tests) in
-    rw (other, low) refl
-mandatory_none places.Elsewhere again kind body optional =
-    let low : nat_le 128 kind ≡ false = grind (arith, nat_tests) in
-    rw low refl
+    other_reason place again kind body (grind (arith, nat_tests)) ∙ rw low refl
+
+-- one that is mandatory, and no Source Prefix, is not known
+pub mandatory_some : (place : Place) (again : Bool) (kind : ℕ) (body : List ℕ) → kind ≢ 128 → 128 ≤ kind → item_reason place again (one 0 kind body) ≡ Some reasons.UnknownMandatory
+mandatory_some place again kind body other mandatory =
+    let high : nat_le 128 kind ≡ true = grind (arith, nat_tests) in
+    other_reason place again kind body (grind (arith, nat_tests)) ∙ rw high refl
+
+-- what is left behind an item is shorter
+pub BeginsTlv-shorter : (octets : List ℕ) (kind : ℕ) (body rest : List ℕ) → BeginsTlv octets kind body rest → length rest < length octets
+BeginsTlv-shorter octets zero body rest begins = omega (arith, ap length begins.whole)
+BeginsTlv-shorter octets (suc kind) body rest begins = omega (arith, ap length begins.whole, length-append body rest)
 
 -- an item that isn't mandatory is passed over
 pub SubTlvsSoFar-pass : (place : Place) (octets rest behind : List ℕ) (source : Option AddressPrefix) (kind : ℕ) (body : List ℕ) → SubTlvsSoFar place octets rest source → BeginsTlv rest kind body behind

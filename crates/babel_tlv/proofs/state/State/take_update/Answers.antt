@@ -2,9 +2,15 @@
 use Rattle.std.proofs.Common.{◌≡◌, ◌∙◌, sym, ap, rules}
 use Rattle.babel_tlv.specs.Forming.{encoding, update_encoding}
 use Rattle.babel_tlv.specs.Frames.{tlv_value}
-use Rattle.babel_tlv.proofs.Advance.{update_said-family}
+use Rattle.babel_tlv.proofs.Advance.{update_said-family, update_said-wildcard}
 use Rattle.babel_tlv.proofs.Telling.{as_ok}
 use Rattle.babel_tlv.proofs.state.State.take_update.Goals as goal
+
+pub returns-in-Wildcard-clause-said : goal.returns-in-Wildcard-clause-said
+returns-in-Wildcard-clause-said c =
+    let update = c.in-Some.update in
+    ap as_ok (c.wildcard.ensures.said c.args.route.now)
+    ∙ sym (update_said-wildcard c.args.self.now (tlv_value c.args.tlv.now) update.body.now c.in-Some.ensures update.fields.long c.in-Wildcard.ensures)
 
 pub returns-in-Ok-clause-said : goal.returns-in-Ok-clause-said
 returns-in-Ok-clause-said c =

@@ -1,0 +1,35 @@
+-- A Next Hop of an encoding with an address gives it where all its octets are there; its sub-TLVs are behind them.
+use Rattle.std.proofs.Common.{◌≡◌, ℕ, ◌+◌, ◌-◌, ◌<◌, ◌≤◌, false, List, length, get_or, take, drop, Ok, sym, ap, ◌∙◌, arith}
+use Rattle.std.specs.Prelude.{◌==◌, nat_lt}
+use Rattle.std.proofs.lemmas.Bool.Decides.{nat_tests}
+use Rattle.std.proofs.lemmas.List.{drop-drop, length-drop, take_rest}
+use Rattle.babel_prefix.specs.Address.{Address}
+use Rattle.babel_tlv.specs.Forming.{hop_address, hop_len, next_hop_in}
+use Rattle.babel_tlv.specs.Reading.{hop_sub_tlvs}
+use Rattle.babel_tlv.proofs.next_hop.NextHop.read.Goals as goal
+
+hop_read : (body : List ℕ) (number : ℕ) (hop : Address) → 2 ≤ length body → get_or body 0 0 ≡ number → 0 < number → number ≤ 3
+    → hop_len number ≤ length (take (length body - 2) (drop 2 body)) → hop ≡ hop_address number (take (hop_len number) (take (length body - 2) (drop 2 body)))
+    → (next_hop_in body ≡ Ok hop)
+    × (take (length (take (length body - 2) (drop 2 body)) - hop_len number) (drop (hop_len number) (take (length body - 2) (drop 2 body))) ≡ hop_sub_tlvs body)
+hop_read body number hop long is some known whole given =
+    let all : take (length body - 2) (drop 2 body) ≡ drop 2 body = take_rest body 2 in
+    let is_long : nat_lt (length body) 2 ≡ false = grind (arith, nat_tests) in
+    let not_none : (number == 0) ≡ false = grind (arith, nat_tests) in
+    let not_more : nat_lt 3 number ≡ false = grind (arith, nat_tests) in
+    let enough : 2 + hop_len number ≤ length body = omega (arith, rw all at whole, length-drop 2 body) in
+    let is_whole : nat_lt (length body) (2 + hop_len number) ≡ false = grind (arith, nat_tests, enough) in (
+      rw (is, is_long, not_none, not_more, is_whole) (ap Ok (sym (rw all at given))),
+      take_rest (take (length body - 2) (drop 2 body)) (hop_len number) ∙ ap (drop (hop_len number)) all ∙ drop-drop (hop_len number) 2 body
+          ∙ ap (λ (n : ℕ). drop (2 + hop_len n) body) (sym is),
+    )
+
+pub returns-in-Ipv4 : goal.returns-in-Ipv4
+returns-in-Ipv4 c = hop_read c.args.body.now 1 c.address.result c.in-len2-up.len_at_least c.in-Ipv4.ensures (omega arith) (omega arith) c.if-octets-ge4.true c.address.ensures
+
+pub returns-in-Ipv6 : goal.returns-in-Ipv6
+returns-in-Ipv6 c = hop_read c.args.body.now 2 c.address-in-Ipv6.result c.in-len2-up.len_at_least c.in-Ipv6.ensures (omega arith) (omega arith) c.if-octets-ge16.true c.address-in-Ipv6.ensures
+
+pub returns-in-LinkLocal : goal.returns-in-LinkLocal
+returns-in-LinkLocal c =
+    hop_read c.args.body.now 3 c.link_local_address.result c.in-len2-up.len_at_least c.in-LinkLocal.ensures (omega arith) (omega arith) c.if-octets-ge8.true c.link_local_address.ensures
