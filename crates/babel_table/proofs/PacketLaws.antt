@@ -75,6 +75,19 @@ pub packets-next_used : (mode : Mode) (entries : ℕ) (sender : Address) (at : �
 packets-next_used mode entries sender at octets old now next rest body place used is took begins parts takes =
     subst (λ (n : ℕ). TookPackets mode entries sender at octets old next (drop n rest) (place + n)) (sym is) (packets-next mode entries sender at octets old now next rest body place took begins parts takes)
 
+-- how many octets were taken says what the rest is, and where it begins
+module _ (mode : Mode) (entries : ℕ) (sender : Address) (at : ℕ) (octets : List ℕ) (old now : Routes) (rest : List ℕ) (place : ℕ) (took : TookPackets mode entries sender at octets old now rest place) where
+  lengths : length octets ≡ length (flat_map packet_octets took.packets) + length rest
+  lengths = ap length took.whole ∙ length-append (flat_map packet_octets took.packets) rest
+
+  pub rest-left : drop (length octets - length rest) octets ≡ rest
+  rest-left = ap (drop (length octets - length rest)) took.whole ∙ drop_at (flat_map packet_octets took.packets) rest (length octets - length rest) (omega (arith, lengths))
+
+  pub took-left : TookPackets mode entries sender at octets old now (drop (length octets - length rest) octets) (at + (length octets - length rest))
+  took-left =
+      let here : place ≡ at + (length octets - length rest) = omega (arith, took.here, lengths) in
+      rw (rest-left, ← here) took
+
 -- what a slice from n on is
 pub rest-whole : (n : ℕ) (xs : List ℕ) → take (length xs - n) (drop n xs) ≡ drop n xs
 rest-whole n xs = take_all (length xs - n) (drop n xs) (omega (arith, length-drop n xs))

@@ -240,6 +240,9 @@ absent-behind ws k rising places None indexed not_here unlisted = none (found k 
 pub front-rising : (ws : Words) (rising : ℕ) (places : Places) → AreIndexed (keys_of ws) rising places → IsRising (take rising ws)
 front-rising ws rising places indexed = subst (λ t. IsStrictlySortedBy key_cmp t) (sym (keys_take rising ws)) indexed.front
 
+pub whole-rising : (ws : Words) (rising : ℕ) (places : Places) → AreIndexed (keys_of ws) rising places → rising ≡ length ws → IsRising ws
+whole-rising ws rising places indexed whole = subst (λ t. IsRising t) (take_all rising ws (omega (arith, whole))) (front-rising ws rising places indexed)
+
 -- a key that a search misses in front, or that is greater than all there, is where it is listed
 pub searched-behind : (ws : Words) (k : RouteKey) (rising : ℕ) (places : Places) (i : ℕ) (o : Option ℕ) → AreIndexed (keys_of ws) rising places → IsBinarySearchResult (λ word. key_cmp word.0 k) (take rising ws) (Err i)
     → MatchOption o (IsUnlisted (keys_of ws) places k) (IsPlace (keys_of ws) k) → MatchOption o (found k ws ≡ None) (IsPlace (keys_of ws) k)
@@ -705,7 +708,7 @@ module _ (n : ℕ) (ws : Words) (rising : ℕ) (places : Places) (all : AreCount
     pub counted-front : (v : Kept) (m : ℕ) → m ≡ length (ws ++ (k, Some v) ∷ []) → n + 1 < 2 ^ 63 → rising ≡ length ws → AreAbove k ws → AreCounted (n + 1) (ws ++ (k, Some v) ∷ []) m places
     counted-front v m long few full above =
         let whole : AreIndexed (keys_of ws) (length (keys_of ws)) places = subst (λ m. AreIndexed (keys_of ws) m places) (full ∙ sym (length-keys_of ws)) all.indexed in
-        let order : IsRising ws = subst (λ t. IsStrictlySortedBy key_cmp t) (take_all (length (keys_of ws)) (keys_of ws) (omega arith)) whole.front in
+        let order : IsRising ws = whole-rising ws rising places all.indexed full in
         let longer : IsStrictlySortedBy key_cmp (keys_of ws ++ k ∷ []) = subst (λ t. IsStrictlySortedBy key_cmp t) (keys-push k (Some v) ws) (rising-push k (Some v) ws above order) in
         let more : length (keys_of ws) + 1 ≡ m = omega (arith, long, length-keys_of ws, length-append ws ((k, Some v) ∷ [])) in
         counted-more v m places few (subst (λ t. AreIndexed t m places) (sym (keys-push k (Some v) ws)) (subst (λ t. AreIndexed (keys_of ws ++ k ∷ []) t places) more (indexed-front (keys_of ws) places k whole (absent_of k ws none) longer)))

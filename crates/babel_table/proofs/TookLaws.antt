@@ -155,6 +155,12 @@ module _ (mode m : Mode) (entries e : ℕ) (is_m : m ≡ mode) (is_e : e ≡ ent
   body-failed fault some fails =
       subst (λ (o : Mode). Fails o entries (sayings_behind sender [] all) old fault) is_m (subst (λ (n : ℕ). Fails m n (sayings_behind sender [] all) old fault) is_e (fails (here some)))
 
+  pub body-taken : (next : Routes) (after : Context) → TookSome mode entries sender old all now context all_left
+      → (TookSome m e sender old all now context (tlv ∷ left) → TookSome m e sender old all next after left)
+      → TookSome mode entries sender old all next after left
+  body-taken next after some takes =
+      subst (λ (o : Mode). TookSome o entries sender old all next after left) is_m (subst (λ (n : ℕ). TookSome m n sender old all next after left) is_e (takes (here some)))
+
 pub took-start : (mode : Mode) (entries : ℕ) (sender : Address) (old : Routes) (all : List TlvAt) (context : Context) (left : List TlvAt) → context ≡ context_after sender [] → left ≡ all
     → TookSome mode entries sender old all old context left
 took-start mode entries sender old all context left is_context is_left = record {

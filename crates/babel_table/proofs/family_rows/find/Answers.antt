@@ -1,6 +1,8 @@
 -- The next row is taken where its whole key is the one looked for; a key past those in front is none of them.
-use Rattle.std.proofs.Common.{rules}
+use Rattle.std.proofs.Common.{◌≤◌, sym, subst, rules}
 use Rattle.std.proofs.lemmas.Fn.{always_returns_same}
+use Rattle.std.proofs.lemmas.List.{length-take-le}
+use Rattle.std.proofs.lemmas.Map.Entries.{length-keys_of}
 use Rattle.babel_tlv.specs.Keys.{key_cmp}
 use Rattle.babel_table.proofs.SaidLaws.{above-behind, front-rising, place-searched, searched-behind}
 use Rattle.babel_table.proofs.family_rows.find.Goals.{then-not-is_past+in_default, else-not-is_past}
@@ -8,6 +10,9 @@ use Rattle.babel_table.proofs.family_rows.find.Goals as goal
 
 pub returns-then-has_key : goal.returns-then-has_key
 returns-then-has_key g c = c.has_key.ensures.0 c.if-has_key.true
+
+pub slice_bounds-front-end : goal.slice_bounds-front-end
+slice_bounds-front-end g c = sym (length-take-le c.args.rising c.args.rows.now (subst (λ n. c.args.rising ≤ n) (length-keys_of c.args.rows.now) c.requires.inside))
 
 pub is_past-requires : goal.is_past-requires
 is_past-requires g c = front-rising c.args.rows.now c.args.rising c.args.places.now c.requires

@@ -1,6 +1,6 @@
 -- The loop ends behind length 0, where no row was found either.
 use Rattle.std.proofs.Common.{arith, ◌∙◌}
-use Rattle.babel_table.proofs.LookupLaws.{longest-matches, no-destination_matches}
+use Rattle.babel_table.proofs.LookupLaws.{destinations-fewer, longest-matches, no-destination_matches}
 use Rattle.babel_table.proofs.lookup.best_match.Goals.{else-loop-len-test, then-loop-len-test+in_ok-prefix+in_default+else-len-gt0}
 use Rattle.babel_table.proofs.lookup.best_match.Goals as goal
 
@@ -8,6 +8,11 @@ pub returns-in-Some : goal.returns-in-Some
 returns-in-Some g c =
     longest-matches c.args.rows.now c.args.dst.now c.args.src.now c.loop-len.len c.of.result c.in-Some.held c.requires.rows c.loop-len.invariant
     (c.of.ensures ∙ c.in_ok-prefix.ensures.value) c.in-Some.ensures
+
+pub loop-len-preserved : goal.loop-len-preserved
+loop-len-preserved g c =
+    destinations-fewer c.args.rows.now c.args.dst.now c.args.src.now c.loop-len.len c.of.result c.requires.rows c.loop-len.invariant
+    (c.of.ensures ∙ c.in_ok-prefix.ensures.value) c.in_default.ensures
 
 pub returns : goal.returns
 returns g c =

@@ -1,9 +1,21 @@
 -- The key's row says that it was retracted.
-use Rattle.std.proofs.Common.{◌≡◌, None, sym, subst}
+use Rattle.std.proofs.Common.{◌≡◌, ◌<◌, None, sym, subst, arith}
 use Rattle.std.specs.Map.{keys_of}
 use Rattle.babel_table.specs.Said.{IsPlace}
-use Rattle.babel_table.proofs.SaidLaws.{found, key-read, standing-set, fewer-set, counted-unset, stands-nowhere, unsaid-nothing}
+use Rattle.babel_table.proofs.SaidLaws.{found, key-read, inside_of, standing-set, fewer-set, counted-unset, stands-nowhere, unsaid-nothing}
 use Rattle.babel_table.proofs.family_rows.FamilyRows.forget.Goals as goal
+
+pub find-requires : goal.find-requires
+find-requires g c = rw c.deref.ensures.value c.self.invariant.indexed
+
+pub index-requires : goal.index-requires
+index-requires g c = subst (λ n. c.in-Some.place < n) c.deref.ensures.len (inside_of c.of-key.result c.deref.result.now c.in-Some.place c.in-Some.ensures)
+
+pub index_mut-requires : goal.index_mut-requires
+index_mut-requires g c = subst (λ n. c.in-Some.place < n) c.deref.ensures.len (inside_of c.of-key.result c.deref.result.now c.in-Some.place c.in-Some.ensures)
+
+pub overflow_add-self : goal.overflow_add-self
+overflow_add-self g c = let inside = inside_of c.of-key.result c.deref.result.now c.in-Some.place c.in-Some.ensures in omega (arith, inside)
 
 pub overflow_sub-self : goal.overflow_sub-self
 overflow_sub-self g c =

@@ -1,10 +1,16 @@
 -- The key's row says whether there is something.
-use Rattle.std.proofs.Common.{◌≡◌, ◌∙◌, sym, ap, subst, None}
+use Rattle.std.proofs.Common.{◌≡◌, ◌<◌, ◌∙◌, sym, ap, subst, None}
 use Rattle.std.specs.Option.{is_some}
 use Rattle.std.specs.Map.{keys_of}
 use Rattle.babel_table.specs.Said.{IsPlace}
-use Rattle.babel_table.proofs.SaidLaws.{found, stands-here, stands-nowhere}
+use Rattle.babel_table.proofs.SaidLaws.{found, inside_of, stands-here, stands-nowhere}
 use Rattle.babel_table.proofs.family_rows.FamilyRows.has.Goals as goal
+
+pub find-requires : goal.find-requires
+find-requires g c = rw c.deref.ensures.value c.self.invariant.indexed
+
+pub index-requires : goal.index-requires
+index-requires g c = subst (λ n. c.in-Some.place < n) c.deref.ensures.len (inside_of c.of-key.result c.deref.result.now c.in-Some.place c.in-Some.ensures)
 
 pub returns-in-Some : goal.returns-in-Some
 returns-in-Some g c =

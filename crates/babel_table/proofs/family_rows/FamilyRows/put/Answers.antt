@@ -1,13 +1,25 @@
 -- What is kept of the key stands in its row, or in a new one behind the others.
-use Rattle.std.proofs.Common.{◌≡◌, ◌∙◌, None, length, ap, subst, arith}
+use Rattle.std.proofs.Common.{◌≡◌, ◌<◌, ◌∙◌, None, length, ap, subst, arith}
 use Rattle.std.specs.Map.{keys_of}
 use Rattle.babel_table.specs.Live.{kept}
 use Rattle.babel_table.specs.Said.{IsPlace, AreAbove, AreIndexed}
-use Rattle.babel_table.proofs.SaidLaws.{found, key-read, on_err, said-length, one_more, byte_small, counted-set, standing-set, counted-front, counted-behind, standing-pushed}
+use Rattle.babel_table.proofs.SaidLaws.{found, key-read, on_err, said-length, one_more, byte_small, inside_of, counted-set, standing-set, counted_again, counted-front, counted-behind, standing-pushed, whole-rising}
 use Rattle.babel_table.proofs.family_rows.FamilyRows.put.Goals as goal
 use Rattle.babel_table.proofs.family_rows.FamilyRows.put.Goals.{then-self-place+then-is_past+in_ok-push, else-self-place+in_ok-push_placed}
 
+pub find-requires : goal.find-requires
+find-requires g c = rw c.deref.ensures.value c.self.invariant.indexed
+
 -- ---- in its row
+
+pub index-requires : goal.index-requires
+index-requires g c = subst (λ n. c.in-Some.place < n) c.deref.ensures.len (inside_of c.of-key.result c.deref.result.now c.in-Some.place c.in-Some.ensures)
+
+pub index_mut-requires : goal.index_mut-requires
+index_mut-requires g c = subst (λ n. c.in-Some.place < n) c.deref.ensures.len (inside_of c.of-key.result c.deref.result.now c.in-Some.place c.in-Some.ensures)
+
+pub overflow_add-self : goal.overflow_add-self
+overflow_add-self g c = let inside = inside_of c.of-key.result c.deref.result.now c.in-Some.place c.in-Some.ensures in omega (arith, inside)
 
 pub overflow_add-self-in-Some : goal.overflow_add-self-in-Some
 overflow_add-self-in-Some g c = omega (arith, byte_small _ c.from.result c.from.ensures, c.self.invariant.small)
@@ -32,8 +44,28 @@ returns-in-Some-clause-len g c = said-length c.args.key.now (kept c.args.held c.
 
 -- ---- in a new row
 
+pub is_past-requires : goal.is_past-requires
+is_past-requires g c = rw c.deref-then-self-place.ensures.value (whole-rising _ _ _ c.self.invariant.indexed (c.if-self-place.true ∙ c.len-place.ensures ∙ c.self.inside.rows.ok.0))
+
+pub invariant_of-self-in_err-push : goal.invariant_of-self-in_err-push
+invariant_of-self-in_err-push g c = rw c.in_err-push.ensures.items c.self.invariant
+
 pub returns-in_err-push-clause-err : goal.returns-in_err-push-clause-err
 returns-in_err-push-clause-err g c = on_err c.from_residual.result _ (rw c.in_err-push.ensures.items c.self.view_is)
+
+pub push_placed-requires-clause-indexed : goal.push_placed-requires-clause-indexed
+push_placed-requires-clause-indexed g c = c.self.invariant.indexed
+
+pub push_placed-requires-clause-new : goal.push_placed-requires-clause-new
+push_placed-requires-clause-new g c = subst (λ ws. found c.of-key.result ws ≡ None) c.deref.ensures.value c.in_default.ensures
+
+pub invariant_of-self-in_err-push_placed : goal.invariant_of-self-in_err-push_placed
+invariant_of-self-in_err-push_placed g c =
+    let same = c.in_err-push_placed.ensures.err in
+    rw same.0 (counted_again _ _ _ _ _ c.self.invariant (subst (λ ws. AreIndexed (keys_of ws) c.self.inside.rising c.push_placed.new.places) same.0 same.1))
+
+pub returns-in_err-push_placed-clause-err : goal.returns-in_err-push_placed-clause-err
+returns-in_err-push_placed-clause-err g c = on_err c.from_residual-in_err-push_placed.result _ (rw c.in_err-push_placed.ensures.err.0 c.self.view_is)
 
 pub overflow_add-self-2 : goal.overflow_add-self-2
 overflow_add-self-2 g c = elim c.if-self-place.branch [

@@ -11,6 +11,15 @@ use Rattle.babel_table.proofs.places.Places.find.Goals as goal
 pub returns-then-len-le-WIDTH : goal.returns-then-len-le-WIDTH
 returns-then-len-le-WIDTH g c = rw (← c.self.view_is) (λ place at listed. omega (arith, listed.room))
 
+pub loop-step-init : goal.loop-step-init
+loop-step-init g c = λ before lt d. absurd (omega (arith, lt))
+
+pub overflow_add-start : goal.overflow_add-start
+overflow_add-start g c = omega arith
+
+pub index-requires : goal.index-requires
+index-requires g c = omega arith
+
 pub returns-then-place : goal.returns-then-place
 returns-then-place g c =
     let places = c.args.self.now in
@@ -23,6 +32,12 @@ returns-then-place g c =
     ends_at_free keys places c.args.key.now c.loop-step.step (λ before lt. subst (λ n. IsPassed keys places.slots c.args.key.now (n + before)) (sym start) (c.loop-step.invariant before lt)) c.loop-step-test.true
     (subst (λ n. (d : ℕ × ℕ) → (get_or places.slots (n + c.loop-step.step) d).1 ≡ 4294967295) (sym start)
     (holds_at (λ s. s.1 ≡ 4294967295) places.slots at c.index.result.now c.index.result.now inside slot c.if-place.true))
+
+pub returns-then-has_key : goal.returns-then-has_key
+returns-then-has_key g c = c.has_key.ensures.0 c.if-has_key.true
+
+pub loop-step-smaller : goal.loop-step-smaller
+loop-step-smaller g c = omega arith
 
 pub loop-step-preserved : goal.loop-step-preserved
 loop-step-preserved g c =
@@ -57,6 +72,9 @@ returns-in_err-place g c =
     let none : lookup (is_at (key_cmp c.args.key.now)) places.overflow ≡ None = ap (λ (p : Places). lookup (is_at (key_cmp c.args.key.now)) p.overflow) (sym c.self.view_is) ∙ sym c.in_err-place.ensures.value in
     rw c.from_residual.ensures
     (ends_at_map keys places c.args.key.now (λ before lt. subst (λ n. IsPassed keys places.slots c.args.key.now (n + before)) (sym start) (c.loop-step.invariant before (omega (arith, lt)))) none)
+
+pub returns-then-has_key-2 : goal.returns-then-has_key-2
+returns-then-has_key-2 g c = c.has_key-2.ensures.0 c.if-has_key-2.true
 
 pub returns-else-has_key-2 : goal.returns-else-has_key-2
 returns-else-has_key-2 g c =

@@ -4,8 +4,14 @@ use Rattle.std.specs.BTreeMap.{is_at}
 use Rattle.babel_tlv.specs.Route.{RouteKey}
 use Rattle.babel_tlv.specs.Keys.{key_cmp}
 use Rattle.babel_table.specs.Said.{IsListed}
-use Rattle.babel_table.proofs.PlaceLaws.{listed_more, place_here}
+use Rattle.babel_table.proofs.PlaceLaws.{all_listed, listed_more, place_here}
 use Rattle.babel_table.proofs.places.Places.of.Goals as goal
+
+pub add-requires-clause-small : goal.add-requires-clause-small
+add-requires-clause-small g c = omega arith
+
+pub add-requires-clause-room : goal.add-requires-clause-room
+add-requires-clause-room g c = c.loop-place.invariant.room
 
 pub loop-place-preserved : goal.loop-place-preserved
 loop-place-preserved g c =
@@ -16,3 +22,9 @@ loop-place-preserved g c =
           (subst (λ x. IsListed c.add.new.self x.0 c.loop-place.place) (sym c.index-rows-place.is) c.in_ok-add.ensures.listed)
           (subst (λ x. (other : RouteKey) (at : ℕ) → is_at (key_cmp x.0) other ≡ false → IsListed c.loop-place.places other at → IsListed c.add.new.self other at) (sym c.index-rows-place.is) c.in_ok-add.ensures.others);
     }
+
+pub returns-clause-listed : goal.returns-clause-listed
+returns-clause-listed g c = all_listed c.args.rows.now c.args.first _ _ c.loop-place-test.false c.loop-place.invariant.listed
+
+pub returns-clause-room : goal.returns-clause-room
+returns-clause-room g c = c.loop-place.invariant.room

@@ -1,11 +1,11 @@
 -- Each TLV is taken; behind one that fails, the rest of the body may still be no TLVs.
-use Rattle.std.proofs.Common.{◌≤◌, length, arith, refl, inl, inr}
+use Rattle.std.proofs.Common.{◌≤◌, length, arith, refl, ap, ◌∙◌, inl, inr}
 use Rattle.std.proofs.lemmas.Result.{err_from_is_err_and}
 use Rattle.babel_tlv.specs.Framing.{tlvs_of}
 use Rattle.babel_tlv.specs.Frames.{tlv_value}
 use Rattle.babel_tlv.specs.Left.{tlvs_left}
 use Rattle.babel_table.specs.Feeding.{routes}
-use Rattle.babel_table.proofs.TookLaws.{took-start, body-failed, length-tlvs_of}
+use Rattle.babel_table.proofs.TookLaws.{took-start, body-failed, body-taken, length-tlvs_of}
 use Rattle.babel_table.proofs.so_far.SoFar.take_body.Goals as goal
 
 pub loop-tlv-init : goal.loop-tlv-init
@@ -32,3 +32,14 @@ returns-in-Err-clause-fails c =
           (routes c.loop-tlv.self.rows.rows c.loop-tlv.self.report) c.loop-tlv.state (tlv_value c.in-Some.tlv) (tlvs_left c.loop-tlv.tlvs) (tlvs_left c.advance.new.self) c.in-Some.ensures.next c.in-Err.fault c.loop-tlv.invariant.some
           (c.in-Err.ensures.fails c.args.sender _ _ _),
     )
+
+pub loop-tlv-preserved : goal.loop-tlv-preserved
+loop-tlv-preserved c = record {
+  mode = c.take_tlv.ensures.mode ∙ c.loop-tlv.invariant.mode;
+  entries = c.take_tlv.ensures.entries ∙ c.loop-tlv.invariant.entries;
+  room = omega (arith, ap length c.in-Some.ensures.next, c.take_tlv.ensures.tlvs, c.loop-tlv.invariant.room);
+  read = c.in-Some.ensures.read c.args.at c.args.body.now c.loop-tlv.invariant.read;
+  some = body-taken c.args.self.now.rows.mode c.loop-tlv.self.rows.mode c.args.self.now.rows.entries c.loop-tlv.self.rows.entries c.loop-tlv.invariant.mode c.loop-tlv.invariant.entries c.args.sender _ _
+      (routes c.loop-tlv.self.rows.rows c.loop-tlv.self.report) c.loop-tlv.state (tlv_value c.in-Some.tlv) (tlvs_left c.loop-tlv.tlvs) (tlvs_left c.advance.new.self) c.in-Some.ensures.next _ _ c.loop-tlv.invariant.some
+      (c.in_default-take_tlv.ensures.ok c.args.sender _ _ _);
+}

@@ -5,6 +5,15 @@ use Rattle.babel_table.specs.Feeding.{TookPackets, routes}
 use Rattle.babel_table.proofs.DumpLaws.{took-last, stops-last, took-end, is_none, is_some, none_left}
 use Rattle.babel_table.proofs.stream.Stream.take.Goals as goal
 
+pub take_in_place-requires-clause-none : goal.take_in_place-requires-clause-none
+take_in_place-requires-clause-none c = sym c.octets.ensures ∙ is_none c.octets.result.now c.if-is_empty.ensures
+
+pub returns-then-is_empty-clause-took : goal.returns-then-is_empty-clause-took
+returns-then-is_empty-clause-took c = rw (sym c.octets.ensures ∙ is_none c.octets.result.now c.if-is_empty.ensures) c.take_in_place.ensures.took
+
+pub returns-then-is_empty-clause-stops : goal.returns-then-is_empty-clause-stops
+returns-then-is_empty-clause-stops c = rw (sym c.octets.ensures ∙ is_none c.octets.result.now c.if-is_empty.ensures) c.take_in_place.ensures.stops
+
 pub returns-then-not-is_empty-clause-took : goal.returns-then-not-is_empty-clause-took
 returns-then-not-is_empty-clause-took c =
     let pending = c.take_pending.new.self.pending in
@@ -13,6 +22,9 @@ returns-then-not-is_empty-clause-took c =
     subst (λ (t : List ℕ). TookPackets c.args.self.now.so_far.rows.mode c.args.self.now.so_far.rows.entries c.args.self.now.sender c.args.self.now.at (c.args.self.now.pending ++ c.args.octets.now)
     (routes c.args.self.now.so_far.rows.rows c.args.self.now.so_far.report) (routes c.take_pending.new.self.so_far.rows.rows c.take_pending.new.self.so_far.report) t c.take_pending.new.self.at)
     (ap (λ (t : List ℕ). pending ++ t) none ∙ append-nil pending) c.in_ok-rest.ensures.took
+
+pub take_in_place-requires-2-clause-none : goal.take_in_place-requires-2-clause-none
+take_in_place-requires-2-clause-none c = sym c.octets-2.ensures ∙ is_none c.octets-2.result.now c.if-not-is_empty.ensures
 
 pub take_in_place-requires-2-clause-fits : goal.take_in_place-requires-2-clause-fits
 take_in_place-requires-2-clause-fits c =
