@@ -1,6 +1,8 @@
 -- A free slot ends the search, a slot with another number is passed, and behind the last none is left.
-use Rattle.std.proofs.Common.{◌≡◌, ◌<◌, ◌≤◌, length, get_or, arith}
+use Rattle.std.proofs.Common.{◌≡◌, ◌<◌, ◌≤◌, length, get_or, Some, subst, arith}
 use Rattle.std.proofs.lemmas.List.{get_or_past}
+use Rattle.std.specs.List.{slice_get}
+use Rattle.babel_trie.specs.declared.table.NodeNumber.{NodeNumber}
 use Rattle.babel_trie.proofs.IndexLaws.{free_first, free_later, none_among, none_at}
 use Rattle.babel_trie.proofs.index.searched.Goals as goal
 
@@ -31,3 +33,15 @@ returns-else-at-slots-clause-full g c = λ _.
     let at = c.loop-left.at in
     let far : length slots ≤ at = omega (arith, c.if-at-slots.false) in
     c.loop-left.invariant.0 (none_at slots c.args.list.now c.args.element.now c.args.mark c.loop-left.left at (λ _. get_or_past slots at 0 far))
+
+pub loop-left-init : goal.loop-left-init
+loop-left-init g c = (λ none. none, λ place free. free)
+
+pub returns-in-Some-clause-number : goal.returns-in-Some-clause-number
+returns-in-Some-clause-number g c n is =
+    let e : c.in-Some.number ≡ n = cc in
+    subst (λ (m : NodeNumber). slice_get c.args.list.now m.0 ≡ Some c.args.element.now) e c.in-Some.ensures.some
+
+pub returns-after-loop-left-clause-full : goal.returns-after-loop-left-clause-full
+returns-after-loop-left-clause-full g c = λ _.
+    c.loop-left.invariant.0 (none_at c.args.slots.now c.args.list.now c.args.element.now c.args.mark c.loop-left.left c.loop-left.at (λ some. absurd (omega (arith, some, c.loop-left-test.false))))

@@ -1,6 +1,8 @@
 -- The block of the first row that the last lies in.
 use Rattle.std.proofs.Common.{◌≡◌, ◌+◌, ◌-◌, ◌/◌, ◌^◌, ◌<◌, ◌≤◌, length, sym, ◌∙◌, ap, subst, arith}
+use Rattle.std.proofs.Math.Nat.{div-mul-le_self}
 use Rattle.std.proofs.Math.Pow.{pow_mono}
+use Rattle.std.proofs.lemmas.Nat.{le-div, pow_pos}
 use Rattle.babel_prefix.specs.Address.{Address}
 use Rattle.babel_trie.specs.Rows.{source_block, InBlock, IsPlace}
 use Rattle.babel_trie.proofs.PartLaws.{first_listed}
@@ -47,3 +49,17 @@ returns g c =
       place = subst (IsPlace c.args.width n) (sym fits) place;
       rows_in = subst (λ s. InBlock source_block c.args.width n s rows) (ap (λ a. start_of a n) (sym from_is) ∙ sym fits) inner;
     }
+
+pub overflow_shr-place : goal.overflow_shr-place
+overflow_shr-place g c = omega (arith, c.if-inner-bits.false, c.requires.place.bits_in, c.requires.width)
+
+pub overflow_shr-above : goal.overflow_shr-above
+overflow_shr-above g c = omega (arith, c.if-inner-bits.false, c.requires.place.bits_in, c.requires.width)
+
+pub overflow_sub-result : goal.overflow_sub-result
+overflow_sub-result g c =
+    let f = c.in_ok-first.field-0.now in
+    let from_is : c.bits-from.result ≡ (source_block f).start = c.bits-from.ensures.value ∙ ap (λ (q : Address). q.bits) c.addr.ensures.value in
+    let low = c.requires.rows.from_start f (first_listed c.args.rows.now f (sym c.in_ok-first.ensures.value)) in
+    let n = c.max-inner.result in
+    le-div (c.args.start / 2 ^ n) c.bits-from.result (2 ^ n) (pow_pos n) (omega (arith, div-mul-le_self c.args.start (2 ^ n), from_is, low))

@@ -1,9 +1,10 @@
 -- The rows of the changes are the boxes of their answers.
-use Rattle.std.proofs.Common.{ℕ, ◌^◌, List, length, sym, ◌∙◌, ap, subst, Option}
+use Rattle.std.proofs.Common.{ℕ, ◌^◌, ◌<◌, List, length, sym, ◌∙◌, ap, subst, arith, Option}
 use Rattle.babel_prefix.specs.Best.{answer}
 use Rattle.babel_prefix.specs.Width.{width_of}
 use Rattle.babel_prefix.proofs.Members.{Listed}
 use Rattle.babel_trie.specs.Counts.{capped}
+use Rattle.babel_trie.specs.Runs.{AreRuns}
 use Rattle.babel_trie.specs.Sound.{IsBelow}
 use Rattle.babel_trie.specs.Spans.{spans, counted_rows, run_rows}
 use Rattle.babel_trie.specs.declared.runs.Change.{Change}
@@ -11,6 +12,7 @@ use Rattle.babel_trie.specs.declared.table.Sources.{Sources}
 use Rattle.babel_trie.proofs.BoxLaws.{SameAnswers-sym}
 use Rattle.babel_trie.proofs.NumberLaws.{form_from_sound}
 use Rattle.babel_trie.proofs.FormLaws.{Represents-in}
+use Rattle.babel_trie.proofs.ListLaws.{width_le}
 use Rattle.babel_trie.proofs.RowCounts.{counted_spans}
 use Rattle.babel_trie.proofs.RunBoxes.{span_trie, change_trie, run_boxes, run_rows_answer}
 use Rattle.babel_trie.proofs.RunLaws.{runs-same}
@@ -55,3 +57,14 @@ returns-clause-boxes g c f p =
     let sources = c.args.sources.nodes.items in
     let form = form_from_sound _ sources c.args.sources.numbers c.requires.sound in
     run_boxes (width_of c.args.family) sources c.args.runs.items f p form
+
+pub row_count-count-requires-clause-runs : goal.row_count-count-requires-clause-runs
+row_count-count-requires-clause-runs g c = subst AreRuns (sym c.deref.ensures.value) c.requires.runs.1.runs
+
+pub row_count-count-requires-clause-below : goal.row_count-count-requires-clause-below
+row_count-count-requires-clause-below g c x t =
+    let below = c.requires.runs.1.below x (subst (λ (xs : List (Change (Sources (Option g.row.V.Denot)))). Listed xs x) c.deref.ensures.value t) in
+    subst (λ n. x.start < 2 ^ n) (sym c.width.ensures) below
+
+pub row_count-count-requires-clause-width : goal.row_count-count-requires-clause-width
+row_count-count-requires-clause-width g c = omega (arith, c.width.ensures, width_le c.args.family)

@@ -1,5 +1,6 @@
 -- Rows of the lower half come first, and then those of the upper.
-use Rattle.std.proofs.Common.{get_or, ◌≡◌, ℕ, ◌≤◌, ◌<◌, ◌+◌, ◌-◌, ◌*◌, List, [], ◌++◌, Option, map, sym, ap, subst, arith, rules}
+use Rattle.std.proofs.Common.{get_or, length, ◌≡◌, ℕ, ◌≤◌, ◌<◌, ◌+◌, ◌-◌, ◌*◌, List, [], ◌++◌, Option, map, sym, ap, subst, arith, rules}
+use Rattle.std.proofs.lemmas.Option.{slice_get_within}
 use Rattle.std.proofs.lemmas.Result.{err_from_is_err_and, on_err_weaker, on_ok_weaker}
 use Rattle.babel_prefix.specs.Address.{block_of}
 use Rattle.babel_prefix.specs.Best.{Row}
@@ -10,14 +11,30 @@ use Rattle.babel_trie.specs.Shape.{Shape, leaf}
 use Rattle.babel_trie.specs.declared.table.Loose.{Loose}
 use Rattle.babel_trie.specs.declared.table.Loose.TheVariants.{Split}
 use Rattle.babel_trie.specs.declared.table.Node.{Node}
+use Rattle.babel_trie.specs.declared.table.NodeNumber.{NodeNumber}
 use Rattle.babel_trie.specs.declared.table.Sources.{Sources}
+use Rattle.babel_trie.specs.declared.table.Sources.TheVariants.{Stored}
 use Rattle.babel_trie.proofs.FormLaws.{some_bits}
 use Rattle.babel_trie.proofs.HalfLaws.{halved, half_tries, fork_halves}
-use Rattle.babel_trie.proofs.ListLaws.{rows_of_halves}
+use Rattle.babel_trie.proofs.ListLaws.{rows_of_halves, width_le}
 use Rattle.babel_trie.proofs.NumberLaws.{one_shape, stored_node}
 use Rattle.babel_trie.proofs.PushLaws as push
 use Rattle.babel_trie.proofs.PutLaws.{put_both, stop_first, stop_then}
 use Rattle.babel_trie.proofs.listing.Table+Option+V.+push_rows.Goals as goal
+
+module _ {V : Type 0} (nodes list : List (Node V)) (s : Sources V) (number : NodeNumber) (i : ℕ) (t : Shape V) where
+  -- what is read at the number of the sources is their node
+  stored_stands : (node : Node V) → s ≡ Stored number → list ≡ nodes → i ≡ number.0 → node ≡ get_or list i node → Represents nodes s t → Stands nodes (Split node) t
+  stored_stands node is list_is i_is read p =
+      let opens = subst (λ (r : Sources V). Represents nodes r t) is p in
+      let here : node ≡ get_or nodes number.0 node = subst (λ (xs : List (Node V)). node ≡ get_or xs number.0 node) list_is (subst (λ k. node ≡ get_or list k node) i_is read) in
+      let same = stored_node nodes number.0 opens.1.0 node opens.1.1 here in
+      subst (λ (m : Node V). Stands nodes (Split m) t) same (subst (λ (x : Loose V). Stands nodes x t) opens.1.2 opens.2)
+
+  stored_within : s ≡ Stored number → list ≡ nodes → i ≡ number.0 → Represents nodes s t → i < length list
+  stored_within is list_is i_is p =
+      let opens = subst (λ (r : Sources V). Represents nodes r t) is p in
+      omega (arith, slice_get_within nodes number.0 opens.1.0 opens.1.1, ap length list_is)
 
 pub push_node-block_of_node-bits-requires-clause-skip : goal.push_node-block_of_node-bits-requires-clause-skip
 push_node-block_of_node-bits-requires-clause-skip g t c = some_bits c.args.self.now.nodes.items c.args.bits c.args.node.now c.requires.trie
@@ -200,12 +217,7 @@ push_sources-returns-in-Constant-clause-ok g t c = on_ok_weaker c.push_constant.
 
 pub push_sources-returns-in-Stored-clause-ok : goal.push_sources-returns-in-Stored-clause-ok
 push_sources-returns-in-Stored-clause-ok g t c = on_ok_weaker c.push_node.result (λ there u start given p has.
-    let nodes = c.args.self.now.nodes.items in
-    let opens = subst (λ (s : Sources (Option g.row.V.Denot)). Represents nodes s u) c.in-Stored.is p in
-    let node = c.index-nodes-index.result in
-    let read : node ≡ get_or nodes c.in-Stored.number.0 node = subst (λ (xs : List (Node (Option g.row.V.Denot))). node ≡ get_or xs c.in-Stored.number.0 node) c.nodes.ensures (subst (λ i. node ≡ get_or c.nodes.result.now i node) c.index.ensures c.index-nodes-index.is) in
-    let same = stored_node nodes c.in-Stored.number.0 opens.1.0 node opens.1.1 read in
-    there u start given (subst (λ (m : Node (Option g.row.V.Denot)). Stands nodes (Split m) u) same (subst (λ (x : Loose (Option g.row.V.Denot)). Stands nodes x u) opens.1.2 opens.2)) has) c.push_node.ensures.ok
+    there u start given (stored_stands c.args.self.now.nodes.items c.nodes.result.now c.args.sources.now c.in-Stored.number c.index.result u c.index-nodes-index.result c.in-Stored.is c.nodes.ensures c.index.ensures c.index-nodes-index.is p) has) c.push_node.ensures.ok
 
 pub push_rows-returns-in-Same-clause-err : goal.push_rows-returns-in-Same-clause-err
 push_rows-returns-in-Same-clause-err g t c = on_err_weaker c.push_constant.result (λ there u start given p has.
@@ -219,9 +231,43 @@ push_sources-returns-in-Constant-clause-err g t c = on_err_weaker c.push_constan
 
 pub push_sources-returns-in-Stored-clause-err : goal.push_sources-returns-in-Stored-clause-err
 push_sources-returns-in-Stored-clause-err g t c = on_err_weaker c.push_node.result (λ there u start given p has.
+    there u start given (stored_stands c.args.self.now.nodes.items c.nodes.result.now c.args.sources.now c.in-Stored.number c.index.result u c.index-nodes-index.result c.in-Stored.is c.nodes.ensures c.index.ensures c.index-nodes-index.is p) has) c.push_node.ensures.err
+
+pub push_node-halves-low-requires : goal.push_node-halves-low-requires
+push_node-halves-low-requires g t c = (c.args.bits, omega (arith, c.requires.bits, width_le c.args.family), c.requires.trie)
+
+pub push_rows-push_node-requires : goal.push_rows-push_node-requires
+push_rows-push_node-requires g t c κs within =
     let nodes = c.args.self.now.nodes.items in
-    let opens = subst (λ (s : Sources (Option g.row.V.Denot)). Represents nodes s u) c.in-Stored.is p in
+    let falls : 2 * c.args.bits < t = omega (arith, c.decreases) in
+    let trie : IsTrie c.args.bits nodes (Split c.in-Split.node) = subst (IsTrie c.args.bits nodes) c.in-Split.is c.requires.trie in
+    search rules
+
+pub push_sources-bounds-nodes-index : goal.push_sources-bounds-nodes-index
+push_sources-bounds-nodes-index g t c =
+    let whole = c.requires.trie in
+    stored_within c.args.self.now.nodes.items c.nodes.result.now c.args.sources.now c.in-Stored.number c.index.result whole.trie c.in-Stored.is c.nodes.ensures c.index.ensures whole.stands
+
+pub push_sources-push_node-requires : goal.push_sources-push_node-requires
+push_sources-push_node-requires g t c κs within =
+    let nodes = c.args.self.now.nodes.items in
     let node = c.index-nodes-index.result in
-    let read : node ≡ get_or nodes c.in-Stored.number.0 node = subst (λ (xs : List (Node (Option g.row.V.Denot))). node ≡ get_or xs c.in-Stored.number.0 node) c.nodes.ensures (subst (λ i. node ≡ get_or c.nodes.result.now i node) c.index.ensures c.index-nodes-index.is) in
-    let same = stored_node nodes c.in-Stored.number.0 opens.1.0 node opens.1.1 read in
-    there u start given (subst (λ (m : Node (Option g.row.V.Denot)). Stands nodes (Split m) u) same (subst (λ (x : Loose (Option g.row.V.Denot)). Stands nodes x u) opens.1.2 opens.2)) has) c.push_node.ensures.err
+    let whole = c.requires.trie in
+    let falls : 2 * c.args.bits < t = omega (arith, c.decreases) in
+    let stands = stored_stands nodes c.nodes.result.now c.args.sources.now c.in-Stored.number c.index.result whole.trie node c.in-Stored.is c.nodes.ensures c.index.ensures c.index-nodes-index.is whole.stands in
+    let trie : IsTrie c.args.bits nodes (Split node) = record { trie = whole.trie; stands = stands; fits = whole.fits; reduced = whole.reduced } in
+    search rules
+
+pub push_node-places-low_place-requires-clause-bits : goal.push_node-places-low_place-requires-clause-bits
+push_node-places-low_place-requires-clause-bits g t c = omega (arith, c.block_of_node-bits.ensures.bits, c.requires.bits)
+
+pub push_node-places-low_place-requires-clause-place : goal.push_node-places-low_place-requires-clause-place
+push_node-places-low_place-requires-clause-place g t c = c.block_of_node-bits.ensures.inside
+
+pub push_rows-returns-in-Split-clause-ok : goal.push_rows-returns-in-Split-clause-ok
+push_rows-returns-in-Split-clause-ok g t c = on_ok_weaker c.push_node.result (λ there u start given p has.
+    there u start given (subst (λ (x : Loose (Option g.row.V.Denot)). Stands c.args.self.now.nodes.items x u) c.in-Split.is p) has) c.push_node.ensures.ok
+
+pub push_rows-returns-in-Split-clause-err : goal.push_rows-returns-in-Split-clause-err
+push_rows-returns-in-Split-clause-err g t c = on_err_weaker c.push_node.result (λ there u start given p has.
+    there u start given (subst (λ (x : Loose (Option g.row.V.Denot)). Stands c.args.self.now.nodes.items x u) c.in-Split.is p) has) c.push_node.ensures.err

@@ -1,5 +1,7 @@
 -- One change's rows after another's.
-use Rattle.std.proofs.Common.{◌≡◌, inl, inr, ℕ, ◌+◌, ◌^◌, true, List, [], ◌∷◌, ◌++◌, map, refl, sym, ap, subst, arith, rules, Option}
+use Rattle.std.proofs.Common.{◌≡◌, inl, inr, ℕ, ◌+◌, ◌^◌, true, List, [], ◌∷◌, ◌++◌, map, refl, sym, ◌∙◌, ap, subst, arith, rules, Option}
+use Rattle.std.proofs.Math.Pow.{pow_mono}
+use Rattle.std.proofs.lemmas.List.{append-nil, nil_from_length}
 use Rattle.std.proofs.lemmas.Result.{err_from_is_err_and}
 use Rattle.babel_prefix.specs.Width.{width_of}
 use Rattle.babel_prefix.proofs.Members.{Listed}
@@ -10,6 +12,7 @@ use Rattle.babel_trie.specs.Nested.{entry_at, rows_of}
 use Rattle.babel_trie.specs.Spans.{start_or, each_with, spans, span_rows, run_rows}
 use Rattle.babel_trie.specs.declared.runs.Change.{Change}
 use Rattle.babel_trie.specs.declared.table.Sources.{Sources}
+use Rattle.babel_trie.proofs.ListLaws.{width_le}
 use Rattle.babel_trie.proofs.PutLaws.{put_none, put_both, stop_first, stop_then}
 use Rattle.babel_trie.proofs.SpanBlocks.{start_within}
 use Rattle.babel_trie.proofs.SpanLaws.{IsRising, rising_runs}
@@ -130,3 +133,22 @@ returns-in_err-push_blocks-clause-err g c =
     stop_first c.args.family Stopped given (done ++ more) (span_rows w sources (spans (2 ^ w) later)) all (sym whole)
     (stop_then c.args.family Stopped given done more (done ++ more) refl
     (c.in_err-push_blocks.ensures.err start (given ++ map (entry_at c.args.family) done) (c.loop-run.invariant.put start given has))))
+
+pub last_address-top-requires : goal.last_address-top-requires
+last_address-top-requires g c = omega (arith, pow_mono {i = c.width.result} {j = 128} (omega (arith, c.width.ensures, width_le c.args.family)))
+
+pub loop-run-smaller : goal.loop-run-smaller
+loop-run-smaller g c = omega (arith, c.in-Some.ensures.cases.1)
+
+pub loop-run-smaller-in_ok-push_blocks : goal.loop-run-smaller-in_ok-push_blocks
+loop-run-smaller-in_ok-push_blocks g c = omega (arith, c.in-Some.ensures.cases.1)
+
+pub returns-clause-ok : goal.returns-clause-ok
+returns-clause-ok g c start given has =
+    let w = width_of c.args.family in
+    let sources = c.args.self.now.nodes.items in
+    let done = c.loop-run.invariant.done in
+    let none = nil_from_length c.loop-run.rest.now c.in_default.ensures.cases in
+    let all = run_rows w sources c.args.runs.now in
+    let rows = subst (λ (xs : List (Change (Sources (Option g.row.V.Denot)))). done ++ span_rows w sources (spans (2 ^ w) xs) ≡ all) none c.loop-run.invariant.rows in
+    subst (λ put. g.S.Sink.has start c.loop-run.out (given ++ map (entry_at c.args.family) put)) (sym (append-nil done) ∙ rows) (c.loop-run.invariant.put start given has)

@@ -1,12 +1,14 @@
 -- The nearest change ahead is come to.
-use Rattle.std.proofs.Common.{◌≡◌, inl, inr, ◌<◌, ◌≤◌, ◌-◌, ◌∷◌, take, List, length, reverse, Some, sym, ◌∙◌, ap, subst, arith}
+use Rattle.std.proofs.Common.{◌≡◌, inl, inr, ℕ, ◌<◌, ◌≤◌, ◌-◌, [], ◌∷◌, take, List, get_or, length, reverse, Some, None, refl, sym, ◌∙◌, ap, subst, arith}
 use Rattle.std.proofs.lemmas.List.{length-reverse}
+use Rattle.std.proofs.lemmas.Option.{slice_get-get_or}
 use Rattle.std.specs.List.{slice_get}
 use Rattle.std.specs.Vec.{vec_len}
 use Rattle.babel_prefix.specs.Address.{block_of}
 use Rattle.babel_prefix.specs.Entries.{Entry}
 use Rattle.babel_prefix.proofs.Members.{Listed}
 use Rattle.babel_trie.specs.Pass.{IsUnderWay}
+use Rattle.babel_trie.specs.Runs.{StartBehind}
 use Rattle.babel_trie.specs.Split.{rows_of_split}
 use Rattle.babel_trie.specs.declared.pass.Reached.{Reached}
 use Rattle.babel_trie.specs.declared.runs.Change.{Change}
@@ -54,3 +56,36 @@ loop-next-preserved g c =
       few = omega (arith, i.few, fewer);
       fewer = λ some. inr (omega (arith, i.few, fewer));
     })
+
+pub loop-next-init : goal.loop-next-init
+loop-next-init g c = record { pass = λ w rows nodes p. p; reached = c.requires.order; rest = refl; few = omega arith; fewer = λ some. inl some }
+
+pub returns-then-at-next-clause-pass : goal.returns-then-at-next-clause-pass
+returns-then-at-next-clause-pass g c = c.loop-next.invariant.pass
+
+pub returns-then-at-next-clause-few : goal.returns-then-at-next-clause-few
+returns-then-at-next-clause-few g c = c.loop-next.invariant.few
+
+pub returns-in_default-clause-pass : goal.returns-in_default-clause-pass
+returns-in_default-clause-pass g c = c.loop-next.invariant.pass
+
+pub returns-in_default-clause-few : goal.returns-in_default-clause-few
+returns-in_default-clause-few g c = c.loop-next.invariant.few
+
+-- nothing is ahead where nothing comes last
+none_ahead : {F : Type 0} (list : List (Change F)) (at : ℕ) → None ≡ slice_get list (length list - 1) → StartBehind at (reverse list)
+none_ahead [] at none x t = elim t [ ]
+none_ahead (y ∷ ys) at none x t =
+    let last = length (y ∷ ys) - 1 in
+    let same : None ≡ Some (get_or (y ∷ ys) last y) = none ∙ slice_get-get_or (y ∷ ys) last y (omega arith) in absurd cc
+
+pub returns-in_default-clause-behind : goal.returns-in_default-clause-behind
+returns-in_default-clause-behind g c =
+    none_ahead c.loop-next.self.ahead.items c.args.at (subst (λ (xs : List (Change (Reached g.row.V.Denot))). None ≡ slice_get xs (length xs - 1)) c.deref.ensures.value c.in_default.ensures.value)
+
+pub returns-in_default-clause-fewer : goal.returns-in_default-clause-fewer
+returns-in_default-clause-fewer g c some =
+    elim (c.loop-next.invariant.fewer some) [
+      | inl never ↦ absurd (never (none_ahead c.loop-next.self.ahead.items c.args.at (subst (λ (xs : List (Change (Reached g.row.V.Denot))). None ≡ slice_get xs (length xs - 1)) c.deref.ensures.value c.in_default.ensures.value)))
+      | inr lt ↦ lt
+    ]

@@ -4,8 +4,9 @@ use Rattle.babel_prefix.specs.Address.{Address, block_of}
 use Rattle.babel_prefix.specs.Entries.{Entry}
 use Rattle.babel_prefix.proofs.Members.{Listed}
 use Rattle.babel_trie.specs.Held.{RowOrder}
-use Rattle.babel_trie.specs.Pass.{IsQuietUpTo, rows_left}
+use Rattle.babel_trie.specs.Pass.{IsQuietUpTo, ahead_of, rows_left}
 use Rattle.babel_trie.specs.Rows.{InOrder}
+use Rattle.babel_trie.specs.Runs.{StartBehind}
 use Rattle.babel_trie.specs.Split.{rows_of_split}
 use Rattle.babel_trie.specs.declared.table.Sources.TheVariants.{Constant, Stored}
 use Rattle.babel_trie.proofs.NodeLaws.{sound_by}
@@ -144,3 +145,23 @@ returns-clause-fewer g c some =
       | inl never ↦ omega (arith, c.loop-self.invariant.few, left, c.leave-2.ensures.fewer (λ behind. never (record { changes = behind; rows = before })))
       | inr lt ↦ omega (arith, left, c.leave-2.ensures.few)
     ]
+
+pub enter-requires-clause-next : goal.enter-requires-clause-next
+enter-requires-clause-next g c = c.leave.ensures.rest ∙ c.in-Some.is
+
+pub enter-requires-clause-reached : goal.enter-requires-clause-reached
+enter-requires-clause-reached g c =
+    subst (λ start. StartBehind start (ahead_of c.leave.new.self)) (c.bits-start.ensures.value ∙ ap (λ (x : Address). x.bits) c.addr.ensures.value) c.leave.ensures.behind
+
+pub returns-clause-keeps : goal.returns-clause-keeps
+returns-clause-keeps g c = c.loop-self.invariant.keeps
+
+pub returns-clause-pass : goal.returns-clause-pass
+returns-clause-pass g c rows p = c.leave-2.ensures.pass c.args.width rows c.loop-self.table.nodes.items (c.loop-self.invariant.pass rows p)
+
+pub returns-clause-next : goal.returns-clause-next
+returns-clause-next g c = c.next_start.ensures.next
+
+pub returns-clause-few : goal.returns-clause-few
+returns-clause-few g c =
+    omega (arith, c.loop-self.invariant.few, ap (λ split. length (rows_of_split g.R.Rows.rows split)) c.leave-2.ensures.rest, c.leave-2.ensures.few)

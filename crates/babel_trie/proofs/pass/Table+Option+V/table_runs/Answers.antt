@@ -94,3 +94,13 @@ loop-list-preserved g c =
         ],
       );
     }
+
+pub returns-in_default-clause-sound : goal.returns-in_default-clause-sound
+returns-in_default-clause-sound g c = c.in_ok-next.ensures.sound
+
+pub returns-in_default-clause-few : goal.returns-in_default-clause-few
+returns-in_default-clause-few g c =
+    elim c.loop-list.invariant.few [
+      | inl first ↦ omega (arith, first.0, c.in_ok-say.ensures.one)
+      | inr later ↦ omega (arith, later.1, c.in_ok-next.ensures.fewer later.0, c.in_ok-say.ensures.one)
+    ]
