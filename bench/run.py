@@ -37,6 +37,7 @@ LOOKUP_IPV6 = ["--to", "2001:db8::1", "--src", "2001:db8::2"]
 IPV4 = ("ipv4", "sources", "merging", "merging-16", "hosts-ipv4")
 IPV6 = ("ipv6", "hosts-ipv6", "hosts-from-hosts", "deep", "default-over-hosts")
 READINGS = ("updates", "rising", "shuffled", "turns", "turns-shuffled", "random", "wildcards", "passing")
+SHARED = ("shared", "shared-131k")
 COMPARED = (
     ("ipv4", "ipv4-other"),
     ("ipv6", "ipv6"),
@@ -58,8 +59,13 @@ def cases():
     """Each load with the words of each command that is measured on it."""
     for load in READINGS:
         yield load, ["lookup", *FROM, *LOOKUP]
-        yield load, ["show", *FROM]
+        for command in ("show", "normalise"):
+            yield load, [command, *FROM]
     yield "flooding", ["lookup", *FROM, *LOOKUP_IPV6]
+    yield "flooding", ["normalise", *FROM]
+    for load in SHARED:
+        for command in (["pairs"], ["pairs", "--count"], ["normalise"]):
+            yield load, [*command, *FROM]
     for loads, lookup in ((IPV4, LOOKUP), (IPV6, LOOKUP_IPV6)):
         for load in loads:
             yield load, ["lookup", *FROM, *lookup]
