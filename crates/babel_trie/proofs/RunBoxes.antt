@@ -31,7 +31,7 @@ use Rattle.babel_trie.proofs.SpanLaws.{IsRising, IsRunList, Says, HasOneValue, r
 use Rattle.babel_trie.proofs.SpanBlocks.{starts_from, change_span, span_range, said_span, from_span, in_span, largest_of, blocks_in_order}
 
 module _ {V : Type 0} (w : ℕ) (sources : List (Node (Option V))) (list : List (Change (Sources (Option V)))) (f : Answers V) (p : HasRuns w sources list f) where
-  abbrev no_node : Sources (Option V)
+  abbrev pub no_node : Sources (Option V)
   no_node = Stored (record { 0 = length sources })
 
   pub rising : IsRising (2 ^ w) list

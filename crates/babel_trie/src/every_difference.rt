@@ -53,8 +53,8 @@ pub fn differences_of<V: LawfulOrd, L: Rows<V>, R: Rows<V>>(
         (answers_in family (L.rows left)) (answers_in family (R.rows right)) grid.boxes) }
 {
     let mut sources = Table::new(alloc);
-    let left = sources.runs(alloc, family, left)?;
-    let right = sources.runs(alloc, family, right)?;
+    let left = sources.all_runs(alloc, family, left)?;
+    let right = sources.all_runs(alloc, family, right)?;
     let mut comparison = Comparison::new(alloc);
     let runs = comparison.runs(alloc, &sources, &left, &right, family.width())?;
     let grid = Grid::of_runs(alloc, family, comparison.into_differences(), runs)?;

@@ -1,11 +1,12 @@
 //! The addresses at which the answers change from one destination to the next, found in one pass
 //! over sorted rows.
-ghost use Rattle.std.specs.Prelude.{◌≡◌, ◌≢◌, ◌↔◌, ℕ, ◌+◌, ◌-◌, ◌*◌, ◌^◌, ◌<◌, ◌≤◌, ◌∷◌, ◌++◌, List, map, length, take, reverse, slice_get, Option, Some, true, false, IfOk, IfSome, OnOk};
+ghost use Rattle.std.specs.Prelude.{◌≡◌, ◌≢◌, ◌↔◌, ℕ, ◌+◌, ◌-◌, ◌*◌, ◌^◌, ◌<◌, ◌≤◌, ◌∷◌, ◌++◌, List, map, length, take, reverse, slice_get, Option, Some, true, false, IfOk, IfSome, IsSome, MatchOption, OnOk};
 ghost use Rattle.babel_prefix.specs.Address.{block_of};
 ghost use Rattle.babel_prefix.specs.Best.{answer};
 ghost use Rattle.babel_prefix.specs.BestRow.{IsTable};
 ghost use Rattle.babel_prefix.specs.Entries.{Entry, row_of};
 ghost use Rattle.babel_prefix.specs.Members.{Listed};
+ghost use Rattle.babel_trie.specs.Early.{HasMoreBoxes};
 ghost use Rattle.babel_trie.specs.Held.{RowOrder};
 ghost use Rattle.babel_trie.specs.Pass.{IsFilled, StartInOrder, IsPassOver, IsQuietUpTo, StartRowsFrom, ahead_of, changes_left, rows_left};
 ghost use Rattle.babel_trie.specs.Split.{rows_of_split};
@@ -22,6 +23,9 @@ use crate::rows::{Row, Rows};
 use crate::runs::Change;
 use crate::table::{Node, Sources, Table};
 use std::alloc::{AllocError, Global};
+
+/// Where there are fewer nodes, boxes are not counted before all changes are known.
+const SPARE: usize = 1_024;
 
 /// Whether the last change is to these answers.
 fn ends_with<F: LawfulOrd>(list: &[Change<F>], sources: F) -> bool
@@ -301,13 +305,16 @@ impl<V: LawfulOrd, R: Rows<V>> Pass<V, R> {
 }
 
 impl<V: LawfulOrd> Table<Option<V>> {
-    /// The changes of the answers of rows in order that are a table of this width.
+    /// The changes of the answers of rows in order that are a table of this width, or `None` as
+    /// soon as these are known to have more boxes than so many: where there are many nodes, boxes
+    /// are counted each time that there are twice as many changes.
     pub fn table_runs<R: Rows<V>>(
         &mut self,
         alloc: Global,
         width: u8,
         rows: R,
-    ) -> Result<Vec<Change<Sources<Option<V>>>>, AllocError>
+        most: u64,
+    ) -> Result<Option<Vec<Change<Sources<Option<V>>>>>, AllocError>
         requires sound { IsSound ⟦<Sources<Option<V>> as Ord>⟧.cmp
             ⟦<Sources<Option<V>> as LawfulOrd>⟧.mark self.old.nodes.items self.old.numbers }
         requires order { InOrder RowOrder (R.rows rows) }
@@ -316,20 +323,31 @@ impl<V: LawfulOrd> Table<Option<V>> {
         ensures sound { OnOk result (IsSound ⟦<Sources<Option<V>> as Ord>⟧.cmp
             ⟦<Sources<Option<V>> as LawfulOrd>⟧.mark self.new.nodes.items self.new.numbers) }
         ensures keeps { OnOk result (KeepsNodes self.old.nodes.items self.new.nodes.items) }
-        ensures runs { IfOk result (λ list. HasRuns width self.new.nodes.items list.items
-            (answer width (map row_of (R.rows rows)))) }
-        ensures few { IfOk result (λ list. length list.items ≤ 2 * length (R.rows rows) + 1) }
+        ensures runs { IfOk result (λ runs. MatchOption runs
+            (HasMoreBoxes most width (answer width (map row_of (R.rows rows))))
+            (λ list. HasRuns width self.new.nodes.items list.items
+            (answer width (map row_of (R.rows rows))))) }
+        ensures few { IfOk result (λ runs. IfSome runs (λ list.
+            length list.items ≤ 2 * length (R.rows rows) + 1)) }
+        ensures all { most ≡ 2 ^ 64 - 1 → IfOk result IsSome }
     {
-        let most = rows.room().saturating_mul(2).saturating_add(1);
+        let room = rows.room().saturating_mul(2).saturating_add(1);
         let mut pass = Pass::new(alloc, rows);
-        let mut list = Vec::with_capacity(alloc, most)?;
+        let mut list = Vec::with_capacity(alloc, room)?;
         let mut at = 0u128;
+        let mut due = 2usize;
         loop {
+            if due <= list.len() && SPARE <= self.nodes().len() {
+                if self.early_count(alloc, &list)? > most {
+                    return Ok(None);
+                }
+                due = list.len().saturating_mul(2);
+            }
             let next = pass.reach(self, width, at)?;
             let sources = pass.sources();
             say(&mut list, Change { start: at, sources })?;
             let Some(start) = next else {
-                return Ok(list);
+                return Ok(Some(list));
             };
             at = start;
         }

@@ -57,6 +57,12 @@ impl Rows {
         Grid::of(alloc, self.family, &self.rows)
     }
 
+    /// How many boxes they have, if a grid within so many is made of them.
+    pub fn count_within(&self, alloc: Global, most: u64) -> Result<Option<u64>, AllocError> {
+        let grid = Grid::within(alloc, self.family, self.rows.as_slice(), most)?;
+        Ok(grid.map(|grid| grid.count()))
+    }
+
     /// The least pair of addresses that these rows and others answer differently.
     pub fn difference(
         &self,

@@ -1,5 +1,5 @@
 -- What is counted and the rows of the changes that are left are all rows.
-use Rattle.std.proofs.Common.{◌≡◌, ◌+◌, ◌-◌, ◌^◌, ◌≤◌, length, Option}
+use Rattle.std.proofs.Common.{◌≡◌, ℕ, ◌+◌, ◌-◌, ◌^◌, ◌<◌, ◌≤◌, length, Option}
 use Rattle.babel_prefix.specs.Members.{Listed}
 use Rattle.babel_trie.specs.Counts.{capped}
 use Rattle.babel_trie.specs.Sound.{IsBelow}
@@ -12,9 +12,9 @@ use Rattle.babel_trie.proofs.counting.row_count.Given as goal
 abbrev pub invariant-loop-run : goal.invariant-loop-run
 invariant-loop-run g l = record {
   fits : l.total ≤ 2 ^ 64 - 1;
-  rising : IsRising (2 ^ l.width) l.rest;
+  rising : IsRising (l.last + 1) l.rest;
   each : (x : Change (Sources (Option g.row.V.Denot))) → Listed l.rest x → IsBelow (length l.counts) x.sources;
-  counted : capped (l.total + counted_rows l.width l.counts (spans (2 ^ l.width) l.rest)) ≡ capped (counted_rows l.width l.counts (spans (2 ^ l.width) l.runs));
+  counted : (w : ℕ) → l.last < 2 ^ w → capped (l.total + counted_rows w l.counts (spans (l.last + 1) l.rest)) ≡ capped (counted_rows w l.counts (spans (l.last + 1) l.runs));
 }
 
 abbrev pub decreases-loop-run : goal.decreases-loop-run

@@ -19,34 +19,34 @@ use Rattle.babel_trie.proofs.RunLaws.{runs-grow}
 use Rattle.babel_trie.proofs.TellLaws.{differing_cmp}
 use Rattle.babel_trie.proofs.every_difference.differences_of.Goals as goal
 
-pub runs-requires-3-clause-known : goal.runs-requires-3-clause-known
-runs-requires-3-clause-known g c = c.new-comparison.ensures.known c.runs-2.new.self.nodes.items
+pub runs-requires-clause-known : goal.runs-requires-clause-known
+runs-requires-clause-known g c = c.new-comparison.ensures.known c.all_runs-2.new.self.nodes.items
 
-pub runs-requires-3-clause-left : goal.runs-requires-3-clause-left
-runs-requires-3-clause-left g c =
+pub runs-requires-clause-left : goal.runs-requires-clause-left
+runs-requires-clause-left g c =
     let w = width_of c.args.family in
-    let nodes = c.runs-2.new.self.nodes.items in
+    let nodes = c.all_runs-2.new.self.nodes.items in
     let f = answers_in c.args.family (g.L.Rows.rows c.args.left) in
-    let grown = runs-grow w c.runs.new.self.nodes.items nodes c.in_ok-left.left.items f c.in_ok-right.ensures.keeps c.in_ok-left.ensures.runs in
+    let grown = runs-grow w c.all_runs.new.self.nodes.items nodes c.in_ok-left.left.items f c.in_ok-right.ensures.keeps c.in_ok-left.ensures.runs in
     let list = subst (λ (xs : List (Change (Sources (Option g.row.V.Denot)))). HasRuns w nodes xs f) (sym c.deref.ensures.value) grown in
     let left = subst (λ n. HasRuns n nodes c.deref.result.now f) (sym c.width.ensures) list in
     (f, left)
 
-pub runs-requires-3-clause-right : goal.runs-requires-3-clause-right
-runs-requires-3-clause-right g c =
+pub runs-requires-clause-right : goal.runs-requires-clause-right
+runs-requires-clause-right g c =
     let w = width_of c.args.family in
-    let nodes = c.runs-2.new.self.nodes.items in
+    let nodes = c.all_runs-2.new.self.nodes.items in
     let f' = answers_in c.args.family (g.R.Rows.rows c.args.right) in
     let other_list = subst (λ (xs : List (Change (Sources (Option g.row.V.Denot)))). HasRuns w nodes xs f') (sym c.deref-2.ensures.value) c.in_ok-right.ensures.runs in
     let right = subst (λ n. HasRuns n nodes c.deref-2.result.now f') (sym c.width.ensures) other_list in
     (f', right)
 
-pub runs-requires-3-clause-width : goal.runs-requires-3-clause-width
-runs-requires-3-clause-width g c = omega (arith, c.width.ensures, width_most c.args.family)
+pub runs-requires-clause-width : goal.runs-requires-clause-width
+runs-requires-clause-width g c = omega (arith, c.width.ensures, width_most c.args.family)
 
 pub of_runs-requires-clause-sound : goal.of_runs-requires-clause-sound
 of_runs-requires-clause-sound g c =
-    let told = c.runs-3.new.self.differences in
+    let told = c.runs.new.self.differences in
     let made = c.into_differences.result in
     let order : Sources (Option (Differing g.row.V.Denot)) → Sources (Option (Differing g.row.V.Denot)) → Ordering = sources_cmp (option_cmp (differing_cmp g.V.Ord.cmp)) in
     let mark : Sources (Option (Differing g.row.V.Denot)) → ℕ = sources_mark (option_mark (differing_mark (option_mark g.V.LawfulOrd.mark))) in
@@ -56,15 +56,15 @@ of_runs-requires-clause-sound g c =
 pub of_runs-requires-clause-runs : goal.of_runs-requires-clause-runs
 of_runs-requires-clause-runs g c =
     let w = width_of c.args.family in
-    let nodes = c.runs-2.new.self.nodes.items in
+    let nodes = c.all_runs-2.new.self.nodes.items in
     let f = answers_in c.args.family (g.L.Rows.rows c.args.left) in
-    let grown = runs-grow w c.runs.new.self.nodes.items nodes c.in_ok-left.left.items f c.in_ok-right.ensures.keeps c.in_ok-left.ensures.runs in
+    let grown = runs-grow w c.all_runs.new.self.nodes.items nodes c.in_ok-left.left.items f c.in_ok-right.ensures.keeps c.in_ok-left.ensures.runs in
     let list = subst (λ (xs : List (Change (Sources (Option g.row.V.Denot)))). HasRuns w nodes xs f) (sym c.deref.ensures.value) grown in
     let left = subst (λ n. HasRuns n nodes c.deref.result.now f) (sym c.width.ensures) list in
     let f' = answers_in c.args.family (g.R.Rows.rows c.args.right) in
     let other_list = subst (λ (xs : List (Change (Sources (Option g.row.V.Denot)))). HasRuns w nodes xs f') (sym c.deref-2.ensures.value) c.in_ok-right.ensures.runs in
     let right = subst (λ n. HasRuns n nodes c.deref-2.result.now f') (sym c.width.ensures) other_list in
-    let new = c.runs-3.new.self.differences.nodes.items in
+    let new = c.runs.new.self.differences.nodes.items in
     let wide = subst (λ n. HasDifference n f f' new c.in_ok-runs.runs.items) c.width.ensures (c.in_ok-runs.ensures.difference f f' left right) in
     let has = subst (λ (t : Table (Option (Differing g.row.V.Denot))). HasDifference w f f' t.nodes.items c.in_ok-runs.runs.items) (sym c.into_differences.ensures) wide in
     (has.0, has.2)
@@ -72,15 +72,15 @@ of_runs-requires-clause-runs g c =
 pub returns-clause-boxes : goal.returns-clause-boxes
 returns-clause-boxes g c =
     let w = width_of c.args.family in
-    let nodes = c.runs-2.new.self.nodes.items in
+    let nodes = c.all_runs-2.new.self.nodes.items in
     let f = answers_in c.args.family (g.L.Rows.rows c.args.left) in
-    let grown = runs-grow w c.runs.new.self.nodes.items nodes c.in_ok-left.left.items f c.in_ok-right.ensures.keeps c.in_ok-left.ensures.runs in
+    let grown = runs-grow w c.all_runs.new.self.nodes.items nodes c.in_ok-left.left.items f c.in_ok-right.ensures.keeps c.in_ok-left.ensures.runs in
     let list = subst (λ (xs : List (Change (Sources (Option g.row.V.Denot)))). HasRuns w nodes xs f) (sym c.deref.ensures.value) grown in
     let left = subst (λ n. HasRuns n nodes c.deref.result.now f) (sym c.width.ensures) list in
     let f' = answers_in c.args.family (g.R.Rows.rows c.args.right) in
     let other_list = subst (λ (xs : List (Change (Sources (Option g.row.V.Denot)))). HasRuns w nodes xs f') (sym c.deref-2.ensures.value) c.in_ok-right.ensures.runs in
     let right = subst (λ n. HasRuns n nodes c.deref-2.result.now f') (sym c.width.ensures) other_list in
-    let new = c.runs-3.new.self.differences.nodes.items in
+    let new = c.runs.new.self.differences.nodes.items in
     let wide = subst (λ n. HasDifference n f f' new c.in_ok-runs.runs.items) c.width.ensures (c.in_ok-runs.ensures.difference f f' left right) in
     let has = subst (λ (t : Table (Option (Differing g.row.V.Denot))). HasDifference w f f' t.nodes.items c.in_ok-runs.runs.items) (sym c.into_differences.ensures) wide in
     record { difference = has.0; is_difference = has.1; box_list = c.in_ok-grid.ensures.boxes has.0 has.2 }

@@ -1,5 +1,6 @@
 -- The rows of the changes are the boxes of their answers.
-use Rattle.std.proofs.Common.{ℕ, ◌^◌, ◌<◌, List, length, sym, ◌∙◌, ap, subst, arith, Option}
+use Rattle.std.proofs.Common.{◌≡◌, ℕ, ◌+◌, ◌^◌, List, length, sym, ◌∙◌, ap, subst, arith, Option}
+use Rattle.std.proofs.Math.Pow.{pow_mono}
 use Rattle.babel_prefix.specs.Best.{answer}
 use Rattle.babel_prefix.specs.Width.{width_of}
 use Rattle.babel_prefix.proofs.Members.{Listed}
@@ -17,6 +18,11 @@ use Rattle.babel_trie.proofs.RowCounts.{counted_spans}
 use Rattle.babel_trie.proofs.RunBoxes.{span_trie, change_trie, run_boxes, run_rows_answer}
 use Rattle.babel_trie.proofs.RunLaws.{runs-same}
 use Rattle.babel_trie.proofs.grid.Grid.of_runs.Goals as goal
+
+pub row_count-count-requires-clause-below : goal.row_count-count-requires-clause-below
+row_count-count-requires-clause-below g c x t =
+    let end : c.last_address.result + 1 ≡ 2 ^ width_of c.args.family = omega (arith, c.last_address.ensures, ap (λ (n : ℕ). 2 ^ n) c.width.ensures) in
+    omega (arith, end, c.requires.runs.1.below x (subst (λ (xs : List (Change (Sources (Option g.row.V.Denot)))). Listed xs x) c.deref.ensures.value t))
 
 pub row_count-count-requires-clause-counts : goal.row_count-count-requires-clause-counts
 row_count-count-requires-clause-counts g c x t =
@@ -36,11 +42,12 @@ invariant_of-result g c =
     let f = c.requires.runs.0 in
     let p = c.requires.runs.1 in
     let form = form_from_sound _ sources c.args.sources.numbers c.requires.sound in
+    let end : c.last_address.result + 1 ≡ 2 ^ w = omega (arith, c.last_address.ensures, ap (λ (n : ℕ). 2 ^ n) c.width.ensures) in
     record {
       runs = runs-same w sources list f (answer w (run_rows w sources list)) (SameAnswers-sym w _ _ (run_rows_answer w sources list f p form)) p;
       count_is =
-          c.row_count-count.ensures
-          ∙ ap (λ (n : ℕ). capped (counted_rows n c.deref-2.result.now (spans (2 ^ n) c.deref.result.now))) c.width.ensures
+          c.row_count-count.ensures w (omega (arith, end))
+          ∙ ap (λ (e : ℕ). capped (counted_rows w c.deref-2.result.now (spans e c.deref.result.now))) end
           ∙ ap (λ (xs : List (Change (Sources (Option g.row.V.Denot)))). capped (counted_rows w c.deref-2.result.now (spans (2 ^ w) xs))) c.deref.ensures.value
           ∙ ap (λ (ns : List ℕ). capped (counted_rows w ns (spans (2 ^ w) list))) c.deref-2.ensures.value
           ∙ counted_spans w sources counts c.in_ok-counts.ensures (spans (2 ^ w) list) (span_trie w sources list f p);
@@ -61,10 +68,5 @@ returns-clause-boxes g c f p =
 pub row_count-count-requires-clause-runs : goal.row_count-count-requires-clause-runs
 row_count-count-requires-clause-runs g c = subst AreRuns (sym c.deref.ensures.value) c.requires.runs.1.runs
 
-pub row_count-count-requires-clause-below : goal.row_count-count-requires-clause-below
-row_count-count-requires-clause-below g c x t =
-    let below = c.requires.runs.1.below x (subst (λ (xs : List (Change (Sources (Option g.row.V.Denot)))). Listed xs x) c.deref.ensures.value t) in
-    subst (λ n. x.start < 2 ^ n) (sym c.width.ensures) below
-
-pub row_count-count-requires-clause-width : goal.row_count-count-requires-clause-width
-row_count-count-requires-clause-width g c = omega (arith, c.width.ensures, width_le c.args.family)
+pub last_address-requires : goal.last_address-requires
+last_address-requires g c = omega (arith, pow_mono {i = c.width.result} {j = 128} (omega (arith, c.width.ensures, width_le c.args.family)))

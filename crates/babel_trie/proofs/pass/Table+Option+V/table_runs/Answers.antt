@@ -1,25 +1,30 @@
 -- What the pass has come to is said up to the next change.
-use Rattle.std.proofs.Common.{◌≡◌, ℕ, ◌^◌, ◌<◌, inl, inr, List, [], ◌∷◌, length, Option, refl, sym, subst, arith}
+use Rattle.std.proofs.Common.{◌≡◌, ℕ, ◌^◌, ◌<◌, inl, inr, List, [], ◌∷◌, length, map, Option, refl, sym, subst, arith}
 use Rattle.std.proofs.lemmas.Nat.{pow_pos}
 use Rattle.std.specs.Option.{IfSome}
-use Rattle.babel_prefix.specs.Entries.{Entry}
+use Rattle.babel_prefix.specs.Best.{answer}
+use Rattle.babel_prefix.specs.Entries.{Entry, row_of}
+use Rattle.babel_trie.specs.Early.{AgreeUpTo}
 use Rattle.babel_trie.specs.Pass.{IsFilled, IsQuietUpTo, ahead_of, rows_left}
-use Rattle.babel_trie.specs.Runs.{AreRuns, StartBelow}
+use Rattle.babel_trie.specs.Runs.{AreRuns, StartBelow, HasRuns}
 use Rattle.babel_trie.specs.declared.runs.Change.{Change}
 use Rattle.babel_trie.specs.declared.table.Node.{Node}
 use Rattle.babel_trie.specs.declared.table.Sources.{Sources}
 use Rattle.babel_trie.specs.declared.table.Sources.TheVariants.{Constant, Stored}
 use Rattle.babel_trie.proofs.NodeLaws.{sound_by}
+use Rattle.babel_trie.proofs.BoxesExist.{boxes_exist, test_by}
+use Rattle.babel_trie.proofs.EarlyRuns.{agree_so_far, has_runs_so_far, so_far, some_below}
 use Rattle.babel_trie.proofs.PassLaws.{Says, says-more, says-all}
 use Rattle.babel_trie.proofs.pass.Table+Option+V.table_runs.Goals as goal
+use Rattle.babel_trie.proofs.pass.Table+Option+V.table_runs.Goals.{then-due-len+then-nodes-ge-SPARE+in_ok-early_count+else-branch-most, else-due-len}
 
 -- nothing is said
 none_said : {V : Type 0} (w : ℕ) (rows : List (Entry V)) (nodes : List (Node (Option V))) (list : List (Change (Sources (Option V)))) → list ≡ [] → AreRuns list × StartBelow 0 list × Says w 0 rows nodes list × (length list ≡ 0)
 none_said w rows nodes [] is = (tt, (λ x t. elim t [ ]), (λ none d lt. absurd (omega arith)), refl)
 none_said w rows nodes (x ∷ list) is = cc
 
-pub loop-list-init : goal.loop-list-init
-loop-list-init g c =
+pub loop-due-init : goal.loop-due-init
+loop-due-init g c =
     let a = c.args in
     let table = a.self.now in
     let rows = g.R.Rows.rows a.rows in
@@ -32,40 +37,81 @@ loop-list-init g c =
       within = pow_pos a.width;
       runs = none.0;
       below = none.1;
+      due = omega arith;
       says = none.2;
       few = inl (none.3, omega (arith, c.new-pass.ensures.few));
     }
 
+pub early_count-requires-clause-sound : goal.early_count-requires-clause-sound
+early_count-requires-clause-sound g c =
+    sound_by c.loop-due.self.nodes.items c.loop-due.self.numbers (elim [ Constant v ↦ elim [ Constant u ↦ refl | Stored m ↦ refl ] | Stored k ↦ elim [ Constant v ↦ refl | Stored m ↦ refl ] ]) c.loop-due.invariant.sound
+
+pub early_count-requires-clause-runs : goal.early_count-requires-clause-runs
+early_count-requires-clause-runs g c =
+    let w = c.args.width in
+    let rows = g.R.Rows.rows c.args.rows in
+    let nodes = c.loop-due.self.nodes.items in
+    let list = c.loop-due.list.items in
+    let i = c.loop-due.invariant in
+    let is = c.deref.ensures.value in
+    let some : 0 < length list = omega (arith, c.if-due-len.true, c.len.ensures, i.due) in
+    let begun = some_below c.loop-due.at list i.below some in
+    let runs = has_runs_so_far w c.loop-due.at rows nodes list i.runs i.below c.requires.table i.says begun (omega (arith, i.within)) in
+    (w, so_far w c.loop-due.at rows nodes list i.runs i.below, subst (λ (xs : List (Change (Sources (Option g.row.V.Denot)))). HasRuns w nodes xs (so_far w c.loop-due.at rows nodes list i.runs i.below)) (sym is) runs)
+
+pub returns-then-branch-most-clause-sound : goal.returns-then-branch-most-clause-sound
+returns-then-branch-most-clause-sound g c =
+    sound_by c.loop-due.self.nodes.items c.loop-due.self.numbers (elim [ Constant v ↦ elim [ Constant u ↦ refl | Stored m ↦ refl ] | Stored k ↦ elim [ Constant v ↦ refl | Stored m ↦ refl ] ]) c.loop-due.invariant.sound
+
+pub returns-then-branch-most-clause-runs : goal.returns-then-branch-most-clause-runs
+returns-then-branch-most-clause-runs g c =
+    let V = g.row.V.Denot in
+    let w = c.args.width in
+    let rows = g.R.Rows.rows c.args.rows in
+    let nodes = c.loop-due.self.nodes.items in
+    let list = c.loop-due.list.items in
+    let i = c.loop-due.invariant in
+    let is = c.deref.ensures.value in
+    let f = answer w (map row_of rows) in
+    let some : 0 < length list = omega (arith, c.if-due-len.true, c.len.ensures, i.due) in
+    let begun = some_below c.loop-due.at list i.below some in
+    let h = so_far w c.loop-due.at rows nodes list i.runs i.below in
+    let runs = subst (λ (xs : List (Change (Sources (Option V)))). HasRuns w nodes xs h) (sym is) (has_runs_so_far w c.loop-due.at rows nodes list i.runs i.below c.requires.table i.says begun (omega (arith, i.within))) in
+    let agree = subst (λ (xs : List (Change (Sources (Option V)))). AgreeUpTo w xs f h) (sym is) (agree_so_far w c.loop-due.at rows nodes list i.runs i.below) in
+    let boxes = boxes_exist (test_by g.V.Ord.cmp g.met.V.Ord.total g.met.V.LawfulOrd.exact) w f in
+    let few = c.in_ok-early_count.ensures w f h boxes.0 runs agree boxes.1 in
+    (boxes.0, boxes.1, omega (arith, few, c.if-branch-most.true))
+
 pub reach-requires-clause-sound : goal.reach-requires-clause-sound
 reach-requires-clause-sound g c =
-    sound_by c.loop-list.self.nodes.items c.loop-list.self.numbers (elim [ Constant v ↦ elim [ Constant u ↦ refl | Stored m ↦ refl ] | Stored k ↦ elim [ Constant v ↦ refl | Stored m ↦ refl ] ]) c.loop-list.invariant.sound
+    sound_by c.loop-due.self.nodes.items c.loop-due.self.numbers (elim [ Constant v ↦ elim [ Constant u ↦ refl | Stored m ↦ refl ] | Stored k ↦ elim [ Constant v ↦ refl | Stored m ↦ refl ] ]) c.loop-due.invariant.sound
 
 pub returns-in_default-clause-keeps : goal.returns-in_default-clause-keeps
-returns-in_default-clause-keeps g c k node e = c.in_ok-next.ensures.keeps k node (c.loop-list.invariant.keeps k node e)
+returns-in_default-clause-keeps g c k node e = c.in_ok-next.ensures.keeps k node (c.loop-due.invariant.keeps k node e)
 
 pub returns-in_default-clause-runs : goal.returns-in_default-clause-runs
 returns-in_default-clause-runs g c =
     let V = g.row.V.Denot in
     let w = c.args.width in
     let rows = g.R.Rows.rows c.args.rows in
-    let i = c.loop-list.invariant in
-    let at = c.loop-list.at in
+    let i = c.loop-due.invariant in
+    let at = c.loop-due.at in
     let reach = c.in_ok-next.ensures in
     let new = c.reach.new.self in
     let list = c.say.new.out.items in
-    let filled = subst (λ (s : Sources (Option V)). IsFilled at (2 ^ w) s c.loop-list.list.items list) c.sources-sources.ensures (c.in_ok-say.ensures.filled (2 ^ w) i.within) in
+    let filled = subst (λ (s : Sources (Option V)). IsFilled at (2 ^ w) s c.loop-due.list.items list) c.sources-sources.ensures (c.in_ok-say.ensures.filled (2 ^ w) i.within) in
     let quiet : (d : ℕ) → IsQuietUpTo d g.R.Rows.rows new = λ d. (reach.next d).1 (subst (λ (o : Option ℕ). IfSome o (λ start. d < start)) (sym c.in_default.is) tt) in
-    let says = says-more w at (2 ^ w) rows (rows_left g.R.Rows.rows new) c.loop-list.self.nodes.items c.reach.new.table.nodes.items c.loop-list.list.items list new.now (ahead_of new) reach.keeps filled i.says (reach.pass rows i.pass) reach.reached (omega arith)
+    let says = says-more w at (2 ^ w) rows (rows_left g.R.Rows.rows new) c.loop-due.self.nodes.items c.reach.new.table.nodes.items c.loop-due.list.items list new.now (ahead_of new) reach.keeps filled i.says (reach.pass rows i.pass) reach.reached (omega arith)
     (λ d lt. quiet d) in
     says-all w rows c.reach.new.table.nodes.items list c.requires.table filled.runs filled.below says
 
-pub loop-list-preserved : goal.loop-list-preserved
-loop-list-preserved g c =
+pub loop-due-preserved : goal.loop-due-preserved
+loop-due-preserved g c =
     let V = g.row.V.Denot in
     let w = c.args.width in
     let rows = g.R.Rows.rows c.args.rows in
-    let i = c.loop-list.invariant in
-    let at = c.loop-list.at in
+    let i = c.loop-due.invariant in
+    let at = c.loop-due.at in
     let start = c.in-Some.start in
     let reach = c.in_ok-next.ensures in
     let new = c.reach.new.self in
@@ -73,7 +119,7 @@ loop-list-preserved g c =
     let list = c.say.new.out.items in
     let behind : at < start = subst (λ (o : Option ℕ). IfSome o (λ next. at < next)) c.in-Some.is reach.behind in
     let within : start < 2 ^ w = subst (λ (o : Option ℕ). IfSome o (λ next. next < 2 ^ w)) c.in-Some.is reach.within in
-    let filled = subst (λ (s : Sources (Option V)). IsFilled at start s c.loop-list.list.items list) c.sources-sources.ensures (c.in_ok-say.ensures.filled start behind) in
+    let filled = subst (λ (s : Sources (Option V)). IsFilled at start s c.loop-due.list.items list) c.sources-sources.ensures (c.in_ok-say.ensures.filled start behind) in
     let quiet : (d : ℕ) → d < start → IsQuietUpTo d g.R.Rows.rows new = λ d lt. (reach.next d).1 (subst (λ (o : Option ℕ). IfSome o (λ next. d < next)) (sym c.in-Some.is) lt) in
     let comes : IsQuietUpTo start g.R.Rows.rows new → ⊥ =
     λ q. let lt : start < start = subst (λ (o : Option ℕ). IfSome o (λ next. start < next)) c.in-Some.is ((reach.next start).0 q) in omega arith in
@@ -85,7 +131,11 @@ loop-list-preserved g c =
       within = within;
       runs = filled.runs;
       below = filled.below;
-      says = says-more w at start rows (rows_left g.R.Rows.rows new) c.loop-list.self.nodes.items table.nodes.items c.loop-list.list.items list new.now (ahead_of new) reach.keeps filled i.says (reach.pass rows i.pass) reach.reached (omega arith) quiet;
+      due = elim c.if-due-len.branch [
+        | then-due-len+then-nodes-ge-SPARE+in_ok-early_count+else-branch-most w ↦ omega (arith, w.due-is, w.saturating_mul-due.ensures, w.len-then-nodes-ge-SPARE.ensures, w.if-due-len.true, c.len.ensures, i.due)
+        | else-due-len w ↦ omega (arith, w.due-is, i.due)
+      ];
+      says = says-more w at start rows (rows_left g.R.Rows.rows new) c.loop-due.self.nodes.items table.nodes.items c.loop-due.list.items list new.now (ahead_of new) reach.keeps filled i.says (reach.pass rows i.pass) reach.reached (omega arith) quiet;
       few = inr (
         comes,
         elim i.few [
@@ -100,7 +150,7 @@ returns-in_default-clause-sound g c = c.in_ok-next.ensures.sound
 
 pub returns-in_default-clause-few : goal.returns-in_default-clause-few
 returns-in_default-clause-few g c =
-    elim c.loop-list.invariant.few [
+    elim c.loop-due.invariant.few [
       | inl first ↦ omega (arith, first.0, c.in_ok-say.ensures.one)
       | inr later ↦ omega (arith, later.1, c.in_ok-next.ensures.fewer later.0, c.in_ok-say.ensures.one)
     ]

@@ -9,8 +9,8 @@ use Rattle.babel_trie.proofs.NodeLaws.{sources_cmp}
 use Rattle.babel_trie.proofs.PassLaws.{Says}
 use Rattle.babel_trie.proofs.pass.Table+Option+V.table_runs.Given as goal
 
-abbrev pub invariant-loop-list : goal.invariant-loop-list
-invariant-loop-list g l = record {
+abbrev pub invariant-loop-due : goal.invariant-loop-due
+invariant-loop-due g l = record {
   sound : IsSound (sources_cmp (option_cmp g.V.Ord.cmp)) (sources_mark (option_mark g.V.LawfulOrd.mark)) l.self.nodes.items l.self.numbers;
   keeps : KeepsNodes l.fn.self.nodes.items l.self.nodes.items;
   pass : IsPassOver l.width g.R.Rows.rows (g.R.Rows.rows l.fn.rows) l.self.nodes.items l.pass;
@@ -18,10 +18,11 @@ invariant-loop-list g l = record {
   within : l.at < 2 ^ l.width;
   runs : AreRuns l.list.items;
   below : StartBelow l.at l.list.items;
+  due : 0 < l.due;
   says : Says l.width l.at (g.R.Rows.rows l.fn.rows) l.self.nodes.items l.list.items;
   few : ((length l.list.items ≡ 0) × (changes_left g.R.Rows.rows l.pass ≤ 2 * length (g.R.Rows.rows l.fn.rows)))
       ⊎ ((IsQuietUpTo l.at g.R.Rows.rows l.pass → ⊥) × (length l.list.items + changes_left g.R.Rows.rows l.pass ≤ 2 * length (g.R.Rows.rows l.fn.rows) + 1));
 }
 
-abbrev pub decreases-loop-list : goal.decreases-loop-list
-decreases-loop-list g l = 2 ^ 128 - l.at
+abbrev pub decreases-loop-due : goal.decreases-loop-due
+decreases-loop-due g l = 2 ^ 128 - l.at

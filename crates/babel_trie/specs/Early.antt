@@ -1,0 +1,17 @@
+-- What is known of the boxes of answers before all of them are known: this project's own.
+use Rattle.std.specs.Prelude.{◌≡◌, ℕ, ◌^◌, ◌<◌, ◌≤◌, List, length}
+use Rattle.babel_prefix.specs.Best.{Row}
+use Rattle.babel_prefix.specs.Members.{Listed}
+use Rattle.babel_trie.specs.Boxes.{Answers, IsBoxList}
+use Rattle.babel_trie.specs.declared.runs.Change.{Change}
+
+module _ {F V : Type 0} where
+  -- up to the start of each change the two functions answer the same
+  abbrev pub AgreeUpTo : ℕ → List (Change F) → Answers V → Answers V → Type 0
+  AgreeUpTo w list f g =
+      (x : Change F) → Listed list x → (d s : ℕ) → d ≤ x.start → s < 2 ^ w → f d s ≡ g d s
+
+module _ {V : Type 0} where
+  -- the boxes are more than this number
+  abbrev pub HasMoreBoxes : ℕ → ℕ → Answers V → Type 0
+  HasMoreBoxes most w f = (boxes : List (Row V)) × IsBoxList w f boxes × (most < length boxes)
