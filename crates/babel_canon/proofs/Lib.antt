@@ -35,3 +35,4 @@ mod DifferenceLists
 mod DifferenceLaws
 pub mod OneDifferences
 pub mod Views
+mod ManyBoxes

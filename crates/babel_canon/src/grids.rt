@@ -1,20 +1,24 @@
-ghost use Rattle.std.specs.Prelude.{◌≡◌, ◌+◌, ◌-◌, ◌^◌, ◌++◌, List, All, IfOk, OnOk, OnErr, length};
+ghost use Rattle.std.specs.Prelude.{◌≡◌, ◌+◌, ◌-◌, ◌^◌, ◌++◌, List, All, None, IfOk, IfSome, OnOk, OnErr, length};
 ghost use Rattle.std.specs.Prelude.{map, min};
 ghost use Rattle.babel_prefix.specs.declared.family.Family.TheVariants.{V4, V6};
 ghost use Rattle.babel_prefix.specs.BestRow.{HasPrefixes, HasDistinctPrefixes};
 ghost use Rattle.babel_prefix.specs.Entries.{Entry};
 ghost use Rattle.babel_table.specs.TableRows.{AreRows, family_rows};
+ghost use Rattle.babel_prefix.specs.Width.{width_of};
+ghost use Rattle.babel_trie.specs.Early.{HasMoreBoxes};
 ghost use Rattle.babel_trie.specs.Held.{RowOrder};
 ghost use Rattle.babel_trie.specs.Nested.{entry_at};
 ghost use Rattle.babel_trie.specs.OneOrder.{rows_in_order-prop};
 ghost use Rattle.babel_trie.specs.Rows.{InOrder};
 ghost use Rattle.babel_trie.specs.Sinks.{StopsAmong};
+ghost use Rattle.babel_canon.specs.Boxes.{answers_of};
+ghost use Rattle.babel_canon.specs.Canonical.{HasManyBoxes};
 ghost use Rattle.babel_canon.specs.Values.{AreNumbered, AreNumberedBoxes, AreNumberedEntries, KeepsValues, entries_left, packed_entries};
 ghost use Rattle.babel_canon.specs.declared.values.PackedValue.{PackedValue};
 
 use crate::values::{PackedValue, Values};
 use babel_prefix::{Family, Prefix};
-use babel_table::{Table, TableRows};
+use babel_table::{Limits, Table, TableRows};
 use babel_tlv::{Held, Key};
 use babel_trie::{Grid, LawfulOrd, Rows, Sink};
 use std::alloc::{AllocError, Global};
@@ -97,48 +101,59 @@ pub(crate) fn family_values(
     Ok(packed)
 }
 
-/// What a table answers for the addresses of one family.
+/// What a table answers for the addresses of one family; `None` as soon as that is known to have
+/// more boxes than the entries of the limits.
 fn family_grid(
     alloc: Global,
+    limits: Limits,
     family: Family,
     table: &Table,
     values: &mut Values,
-) -> Result<Grid<PackedValue>, AllocError>
+) -> Result<Option<Grid<PackedValue>>, AllocError>
     requires { AreNumbered values.old.list.items values.old.numbers }
     ensures numbered { OnOk result (AreNumbered values.new.list.items values.new.numbers) }
     ensures keeps { OnOk result (KeepsValues values.old.list.items values.new.list.items) }
-    ensures family { IfOk result (λ grid. grid.family ≡ family) }
-    ensures boxes { IfOk result (λ grid.
-        AreNumberedBoxes family table.now.rows values.new.list.items grid.boxes) }
+    ensures many { IfOk result (λ grid. grid ≡ None
+        → HasMoreBoxes limits.entries (width_of family) (answers_of family table.now.rows)) }
+    ensures family { IfOk result (λ grid. IfSome grid (λ grid. grid.family ≡ family)) }
+    ensures boxes { IfOk result (λ grid. IfSome grid (λ grid.
+        AreNumberedBoxes family table.now.rows values.new.list.items grid.boxes)) }
 {
     let packed = family_values(alloc, family, table, values)?;
     let rows = PackedRows::of(family, table, packed.as_slice());
-    let grid = Grid::of_rows(alloc, family, rows)?;
+    let grid = Grid::within(alloc, family, rows, limits.entries() as u64)?;
     Ok(grid)
 }
 
 impl Grids<PackedValue> {
-    /// What a table answers, with these values.
+    /// What a table answers, with these values; `None` as soon as that is known to have more boxes
+    /// in a family than the entries of the limits.
     pub(crate) fn of(
         alloc: Global,
+        limits: Limits,
         table: &Table,
         values: &mut Values,
-    ) -> Result<Grids<PackedValue>, AllocError>
+    ) -> Result<Option<Grids<PackedValue>>, AllocError>
         requires { AreNumbered values.old.list.items values.old.numbers }
         ensures numbered { OnOk result (AreNumbered values.new.list.items values.new.numbers) }
         ensures keeps { OnOk result (KeepsValues values.old.list.items values.new.list.items) }
         ensures rows { AreRows table.now.rows }
-        ensures v4_family { IfOk result (λ grids. grids.v4.family ≡ V4) }
-        ensures v6_family { IfOk result (λ grids. grids.v6.family ≡ V6) }
-        ensures v4_boxes { IfOk result (λ grids.
-            AreNumberedBoxes V4 table.now.rows values.new.list.items grids.v4.boxes) }
-        ensures v6_boxes { IfOk result (λ grids.
-            AreNumberedBoxes V6 table.now.rows values.new.list.items grids.v6.boxes) }
+        ensures many { IfOk result (λ grids. grids ≡ None → HasManyBoxes limits table.now.rows) }
+        ensures v4_family { IfOk result (λ grids. IfSome grids (λ grids. grids.v4.family ≡ V4)) }
+        ensures v6_family { IfOk result (λ grids. IfSome grids (λ grids. grids.v6.family ≡ V6)) }
+        ensures v4_boxes { IfOk result (λ grids. IfSome grids (λ grids.
+            AreNumberedBoxes V4 table.now.rows values.new.list.items grids.v4.boxes)) }
+        ensures v6_boxes { IfOk result (λ grids. IfSome grids (λ grids.
+            AreNumberedBoxes V6 table.now.rows values.new.list.items grids.v6.boxes)) }
     {
         let _valid = table.rows();
-        let v4 = family_grid(alloc, Family::V4, table, values)?;
-        let v6 = family_grid(alloc, Family::V6, table, values)?;
-        Ok(Grids { v4, v6 })
+        let Some(v4) = family_grid(alloc, limits, Family::V4, table, values)? else {
+            return Ok(None);
+        };
+        let Some(v6) = family_grid(alloc, limits, Family::V6, table, values)? else {
+            return Ok(None);
+        };
+        Ok(Some(Grids { v4, v6 }))
     }
 }
 

@@ -44,7 +44,9 @@ impl CanonicalPairs {
         ensures err { IfErr result (CanonicalFault limits table.now.rows) }
     {
         let mut values = Values::new(alloc);
-        let grids = Grids::of(alloc, table, &mut values)?;
+        let Some(grids) = Grids::of(alloc, limits, table, &mut values)? else {
+            return Err(Fault::TooManyPairs);
+        };
         if grids.count() > limits.entries() as u64 {
             return Err(Fault::TooManyPairs);
         }
