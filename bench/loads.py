@@ -221,6 +221,15 @@ def write_shared(folder, name, rng, count):
     write_routes(folder / f"{name}-split.dump", halves + others)
 
 
+def write_many_sources(path, rng, count):
+    """So many sources of one network, and as many hosts of another: of all that is answered nearly all is what the first
+    destination answers for each source."""
+    anns = announcements(rng, 20)
+    routes = [(4, 10 << 24, 8, rng.choice(anns), source) for source in disjoint(rng, 4, 100 << 24, {24: 1}, count, 1 << 8)]
+    routes += [(4, 11 << 24 | host, 32, rng.choice(anns)) for host in rng.sample(range(1 << 24), count)]
+    write_routes(path, routes)
+
+
 def hosts(rng, family, count):
     """So many addresses of one network, in any order."""
     network, free = {4: (10 << 24, 24), 6: (0x2001_0DB8 << 96, 96)}[family]
@@ -337,6 +346,7 @@ def main():
     write_sources(folder / "sources.dump", random.Random(f"{seed} sources"))
     write_shared(folder, "shared", random.Random(f"{seed} shared"), 20_000)
     write_shared(folder, "shared-131k", random.Random(f"{seed} shared 131k"), 131_072)
+    write_many_sources(folder / "many-sources.dump", random.Random(f"{seed} many sources"), 131_072)
     write_merging(folder / "merging.dump", random.Random(f"{seed} merging"), 512)
     write_merging(folder / "merging-16.dump", random.Random(f"{seed} merging 16"), 16)
     write_hosts(folder / "hosts-ipv4.dump", random.Random(f"{seed} hosts ipv4"), 4, 200_000)
