@@ -21,11 +21,16 @@ use crate::fit::last_address;
 use crate::lawful::{LawfulOrd, are_same};
 use crate::rows::{Row, Rows};
 use crate::runs::Change;
-use crate::table::{Node, Sources, Table};
+use crate::table::{FEW_NODES, Node, Sources, Table};
 use std::alloc::{AllocError, Global};
 
-/// Where there are fewer nodes, boxes are not counted before all changes are known.
-const SPARE: usize = 1_024;
+/// How many changes there are when their boxes are counted for the first time: never so many, where
+/// there may be any number of boxes.
+fn first_due(most: u64) -> usize
+    ensures { 0 < result }
+{
+    if most == u64::MAX { usize::MAX } else { 2 }
+}
 
 /// Whether the last change is to these answers.
 fn ends_with<F: LawfulOrd>(list: &[Change<F>], sources: F) -> bool
@@ -335,9 +340,9 @@ impl<V: LawfulOrd> Table<Option<V>> {
         let mut pass = Pass::new(alloc, rows);
         let mut list = Vec::with_capacity(alloc, room)?;
         let mut at = 0u128;
-        let mut due = 2usize;
+        let mut due = first_due(most);
         loop {
-            if due <= list.len() && SPARE <= self.nodes().len() {
+            if due <= list.len() && FEW_NODES <= self.nodes().len() {
                 if self.early_count(alloc, &list)? > most {
                     return Ok(None);
                 }

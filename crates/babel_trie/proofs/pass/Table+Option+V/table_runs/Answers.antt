@@ -16,7 +16,7 @@ use Rattle.babel_trie.proofs.BoxesExist.{boxes_exist, test_by}
 use Rattle.babel_trie.proofs.EarlyRuns.{agree_so_far, has_runs_so_far, so_far, some_below}
 use Rattle.babel_trie.proofs.PassLaws.{Says, says-more, says-all}
 use Rattle.babel_trie.proofs.pass.Table+Option+V.table_runs.Goals as goal
-use Rattle.babel_trie.proofs.pass.Table+Option+V.table_runs.Goals.{then-due-len+then-nodes-ge-SPARE+in_ok-early_count+else-branch-most, else-due-len}
+use Rattle.babel_trie.proofs.pass.Table+Option+V.table_runs.Goals.{then-due-len+then-nodes-ge-FEW_NODES+in_ok-early_count+else-branch-most, else-due-len}
 
 -- nothing is said
 none_said : {V : Type 0} (w : ℕ) (rows : List (Entry V)) (nodes : List (Node (Option V))) (list : List (Change (Sources (Option V)))) → list ≡ [] → AreRuns list × StartBelow 0 list × Says w 0 rows nodes list × (length list ≡ 0)
@@ -132,7 +132,7 @@ loop-due-preserved g c =
       runs = filled.runs;
       below = filled.below;
       due = elim c.if-due-len.branch [
-        | then-due-len+then-nodes-ge-SPARE+in_ok-early_count+else-branch-most w ↦ omega (arith, w.due-is, w.saturating_mul-due.ensures, w.len-then-nodes-ge-SPARE.ensures, w.if-due-len.true, c.len.ensures, i.due)
+        | then-due-len+then-nodes-ge-FEW_NODES+in_ok-early_count+else-branch-most w ↦ omega (arith, w.due-is, w.saturating_mul-due.ensures, w.len-then-nodes-ge-FEW_NODES.ensures, w.if-due-len.true, c.len.ensures, i.due)
         | else-due-len w ↦ omega (arith, w.due-is, i.due)
       ];
       says = says-more w at start rows (rows_left g.R.Rows.rows new) c.loop-due.self.nodes.items table.nodes.items c.loop-due.list.items list new.now (ahead_of new) reach.keeps filled i.says (reach.pass rows i.pass) reach.reached (omega arith) quiet;
