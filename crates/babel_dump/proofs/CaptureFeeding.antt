@@ -7,6 +7,7 @@ use Rattle.babel_capture.specs.Gathering.{Gathering}
 use Rattle.babel_capture.specs.Reading.{Stops}
 use Rattle.babel_capture.specs.declared.fault.Fault.{Fault}
 use Rattle.babel_capture.specs.declared.fault.Fault.TheVariants as faults
+use Rattle.babel_capture.specs.declared.wanted.Wanted.{Wanted}
 use Rattle.babel_dump.specs.CaptureGiven.{CaptureInput, GaveCapture, IsFaultOfCapture, IsFedWhole, IsReadSo}
 use Rattle.babel_dump.specs.declared.capture_reading.CaptureReading.{CaptureReading}
 use Rattle.babel_dump.proofs.CaptureLimits.{taken_within}
@@ -48,9 +49,9 @@ fed_within f a b turns so_far none =
     omega arith
 
 -- the capture is read so
-pub record IsReadFrom (f : State) (reading : CaptureReading) : Type 0 where
+pub record IsReadFrom (f : State) (reading : CaptureReading) (whose : Wanted) : Type 0 where
   pub limit : f.limit ≡ reading.limit
-  pub wanted : f.progress.gathering.wanted ≡ reading.wanted
+  pub wanted : f.progress.gathering.wanted ≡ whose
 
 -- a fault that is kept is want of memory, or that of the octets however they go on
 kept_stops : (f : State) (fault : Fault) (octets : List ℕ) → fault ≢ faults.Memory → f.fault ≡ Some fault → HasRead f octets
@@ -60,13 +61,13 @@ kept_stops f fault octets not_memory is read =
 
 -- the last piece gave a fault
 pub fed_fault : (reader : CaptureInput) (f h : State) (b : Option (List ℕ)) (turns n : ℕ) (buf : List ℕ) (fault : Fault)
-    → IsReadFrom h reader.reading → IsFedSoFar f reader.old.left b turns → Consumes b reader.new.left (take n buf)
+    → IsReadFrom h reader.reading reader.wanted → IsFedSoFar f reader.old.left b turns → Consumes b reader.new.left (take n buf)
     → ((octets : List ℕ) → HasRead f octets → HasRead h (octets ++ take n buf)) → h.fault ≡ Some fault
     → fault ≢ faults.Memory → IsFaultOfCapture reader fault
 fed_fault reader f h b turns n buf fault from so_far gave fed kept not_memory =
     let octets = so_far.octets ++ take n buf in
     let stops = kept_stops h fault octets not_memory kept (fed so_far.octets so_far.fed) in
-    let is : Stops reader.reading.limit reader.reading.wanted octets fault = rw (← from.limit, ← from.wanted) stops in
+    let is : Stops reader.reading.limit reader.wanted octets fault = rw (← from.limit, ← from.wanted) stops in
     record {
       given = octets;
       gave = Consumes-trans reader.old.left b reader.new.left _ _ so_far.gave gave;
@@ -74,7 +75,7 @@ fed_fault reader f h b turns n buf fault from so_far gave fed kept not_memory =
     }
 
 -- the octets are a capture, whose last block may be cut short where that is accepted
-pub given_capture : (reader : CaptureInput) (f : State) (gathering : Gathering) (cut : Option ℕ) → IsReadFrom f reader.reading → IsFedWhole f reader
+pub given_capture : (reader : CaptureInput) (f : State) (gathering : Gathering) (cut : Option ℕ) → IsReadFrom f reader.reading reader.wanted → IsFedWhole f reader
     → ((fed : List ℕ) → HasRead f fed → IsReadSo reader.reading.accept_cut f.limit fed gathering cut)
     → gathering.wanted ≡ f.progress.gathering.wanted → GaveCapture reader gathering cut
 given_capture reader f gathering cut from all answered wanted =
@@ -82,11 +83,11 @@ given_capture reader f gathering cut from all answered wanted =
     record { octets = all.given; gave = all.gave; is_read = read; wanted = wanted ∙ from.wanted }
 
 -- the octets have a fault
-pub given_fault : (reader : CaptureInput) (f : State) (fault : Fault) → IsReadFrom f reader.reading → IsFedWhole f reader
+pub given_fault : (reader : CaptureInput) (f : State) (fault : Fault) → IsReadFrom f reader.reading reader.wanted → IsFedWhole f reader
     → (reader.reading.accept_cut ≡ true → fault ≡ faults.NotCapture)
     → ((fed : List ℕ) → HasRead f fed → CaptureFault f.limit f.progress.gathering.wanted fed fault) → IsFaultOfCapture reader fault
 given_fault reader f fault from all not_accepted refused =
-    let is : CaptureFault reader.reading.limit reader.reading.wanted all.given fault = rw (← from.limit, ← from.wanted) (refused all.given all.fed) in
+    let is : CaptureFault reader.reading.limit reader.wanted all.given fault = rw (← from.limit, ← from.wanted) (refused all.given all.fed) in
     record {
       given = all.given;
       gave = all.gave.gave;

@@ -22,9 +22,9 @@ use Rattle.babel_capture.proofs.FramingLaws.{framing_fine}
 use Rattle.babel_capture.proofs.PacketLaws.{dump_packets}
 use Rattle.babel_dump.specs.CaptureGiven.{IsReadSo}
 use Rattle.babel_dump.specs.CaptureText.{dump_text}
-use Rattle.babel_dump.specs.ExtractLaws.{Extracted, ExtractedIsFramed, IsOfFraming, OtherExtractedIsFramed}
-use Rattle.babel_dump.specs.JobRun.{first_reading}
-use Rattle.babel_dump.proofs.Outcomes.{appended, fault_is_of_all, other_fault_is_of_all}
+use Rattle.babel_dump.specs.ExtractLaws.{Extracted, ExtractedIsFramed, IsOfFraming}
+use Rattle.babel_dump.specs.OneOutcome.{octets_at}
+use Rattle.babel_dump.proofs.Outcomes.{appended, dump_fault_of_run}
 
 -- ---- what a TLV refuses a dump for is no fault of framing
 
@@ -143,13 +143,13 @@ as_it_is : (dump : List ℕ) → dump_text false dump ≡ dump
 as_it_is [] = refl
 as_it_is (octet ∷ octets) = refl
 
-extracted_packets : (octets : List ℕ) → Extracted octets → ArePackets octets
-extracted_packets octets done =
-    let (text, says, wrote) = done.ran.wrote in
-    let dump : text ≡ says.gathering.dump = says.text_is ∙ as_it_is says.gathering.dump in
-    let same : text ≡ octets = append_cancel_left done.before text octets (sym (appended _ _ done.before (done.before ++ octets) text done.took done.takes wrote)) in
-    subst ArePackets (sym dump ∙ same)
-    (gathered_packets done.reader.reading.accept_cut done.reader.reading.limit says.gave.given.octets says.gathering done.outcome.cut says.gave.given.is_read)
+extracted_packets : (dump : List ℕ) → Extracted dump → ArePackets dump
+extracted_packets dump done =
+    let (text, says, wrote) = done.ran.ran.ran.wrote in
+    let gathered : text ≡ says.gathering.dump = says.text_is ∙ as_it_is says.gathering.dump in
+    let same : text ≡ dump = append_cancel_left done.before text dump (sym (appended _ _ done.before (done.before ++ dump) text done.ran.took done.ran.takes wrote)) in
+    subst ArePackets (sym gathered ∙ same)
+    (gathered_packets done.reading.accept_cut done.reading.limit says.gave.given.octets says.gathering says.cut says.gave.given.is_read)
 
 not_memory : (fault : Fault) → IsOfFraming fault → fault ≢ faults.Memory
 not_memory fault framing is = subst IsOfFraming is framing
@@ -158,11 +158,6 @@ not_pairs : (fault : Fault) → IsOfFraming fault → fault ≢ faults.TooManyPa
 not_pairs fault framing is = subst IsOfFraming is framing
 
 pub extracted_is_framed : ExtractedIsFramed
-extracted_is_framed octets done limits job other before after fault ran framing =
-    dump_framed limits (first_reading limits job).mode (first_reading limits job).sender octets (extracted_packets octets done) fault
-    (fault_is_of_all limits job octets other before after fault ran (not_memory fault framing) (not_pairs fault framing)) framing
-
-pub other_extracted_is_framed : OtherExtractedIsFramed
-other_extracted_is_framed octets done limits job dumps dump before after fault over ran framing =
-    dump_framed limits dumps.mode dumps.other_from octets (extracted_packets octets done) fault
-    (other_fault_is_of_all limits job dumps dump octets before after fault over ran (not_memory fault framing)) framing
+extracted_is_framed job side octets other before after fault done ran framing =
+    let found = dump_fault_of_run job side octets other before after fault ran (not_memory fault framing) (not_pairs fault framing) in
+    dump_framed found.reading.limits found.reading.mode found.reading.sender (octets_at side octets other) (extracted_packets (octets_at side octets other) done) fault found.has framing

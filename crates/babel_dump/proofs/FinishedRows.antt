@@ -1,16 +1,16 @@
 -- A run over rows finished where all of its text was written, or a write failed.
 use Rattle.std.proofs.Common.{◌≡◌, Result, Ok, Err, refl}
 use Rattle.std.specs.Result.{IsErrAnd}
-use Rattle.babel_dump.specs.Parts.{WroteText}
 use Rattle.babel_dump.specs.Run.{Output}
-use Rattle.babel_dump.specs.SlicedRows.{FinishedRows, found_text}
+use Rattle.babel_dump.specs.SlicedRows.{Finished, found_text}
+use Rattle.babel_dump.specs.Slices.{WroteText}
 use Rattle.babel_dump.specs.declared.outcome.Outcome.{Outcome}
 use Rattle.babel_dump.specs.declared.run_fault.RunFault.{RunFault}
 use Rattle.babel_dump.specs.declared.run_fault.RunFault.TheVariants as run_faults
-use Rattle.babel_dump.specs.declared.slices.FoundRows.{FoundRows}
+use Rattle.babel_dump.specs.declared.slices.Found.{Found}
 
-all_written : {T E : Type 0} (writer : Output) (found : FoundRows) (t : T) → WroteText {T = T} {E = E} writer (found_text found) (Ok t)
-    → FinishedRows writer (Ok found) (Ok found.outcome)
+all_written : {T E : Type 0} (writer : Output) (found : Found) (t : T) → WroteText {T = T} {E = E} writer (found_text found) (Ok t)
+    → Finished writer (Ok found) (Ok found.outcome)
 all_written writer found t wrote = (
   record {
     whole = wrote.whole;
@@ -25,8 +25,8 @@ all_written writer found t wrote = (
   tt,
 )
 
-not_all_written : {T E : Type 0} (writer : Output) (found : FoundRows) (e : E) (result : Result Outcome RunFault) → WroteText {T = T} {E = E} writer (found_text found) (Err e)
-    → IsErrAnd result (λ (fault : RunFault). fault ≡ run_faults.Write) → FinishedRows writer (Ok found) result
+not_all_written : {T E : Type 0} (writer : Output) (found : Found) (e : E) (result : Result Outcome RunFault) → WroteText {T = T} {E = E} writer (found_text found) (Err e)
+    → IsErrAnd result (λ (fault : RunFault). fault ≡ run_faults.Write) → Finished writer (Ok found) result
 not_all_written writer found e (Ok outcome) wrote failed = absurd failed
 not_all_written writer found e (Err fault) wrote failed = (
   record {
@@ -42,10 +42,10 @@ not_all_written writer found e (Err fault) wrote failed = (
   failed,
 )
 
-pub finished_rows : {T E : Type 0} (writer : Output) (found : Result FoundRows RunFault) (it : FoundRows) (t : T) → found ≡ Ok it
-    → WroteText {T = T} {E = E} writer (found_text it) (Ok t) → FinishedRows writer found (Ok it.outcome)
+pub finished_rows : {T E : Type 0} (writer : Output) (found : Result Found RunFault) (it : Found) (t : T) → found ≡ Ok it
+    → WroteText {T = T} {E = E} writer (found_text it) (Ok t) → Finished writer found (Ok it.outcome)
 finished_rows {T = T} {E = E} writer found it t is wrote = rw is (all_written {T = T} {E = E} writer it t wrote)
 
-pub failed_rows : {T E : Type 0} (writer : Output) (found : Result FoundRows RunFault) (it : FoundRows) (e : E) (result : Result Outcome RunFault) → found ≡ Ok it
-    → WroteText {T = T} {E = E} writer (found_text it) (Err e) → IsErrAnd result (λ (fault : RunFault). fault ≡ run_faults.Write) → FinishedRows writer found result
+pub failed_rows : {T E : Type 0} (writer : Output) (found : Result Found RunFault) (it : Found) (e : E) (result : Result Outcome RunFault) → found ≡ Ok it
+    → WroteText {T = T} {E = E} writer (found_text it) (Err e) → IsErrAnd result (λ (fault : RunFault). fault ≡ run_faults.Write) → Finished writer found result
 failed_rows {T = T} {E = E} writer found it e result is wrote failed = rw is (not_all_written {T = T} {E = E} writer it e result wrote failed)

@@ -1,133 +1,141 @@
--- A run that finished wrote what was found of its dumps, or answered why nothing was found.
-use Rattle.std.proofs.Common.{◌≡◌, ℕ, Bool, List, Option, None, Some, Result, Ok, Err, arith, ap, sym, subst, rules}
+-- A run that finished wrote what was found, or answered why nothing was found.
+use Rattle.std.proofs.Common.{◌≡◌, ℕ, List, Option, None, Some, Result, Ok, Err, arith, ap, sym, subst, refl, inl, inr}
 use Rattle.std.specs.Prelude.{IfOk, IfErr}
-use Rattle.std.specs.Io.KnownBytes.{Keeps}
-use Rattle.babel_tlv.specs.declared.fault.Fault.{Fault}
-use Rattle.babel_dump.specs.Command.{Compares, GaveSound, InTurn, ListsDifferences}
-use Rattle.babel_dump.specs.Given.{Input}
-use Rattle.babel_dump.specs.Parts.{Finished, Gathered, SaysSo, WroteText}
-use Rattle.babel_dump.specs.Run.{HasCause, Output, Ran, Reports, UnlessWrite, run_status}
-use Rattle.babel_dump.specs.SlicedRows.{FinishedRows, RowsSaySo, found_text}
-use Rattle.babel_dump.specs.declared.finish.Found.{Found}
-use Rattle.babel_dump.specs.declared.format.Format.{Format}
+use Rattle.babel_dump.specs.Command.{CompareCause}
+use Rattle.babel_dump.specs.Device.{AppendsPrefix}
+use Rattle.babel_dump.specs.Given.{Input, Reads}
+use Rattle.babel_dump.specs.JobRun.{CauseBy, FoundBy, OtherCalled, RanJob, SaysBy, first_calls, other_calls}
+use Rattle.babel_dump.specs.Parts.{Gathered, Says}
+use Rattle.babel_dump.specs.Run.{Called, Calls, OfFirst, OfStatus, Output, Ran, RanAlone, UnlessWrite, calls_of, run_status}
+use Rattle.babel_dump.specs.SlicedRows.{Finished, found_text}
+use Rattle.babel_dump.specs.declared.input_fault.InputFault.{InputFault}
+use Rattle.babel_dump.specs.declared.job.Job.{Job}
+use Rattle.babel_dump.specs.declared.job.Job.TheVariants as jobs
 use Rattle.babel_dump.specs.declared.outcome.Outcome.{Outcome}
 use Rattle.babel_dump.specs.declared.run_fault.RunFault.{RunFault}
-use Rattle.babel_dump.specs.declared.slices.FoundRows.{FoundRows}
 use Rattle.babel_dump.specs.declared.run_fault.RunFault.TheVariants as run_faults
+use Rattle.babel_dump.specs.declared.slices.Found.{Found}
 
--- a fault of reading is no fault of a write
-of_reading : (reader : Input) (other : Option Input) (Refuses : Fault → Type 0) (fault : RunFault) (P Q : Type 0) → HasCause reader other Refuses fault
-    → P → UnlessWrite fault P Q
-of_reading reader other Refuses run_faults.Read P Q cause known = known
-of_reading reader other Refuses (run_faults.Dump fault) P Q cause known = known
-of_reading reader other Refuses (run_faults.Ignored tlv) P Q cause known = known
-of_reading reader other Refuses run_faults.OtherRead P Q cause known = known
-of_reading reader other Refuses (run_faults.OtherDump fault) P Q cause known = known
-of_reading reader other Refuses (run_faults.OtherIgnored tlv) P Q cause known = known
-of_reading reader other Refuses (run_faults.Pairs fault) P Q cause known = known
-of_reading reader other Refuses run_faults.Write P Q cause known = absurd cause
+-- no write failed where a fault has a cause that a failed write has not
+unless_write : (Cause : RunFault → Type 0) (fault : RunFault) (P Q : Type 0) → (Cause run_faults.Write → ⊥) → Cause fault → P → UnlessWrite fault P Q
+unless_write Cause (run_faults.Input side fault) P Q never cause known = known
+unless_write Cause (run_faults.Pairs fault) P Q never cause known = known
+unless_write Cause run_faults.Write P Q never cause known = absurd (never cause)
 
-pub kept_same : (taken : Option (List ℕ)) → Keeps taken taken
-kept_same None = search rules
-kept_same (Some octets) = search rules
-
--- nothing was found, and nothing written
-unfound : {T : Type 0} (reader : Input) (other : Option Input) (writer : Output) (Refuses : Fault → Type 0) (Says : List ℕ → ℕ → Type 0) (Made : T → Type 0)
-    (fault : RunFault) → Gathered reader other Refuses Made (Err fault) → writer.new ≡ writer.old
-    → Ran reader other writer Refuses Says (Err fault)
-unfound reader other writer Refuses Says Made fault gathered same =
-    let failures = ap (λ (state : _). state.failures) same in
-    let flushes = ap (λ (state : _). state.flushes) same in record {
-      wrote = tt;
-      flushed = tt;
-      no_failure = tt;
-      no_failed_read = tt;
-      cause = of_reading reader other Refuses fault _ _ gathered.cause gathered.cause;
-      prefix = of_reading reader other Refuses fault _ _ gathered.cause (rw same (kept_same writer.old.taken));
-      few_calls = gathered.few_calls;
-      few_other_calls = gathered.few_other_calls;
-      one_failure = omega (arith, failures);
-      one_flush = omega (arith, flushes);
-    }
-
--- what says this was found, and written, or a write failed
-written : {T : Type 0} (reader : Input) (other : Option Input) (writer : Output) (Refuses : Fault → Type 0) (Says : List ℕ → ℕ → Type 0) (Made : T → Type 0)
-    (found : T) (text : List ℕ) (found_outcome : Outcome) (result : Result Outcome RunFault) → Gathered reader other Refuses Made (Ok found)
-    → Says text found_outcome.status → WroteText writer text result → IfOk result (λ (outcome : Outcome). outcome ≡ found_outcome)
-    → IfErr result (λ (fault : RunFault). fault ≡ run_faults.Write) → Ran reader other writer Refuses Says (run_status result)
-written reader other writer Refuses Says Made found text found_outcome (Ok outcome) gathered says wrote answered failed =
-    let same = ap (λ (o : Outcome). o.status) answered in record {
-      wrote = (text, subst (λ (status : ℕ). Says text status) (sym same) says, wrote.whole);
-      flushed = wrote.flushed;
-      no_failure = wrote.no_failure;
-      no_failed_read = gathered.no_failure;
-      cause = tt;
-      prefix = tt;
-      few_calls = gathered.few_calls;
-      few_other_calls = gathered.few_other_calls;
-      one_failure = wrote.one_failure;
-      one_flush = wrote.one_flush;
-    }
-written reader other writer Refuses Says Made found text found_outcome (Err fault) gathered says wrote answered failed = rw failed (record {
+pub ran : (writer : Output) (Cause : RunFault → Type 0) (Holds : List ℕ → Outcome → Type 0) (found : Result Found RunFault) (result : Result Outcome RunFault)
+    → (Cause run_faults.Write → ⊥) → IfOk found (Says Holds) → IfErr found Cause → Finished writer found result → Ran writer Cause Holds result
+ran writer Cause Holds (Ok found) (Ok outcome) never says cause finished = record {
+  wrote = (found_text found, subst (λ (o : Outcome). Holds (found_text found) o) (sym finished.1) says, finished.0.whole);
+  flushed = finished.0.flushed;
+  no_failure = finished.0.no_failure;
+  cause = tt;
+  prefix = tt;
+  one_failure = finished.0.one_failure;
+  one_flush = finished.0.one_flush;
+}
+ran writer Cause Holds (Ok found) (Err fault) never says cause finished = rw finished.2 (record {
   wrote = tt;
   flushed = tt;
   no_failure = tt;
-  no_failed_read = tt;
-  cause = wrote.cause;
-  prefix = (text, found_outcome.status, says, wrote.prefix);
-  few_calls = gathered.few_calls;
-  few_other_calls = gathered.few_other_calls;
-  one_failure = wrote.one_failure;
-  one_flush = wrote.one_flush;
+  cause = finished.0.cause;
+  prefix = (found_text found, found.outcome, says, finished.0.prefix);
+  one_failure = finished.0.one_failure;
+  one_flush = finished.0.one_flush;
 })
+ran writer Cause Holds (Err fault) result never says cause finished =
+    let failures = ap (λ (state : _). state.failures) finished.1 in
+    let flushes = ap (λ (state : _). state.flushes) finished.1 in
+    rw finished.0 (record {
+      wrote = tt;
+      flushed = tt;
+      no_failure = tt;
+      cause = unless_write Cause fault _ _ never cause cause;
+      prefix = unless_write Cause fault _ _ never cause finished.1;
+      one_failure = omega (arith, failures);
+      one_flush = omega (arith, flushes);
+    })
 
-pub ran : (reader : Input) (other : Option Input) (writer : Output) (Refuses : Fault → Type 0) (Says : List ℕ → ℕ → Type 0) (found : Result Found RunFault)
-    (result : Result Outcome RunFault) → Gathered reader other Refuses (SaysSo reader other Says) found → Finished writer found result
-    → Ran reader other writer Refuses Says (run_status result)
-ran reader other writer Refuses Says (Ok found) result gathered finished =
-    written reader other writer Refuses Says _ found found.text.items found.outcome result gathered gathered.made.0 finished.0 finished.1 finished.2
-ran reader other writer Refuses Says (Err fault) result gathered finished =
-    rw finished.0 (unfound reader other writer Refuses Says _ fault gathered finished.1)
+-- the readers were called as they were for what was found
+pub called : (calls : Calls) (writer : Output) (found : Result Found RunFault) (result : Result Outcome RunFault) → Called calls found → Finished writer found result
+    → Called calls result
+called calls writer (Ok found) (Ok outcome) of_found finished =
+    record { no_failure = of_found.no_failure; reads = of_found.reads; failures = of_found.failures; ends = of_found.ends }
+called calls writer (Ok found) (Err fault) of_found finished =
+    record { no_failure = tt; reads = of_found.reads; failures = of_found.failures; ends = of_found.ends }
+called calls writer (Err fault) result of_found finished =
+    rw finished.0 (record { no_failure = tt; reads = of_found.reads; failures = of_found.failures; ends = of_found.ends })
 
--- the same of what was found as rows
-pub ran_rows : (reader : Input) (other : Option Input) (writer : Output) (Refuses : Fault → Type 0) (Says : List ℕ → ℕ → Type 0) (found : Result FoundRows RunFault)
-    (result : Result Outcome RunFault) → Gathered reader other Refuses (RowsSaySo reader other Says) found → FinishedRows writer found result
-    → Ran reader other writer Refuses Says (run_status result)
-ran_rows reader other writer Refuses Says (Ok found) result gathered finished =
-    written reader other writer Refuses Says _ found (found_text found) found.outcome result gathered gathered.made.0 finished.0 finished.1 finished.2
-ran_rows reader other writer Refuses Says (Err fault) result gathered finished =
-    rw finished.0 (unfound reader other writer Refuses Says _ fault gathered finished.1)
+-- a prefix of a text that an outcome is said in is one that its status is said in
+of_statuses : (writer : Output) (Holds : List ℕ → Outcome → Type 0) (fault : RunFault)
+    → UnlessWrite fault (writer.new ≡ writer.old) ((text : List ℕ) × (outcome : Outcome) × Holds text outcome × AppendsPrefix writer.old.taken writer.new.taken text)
+    → UnlessWrite fault (writer.new ≡ writer.old) ((text : List ℕ) × (status : ℕ) × OfStatus Holds text status × AppendsPrefix writer.old.taken writer.new.taken text)
+of_statuses writer Holds (run_faults.Input side fault) same = same
+of_statuses writer Holds (run_faults.Pairs fault) same = same
+of_statuses writer Holds run_faults.Write (text, outcome, says, prefix) = (text, outcome.status, (outcome, says, refl), prefix)
 
-pub reports : (reader : Input) (other : Option Input) (writer : Output) (Refuses : Fault → Type 0) (Says : List ℕ → ℕ → Type 0) (found : Result Found RunFault)
-    (result : Result Outcome RunFault) → Gathered reader other Refuses (SaysSo reader other Says) found → Finished writer found result
-    → IfOk result (Reports reader other)
-reports reader other writer Refuses Says (Ok found) (Ok outcome) gathered finished = rw finished.1 gathered.made.1
-reports reader other writer Refuses Says (Ok found) (Err fault) gathered finished = tt
-reports reader other writer Refuses Says (Err fault) result gathered finished = rw finished.0 tt
+-- the same of the status alone
+pub ran_status : (writer : Output) (Cause : RunFault → Type 0) (Holds : List ℕ → Outcome → Type 0) (result : Result Outcome RunFault)
+    → Ran writer Cause Holds result → Ran writer Cause (OfStatus Holds) (run_status result)
+ran_status writer Cause Holds (Ok outcome) run = record {
+  wrote = (run.wrote.0, (outcome, run.wrote.1, refl), run.wrote.2);
+  flushed = run.flushed;
+  no_failure = run.no_failure;
+  cause = tt;
+  prefix = tt;
+  one_failure = run.one_failure;
+  one_flush = run.one_flush;
+}
+ran_status writer Cause Holds (Err fault) run = record {
+  wrote = tt;
+  flushed = tt;
+  no_failure = tt;
+  cause = run.cause;
+  prefix = of_statuses writer Holds fault run.prefix;
+  one_failure = run.one_failure;
+  one_flush = run.one_flush;
+}
 
-pub reports_rows : (reader : Input) (other : Option Input) (writer : Output) (Refuses : Fault → Type 0) (Says : List ℕ → ℕ → Type 0) (found : Result FoundRows RunFault)
-    (result : Result Outcome RunFault) → Gathered reader other Refuses (RowsSaySo reader other Says) found → FinishedRows writer found result
-    → IfOk result (Reports reader other)
-reports_rows reader other writer Refuses Says (Ok found) (Ok outcome) gathered finished = rw finished.1 gathered.made.1
-reports_rows reader other writer Refuses Says (Ok found) (Err fault) gathered finished = tt
-reports_rows reader other writer Refuses Says (Err fault) result gathered finished = rw finished.0 tt
+pub called_status : (calls : Calls) (result : Result Outcome RunFault) → Called calls result → Called calls (run_status result)
+called_status calls (Ok outcome) run = record { no_failure = run.no_failure; reads = run.reads; failures = run.failures; ends = run.ends }
+called_status calls (Err fault) run = record { no_failure = tt; reads = run.reads; failures = run.failures; ends = run.ends }
 
--- both dumps were found sound where what was found of them was written or its write failed
-pub in_turn : (reader other : Input) (AfterBoth Refuses : Fault → Type 0) (Says : List ℕ → ℕ → Type 0) (writer : Output) (untouched : Type 0)
-    (found : Result Found RunFault) (result : Result Outcome RunFault) → ((text : List ℕ) (status : ℕ) → Says text status → GaveSound reader × GaveSound other)
-    → Gathered reader (Some other) Refuses (SaysSo reader (Some other) Says) found
-    → IfErr found (InTurn reader other AfterBoth untouched) → Finished writer found result
-    → IfErr (run_status result) (InTurn reader other AfterBoth untouched)
-in_turn reader other AfterBoth Refuses Says writer untouched (Ok found) (Ok outcome) sound gathered turn finished = tt
-in_turn reader other AfterBoth Refuses Says writer untouched (Ok found) (Err fault) sound gathered turn finished =
-    rw finished.2 (sound found.text.items found.outcome.status gathered.made.0)
-in_turn reader other AfterBoth Refuses Says writer untouched (Err fault) result sound gathered turn finished = rw finished.0 turn
+-- a run over one dump, whose status is answered alone
+pub ran_alone : (reader : Input) (writer : Output) (Cause : InputFault → Type 0) (Holds : List ℕ → Outcome → Type 0) (found : Result Found RunFault)
+    (result : Result Outcome RunFault) → Gathered (calls_of reader) (OfFirst Cause) (Says Holds) found → Finished writer found result
+    → RanAlone reader Cause writer Holds (run_status result)
+ran_alone reader writer Cause Holds found result gathered finished = (
+  ran_status writer _ Holds result (ran writer _ Holds found result (λ cause. cause) gathered.made gathered.cause finished),
+  called_status _ result (called _ writer found result gathered.called finished),
+)
 
--- a comparison, and a list of differences, speak of sound dumps
-pub compared_sound : (reader other : Input) (format : Format) (text : List ℕ) (status : ℕ) → Compares reader other format text status → GaveSound reader × GaveSound other
-compared_sound reader other format text status says = ((says.gave.table, says.gave.gave), (says.gave.other_table, says.gave.other_gave))
+-- a comparison's fault is not that of a write
+pub not_compared : (reader other : Input) (untouched : Type 0) → CompareCause reader other untouched run_faults.Write → ⊥
+not_compared reader other untouched (inl cause) = cause
+not_compared reader other untouched (inr (memory, sound, other_sound)) = absurd cc
 
-pub listed_sound : (reader other : Input) (count : Bool) (format : Format) (text : List ℕ) (status : ℕ) → ListsDifferences reader other count format text status
-    → GaveSound reader × GaveSound other
-listed_sound reader other count format text status says =
-    ((says.gave.table, says.gave.gave), (says.gave.other_table, says.gave.other_gave))
+-- a job's fault is not that of a write
+no_write : (job : Job) (reader other : Reads) (untouched : Type 0) → CauseBy job reader other untouched run_faults.Write → ⊥
+no_write (jobs.Show reading format file) reader other untouched cause = cause
+no_write (jobs.Lookup reading pair format file quiet) reader other untouched cause = cause
+no_write (jobs.Each reading format file pairs quiet) reader other untouched (inl (refuses, unread)) = absurd cc
+no_write (jobs.Each reading format file pairs quiet) reader other untouched (inr (asked, no_failure, cause)) = cause
+no_write (jobs.Normalise reading view body hex file quiet) reader other untouched cause = cause
+no_write (jobs.Pairs reading view count format file quiet) reader other untouched cause = cause
+no_write (jobs.Compare reading other_reading view format file another quiet) reader other untouched cause = not_compared _ _ untouched cause
+no_write (jobs.Differences reading other_reading view count format file another quiet) reader other untouched (inl cause) = not_compared _ _ untouched cause
+no_write (jobs.Differences reading other_reading view count format file another quiet) reader other untouched (inr (many, have)) = absurd cc
+no_write (jobs.Senders reading format file quiet) reader other untouched cause = cause
+no_write (jobs.Extract reading sender interface hex file quiet) reader other untouched cause = cause
+
+other_called : (calls : Option Calls) (untouched : Type 0) (writer : Output) (found : Result Found RunFault) (result : Result Outcome RunFault)
+    → OtherCalled calls untouched found → Finished writer found result → OtherCalled calls untouched result
+other_called None untouched writer found result same finished = same
+other_called (Some calls) untouched writer found result of_found finished = called calls writer found result of_found finished
+
+pub ran_job : (job : Job) (reader other : Reads) (untouched : Type 0) (writer : Output) (found : Result Found RunFault) (result : Result Outcome RunFault)
+    → FoundBy job reader other untouched found → Finished writer found result → RanJob job reader other writer untouched result
+ran_job job reader other untouched writer found result by finished = record {
+  ran = ran writer _ _ found result (no_write job reader other untouched) by.says by.cause finished;
+  called = called _ writer found result by.called finished;
+  other_called = other_called (other_calls job other) untouched writer found result by.other_called finished;
+}

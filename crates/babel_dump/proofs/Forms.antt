@@ -7,6 +7,7 @@ use Rattle.babel_tlv.specs.declared.view.View.{View}
 use Rattle.babel_tlv.specs.Pair.{Pair}
 use Rattle.babel_tlv.specs.Views.{keeps_all}
 use Rattle.babel_table.specs.Bounds.{Bounds, AreBounds}
+use Rattle.babel_table.specs.Counts.{Counts}
 use Rattle.babel_table.specs.Rows.{Routes}
 use Rattle.babel_table.specs.Seen.{seen_rows, seen_table}
 use Rattle.babel_table.proofs.SeenLaws.{all_rows}
@@ -25,14 +26,15 @@ use Rattle.babel_dump.specs.Parts.{SaysPairs}
 use Rattle.babel_dump.specs.declared.format.Format.{Format}
 
 -- the canonical octets of what is seen of the table are those of the dump under the view
-pub gave_normal : Headline → HeadlineUnder → AllNormalises → (reader : Input) (body : ℕ) (table seen : Routes) (octets : List ℕ) → AreBounds reader.reading.limits
-    → IsBodySize body → GaveTable reader table → seen ≡ seen_table reader.reading.view table → SaysCanonical reader.reading.limits body seen.rows octets → GaveNormal reader body octets
-gave_normal headline under all reader body table seen octets bounds size given seen_is says_seen =
+pub gave_normal : Headline → HeadlineUnder → AllNormalises → (reader : Input) (view : View) (body : ℕ) (table seen : Routes) (report : Counts) (octets : List ℕ) → AreBounds reader.reading.limits
+    → IsBodySize body → GaveTable reader table → seen ≡ seen_table view table → report ≡ seen.report → SaysCanonical reader.reading.limits body seen.rows octets
+    → GaveNormal reader view body report octets
+gave_normal headline under all reader view body table seen report octets bounds size given seen_is report_is says_seen =
     let reading = reader.reading in
     let gave = given.given in
     let it : Sent = sent reading.sender gave.dump in
-    let says : SaysCanonical reading.limits body (seen_rows reading.view table.rows) octets = subst (λ (t : Routes). SaysCanonical reading.limits body t.rows octets) seen_is says_seen in
-    let normal : Normalises (seen_rows reading.view) reading.limits reading.mode body it octets = record {
+    let says : SaysCanonical reading.limits body (seen_rows view table.rows) octets = subst (λ (t : Routes). SaysCanonical reading.limits body t.rows octets) seen_is says_seen in
+    let normal : Normalises (seen_rows view) reading.limits reading.mode body it octets = record {
       no_fault = gave.accepted;
       table = table;
       is_table = gave.is_table;
@@ -41,13 +43,13 @@ gave_normal headline under all reader body table seen octets bounds size given s
       few = says.are_canonical.few;
       text = says.text;
     } in
-    let fewest : SaysFewest (seen_rows reading.view) reading.limits reading.mode body it octets =
+    let fewest : SaysFewest (seen_rows view) reading.limits reading.mode body it octets =
     record { table = table; is_table = gave.is_table; pairs = says.pairs; fewest = says.are_canonical.fewest; text = says.text } in
-    let told = under reading.view reading.limits reading.mode body bounds size it octets normal in
-    let whole : reading.view ≡ keeps_all → IsNormal AnswerTheSame as_they_are reading.limits reading.mode body it octets = λ keeps.
+    let told = under view reading.limits reading.mode body bounds size it octets normal in
+    let whole : view ≡ keeps_all → IsNormal AnswerTheSame as_they_are reading.limits reading.mode body it octets = λ keeps.
     let plain : Normalises as_they_are reading.limits reading.mode body it octets = (all reading.limits reading.mode body it octets).0
-    (subst (λ (view : View). Normalises (seen_rows view) reading.limits reading.mode body it octets) keeps normal) in
-    let rows : seen_rows reading.view table.rows ≡ table.rows = ap (λ (view : View). seen_rows view table.rows) keeps ∙ all_rows table.rows in
+    (subst (λ (v : View). Normalises (seen_rows v) reading.limits reading.mode body it octets) keeps normal) in
+    let rows : seen_rows view table.rows ≡ table.rows = ap (λ (v : View). seen_rows v table.rows) keeps ∙ all_rows table.rows in
     let plain_fewest : SaysFewest as_they_are reading.limits reading.mode body it octets =
     record { table = table; is_table = gave.is_table; pairs = says.pairs; fewest = subst (λ (l : List Pair). AreFewest l says.pairs) rows says.are_canonical.fewest; text = says.text } in
     let plain_told = headline reading.limits reading.mode body bounds size it octets plain in
@@ -58,6 +60,7 @@ gave_normal headline under all reader body table seen octets bounds size given s
       under = record { normalises = normal; fewest = fewest; tells_apart = told.0; reads_again = λ any. (told.1 any).0 };
       reads_without = λ any. (told.1 any).1;
       whole = whole;
+      report_is = report_is ∙ ap (λ (t : Routes). t.report) seen_is;
     }
 
 -- the canonical pairs have a text
@@ -75,8 +78,8 @@ says_pairs one limits view count format table seen pairs text seen_is are_seen t
     }
 
 -- more pairs than the limit, or want of memory
-pub refused_form : (reader : Input) (table seen : Routes) (fault : Fault) → GaveTable reader table → seen ≡ seen_table reader.reading.view table
-    → CanonicalFault reader.reading.limits seen.rows fault → fault ≢ faults.Memory → IsFaultOfForm reader fault
-refused_form reader table seen fault gave seen_is (inl (is, many)) not_memory =
+pub refused_form : (reader : Input) (view : View) (table seen : Routes) (fault : Fault) → GaveTable reader table → seen ≡ seen_table view table
+    → CanonicalFault reader.reading.limits seen.rows fault → fault ≢ faults.Memory → IsFaultOfForm reader view fault
+refused_form reader view table seen fault gave seen_is (inl (is, many)) not_memory =
     inr (is, (table, gave, subst (λ (t : Routes). HasManyBoxes reader.reading.limits t.rows) seen_is many))
-refused_form reader table seen fault gave seen_is (inr memory) not_memory = absurd (not_memory memory)
+refused_form reader view table seen fault gave seen_is (inr memory) not_memory = absurd (not_memory memory)

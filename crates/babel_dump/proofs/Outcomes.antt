@@ -1,10 +1,13 @@
 -- What a job's run answers and writes is settled by the octets of its readers.
-use Rattle.std.proofs.Common.{◌≡◌, ◌≢◌, refl, ℕ, ◌<◌, ◌≤◌, Bool, true, if◌then◌else◌, List, [], ◌++◌, length, length-append, take, Option, None, Some, Result, Ok, Err, inl, inr, ◌⊎◌, arith, append-nil, subst, ap, sym, ◌∙◌}
-use Rattle.std.specs.Prelude.{IfOk, IfErr}
-use Rattle.std.specs.Io.KnownBytes.{Appends, Consumes, IsAtEnd, Keeps}
-use Rattle.babel_prefix.specs.Address.{Address}
+use Rattle.std.proofs.Common.{◌≡◌, ◌≢◌, refl, ℕ, ◌<◌, ◌≤◌, Bool, true, false, if◌then◌else◌, List, [], ◌++◌, length, length-append, take, Option, None, Some, Result, Ok, Err, inl, inr, ◌⊎◌, arith, append-nil, subst, ap, sym, ◌∙◌}
+use Rattle.std.specs.Io.KnownBytes.{Appends, Consumes, IsAtEnd}
+use Rattle.babel_capture.specs.Gathering.{Gathering}
+use Rattle.babel_capture.specs.declared.wanted.Wanted.{Wanted}
+use Rattle.babel_capture.specs.declared.wanted.Wanted.TheVariants as wanteds
+use Rattle.babel_capture.proofs.OneCapture.{capture_is_one, cut_capture_is_one}
 use Rattle.babel_tlv.specs.declared.fault.Fault.{Fault}
 use Rattle.babel_tlv.specs.declared.fault.Fault.TheVariants as faults
+use Rattle.babel_tlv.specs.declared.view.View.{View}
 use Rattle.babel_tlv.specs.Pair.{Pair}
 use Rattle.babel_table.specs.Bounds.{Bounds}
 use Rattle.babel_table.specs.TableOf.{IsTableOf}
@@ -15,41 +18,46 @@ use Rattle.babel_table.proofs.OutcomeLaws.{fault_is_one, fault_stays, table_is_o
 use Rattle.babel_canon.specs.Boxes.{AreBoxes}
 use Rattle.babel_canon.specs.Canonical.{HasManyBoxes}
 use Rattle.babel_canon.specs.Differences.{AreDifferences}
-use Rattle.babel_canon.specs.Verdict.{IsVerdict}
-use Rattle.babel_canon.specs.Sent.{sent}
 use Rattle.babel_canon.specs.Normalises.{Normalises}
+use Rattle.babel_canon.specs.Sent.{sent}
+use Rattle.babel_canon.specs.Verdict.{IsVerdict}
 use Rattle.babel_canon.specs.declared.every_difference.Difference.{Difference}
 use Rattle.babel_canon.specs.declared.verdict.Verdict.{Verdict}
 use Rattle.babel_canon.proofs.OneOutcome.{boxes_same, form_is_one}
 use Rattle.babel_canon.proofs.OneDifferences.{differences_are_one}
 use Rattle.babel_canon.proofs.OneVerdict.{verdict_is_one}
-use Rattle.babel_dump.specs.Command.{Compares, InTurn, IsOfMemory, IsOfMemoryOrMany, ListsDifferences, ListsPairs, LooksUp, Shows, WritesNormal}
 use Rattle.babel_dump.specs.AskedPairs.{AskFor, IsFirstWrong, asking, lines_of}
-use Rattle.babel_dump.specs.Device.{AppendsPrefix}
-use Rattle.babel_dump.specs.Each.{GavePairsOf, GaveText, LooksUpEach, RanOverPairs, RefusedPairs, RefusesPairs}
-use Rattle.babel_dump.specs.Given.{GaveAll, GaveDifferences, GaveDump, GaveIgnored, GaveTable, Input, IsFaultOfDifferences, IsFaultOfForm, IsFaultOfGiven, IsOfWhole, read_from}
+use Rattle.babel_dump.specs.CaptureGiven.{CaptureInput, GaveSound, IsReadSo}
+use Rattle.babel_dump.specs.CaptureRun.{CaptureCause, IsOutcomeOf}
+use Rattle.babel_dump.specs.CaptureText.{dump_status, dump_text, senders_in, senders_status}
+use Rattle.babel_dump.specs.Command.{CompareCause, Compares, DifferencesCause, HaveDifferences, InTurn, IsOfMany, IsOfMemory, ListsDifferences, ListsPairs, WritesNormal}
+use Rattle.babel_dump.specs.Each.{EachCause, GavePairsOf, GaveText, LooksUpAsked, RefusesPairs}
+use Rattle.babel_dump.specs.Given.{GaveAll, GaveDump, GaveIgnored, GaveTable, GaveTables, Input, IsFaultOfForm, IsFaultOfGiven, IsOfWhole, Reads, dump_of}
 use Rattle.babel_dump.specs.InFormat.{answer_line_in, differences_or_count_in, each_in, lookup_in, pairs_or_counts_in, show_in, verdict_in}
-use Rattle.babel_dump.specs.JobRun.{left_reading, reading_of, right_reading}
-use Rattle.babel_dump.specs.OneOutcome.{FaultIsOfAll, FaultIsOne, IsOfOctets, IsOverBoth, NothingWritten, OtherFaultIsOfAll, RanOver, StatusIsOne, StatusOrFault, WrittenIsPrefix}
-use Rattle.babel_dump.specs.Run.{HasCause, Output, Ran, UnlessWrite, run_status}
+use Rattle.babel_dump.specs.JobRun.{CauseBy, SaysBy, capture_of, wanted_of}
+use Rattle.babel_dump.specs.OneOutcome.{FaultIsOfAll, FaultIsOne, IsOfDump, IsOfOctets, NothingWritten, OutcomeIsOne, OutcomeOrFault, RanOver, WrittenIsPrefix, octets_at, reading_at}
+use Rattle.babel_dump.specs.Run.{InputCause, OfFirst, UnlessWrite}
 use Rattle.babel_dump.specs.RunText.{answer_in, differences_status, each_status, form_text, lookup_status, verdict_status}
 use Rattle.babel_dump.specs.TextParts.{lacks_route}
 use Rattle.babel_dump.specs.Ignored.{IgnoresNone, first_ignored}
+use Rattle.babel_dump.specs.declared.addr_pair.AddrPair.{AddrPair}
+use Rattle.babel_dump.specs.declared.capture_reading.CaptureReading.{CaptureReading}
 use Rattle.babel_dump.specs.declared.format.Format.{Format}
 use Rattle.babel_dump.specs.declared.ignored.IgnoredTlv.{IgnoredTlv}
-use Rattle.babel_dump.specs.declared.addr_pair.AddrPair.{AddrPair}
-use Rattle.babel_dump.specs.declared.job.DumpFile.{DumpFile}
+use Rattle.babel_dump.specs.declared.input_fault.InputFault.{InputFault}
+use Rattle.babel_dump.specs.declared.input_fault.InputFault.TheVariants as input_faults
+use Rattle.babel_dump.specs.declared.interfaces.Interfaces.{Interfaces}
 use Rattle.babel_dump.specs.declared.job.Job.{Job}
 use Rattle.babel_dump.specs.declared.job.Job.TheVariants as jobs
-use Rattle.babel_dump.specs.declared.job.OneDump.{OneDump}
-use Rattle.babel_dump.specs.declared.job.TwoDumps.{TwoDumps}
 use Rattle.babel_dump.specs.declared.outcome.Outcome.{Outcome}
+use Rattle.babel_dump.specs.declared.outcome.Reports.TheVariants as reports
 use Rattle.babel_dump.specs.declared.pairs_fault.PairsFault.TheVariants as pairs_faults
 use Rattle.babel_dump.specs.declared.reading.Reading.{Reading}
 use Rattle.babel_dump.specs.declared.run_fault.RunFault.{RunFault}
 use Rattle.babel_dump.specs.declared.run_fault.RunFault.TheVariants as run_faults
+use Rattle.babel_dump.specs.declared.run_fault.Side.{Side}
+use Rattle.babel_dump.specs.declared.run_fault.Side.TheVariants as sides
 use Rattle.babel_dump.proofs.AskedLaws.{first_wrong_one, not_wrong, same_tests, same_texts}
-use Rattle.babel_dump.proofs.Finishing.{kept_same}
 use Rattle.babel_dump.proofs.IgnoredLaws.{none_is_first}
 
 -- the octets that a reader gave are the first of those that it had
@@ -155,171 +163,55 @@ fault_of_all reader dump fault has given = elim (truncated_or_not fault) [
       (fault_stays _ _ _ given.given more.0 fault given.refused lasting)
 ]
 
--- what a command over one dump says of a dump's table
-pub record TableSays (reading : Reading) (dump : List ℕ) (text_of : Routes → List ℕ) (status_of : Routes → ℕ) (text : List ℕ) (status : ℕ) : Type 0 where
-  pub table : Routes
-  pub sound : IsSound reading dump table
-  pub text_is : text ≡ text_of table
-  pub status_is : status ≡ status_of table
+-- ---- what a job says
 
-pub record NormalSays (reading : Reading) (body : ℕ) (hex : Bool) (dump : List ℕ) (text : List ℕ) (status : ℕ) : Type 0 where
-  pub octets : List ℕ
-  pub table : Routes
-  pub sound : IsSound reading dump table
-  pub normal : Normalises (seen_rows reading.view) reading.limits reading.mode body (sent reading.sender dump) octets
-  pub text_is : text ≡ form_text hex octets
-  pub status_is : status ≡ 0
+-- a dump has one table, from whichever reader
+table_one : (reading : Reading) (dump : List ℕ) (one two : Reads) (table too : Routes) → one.old.left ≡ Some dump → two.old.left ≡ Some dump
+    → GaveTable (dump_of one reading) table → GaveTable (dump_of two reading) too → table ≡ too
+table_one reading dump one two table too has has_too gave gave_too =
+    sound_one reading dump table too (sound (dump_of one reading) dump table has gave) (sound (dump_of two reading) dump too has_too gave_too)
 
-pub record PairsSay (reading : Reading) (count : Bool) (format : Format) (dump : List ℕ) (text : List ℕ) (status : ℕ) : Type 0 where
-  pub table : Routes
-  pub sound : IsSound reading dump table
-  pub pairs : List Pair
-  pub boxes : AreBoxes (seen_rows reading.view table.rows) pairs
-  pub few : length pairs ≤ reading.limits.entries
-  pub text_is : text ≡ pairs_or_counts_in format reading.view count table.rows pairs
-  pub status_is : status ≡ 0
+-- what is said of equal tables is equal
+table_says_one : (text_of : Routes → List ℕ) (status_of : Routes → ℕ) (table too : Routes) (text text_too : List ℕ) (outcome outcome_too : Outcome)
+    → table ≡ too → text ≡ text_of table → outcome ≡ record { status = status_of table; reports = reports.Dump table.report }
+    → text_too ≡ text_of too → outcome_too ≡ record { status = status_of too; reports = reports.Dump too.report }
+    → (text ≡ text_too) × (outcome ≡ outcome_too)
+table_says_one text_of status_of table too text text_too outcome outcome_too same text_is outcome_is too_text too_outcome = (
+  text_is ∙ ap text_of same ∙ sym too_text,
+  outcome_is ∙ ap (λ (t : Routes). record { status = status_of t; reports = reports.Dump t.report }) same ∙ sym too_outcome,
+)
 
-pub record TablesSay (reading other_reading : Reading) (format : Format) (dump other : List ℕ) (text : List ℕ) (status : ℕ) : Type 0 where
-  pub table : Routes
-  pub sound : IsSound reading dump table
-  pub other_table : Routes
-  pub other_sound : IsSound other_reading other other_table
-  pub verdict : Verdict
-  pub is_verdict : IsVerdict (seen_rows reading.view table.rows) (seen_rows reading.view other_table.rows) verdict
-  pub text_is : text ≡ verdict_in format reading.view verdict
-  pub status_is : status ≡ verdict_status verdict
+normal_one : (reading : Reading) (view : View) (body : ℕ) (hex : Bool) (dump : List ℕ) (one two : Reads) (text text_too : List ℕ) (outcome outcome_too : Outcome)
+    → one.old.left ≡ Some dump → two.old.left ≡ Some dump
+    → WritesNormal (dump_of one reading) view body hex text outcome → WritesNormal (dump_of two reading) view body hex text_too outcome_too
+    → (text ≡ text_too) × (outcome ≡ outcome_too)
+normal_one reading view body hex dump one two text text_too outcome outcome_too has has_too says again =
+    let of_all : (reader : Reads) (octets given : List ℕ) → reader.old.left ≡ Some dump → GaveAll (dump_of reader reading) given
+        → Normalises (seen_rows view) reading.limits reading.mode body (sent reading.sender given) octets
+        → Normalises (seen_rows view) reading.limits reading.mode body (sent reading.sender dump) octets =
+    λ reader octets given has gave normal. subst (λ (d : List ℕ). Normalises (seen_rows view) reading.limits reading.mode body (sent reading.sender d) octets)
+        (gave_all (dump_of reader reading) dump given has gave) normal in
+    let same = form_is_one (seen_rows view) _ _ body _ says.octets again.octets
+    (of_all one says.octets _ has says.gave.gave.given.gave says.gave.under.normalises)
+    (of_all two again.octets _ has_too again.gave.gave.given.gave again.gave.under.normalises) in
+    let tables = table_one reading dump one two says.gave.table again.gave.table has has_too says.gave.gave again.gave.gave in
+    let reported = says.gave.report_is ∙ ap (λ (t : Routes). t.report) tables ∙ sym again.gave.report_is in (
+      says.text_is ∙ ap (form_text hex) same ∙ sym again.text_is,
+      says.outcome_is ∙ ap (λ r. record { status = 0; reports = reports.Dump r }) reported ∙ sym again.outcome_is,
+    )
 
--- two dumps have these tables, and these are all that the tables answer differently
-pub record HaveDifferences (reading other_reading : Reading) (dump other : List ℕ) (differences : List Difference) : Type 0 where
-  pub table : Routes
-  pub sound : IsSound reading dump table
-  pub other_table : Routes
-  pub other_sound : IsSound other_reading other other_table
-  pub are_differences : AreDifferences (seen_rows reading.view table.rows) (seen_rows reading.view other_table.rows) differences
-
-pub record DifferencesSay (reading other_reading : Reading) (count : Bool) (format : Format) (dump other : List ℕ) (text : List ℕ) (status : ℕ) : Type 0 where
-  pub differences : List Difference
-  pub have : HaveDifferences reading other_reading dump other differences
-  pub few : length differences ≤ reading.limits.entries
-  pub text_is : text ≡ differences_or_count_in format reading.view count differences
-  pub status_is : status ≡ differences_status (length differences)
-
--- a text asks for these pairs, and is no longer than a dump may be
-pub record AreAskedBy (reading : Reading) (text : List ℕ) (pairs : List AddrPair) : Type 0 where
-  pub in_limit : length text ≤ reading.limits.bytes
-  pub asked : AskFor (lines_of text) pairs
-
-pub record EachSays (reading : Reading) (format : Format) (dump pairs : List ℕ) (text : List ℕ) (status : ℕ) : Type 0 where
-  pub asked : List AddrPair
-  pub are : AreAskedBy reading pairs asked
-  pub says : TableSays reading dump (λ table. each_in format table asked) (λ table. each_status table asked) text status
-
--- what a job says of the octets of its readers
-abbrev pub SaysOf : Bounds → Job → List ℕ → List ℕ → List ℕ → ℕ → Type 0
-SaysOf limits (jobs.Show dump) octets other text status = TableSays (reading_of limits dump) octets (show_in dump.format) (λ _. 0) text status
-SaysOf limits (jobs.Lookup dump pair) octets other text status =
-    TableSays (reading_of limits dump) octets (λ table. lookup_in dump.format pair.dst pair.src (answer_in table pair.dst pair.src))
-    (λ table. lookup_status (answer_in table pair.dst pair.src)) text status
-SaysOf limits (jobs.Each dump pairs) octets other text status = EachSays (reading_of limits dump) dump.format octets other text status
-SaysOf limits (jobs.Normalise dump body hex) octets other text status = NormalSays (reading_of limits dump) body hex octets text status
-SaysOf limits (jobs.Pairs dump count) octets other text status = PairsSay (reading_of limits dump) count dump.format octets text status
-SaysOf limits (jobs.Compare dumps) octets other text status =
-    TablesSay (left_reading limits dumps) (right_reading limits dumps) dumps.format octets other text status
-SaysOf limits (jobs.Differences dumps count) octets other text status =
-    DifferencesSay (left_reading limits dumps) (right_reading limits dumps) count dumps.format octets other text status
-
--- the fault is a dump's own, or that a TLV of it was ignored, and is answered as one of these
-abbrev pub FaultAs : (Fault → RunFault) → (IgnoredTlv → RunFault) → Reading → List ℕ → RunFault → Type 0
-FaultAs own ignored reading dump fault =
-    ((of_dump : Fault) × (fault ≡ own of_dump) × DumpFault reading.limits reading.mode reading.sender dump of_dump)
-    ⊎ ((tlv : IgnoredTlv) × (fault ≡ ignored tlv) × IsIgnored reading dump tlv)
-
--- the fault is that of a dump
-abbrev pub FaultOfTable : Reading → List ℕ → RunFault → Type 0
-FaultOfTable reading dump fault = FaultAs run_faults.Dump run_faults.Ignored reading dump fault
-
--- the fault is that of another dump
-abbrev pub FaultOfOther : Reading → List ℕ → RunFault → Type 0
-FaultOfOther reading dump fault = FaultAs run_faults.OtherDump run_faults.OtherIgnored reading dump fault
-
--- the fault keeps a dump from its canonical octets
-abbrev pub FaultOfNormal : Reading → List ℕ → RunFault → Type 0
-FaultOfNormal reading dump fault =
-    FaultOfTable reading dump fault
-    ⊎ ((fault ≡ run_faults.Dump faults.TooManyPairs)
-    × ((table : Routes) × IsSound reading dump table × HasManyBoxes reading.limits (seen_rows reading.view table.rows)))
-
--- the fault is that of the first dump, or, where that has none, of the other
-abbrev pub FaultOfTables : Reading → Reading → List ℕ → List ℕ → RunFault → Type 0
-FaultOfTables reading other_reading dump other fault =
-    FaultOfTable reading dump fault
-    ⊎ (((table : Routes) × IsSound reading dump table) × FaultOfOther other_reading other fault)
-
--- the fault is that of two dumps, or, where they have none, that their differences are more than the limit
-abbrev pub FaultOfDifferences : Reading → Reading → List ℕ → List ℕ → RunFault → Type 0
-FaultOfDifferences reading other_reading dump other fault =
-    FaultOfTables reading other_reading dump other fault
-    ⊎ ((fault ≡ run_faults.Dump faults.TooManyPairs)
-    × ((differences : List Difference) × HaveDifferences reading other_reading dump other differences × (reading.limits.entries < length differences)))
-
--- the fault is that of the text of pairs
-abbrev pub FaultOfPairs : Reading → List ℕ → RunFault → Type 0
-FaultOfPairs reading text fault =
-    ((line : ℕ) × (fault ≡ run_faults.Pairs (pairs_faults.NotAPair line)) × (length text ≤ reading.limits.bytes) × IsFirstWrong (lines_of text) line)
-    ⊎ ((fault ≡ run_faults.Pairs pairs_faults.TooLong) × (reading.limits.bytes < length text))
-
--- the fault is that of the text of pairs, or, where that has none, of the dump
-abbrev pub FaultOfEach : Reading → List ℕ → List ℕ → RunFault → Type 0
-FaultOfEach reading dump text fault =
-    FaultOfPairs reading text fault
-    ⊎ (((pairs : List AddrPair) × AreAskedBy reading text pairs) × FaultOfTable reading dump fault)
-
--- the fault that a job has of the octets of its readers
-abbrev pub FaultOf : Bounds → Job → List ℕ → List ℕ → RunFault → Type 0
-FaultOf limits (jobs.Show dump) octets other fault = FaultOfTable (reading_of limits dump) octets fault
-FaultOf limits (jobs.Lookup dump pair) octets other fault = FaultOfTable (reading_of limits dump) octets fault
-FaultOf limits (jobs.Each dump pairs) octets other fault = FaultOfEach (reading_of limits dump) octets other fault
-FaultOf limits (jobs.Normalise dump body hex) octets other fault = FaultOfNormal (reading_of limits dump) octets fault
-FaultOf limits (jobs.Pairs dump count) octets other fault = FaultOfNormal (reading_of limits dump) octets fault
-FaultOf limits (jobs.Compare dumps) octets other fault =
-    FaultOfTables (left_reading limits dumps) (right_reading limits dumps) octets other fault
-FaultOf limits (jobs.Differences dumps count) octets other fault =
-    FaultOfDifferences (left_reading limits dumps) (right_reading limits dumps) octets other fault
-
--- each is one
-table_says_one : (reading : Reading) (dump : List ℕ) (text_of : Routes → List ℕ) (status_of : Routes → ℕ) (text text_too : List ℕ) (status status_too : ℕ)
-    → TableSays reading dump text_of status_of text status → TableSays reading dump text_of status_of text_too status_too
-    → (text ≡ text_too) × (status ≡ status_too)
-table_says_one reading dump text_of status_of text text_too status status_too one two =
-    let same = sound_one reading dump one.table two.table one.sound two.sound in
-    (one.text_is ∙ ap text_of same ∙ sym two.text_is, one.status_is ∙ ap status_of same ∙ sym two.status_is)
-
-normal_says_one : (reading : Reading) (body : ℕ) (hex : Bool) (dump text text_too : List ℕ) (status status_too : ℕ)
-    → NormalSays reading body hex dump text status → NormalSays reading body hex dump text_too status_too
-    → (text ≡ text_too) × (status ≡ status_too)
-normal_says_one reading body hex dump text text_too status status_too one two =
-    let same = form_is_one (seen_rows reading.view) _ _ body _ one.octets two.octets one.normal two.normal in
-    (one.text_is ∙ ap (form_text hex) same ∙ sym two.text_is, one.status_is ∙ sym two.status_is)
-
-pairs_say_one : (reading : Reading) (count : Bool) (format : Format) (dump text text_too : List ℕ) (status status_too : ℕ)
-    → PairsSay reading count format dump text status → PairsSay reading count format dump text_too status_too → (text ≡ text_too) × (status ≡ status_too)
-pairs_say_one reading count format dump text text_too status status_too one two =
-    let rows = ap (λ (t : Routes). t.rows) (sound_one reading dump one.table two.table one.sound two.sound) in
-    let view = reading.view in
-    let pairs = boxes_same (seen_rows view one.table.rows) (seen_rows view two.table.rows) one.pairs two.pairs (ap (seen_rows view) rows) one.boxes two.boxes in
-    (one.text_is ∙ ap (λ (r : List Pair). pairs_or_counts_in format view count r one.pairs) rows ∙ ap (pairs_or_counts_in format view count two.table.rows) pairs ∙ sym two.text_is, one.status_is ∙ sym two.status_is)
-
-tables_say_one : (reading other_reading : Reading) (format : Format) (dump other text text_too : List ℕ) (status status_too : ℕ)
-    → TablesSay reading other_reading format dump other text status → TablesSay reading other_reading format dump other text_too status_too
-    → (text ≡ text_too) × (status ≡ status_too)
-tables_say_one reading other_reading format dump other text text_too status status_too one two =
-    let left = ap (λ (t : Routes). t.rows) (sound_one reading dump one.table two.table one.sound two.sound) in
-    let right = ap (λ (t : Routes). t.rows) (sound_one other_reading other one.other_table two.other_table one.other_sound two.other_sound) in
-    let view = reading.view in
-    let moved = subst (λ (r : List Pair). IsVerdict (seen_rows view two.table.rows) (seen_rows view r) one.verdict) right
-    (subst (λ (r : List Pair). IsVerdict (seen_rows view r) (seen_rows view one.other_table.rows) one.verdict) left one.is_verdict) in
-    let same = verdict_is_one (seen_rows view two.table.rows) (seen_rows view two.other_table.rows) one.verdict two.verdict moved two.is_verdict in
-    (one.text_is ∙ ap (verdict_in format view) same ∙ sym two.text_is, one.status_is ∙ ap verdict_status same ∙ sym two.status_is)
+pairs_one : (reading : Reading) (view : View) (count : Bool) (format : Format) (dump : List ℕ) (one two : Reads) (text text_too : List ℕ) (outcome outcome_too : Outcome)
+    → one.old.left ≡ Some dump → two.old.left ≡ Some dump
+    → ListsPairs (dump_of one reading) view count format text outcome → ListsPairs (dump_of two reading) view count format text_too outcome_too
+    → (text ≡ text_too) × (outcome ≡ outcome_too)
+pairs_one reading view count format dump one two text text_too outcome outcome_too has has_too says again =
+    let same = table_one reading dump one two says.table again.table has has_too says.gave.gave again.gave.gave in
+    let rows = ap (λ (t : Routes). t.rows) same in
+    let pairs = boxes_same (seen_rows view says.table.rows) (seen_rows view again.table.rows) says.canon.pairs again.canon.pairs (ap (seen_rows view) rows)
+    says.gave.is_canon.boxes again.gave.is_canon.boxes in (
+      says.text_is ∙ ap (λ (r : List Pair). pairs_or_counts_in format view count r says.canon.pairs) rows ∙ ap (pairs_or_counts_in format view count again.table.rows) pairs ∙ sym again.text_is,
+      says.outcome_is ∙ ap (λ (t : Routes). record { status = 0; reports = reports.Dump t.report }) same ∙ sym again.outcome_is,
+    )
 
 -- equal rows have equal differences
 differences_same : (rows rows_too others others_too : List Pair) (differences too : List Difference) → rows ≡ rows_too → others ≡ others_too
@@ -328,247 +220,246 @@ differences_same rows rows_too others others_too differences too left right one 
     differences_are_one rows_too others_too differences too
     (subst (λ (r : List Pair). AreDifferences rows_too r differences) right (subst (λ (r : List Pair). AreDifferences r others differences) left one)) two
 
--- two dumps have one list of differences
-differences_one : (reading other_reading : Reading) (dump other : List ℕ) (differences too : List Difference)
-    → HaveDifferences reading other_reading dump other differences → HaveDifferences reading other_reading dump other too → differences ≡ too
-differences_one reading other_reading dump other differences too one two =
-    let left = ap (λ (t : Routes). seen_rows reading.view t.rows) (sound_one reading dump one.table two.table one.sound two.sound) in
-    let right = ap (λ (t : Routes). seen_rows reading.view t.rows) (sound_one other_reading other one.other_table two.other_table one.other_sound two.other_sound) in
-    differences_same _ _ _ _ differences too left right one.are_differences two.are_differences
+module _ (reading other_reading : Reading) (view : View) (dump other : List ℕ) (one two one_other two_other : Reads)
+    (has : one.old.left ≡ Some dump) (has_too : two.old.left ≡ Some dump) (other_has : one_other.old.left ≡ Some other) (other_has_too : two_other.old.left ≡ Some other) where
+  tables_one : (table other_table too other_too : Routes) → GaveTables (dump_of one reading) (dump_of one_other other_reading) table other_table
+      → GaveTables (dump_of two reading) (dump_of two_other other_reading) too other_too → (table ≡ too) × (other_table ≡ other_too)
+  tables_one table other_table too other_too gave gave_too = (
+    table_one reading dump one two table too has has_too gave.gave gave_too.gave,
+    table_one other_reading other one_other two_other other_table other_too other_has other_has_too gave.other_gave gave_too.other_gave,
+  )
 
-differences_say_one : (reading other_reading : Reading) (count : Bool) (format : Format) (dump other text text_too : List ℕ) (status status_too : ℕ)
-    → DifferencesSay reading other_reading count format dump other text status → DifferencesSay reading other_reading count format dump other text_too status_too
-    → (text ≡ text_too) × (status ≡ status_too)
-differences_say_one reading other_reading count format dump other text text_too status status_too one two =
-    let same = differences_one reading other_reading dump other one.differences two.differences one.have two.have in (
-      one.text_is ∙ ap (differences_or_count_in format reading.view count) same ∙ sym two.text_is,
-      one.status_is ∙ ap (λ (l : List Difference). differences_status (length l)) same ∙ sym two.status_is,
-    )
+  outcomes_one : (status status_too : ℕ) (table other_table too other_too : Routes) (outcome outcome_too : Outcome) → status ≡ status_too → table ≡ too → other_table ≡ other_too
+      → outcome ≡ record { status = status; reports = reports.Dumps table.report other_table.report }
+      → outcome_too ≡ record { status = status_too; reports = reports.Dumps too.report other_too.report } → outcome ≡ outcome_too
+  outcomes_one status status_too table other_table too other_too outcome outcome_too statuses left right outcome_is too_is =
+      outcome_is ∙ ap (λ (s : ℕ). record { status = s; reports = reports.Dumps table.report other_table.report }) statuses
+      ∙ ap (λ (t : Routes). record { status = status_too; reports = reports.Dumps t.report other_table.report }) left
+      ∙ ap (λ (t : Routes). record { status = status_too; reports = reports.Dumps too.report t.report }) right ∙ sym too_is
 
-each_says_one : (reading : Reading) (format : Format) (dump pairs text text_too : List ℕ) (status status_too : ℕ)
-    → EachSays reading format dump pairs text status → EachSays reading format dump pairs text_too status_too → (text ≡ text_too) × (status ≡ status_too)
-each_says_one reading format dump pairs text text_too status status_too one two =
-    let same = sound_one reading dump one.says.table two.says.table one.says.sound two.says.sound in
-    let table = two.says.table in
-    let texts = same_texts (λ dst src. answer_line_in format dst src (answer_in table dst src)) (asking (lines_of pairs)) one.asked two.asked one.are.asked two.are.asked in
-    let tests = same_tests (lacks_route table) (asking (lines_of pairs)) one.asked two.asked one.are.asked two.are.asked in (
-      one.says.text_is ∙ ap (λ (t : Routes). each_in format t one.asked) same ∙ texts ∙ sym two.says.text_is,
-      one.says.status_is ∙ ap (λ (t : Routes). each_status t one.asked) same ∙ ap (λ (lacks : Bool). if lacks then 1 else 0) tests ∙ sym two.says.status_is,
-    )
+  compares_one : (format : Format) (text text_too : List ℕ) (outcome outcome_too : Outcome)
+      → Compares (dump_of one reading) (dump_of one_other other_reading) view format text outcome
+      → Compares (dump_of two reading) (dump_of two_other other_reading) view format text_too outcome_too
+      → (text ≡ text_too) × (outcome ≡ outcome_too)
+  compares_one format text text_too outcome outcome_too says again =
+      let tables = tables_one says.table says.other_table again.table again.other_table says.gave again.gave in
+      let moved = subst (λ (t : Routes). IsVerdict (seen_rows view again.table.rows) (seen_rows view t.rows) says.verdict) tables.1
+      (subst (λ (t : Routes). IsVerdict (seen_rows view t.rows) (seen_rows view says.other_table.rows) says.verdict) tables.0 says.is_verdict) in
+      let same = verdict_is_one (seen_rows view again.table.rows) (seen_rows view again.other_table.rows) says.verdict again.verdict moved again.is_verdict in (
+        says.text_is ∙ ap (verdict_in format view) same ∙ sym again.text_is,
+        outcomes_one _ _ says.table says.other_table again.table again.other_table outcome outcome_too (ap verdict_status same) tables.0 tables.1 says.outcome_is again.outcome_is,
+      )
 
-says_one : (limits : Bounds) (job : Job) (dump other text text_too : List ℕ) (status status_too : ℕ) → SaysOf limits job dump other text status
-    → SaysOf limits job dump other text_too status_too → (text ≡ text_too) × (status ≡ status_too)
-says_one limits (jobs.Show given) dump other text text_too status status_too one two = table_says_one _ dump _ _ text text_too status status_too one two
-says_one limits (jobs.Lookup given pair) dump other text text_too status status_too one two = table_says_one _ dump _ _ text text_too status status_too one two
-says_one limits (jobs.Each given pairs) dump other text text_too status status_too one two = each_says_one _ given.format dump other text text_too status status_too one two
-says_one limits (jobs.Normalise given body hex) dump other text text_too status status_too one two = normal_says_one _ body hex dump text text_too status status_too one two
-says_one limits (jobs.Pairs given count) dump other text text_too status status_too one two = pairs_say_one _ count given.format dump text text_too status status_too one two
-says_one limits (jobs.Compare dumps) dump other text text_too status status_too one two = tables_say_one _ _ dumps.format dump other text text_too status status_too one two
-says_one limits (jobs.Differences dumps count) dump other text text_too status status_too one two = differences_say_one _ _ count dumps.format dump other text text_too status status_too one two
+  differences_one : (table other_table too other_too : Routes) (differences differences_too : List Difference)
+      → HaveDifferences (dump_of one reading) (dump_of one_other other_reading) view table other_table differences
+      → HaveDifferences (dump_of two reading) (dump_of two_other other_reading) view too other_too differences_too → differences ≡ differences_too
+  differences_one table other_table too other_too differences differences_too have have_too =
+      let tables = tables_one table other_table too other_too have.gave have_too.gave in
+      differences_same _ _ _ _ differences differences_too (ap (λ (t : Routes). seen_rows view t.rows) tables.0) (ap (λ (t : Routes). seen_rows view t.rows) tables.1)
+      have.are_differences have_too.are_differences
 
--- too many pairs are not few
-not_many : (limits : Bounds) (rows others pairs : List Pair) → rows ≡ others → AreBoxes rows pairs → length pairs ≤ limits.entries → HasManyBoxes limits others → ⊥
-not_many limits rows others pairs same boxes few (more, are_boxes, many) =
-    let e = ap (λ (l : List Pair). length l) (boxes_same rows others pairs more same boxes are_boxes) in
-    absurd (omega (arith, e, few, many))
+  lists_one : (count : Bool) (format : Format) (text text_too : List ℕ) (outcome outcome_too : Outcome)
+      → ListsDifferences (dump_of one reading) (dump_of one_other other_reading) view count format text outcome
+      → ListsDifferences (dump_of two reading) (dump_of two_other other_reading) view count format text_too outcome_too
+      → (text ≡ text_too) × (outcome ≡ outcome_too)
+  lists_one count format text text_too outcome outcome_too says again =
+      let tables = tables_one says.table says.other_table again.table again.other_table says.have.gave again.have.gave in
+      let same = differences_one says.table says.other_table again.table again.other_table says.differences again.differences says.have again.have in (
+        says.text_is ∙ ap (differences_or_count_in format view count) same ∙ sym again.text_is,
+        outcomes_one _ _ says.table says.other_table again.table again.other_table outcome outcome_too
+            (ap (λ (l : List Difference). differences_status (length l)) same) tables.0 tables.1 says.outcome_is again.outcome_is,
+      )
 
--- a sound dump has no fault
-sound_no_fault : (own : Fault → RunFault) (ignored : IgnoredTlv → RunFault) (reading : Reading) (dump : List ℕ) (table : Routes) (fault : RunFault)
-    → IsSound reading dump table → FaultAs own ignored reading dump fault → ⊥
-sound_no_fault own ignored reading dump table fault is (inl (of_dump, same, has)) = is.whole.accepted of_dump has
-sound_no_fault own ignored reading dump table fault is (inr (tlv, same, first)) = sound_ignores_none reading dump table tlv is first
-
--- nor have two
-both_no_fault : (reading other_reading : Reading) (dump other : List ℕ) (table other_table : Routes) (fault : RunFault) → IsSound reading dump table
-    → IsSound other_reading other other_table → FaultOfTables reading other_reading dump other fault → ⊥
-both_no_fault reading other_reading dump other table other_table fault is other_is (inl has) = sound_no_fault _ _ reading dump table fault is has
-both_no_fault reading other_reading dump other table other_table fault is other_is (inr (first, has)) =
-    sound_no_fault _ _ other_reading other other_table fault other_is has
-
--- a text that asks for pairs has no fault
-asked_no_fault : (reading : Reading) (text : List ℕ) (pairs : List AddrPair) (fault : RunFault) → AreAskedBy reading text pairs → FaultOfPairs reading text fault → ⊥
-asked_no_fault reading text pairs fault are (inl (line, is, few, wrong)) = not_wrong (lines_of text) pairs line are.asked wrong
-asked_no_fault reading text pairs fault are (inr (is, over)) = let few = are.in_limit in absurd (omega (arith, few, over))
-
--- where a job says something of octets it has no fault of them
-says_no_fault : (limits : Bounds) (job : Job) (dump other text : List ℕ) (status : ℕ) (fault : RunFault) → SaysOf limits job dump other text status
-    → FaultOf limits job dump other fault → ⊥
-says_no_fault limits (jobs.Show given) dump other text status fault says has = sound_no_fault _ _ _ dump says.table fault says.sound has
-says_no_fault limits (jobs.Lookup given pair) dump other text status fault says has = sound_no_fault _ _ _ dump says.table fault says.sound has
-says_no_fault limits (jobs.Each given pairs) dump other text status fault says (inl has) = asked_no_fault (reading_of limits given) other says.asked fault says.are has
-says_no_fault limits (jobs.Each given pairs) dump other text status fault says (inr (asked, has)) = sound_no_fault _ _ _ dump says.says.table fault says.says.sound has
-says_no_fault limits (jobs.Normalise given body hex) dump other text status fault says (inl has) = sound_no_fault _ _ _ dump says.table fault says.sound has
-says_no_fault limits (jobs.Normalise given body hex) dump other text status fault says (inr (many, (table, is, boxes))) =
-    let same = table_is_one limits given.mode given.from dump says.normal.table table says.normal.is_table is.whole.is_table in
-    not_many limits (seen_rows given.view says.normal.table.rows) (seen_rows given.view table.rows) says.normal.boxes (ap (λ (t : Routes). seen_rows given.view t.rows) same) says.normal.are_boxes says.normal.few boxes
-says_no_fault limits (jobs.Pairs given count) dump other text status fault says (inl has) = sound_no_fault _ _ _ dump says.table fault says.sound has
-says_no_fault limits (jobs.Pairs given count) dump other text status fault says (inr (many, (table, is, boxes))) =
-    let same = sound_one (reading_of limits given) dump says.table table says.sound is in
-    not_many limits (seen_rows given.view says.table.rows) (seen_rows given.view table.rows) says.pairs (ap (λ (t : Routes). seen_rows given.view t.rows) same) says.boxes says.few boxes
-says_no_fault limits (jobs.Compare dumps) dump other text status fault says has =
-    both_no_fault _ _ dump other says.table says.other_table fault says.sound says.other_sound has
-says_no_fault limits (jobs.Differences dumps count) dump other text status fault says (inl has) =
-    both_no_fault _ _ dump other says.have.table says.have.other_table fault says.have.sound says.have.other_sound has
-says_no_fault limits (jobs.Differences dumps count) dump other text status fault says (inr (is, (more, have, many))) =
-    let few = says.few in
-    let same = ap (λ (l : List Difference). length l)
-    (differences_one (left_reading limits dumps) (right_reading limits dumps) dump other says.differences more says.have have) in
-    absurd (omega (arith, same, few, many))
-
--- octets have one fault
-as_one : (own : Fault → RunFault) (ignored : IgnoredTlv → RunFault) (reading : Reading) (dump : List ℕ) (fault fault_too : RunFault)
-    → FaultAs own ignored reading dump fault → FaultAs own ignored reading dump fault_too → fault ≡ fault_too
-as_one own ignored reading dump fault fault_too (inl (one, is_one, has_one)) (inl (two, is_two, has_two)) =
-    let same = fault_is_one reading.limits reading.mode reading.sender dump one two has_one has_two in
-    is_one ∙ ap own same ∙ sym is_two
-as_one own ignored reading dump fault fault_too (inl (one, is_one, has_one)) (inr (two, is_two, has_two)) = absurd (has_two.whole.accepted one has_one)
-as_one own ignored reading dump fault fault_too (inr (one, is_one, has_one)) (inl (two, is_two, has_two)) = absurd (has_one.whole.accepted two has_two)
-as_one own ignored reading dump fault fault_too (inr (one, is_one, has_one)) (inr (two, is_two, has_two)) =
-    is_one ∙ ap ignored (ignored_one reading dump one two has_one has_two) ∙ sym is_two
-
-normal_fault_one : (reading : Reading) (dump : List ℕ) (fault fault_too : RunFault) → FaultOfNormal reading dump fault
-    → FaultOfNormal reading dump fault_too → fault ≡ fault_too
-normal_fault_one reading dump fault fault_too (inl one) (inl two) = as_one _ _ reading dump fault fault_too one two
-normal_fault_one reading dump fault fault_too (inl one) (inr (is_two, (table, is, boxes))) = absurd (sound_no_fault _ _ reading dump table fault is one)
-normal_fault_one reading dump fault fault_too (inr (is_one, (table, is, boxes))) (inl two) = absurd (sound_no_fault _ _ reading dump table fault_too is two)
-normal_fault_one reading dump fault fault_too (inr one) (inr two) = one.0 ∙ sym two.0
-
-tables_fault_one : (reading other_reading : Reading) (dump other : List ℕ) (fault fault_too : RunFault)
-    → FaultOfTables reading other_reading dump other fault → FaultOfTables reading other_reading dump other fault_too → fault ≡ fault_too
-tables_fault_one reading other_reading dump other fault fault_too (inl one) (inl two) = as_one _ _ reading dump fault fault_too one two
-tables_fault_one reading other_reading dump other fault fault_too (inl one) (inr (first, two)) = absurd (sound_no_fault _ _ reading dump first.0 fault first.1 one)
-tables_fault_one reading other_reading dump other fault fault_too (inr (first, one)) (inl two) = absurd (sound_no_fault _ _ reading dump first.0 fault_too first.1 two)
-tables_fault_one reading other_reading dump other fault fault_too (inr (first, one)) (inr (first_too, two)) = as_one _ _ other_reading other fault fault_too one two
-
-differences_fault_one : (reading other_reading : Reading) (dump other : List ℕ) (fault fault_too : RunFault)
-    → FaultOfDifferences reading other_reading dump other fault → FaultOfDifferences reading other_reading dump other fault_too → fault ≡ fault_too
-differences_fault_one reading other_reading dump other fault fault_too (inl one) (inl two) = tables_fault_one reading other_reading dump other fault fault_too one two
-differences_fault_one reading other_reading dump other fault fault_too (inl one) (inr (is_two, (more, have, many))) =
-    absurd (both_no_fault reading other_reading dump other have.table have.other_table fault have.sound have.other_sound one)
-differences_fault_one reading other_reading dump other fault fault_too (inr (is_one, (more, have, many))) (inl two) =
-    absurd (both_no_fault reading other_reading dump other have.table have.other_table fault_too have.sound have.other_sound two)
-differences_fault_one reading other_reading dump other fault fault_too (inr one) (inr two) = one.0 ∙ sym two.0
-
-pairs_fault_one : (reading : Reading) (text : List ℕ) (fault fault_too : RunFault) → FaultOfPairs reading text fault → FaultOfPairs reading text fault_too → fault ≡ fault_too
-pairs_fault_one reading text fault fault_too (inl (line, is, few, wrong)) (inl (line_too, is_too, few_too, wrong_too)) =
-    is ∙ ap (λ (at : ℕ). run_faults.Pairs (pairs_faults.NotAPair at)) (first_wrong_one (lines_of text) line line_too wrong wrong_too) ∙ sym is_too
-pairs_fault_one reading text fault fault_too (inl (line, is, few, wrong)) (inr (is_too, over)) = absurd (omega (arith, few, over))
-pairs_fault_one reading text fault fault_too (inr (is, over)) (inl (line_too, is_too, few, wrong)) = absurd (omega (arith, few, over))
-pairs_fault_one reading text fault fault_too (inr (is, over)) (inr (is_too, over_too)) = is ∙ sym is_too
-
-each_fault_one : (reading : Reading) (dump text : List ℕ) (fault fault_too : RunFault) → FaultOfEach reading dump text fault → FaultOfEach reading dump text fault_too → fault ≡ fault_too
-each_fault_one reading dump text fault fault_too (inl one) (inl two) = pairs_fault_one reading text fault fault_too one two
-each_fault_one reading dump text fault fault_too (inl one) (inr (asked, two)) = absurd (asked_no_fault reading text asked.0 fault asked.1 one)
-each_fault_one reading dump text fault fault_too (inr (asked, one)) (inl two) = absurd (asked_no_fault reading text asked.0 fault_too asked.1 two)
-each_fault_one reading dump text fault fault_too (inr (asked, one)) (inr (asked_too, two)) = as_one _ _ reading dump fault fault_too one two
-
-fault_one : (limits : Bounds) (job : Job) (dump other : List ℕ) (fault fault_too : RunFault) → FaultOf limits job dump other fault
-    → FaultOf limits job dump other fault_too → fault ≡ fault_too
-fault_one limits (jobs.Show given) dump other fault fault_too one two = as_one _ _ _ dump fault fault_too one two
-fault_one limits (jobs.Lookup given pair) dump other fault fault_too one two = as_one _ _ _ dump fault fault_too one two
-fault_one limits (jobs.Each given pairs) dump other fault fault_too one two = each_fault_one _ dump other fault fault_too one two
-fault_one limits (jobs.Normalise given body hex) dump other fault fault_too one two = normal_fault_one _ dump fault fault_too one two
-fault_one limits (jobs.Pairs given count) dump other fault fault_too one two = normal_fault_one _ dump fault fault_too one two
-fault_one limits (jobs.Compare dumps) dump other fault fault_too one two = tables_fault_one _ _ dump other fault fault_too one two
-fault_one limits (jobs.Differences dumps count) dump other fault fault_too one two = differences_fault_one _ _ dump other fault fault_too one two
-
--- what a run found is what its job says of the octets
-shows : (reader : Input) (format : Format) (dump text : List ℕ) (status : ℕ) → reader.old.left ≡ Some dump → Shows reader format text status
-    → TableSays reader.reading dump (show_in format) (λ _. 0) text status
-shows reader format dump text status has says = record { table = says.table; sound = sound reader dump says.table has says.gave; text_is = says.text_is; status_is = says.status_is }
-
-looks_up : (reader : Input) (dst src : Address) (format : Format) (dump text : List ℕ) (status : ℕ) → reader.old.left ≡ Some dump → LooksUp reader dst src format text status
-    → TableSays reader.reading dump (λ table. lookup_in format dst src (answer_in table dst src)) (λ table. lookup_status (answer_in table dst src)) text status
-looks_up reader dst src format dump text status has says = record { table = says.table; sound = sound reader dump says.table has says.gave; text_is = says.text_is; status_is = says.status_is }
-
-gave_text : (reader : Input) (text given : List ℕ) → reader.old.left ≡ Some text → GaveText reader given → given ≡ text
-gave_text reader text given has gave = gave_all reader text given has gave.gave
+-- a text asks for these pairs, and is no longer than a dump may be
+pub record AreAskedBy (reading : Reading) (text : List ℕ) (pairs : List AddrPair) : Type 0 where
+  pub in_limit : length text ≤ reading.limits.bytes
+  pub asked : AskFor (lines_of text) pairs
 
 asked_by : (reader : Input) (text : List ℕ) (pairs : List AddrPair) → reader.old.left ≡ Some text → GavePairsOf reader pairs → AreAskedBy reader.reading text pairs
 asked_by reader text pairs has gave =
-    let same = gave_text reader text gave.text has gave.gave in record {
+    let same = gave_all reader text gave.text has gave.gave.gave in record {
       in_limit = subst (λ (t : List ℕ). length t ≤ reader.reading.limits.bytes) same gave.gave.in_limit;
       asked = subst (λ (t : List ℕ). AskFor (lines_of t) pairs) same gave.asked;
     }
 
-looks_up_each : (reader : Input) (format : Format) (asked : List AddrPair) (dump text : List ℕ) (status : ℕ) → reader.old.left ≡ Some dump → LooksUpEach reader format asked text status
-    → TableSays reader.reading dump (λ table. each_in format table asked) (λ table. each_status table asked) text status
-looks_up_each reader format asked dump text status has says = record { table = says.table; sound = sound reader dump says.table has says.gave; text_is = says.text_is; status_is = says.status_is }
+each_one : (reading : Reading) (format : Format) (dump pairs : List ℕ) (one two one_pairs two_pairs : Reads) (text text_too : List ℕ) (outcome outcome_too : Outcome)
+    → one.old.left ≡ Some dump → two.old.left ≡ Some dump → one_pairs.old.left ≡ Some pairs → two_pairs.old.left ≡ Some pairs
+    → LooksUpAsked (dump_of one reading) (dump_of one_pairs reading) format text outcome
+    → LooksUpAsked (dump_of two reading) (dump_of two_pairs reading) format text_too outcome_too
+    → (text ≡ text_too) × (outcome ≡ outcome_too)
+each_one reading format dump pairs one two one_pairs two_pairs text text_too outcome outcome_too has has_too pairs_has pairs_has_too says again =
+    let first = says.answers in
+    let second = again.answers in
+    let same = table_one reading dump one two first.table second.table has has_too first.gave second.gave in
+    let table = second.table in
+    let asked = (asked_by (dump_of one_pairs reading) pairs says.asked pairs_has says.gave).asked in
+    let asked_too = (asked_by (dump_of two_pairs reading) pairs again.asked pairs_has_too again.gave).asked in
+    let texts = same_texts (λ dst src. answer_line_in format dst src (answer_in table dst src)) (asking (lines_of pairs)) says.asked again.asked asked asked_too in
+    let tests = same_tests (lacks_route table) (asking (lines_of pairs)) says.asked again.asked asked asked_too in
+    table_says_one (λ t. each_in format t again.asked) (λ t. each_status t again.asked) first.table table text text_too outcome outcome_too same
+    (first.text_is ∙ ap (λ (t : Routes). each_in format t says.asked) same ∙ texts ∙ ap (λ (t : Routes). each_in format t again.asked) (sym same))
+    (first.outcome_is ∙ ap (λ (s : ℕ). record { status = s; reports = reports.Dump first.table.report })
+    (ap (λ (t : Routes). each_status t says.asked) same ∙ ap (λ (lacks : Bool). if lacks then 1 else 0) tests ∙ ap (λ (t : Routes). each_status t again.asked) (sym same)))
+    second.text_is second.outcome_is
 
-normalises : (reader : Input) (body : ℕ) (hex : Bool) (dump text : List ℕ) (status : ℕ) → reader.old.left ≡ Some dump
-    → WritesNormal reader body hex text status → NormalSays reader.reading body hex dump text status
-normalises reader body hex dump text status has says =
-    let same = gave_all reader dump says.gave.gave.given.dump has says.gave.gave.given.gave in record {
-      octets = says.octets;
-      table = says.gave.table;
-      sound = sound reader dump says.gave.table has says.gave.gave;
-      normal = subst (λ (d : List ℕ). Normalises (seen_rows reader.reading.view) reader.reading.limits reader.reading.mode body (sent reader.reading.sender d) says.octets) same says.gave.under.normalises;
-      text_is = says.text_is;
-      status_is = says.status_is;
-    }
+-- a capture gives one gathering, from whichever reader
+read_one : (accept_cut : Bool) (limit : ℕ) (octets : List ℕ) (one other : Gathering) (cut other_cut : Option ℕ) → IsReadSo accept_cut limit octets one cut
+    → IsReadSo accept_cut limit octets other other_cut → one.wanted ≡ other.wanted → (one ≡ other) × (cut ≡ other_cut)
+read_one false limit octets one other cut other_cut read again wanted =
+    (capture_is_one limit octets one other read.0 again.0 wanted, read.1 ∙ sym again.1)
+read_one true limit octets one other cut other_cut read again wanted = cut_capture_is_one limit octets one other cut other_cut read again wanted
 
-lists_pairs : (reader : Input) (count : Bool) (format : Format) (dump text : List ℕ) (status : ℕ) → reader.old.left ≡ Some dump
-    → ListsPairs reader count format text status → PairsSay reader.reading count format dump text status
-lists_pairs reader count format dump text status has says = record {
-  table = says.table;
-  sound = sound reader dump says.table has says.gave.gave;
-  pairs = says.canon.pairs;
-  boxes = says.gave.is_canon.boxes;
-  few = says.gave.is_canon.few;
-  text_is = says.text_is;
-  status_is = says.status_is;
-}
+module _ (reading : CaptureReading) (wanted : Wanted) (octets : List ℕ) (one two : Reads) (has : one.old.left ≡ Some octets) (has_too : two.old.left ≡ Some octets) where
+  gathering_one : (gathering too : Gathering) (cut cut_too : Option ℕ) → GaveSound (capture_of one reading wanted) gathering cut
+      → GaveSound (capture_of two reading wanted) too cut_too → (gathering ≡ too) × (cut ≡ cut_too)
+  gathering_one gathering too cut cut_too sound again =
+      let given = sound.given in
+      let given_too = again.given in
+      let all : given.octets ≡ octets = all_of one.old.left one.new.left octets given.octets has given.gave.gave given.gave.all in
+      let all_too : given_too.octets ≡ octets = all_of two.old.left two.new.left octets given_too.octets has_too given_too.gave.gave given_too.gave.all in
+      read_one reading.accept_cut reading.limit octets gathering too cut cut_too
+      (subst (λ (t : List ℕ). IsReadSo reading.accept_cut reading.limit t gathering cut) all given.is_read)
+      (subst (λ (t : List ℕ). IsReadSo reading.accept_cut reading.limit t too cut_too) all_too given_too.is_read)
+      (given.wanted ∙ sym given_too.wanted)
 
-compares : (reader second : Input) (format : Format) (dump other text : List ℕ) (status : ℕ) → reader.old.left ≡ Some dump → second.old.left ≡ Some other
-    → Compares reader second format text status → TablesSay reader.reading second.reading format dump other text status
-compares reader second format dump other text status has other_has says = record {
-  table = says.gave.table;
-  sound = sound reader dump says.gave.table has says.gave.gave;
-  other_table = says.gave.other_table;
-  other_sound = sound second other says.gave.other_table other_has says.gave.other_gave;
-  verdict = says.verdict;
-  is_verdict = says.gave.is_verdict;
-  text_is = says.text_is;
-  status_is = says.status_is;
-}
+  -- what is said of it is one
+  capture_says_one : (text_of : Gathering → List ℕ) (status_of : Gathering → ℕ) (gathering too : Gathering) (cut cut_too : Option ℕ) (text text_too : List ℕ) (outcome outcome_too : Outcome)
+      → GaveSound (capture_of one reading wanted) gathering cut → GaveSound (capture_of two reading wanted) too cut_too
+      → text ≡ text_of gathering → IsOutcomeOf outcome (status_of gathering) gathering.report cut
+      → text_too ≡ text_of too → IsOutcomeOf outcome_too (status_of too) too.report cut_too
+      → (text ≡ text_too) × (outcome ≡ outcome_too)
+  capture_says_one text_of status_of gathering too cut cut_too text text_too outcome outcome_too gave gave_too text_is outcome_is too_text too_outcome =
+      let same = gathering_one gathering too cut cut_too gave gave_too in (
+        text_is ∙ ap text_of same.0 ∙ sym too_text,
+        outcome_is ∙ ap (λ (g : Gathering). record { status = status_of g; reports = reports.Capture g.report cut }) same.0
+            ∙ ap (λ (c : Option ℕ). record { status = status_of too; reports = reports.Capture too.report c }) same.1 ∙ sym too_outcome,
+      )
 
-gave_differences : (reader second : Input) (dump other : List ℕ) (differences : List Difference) → reader.old.left ≡ Some dump → second.old.left ≡ Some other
-    → GaveDifferences reader second differences → HaveDifferences reader.reading second.reading dump other differences
-gave_differences reader second dump other differences has other_has gave = record {
-  table = gave.table;
-  sound = sound reader dump gave.table has gave.gave;
-  other_table = gave.other_table;
-  other_sound = sound second other gave.other_table other_has gave.other_gave;
-  are_differences = gave.are_differences;
-}
+says_one : (job : Job) (octets other : List ℕ) (one two one_other two_other : Reads) (text text_too : List ℕ) (outcome outcome_too : Outcome)
+    → one.old.left ≡ Some octets → two.old.left ≡ Some octets → one_other.old.left ≡ Some other → two_other.old.left ≡ Some other
+    → SaysBy job one one_other text outcome → SaysBy job two two_other text_too outcome_too → (text ≡ text_too) × (outcome ≡ outcome_too)
+says_one (jobs.Show reading format file) octets other one two one_other two_other text text_too outcome outcome_too has has_too other_has other_has_too says again =
+    table_says_one (show_in format) (λ _. 0) says.table again.table text text_too outcome outcome_too
+    (table_one reading octets one two says.table again.table has has_too says.gave again.gave) says.text_is says.outcome_is again.text_is again.outcome_is
+says_one (jobs.Lookup reading pair format file quiet) octets other one two one_other two_other text text_too outcome outcome_too has has_too other_has other_has_too says again =
+    table_says_one (λ t. lookup_in format pair.dst pair.src (answer_in t pair.dst pair.src)) (λ t. lookup_status (answer_in t pair.dst pair.src))
+    says.table again.table text text_too outcome outcome_too
+    (table_one reading octets one two says.table again.table has has_too says.gave again.gave) says.text_is says.outcome_is again.text_is again.outcome_is
+says_one (jobs.Each reading format file pairs quiet) octets other one two one_other two_other text text_too outcome outcome_too has has_too other_has other_has_too says again =
+    each_one reading format octets other one two one_other two_other text text_too outcome outcome_too has has_too other_has other_has_too says again
+says_one (jobs.Normalise reading view body hex file quiet) octets other one two one_other two_other text text_too outcome outcome_too has has_too other_has other_has_too says again =
+    normal_one reading view body hex octets one two text text_too outcome outcome_too has has_too says again
+says_one (jobs.Pairs reading view count format file quiet) octets other one two one_other two_other text text_too outcome outcome_too has has_too other_has other_has_too says again =
+    pairs_one reading view count format octets one two text text_too outcome outcome_too has has_too says again
+says_one (jobs.Compare reading other_reading view format file another quiet) octets other one two one_other two_other text text_too outcome outcome_too has has_too other_has other_has_too says again =
+    compares_one reading other_reading view octets other one two one_other two_other has has_too other_has other_has_too format text text_too outcome outcome_too says again
+says_one (jobs.Differences reading other_reading view count format file another quiet) octets other one two one_other two_other text text_too outcome outcome_too has has_too other_has other_has_too says again =
+    lists_one reading other_reading view octets other one two one_other two_other has has_too other_has other_has_too count format text text_too outcome outcome_too says again
+says_one (jobs.Senders reading format file quiet) octets other one two one_other two_other text text_too outcome outcome_too has has_too other_has other_has_too says again =
+    capture_says_one reading wanteds.Everyone octets one two has has_too (λ g. senders_in format g.senders) (λ g. senders_status g.senders) says.gathering again.gathering says.cut again.cut
+    text text_too outcome outcome_too says.gave again.gave says.text_is says.outcome_is again.text_is again.outcome_is
+says_one (jobs.Extract reading sender interface hex file quiet) octets other one two one_other two_other text text_too outcome outcome_too has has_too other_has other_has_too says again =
+    capture_says_one reading (wanted_of sender interface) octets one two has has_too (λ g. dump_text hex g.dump) (λ g. dump_status g.dump) says.gathering again.gathering says.cut again.cut
+    text text_too outcome outcome_too says.gave again.gave says.text_is says.outcome_is again.text_is again.outcome_is
 
-lists_differences : (reader second : Input) (count : Bool) (format : Format) (dump other text : List ℕ) (status : ℕ) → reader.old.left ≡ Some dump
-    → second.old.left ≡ Some other → ListsDifferences reader second count format text status
-    → DifferencesSay reader.reading second.reading count format dump other text status
-lists_differences reader second count format dump other text status has other_has says = record {
-  differences = says.differences;
-  have = gave_differences reader second dump other says.differences has other_has says.gave;
-  few = says.few;
-  text_is = says.text_is;
-  status_is = says.status_is;
-}
+-- ---- the fault that a job has of octets
+
+-- the fault is a dump's own, or that a TLV of it was ignored
+abbrev pub FaultOfDump : Reading → List ℕ → InputFault → Type 0
+FaultOfDump reading dump fault =
+    ((own : Fault) × (fault ≡ input_faults.Dump own) × DumpFault reading.limits reading.mode reading.sender dump own)
+    ⊎ ((tlv : IgnoredTlv) × (fault ≡ input_faults.Ignored tlv) × IsIgnored reading dump tlv)
+
+-- or that it has too many pairs
+abbrev pub FaultOfForm : Reading → View → List ℕ → InputFault → Type 0
+FaultOfForm reading view dump fault =
+    FaultOfDump reading dump fault
+    ⊎ ((fault ≡ input_faults.Dump faults.TooManyPairs)
+    × ((table : Routes) × IsSound reading dump table × HasManyBoxes reading.limits (seen_rows view table.rows)))
+
+-- it is told as that of the dump on this side
+abbrev pub FaultAt : Side → (InputFault → Type 0) → RunFault → Type 0
+FaultAt side Holds fault = (of_input : InputFault) × (fault ≡ run_faults.Input side of_input) × Holds of_input
+
+-- the fault is that of the first dump, or, where that has none, of the other
+abbrev pub FaultOfBoth : Reading → Reading → List ℕ → List ℕ → RunFault → Type 0
+FaultOfBoth reading other_reading dump other fault =
+    FaultAt sides.First (FaultOfDump reading dump) fault
+    ⊎ (((table : Routes) × IsSound reading dump table) × FaultAt sides.Other (FaultOfDump other_reading other) fault)
+
+-- two dumps have these differences
+pub record Differ (reading other_reading : Reading) (view : View) (dump other : List ℕ) (differences : List Difference) : Type 0 where
+  pub table : Routes
+  pub other_table : Routes
+  pub sound : IsSound reading dump table
+  pub other_sound : IsSound other_reading other other_table
+  pub are_differences : AreDifferences (seen_rows view table.rows) (seen_rows view other_table.rows) differences
+
+-- the fault is that of two dumps, or, where they have none, that their differences are more than the limit
+abbrev pub FaultOfDifferences : Reading → Reading → View → List ℕ → List ℕ → RunFault → Type 0
+FaultOfDifferences reading other_reading view dump other fault =
+    FaultOfBoth reading other_reading dump other fault
+    ⊎ (IsOfMany fault × ((differences : List Difference) × Differ reading other_reading view dump other differences × (reading.limits.entries < length differences)))
+
+-- the fault is that of the text of pairs
+abbrev pub FaultOfPairs : Reading → List ℕ → RunFault → Type 0
+FaultOfPairs reading text fault =
+    ((line : ℕ) × (fault ≡ run_faults.Pairs (pairs_faults.NotAPair line)) × (length text ≤ reading.limits.bytes) × IsFirstWrong (lines_of text) line)
+    ⊎ ((fault ≡ run_faults.Pairs pairs_faults.TooLong) × (reading.limits.bytes < length text))
+
+-- the fault that a job has of the octets of its readers
+abbrev pub FaultOf : Job → List ℕ → List ℕ → RunFault → Type 0
+FaultOf (jobs.Show reading format file) octets other fault = FaultAt sides.First (FaultOfDump reading octets) fault
+FaultOf (jobs.Lookup reading pair format file quiet) octets other fault = FaultAt sides.First (FaultOfDump reading octets) fault
+FaultOf (jobs.Each reading format file pairs quiet) octets other fault =
+    FaultOfPairs reading other fault ⊎ (((asked : List AddrPair) × AreAskedBy reading other asked) × FaultAt sides.First (FaultOfDump reading octets) fault)
+FaultOf (jobs.Normalise reading view body hex file quiet) octets other fault = FaultAt sides.First (FaultOfForm reading view octets) fault
+FaultOf (jobs.Pairs reading view count format file quiet) octets other fault = FaultAt sides.First (FaultOfForm reading view octets) fault
+FaultOf (jobs.Compare reading other_reading view format file another quiet) octets other fault = FaultOfBoth reading other_reading octets other fault
+FaultOf (jobs.Differences reading other_reading view count format file another quiet) octets other fault =
+    FaultOfDifferences reading other_reading view octets other fault
+FaultOf job octets other fault = ⊥
 
 -- a fault of octets that a run answers is that of its job
-of_table : (reader : Input) (dump : List ℕ) (fault : RunFault) → reader.old.left ≡ Some dump → IsOfOctets fault
-    → HasCause reader None (IsFaultOfGiven reader) fault → FaultOfTable reader.reading dump fault
-of_table reader dump run_faults.Read has is cause = absurd is
-of_table reader dump (run_faults.Dump fault) has is cause = inl (fault, refl, fault_of_all reader dump fault has (cause is))
-of_table reader dump (run_faults.Ignored tlv) has is cause = inr (tlv, refl, is_ignored reader dump tlv has cause)
-of_table reader dump run_faults.OtherRead has is cause = absurd is
-of_table reader dump (run_faults.OtherDump fault) has is cause = absurd cause
-of_table reader dump (run_faults.OtherIgnored tlv) has is cause = absurd cause
-of_table reader dump (run_faults.Pairs fault) has is cause = absurd cause
-of_table reader dump run_faults.Write has is cause = absurd is
+of_dump : (reading : Reading) (reader : Reads) (dump : List ℕ) (fault : InputFault) → reader.old.left ≡ Some dump → IsOfDump fault
+    → InputCause (dump_of reader reading) (IsFaultOfGiven (dump_of reader reading)) fault → FaultOfDump reading dump fault
+of_dump reading reader dump (input_faults.Dump fault) has is cause = inl (fault, refl, fault_of_all (dump_of reader reading) dump fault has (cause is))
+of_dump reading reader dump (input_faults.Ignored tlv) has is cause = inr (tlv, refl, is_ignored (dump_of reader reading) dump tlv has cause)
+of_dump reading reader dump (input_faults.Capture fault) has is cause = absurd is
+of_dump reading reader dump (input_faults.LeftOut datagram) has is cause = absurd is
+of_dump reading reader dump (input_faults.SeveralInterfaces interfaces) has is cause = absurd is
+of_dump reading reader dump input_faults.Read has is cause = absurd is
+
+form_of_all : (reading : Reading) (view : View) (reader : Reads) (dump : List ℕ) (fault : Fault) → reader.old.left ≡ Some dump
+    → IsFaultOfForm (dump_of reader reading) view fault → FaultOfForm reading view dump (input_faults.Dump fault)
+form_of_all reading view reader dump fault has (inl given) = inl (inl (fault, refl, fault_of_all (dump_of reader reading) dump fault has given))
+form_of_all reading view reader dump fault has (inr (is, (table, gave, many))) =
+    inr (ap (λ (f : Fault). input_faults.Dump f) is, (table, sound (dump_of reader reading) dump table has gave, many))
+
+of_form : (reading : Reading) (view : View) (reader : Reads) (dump : List ℕ) (fault : InputFault) → reader.old.left ≡ Some dump → IsOfDump fault
+    → InputCause (dump_of reader reading) (IsFaultOfForm (dump_of reader reading) view) fault → FaultOfForm reading view dump fault
+of_form reading view reader dump (input_faults.Dump fault) has is cause = form_of_all reading view reader dump fault has (cause is)
+of_form reading view reader dump (input_faults.Ignored tlv) has is cause = inl (inr (tlv, refl, is_ignored (dump_of reader reading) dump tlv has cause))
+of_form reading view reader dump (input_faults.Capture fault) has is cause = absurd is
+of_form reading view reader dump (input_faults.LeftOut datagram) has is cause = absurd is
+of_form reading view reader dump (input_faults.SeveralInterfaces interfaces) has is cause = absurd is
+of_form reading view reader dump input_faults.Read has is cause = absurd is
+
+-- a fault of the first input
+at_first : (Cause Holds : InputFault → Type 0) (fault : RunFault) → ((of_input : InputFault) → IsOfDump of_input → Cause of_input → Holds of_input)
+    → IsOfOctets fault → OfFirst Cause fault → FaultAt sides.First Holds fault
+at_first Cause Holds (run_faults.Input sides.First fault) holds is cause = (fault, refl, holds fault is cause)
+at_first Cause Holds (run_faults.Input sides.Other fault) holds is cause = absurd cause
+at_first Cause Holds (run_faults.Pairs fault) holds is cause = absurd cause
+at_first Cause Holds run_faults.Write holds is cause = absurd cause
+
+not_of_octets : (fault : RunFault) → IsOfMemory fault → IsOfOctets fault → ⊥
+not_of_octets fault memory is = subst IsOfOctets memory is refl
 
 of_pairs : (reader : Input) (text : List ℕ) (fault : RunFault) → reader.old.left ≡ Some text → IsOfOctets fault → RefusesPairs reader fault
     → FaultOfPairs reader.reading text fault
 of_pairs reader text (run_faults.Pairs (pairs_faults.NotAPair line)) has is wrong =
-    let same = gave_text reader text wrong.text has wrong.gave in
+    let same = gave_all reader text wrong.text has wrong.gave.gave in
     inl (
       line,
       refl,
@@ -580,192 +471,218 @@ of_pairs reader text (run_faults.Pairs pairs_faults.TooLong) has is many =
     let long : length text ≡ length (many.octets ++ whole.0) = ap (λ (t : List ℕ). length t) whole.1 in
     inr (refl, omega (arith, many.over, long, length-append many.octets whole.0))
 of_pairs reader text (run_faults.Pairs pairs_faults.Read) has is refuses = absurd is
-of_pairs reader text (run_faults.Dump fault) has is memory = absurd (is memory)
-of_pairs reader text run_faults.Read has is refuses = absurd refuses
-of_pairs reader text (run_faults.Ignored tlv) has is refuses = absurd refuses
-of_pairs reader text run_faults.OtherRead has is refuses = absurd refuses
-of_pairs reader text (run_faults.OtherDump fault) has is refuses = absurd refuses
-of_pairs reader text (run_faults.OtherIgnored tlv) has is refuses = absurd refuses
-of_pairs reader text run_faults.Write has is refuses = absurd refuses
+of_pairs reader text (run_faults.Input side fault) has is memory = absurd (not_of_octets (run_faults.Input side fault) memory is)
+of_pairs reader text run_faults.Write has is memory = absurd is
 
-form_of_all : (reader : Input) (dump : List ℕ) (fault : Fault) → reader.old.left ≡ Some dump → IsFaultOfForm reader fault
-    → FaultOfNormal reader.reading dump (run_faults.Dump fault)
-form_of_all reader dump fault has (inl given) = inl (inl (fault, refl, fault_of_all reader dump fault has given))
-form_of_all reader dump fault has (inr (is, (table, gave, many))) =
-    inr (ap (λ (f : Fault). run_faults.Dump f) is, (table, sound reader dump table has gave, many))
+of_turn : (reading other_reading : Reading) (reader second : Reads) (untouched : Type 0) (dump other : List ℕ) (fault : RunFault) → reader.old.left ≡ Some dump
+    → second.old.left ≡ Some other → IsOfOctets fault → InTurn (dump_of reader reading) (dump_of second other_reading) untouched fault
+    → FaultOfBoth reading other_reading dump other fault
+of_turn reading other_reading reader second untouched dump other (run_faults.Input sides.First fault) has other_has is cause =
+    inl (fault, refl, of_dump reading reader dump fault has is cause.1)
+of_turn reading other_reading reader second untouched dump other (run_faults.Input sides.Other fault) has other_has is ((table, gave), cause) =
+    inr ((table, sound (dump_of reader reading) dump table has gave), (fault, refl, of_dump other_reading second other fault other_has is cause))
+of_turn reading other_reading reader second untouched dump other (run_faults.Pairs fault) has other_has is cause = absurd cause
+of_turn reading other_reading reader second untouched dump other run_faults.Write has other_has is cause = absurd cause
 
-of_normal : (reader : Input) (dump : List ℕ) (fault : RunFault) → reader.old.left ≡ Some dump → IsOfOctets fault
-    → HasCause reader None (IsFaultOfForm reader) fault → FaultOfNormal reader.reading dump fault
-of_normal reader dump run_faults.Read has is cause = absurd is
-of_normal reader dump (run_faults.Dump fault) has is cause = form_of_all reader dump fault has (cause is)
-of_normal reader dump (run_faults.Ignored tlv) has is cause = inl (inr (tlv, refl, is_ignored reader dump tlv has cause))
-of_normal reader dump run_faults.OtherRead has is cause = absurd is
-of_normal reader dump (run_faults.OtherDump fault) has is cause = absurd cause
-of_normal reader dump (run_faults.OtherIgnored tlv) has is cause = absurd cause
-of_normal reader dump (run_faults.Pairs fault) has is cause = absurd cause
-of_normal reader dump run_faults.Write has is cause = absurd is
+of_compare : (reading other_reading : Reading) (reader second : Reads) (untouched : Type 0) (dump other : List ℕ) (fault : RunFault) → reader.old.left ≡ Some dump
+    → second.old.left ≡ Some other → IsOfOctets fault → CompareCause (dump_of reader reading) (dump_of second other_reading) untouched fault
+    → FaultOfBoth reading other_reading dump other fault
+of_compare reading other_reading reader second untouched dump other fault has other_has is (inl cause) =
+    of_turn reading other_reading reader second untouched dump other fault has other_has is cause
+of_compare reading other_reading reader second untouched dump other fault has other_has is (inr memory) = absurd (not_of_octets fault memory.0 is)
 
-of_tables : (reader second : Input) (dump other : List ℕ) (After : Fault → Type 0) (untouched : Type 0) (fault : RunFault) → reader.old.left ≡ Some dump
-    → second.old.left ≡ Some other → IsOfOctets fault → HasCause reader (Some second) (IsFaultOfGiven reader) fault
-    → InTurn reader second After untouched fault → FaultOfTables reader.reading second.reading dump other fault
-of_tables reader second dump other After untouched run_faults.Read has other_has is cause in_turn = absurd is
-of_tables reader second dump other After untouched (run_faults.Dump fault) has other_has is cause in_turn =
-    inl (inl (fault, refl, fault_of_all reader dump fault has (cause is)))
-of_tables reader second dump other After untouched (run_faults.Ignored tlv) has other_has is cause in_turn =
-    inl (inr (tlv, refl, is_ignored reader dump tlv has cause))
-of_tables reader second dump other After untouched run_faults.OtherRead has other_has is cause in_turn = absurd is
-of_tables reader second dump other After untouched (run_faults.OtherDump fault) has other_has is cause (table, gave) =
-    inr ((table, sound reader dump table has gave), inl (fault, refl, fault_of_all second other fault other_has (cause is)))
-of_tables reader second dump other After untouched (run_faults.OtherIgnored tlv) has other_has is cause (table, gave) =
-    inr ((table, sound reader dump table has gave), inr (tlv, refl, is_ignored second other tlv other_has cause))
-of_tables reader second dump other After untouched (run_faults.Pairs fault) has other_has is cause in_turn = absurd cause
-of_tables reader second dump other After untouched run_faults.Write has other_has is cause in_turn = absurd is
-
-differences_of_all : (reader second : Input) (dump other : List ℕ) (fault : Fault) → reader.old.left ≡ Some dump → second.old.left ≡ Some other
-    → IsFaultOfDifferences reader second fault → FaultOfDifferences reader.reading second.reading dump other (run_faults.Dump fault)
-differences_of_all reader second dump other fault has other_has (inl given) = inl (inl (inl (fault, refl, fault_of_all reader dump fault has given)))
-differences_of_all reader second dump other fault has other_has (inr (is, (differences, gave, many))) =
-    inr (ap (λ (f : Fault). run_faults.Dump f) is, (differences, gave_differences reader second dump other differences has other_has gave, many))
-
-of_differences : (reader second : Input) (dump other : List ℕ) (After : Fault → Type 0) (untouched : Type 0) (fault : RunFault) → reader.old.left ≡ Some dump
-    → second.old.left ≡ Some other → IsOfOctets fault → HasCause reader (Some second) (IsFaultOfDifferences reader second) fault
-    → InTurn reader second After untouched fault → FaultOfDifferences reader.reading second.reading dump other fault
-of_differences reader second dump other After untouched run_faults.Read has other_has is cause in_turn = absurd is
-of_differences reader second dump other After untouched (run_faults.Dump fault) has other_has is cause in_turn =
-    differences_of_all reader second dump other fault has other_has (cause is)
-of_differences reader second dump other After untouched (run_faults.Ignored tlv) has other_has is cause in_turn =
-    inl (of_tables reader second dump other After untouched (run_faults.Ignored tlv) has other_has is cause in_turn)
-of_differences reader second dump other After untouched run_faults.OtherRead has other_has is cause in_turn = absurd is
-of_differences reader second dump other After untouched (run_faults.OtherDump fault) has other_has is cause in_turn =
-    inl (of_tables reader second dump other After untouched (run_faults.OtherDump fault) has other_has is cause in_turn)
-of_differences reader second dump other After untouched (run_faults.OtherIgnored tlv) has other_has is cause in_turn =
-    inl (of_tables reader second dump other After untouched (run_faults.OtherIgnored tlv) has other_has is cause in_turn)
-of_differences reader second dump other After untouched (run_faults.Pairs fault) has other_has is cause in_turn = absurd cause
-of_differences reader second dump other After untouched run_faults.Write has other_has is cause in_turn = absurd is
-
--- what a run of a job says of the octets of its readers
-pub record Told (limits : Bounds) (job : Job) (dump other : List ℕ) (writer : Output) (result : Result ℕ RunFault) : Type 0 where
-  pub wrote : IfOk result (λ status. (text : List ℕ) × SaysOf limits job dump other text status × Appends writer.old.taken writer.new.taken text)
-  pub cause : IfErr result (λ fault. IsOfOctets fault → FaultOf limits job dump other fault)
-  pub prefix : IfErr result (λ fault. UnlessWrite fault (Keeps writer.old.taken writer.new.taken)
-      ((text : List ℕ) × (status : ℕ) × SaysOf limits job dump other text status × AppendsPrefix writer.old.taken writer.new.taken text))
-
--- no fault of a write is of the octets
-unwritten : (fault : RunFault) (P Q : Type 0) → UnlessWrite fault P Q → IsOfOctets fault → P
-unwritten run_faults.Read P Q known is = known
-unwritten (run_faults.Dump fault) P Q known is = known
-unwritten (run_faults.Ignored tlv) P Q known is = known
-unwritten run_faults.OtherRead P Q known is = known
-unwritten (run_faults.OtherDump fault) P Q known is = known
-unwritten (run_faults.OtherIgnored tlv) P Q known is = known
-unwritten (run_faults.Pairs fault) P Q known is = known
-unwritten run_faults.Write P Q known is = absurd is
-
-at_write : (fault : RunFault) (P Q R : Type 0) → (Q → R) → UnlessWrite fault P Q → UnlessWrite fault P R
-at_write run_faults.Read P Q R f known = known
-at_write (run_faults.Dump fault) P Q R f known = known
-at_write (run_faults.Ignored tlv) P Q R f known = known
-at_write run_faults.OtherRead P Q R f known = known
-at_write (run_faults.OtherDump fault) P Q R f known = known
-at_write (run_faults.OtherIgnored tlv) P Q R f known = known
-at_write (run_faults.Pairs fault) P Q R f known = known
-at_write run_faults.Write P Q R f known = f known
-
-told_of : (limits : Bounds) (job : Job) (dump other : List ℕ) (reader : Input) (second : Option Input) (writer : Output) (Refuses : Fault → Type 0)
-    (Says : List ℕ → ℕ → Type 0) (result : Result ℕ RunFault) → Ran reader second writer Refuses Says result
-    → ((text : List ℕ) (status : ℕ) → Says text status → SaysOf limits job dump other text status)
-    → IfErr result (λ fault. IsOfOctets fault → HasCause reader second Refuses fault → FaultOf limits job dump other fault)
-    → Told limits job dump other writer result
-told_of limits job dump other reader second writer Refuses Says (Ok status) ran says fault_of =
-    let wrote = ran.wrote in record { wrote = (wrote.0, says wrote.0 status wrote.1, wrote.2); cause = tt; prefix = tt }
-told_of limits job dump other reader second writer Refuses Says (Err fault) ran says fault_of = record {
-  wrote = tt;
-  cause = λ is. fault_of is (unwritten fault _ _ ran.cause is);
-  prefix = at_write fault _ _ _ (λ left. (left.0, left.1, says left.0 left.1 left.2, left.3)) ran.prefix;
+differ : (reading other_reading : Reading) (view : View) (reader second : Reads) (dump other : List ℕ) (table other_table : Routes) (differences : List Difference)
+    → reader.old.left ≡ Some dump → second.old.left ≡ Some other
+    → HaveDifferences (dump_of reader reading) (dump_of second other_reading) view table other_table differences
+    → Differ reading other_reading view dump other differences
+differ reading other_reading view reader second dump other table other_table differences has other_has have = record {
+  table = table;
+  other_table = other_table;
+  sound = sound (dump_of reader reading) dump table has have.gave.gave;
+  other_sound = sound (dump_of second other_reading) other other_table other_has have.gave.other_gave;
+  are_differences = have.are_differences;
 }
 
--- what holds of each error holds of the one that there is
-of_each : {T E : Type 0} (P : E → Type 0) (r : Result T E) → ((e : E) → P e) → IfErr r P
-of_each P (Ok t) each = tt
-of_each P (Err e) each = each e
+of_differences : (reading other_reading : Reading) (view : View) (reader second : Reads) (untouched : Type 0) (dump other : List ℕ) (fault : RunFault)
+    → reader.old.left ≡ Some dump → second.old.left ≡ Some other → IsOfOctets fault
+    → DifferencesCause (dump_of reader reading) (dump_of second other_reading) view untouched fault
+    → FaultOfDifferences reading other_reading view dump other fault
+of_differences reading other_reading view reader second untouched dump other fault has other_has is (inl cause) =
+    inl (of_compare reading other_reading reader second untouched dump other fault has other_has is cause)
+of_differences reading other_reading view reader second untouched dump other fault has other_has is (inr (many, have)) =
+    inr (many, (have.differences, differ reading other_reading view reader second dump other have.table have.other_table have.differences has other_has have.have, have.many))
 
-both_of : (dump other : List ℕ) (reader second : Input) (untouched : Type 0) (r : Result ℕ RunFault)
-    → reader.old.left ≡ Some dump → second.old.left ≡ Some other → IfErr r (InTurn reader second IsOfMemory untouched)
-    → IfErr r (λ fault. IsOfOctets fault → HasCause reader (Some second) (IsFaultOfGiven reader) fault
-    → FaultOfTables reader.reading second.reading dump other fault)
-both_of dump other reader second untouched (Ok status) has other_has in_turn = tt
-both_of dump other reader second untouched (Err fault) has other_has in_turn =
-    λ is cause. of_tables reader second dump other IsOfMemory untouched fault has other_has is cause in_turn
+of_each : (reading : Reading) (reader pairs : Reads) (dump text : List ℕ) (fault : RunFault) → reader.old.left ≡ Some dump → pairs.old.left ≡ Some text
+    → IsOfOctets fault → EachCause (dump_of reader reading) (dump_of pairs reading) fault
+    → FaultOfPairs reading text fault ⊎ (((asked : List AddrPair) × AreAskedBy reading text asked) × FaultAt sides.First (FaultOfDump reading dump) fault)
+of_each reading reader pairs dump text fault has pairs_has is (inl (refuses, unread)) = inl (of_pairs (dump_of pairs reading) text fault pairs_has is refuses)
+of_each reading reader pairs dump text fault has pairs_has is (inr ((asked, gave), no_failure, cause)) =
+    inr ((asked, asked_by (dump_of pairs reading) text asked pairs_has gave), at_first _ _ fault (λ f is cause. of_dump reading reader dump f has is cause) is cause)
 
-differences_of : (dump other : List ℕ) (reader second : Input) (untouched : Type 0) (r : Result ℕ RunFault)
-    → reader.old.left ≡ Some dump → second.old.left ≡ Some other → IfErr r (InTurn reader second IsOfMemoryOrMany untouched)
-    → IfErr r (λ fault. IsOfOctets fault → HasCause reader (Some second) (IsFaultOfDifferences reader second) fault
-    → FaultOfDifferences reader.reading second.reading dump other fault)
-differences_of dump other reader second untouched (Ok status) has other_has in_turn = tt
-differences_of dump other reader second untouched (Err fault) has other_has in_turn =
-    λ is cause. of_differences reader second dump other IsOfMemoryOrMany untouched fault has other_has is cause in_turn
+-- no fault of a capture is that of a dump's octets
+capture_none : (reader : CaptureInput) (Several : Interfaces → Type 0) (fault : InputFault) → IsOfDump fault → CaptureCause reader Several fault → ⊥
+capture_none reader Several (input_faults.Dump fault) is memory = is memory
+capture_none reader Several (input_faults.Ignored tlv) is cause = cause
+capture_none reader Several (input_faults.Capture fault) is cause = is
+capture_none reader Several (input_faults.LeftOut datagram) is cause = is
+capture_none reader Several (input_faults.SeveralInterfaces interfaces) is cause = is
+capture_none reader Several input_faults.Read is cause = is
 
--- pairs are not refused for a write
-refuses_unless : (reader : Input) (fault : RunFault) (P Q : Type 0) → RefusesPairs reader fault → P → UnlessWrite fault P Q
-refuses_unless reader (run_faults.Pairs fault) P Q refuses known = known
-refuses_unless reader (run_faults.Dump fault) P Q refuses known = known
-refuses_unless reader run_faults.Read P Q refuses known = absurd refuses
-refuses_unless reader (run_faults.Ignored tlv) P Q refuses known = absurd refuses
-refuses_unless reader run_faults.OtherRead P Q refuses known = absurd refuses
-refuses_unless reader (run_faults.OtherDump fault) P Q refuses known = absurd refuses
-refuses_unless reader (run_faults.OtherIgnored tlv) P Q refuses known = absurd refuses
-refuses_unless reader run_faults.Write P Q refuses known = absurd refuses
+no_capture : (Cause : InputFault → Type 0) (fault : RunFault) → ((of_input : InputFault) → IsOfDump of_input → Cause of_input → ⊥) → IsOfOctets fault → OfFirst Cause fault → ⊥
+no_capture Cause fault none is cause = (at_first Cause (λ _. ⊥) fault none is cause).2
 
-tell_each : (limits : Bounds) (given : OneDump) (file : DumpFile) (dump other : List ℕ) (reader pairs : Input) (writer : Output) (result : Result ℕ RunFault)
-    → reader.reading ≡ reading_of limits given → pairs.reading ≡ reading_of limits given → reader.old.left ≡ Some dump → pairs.old.left ≡ Some other
-    → RefusedPairs reader pairs writer result ⊎ RanOverPairs reader pairs given.format writer result → Told limits (jobs.Each given file) dump other writer result
-tell_each limits given file dump other reader pairs writer result read_so asked_so has pairs_has (inl refused) = rw refused.answers (record {
-  wrote = tt;
-  cause = λ is. inl (rw asked_so at (of_pairs pairs other refused.fault pairs_has is refused.refuses));
-  prefix = refuses_unless pairs refused.fault _ _ refused.refuses (rw (ap (λ (state : _). state.taken) refused.unwritten) (kept_same writer.old.taken));
-})
-tell_each limits given file dump other reader pairs writer result read_so asked_so has pairs_has (inr over) =
-    let are = rw asked_so at (asked_by pairs other over.asked pairs_has over.gave) in
-    told_of limits (jobs.Each given file) dump other reader None writer _ _ result over.ran
-    (λ text status says. record { asked = over.asked; are = are; says = rw read_so at (looks_up_each reader given.format over.asked dump text status has says) })
-    (of_each _ result (λ fault is cause. inr ((over.asked, are), rw read_so at (of_table reader dump fault has is cause))))
+cause_of : (job : Job) (reader second : Reads) (untouched : Type 0) (octets other : List ℕ) (fault : RunFault) → reader.old.left ≡ Some octets → second.old.left ≡ Some other
+    → IsOfOctets fault → CauseBy job reader second untouched fault → FaultOf job octets other fault
+cause_of (jobs.Show reading format file) reader second untouched octets other fault has other_has is cause =
+    at_first _ _ fault (λ f is cause. of_dump reading reader octets f has is cause) is cause
+cause_of (jobs.Lookup reading pair format file quiet) reader second untouched octets other fault has other_has is cause =
+    at_first _ _ fault (λ f is cause. of_dump reading reader octets f has is cause) is cause
+cause_of (jobs.Each reading format file pairs quiet) reader second untouched octets other fault has other_has is cause =
+    of_each reading reader second octets other fault has other_has is cause
+cause_of (jobs.Normalise reading view body hex file quiet) reader second untouched octets other fault has other_has is cause =
+    at_first _ _ fault (λ f is cause. of_form reading view reader octets f has is cause) is cause
+cause_of (jobs.Pairs reading view count format file quiet) reader second untouched octets other fault has other_has is cause =
+    at_first _ _ fault (λ f is cause. of_form reading view reader octets f has is cause) is cause
+cause_of (jobs.Compare reading other_reading view format file another quiet) reader second untouched octets other fault has other_has is cause =
+    of_compare reading other_reading reader second untouched octets other fault has other_has is cause
+cause_of (jobs.Differences reading other_reading view count format file another quiet) reader second untouched octets other fault has other_has is cause =
+    of_differences reading other_reading view reader second untouched octets other fault has other_has is cause
+cause_of (jobs.Senders reading format file quiet) reader second untouched octets other fault has other_has is cause = no_capture _ fault (capture_none _ _) is cause
+cause_of (jobs.Extract reading sender interface hex file quiet) reader second untouched octets other fault has other_has is cause = no_capture _ fault (capture_none _ _) is cause
 
-tell : (limits : Bounds) (job : Job) (dump other before after : List ℕ) (result : Result Outcome RunFault) (run : RanOver limits job dump other before after result)
-    → Told limits job dump other run.writer (run_status result)
-tell limits (jobs.Show given) dump other before after result run =
-    let reader = read_from run.old run.new (reading_of limits given) in
-    told_of limits (jobs.Show given) dump other reader None run.writer _ _ (run_status result) run.ran.ran.1 (λ text status says. shows reader given.format dump text status run.has says)
-    (of_each _ (run_status result) (λ fault is cause. of_table reader dump fault run.has is cause))
-tell limits (jobs.Lookup given pair) dump other before after result run =
-    let reader = read_from run.old run.new (reading_of limits given) in
-    told_of limits (jobs.Lookup given pair) dump other reader None run.writer _ _ (run_status result) run.ran.ran.1
-    (λ text status says. looks_up reader pair.dst pair.src given.format dump text status run.has says)
-    (of_each _ (run_status result) (λ fault is cause. of_table reader dump fault run.has is cause))
-tell limits (jobs.Each given file) dump other before after result run =
-    tell_each limits given file dump other (read_from run.old run.new (reading_of limits given)) (read_from run.other_old run.other_new (reading_of limits given))
-    run.writer (run_status result) refl refl run.has run.other_has run.ran.ran.ran
-tell limits (jobs.Normalise given body hex) dump other before after result run =
-    let reader = read_from run.old run.new (reading_of limits given) in
-    told_of limits (jobs.Normalise given body hex) dump other reader None run.writer _ _ (run_status result) run.ran.ran.1
-    (λ text status says. normalises reader body hex dump text status run.has says)
-    (of_each _ (run_status result) (λ fault is cause. of_normal reader dump fault run.has is cause))
-tell limits (jobs.Pairs given count) dump other before after result run =
-    let reader = read_from run.old run.new (reading_of limits given) in
-    told_of limits (jobs.Pairs given count) dump other reader None run.writer _ _ (run_status result) run.ran.ran.1
-    (λ text status says. lists_pairs reader count given.format dump text status run.has says)
-    (of_each _ (run_status result) (λ fault is cause. of_normal reader dump fault run.has is cause))
-tell limits (jobs.Compare dumps) dump other before after result run =
-    let reader = read_from run.old run.new (left_reading limits dumps) in
-    let second = read_from run.other_old run.other_new (right_reading limits dumps) in
-    told_of limits (jobs.Compare dumps) dump other reader (Some second) run.writer _ _ (run_status result) run.ran.ran.ran
-    (λ text status says. compares reader second dumps.format dump other text status run.has run.other_has says)
-    (both_of dump other reader second _ (run_status result) run.has run.other_has run.ran.ran.in_turn)
-tell limits (jobs.Differences dumps count) dump other before after result run =
-    let reader = read_from run.old run.new (left_reading limits dumps) in
-    let second = read_from run.other_old run.other_new (right_reading limits dumps) in
-    told_of limits (jobs.Differences dumps count) dump other reader (Some second) run.writer _ _ (run_status result) run.ran.ran.ran
-    (λ text status says. lists_differences reader second count dumps.format dump other text status run.has run.other_has says)
-    (differences_of dump other reader second _ (run_status result) run.has run.other_has run.ran.ran.in_turn)
+-- ---- where a job says something of octets it has no fault of them, and it has one at most
+
+-- too many pairs are not few
+not_many : (limits : Bounds) (rows others pairs : List Pair) → rows ≡ others → AreBoxes rows pairs → length pairs ≤ limits.entries → HasManyBoxes limits others → ⊥
+not_many limits rows others pairs same boxes few (more, are_boxes, many) =
+    let e = ap (λ (l : List Pair). length l) (boxes_same rows others pairs more same boxes are_boxes) in
+    absurd (omega (arith, e, few, many))
+
+-- a sound dump has no fault
+sound_no_fault : (reading : Reading) (dump : List ℕ) (table : Routes) (fault : InputFault) → IsSound reading dump table → FaultOfDump reading dump fault → ⊥
+sound_no_fault reading dump table fault is (inl (own, same, has)) = is.whole.accepted own has
+sound_no_fault reading dump table fault is (inr (tlv, same, first)) = sound_ignores_none reading dump table tlv is first
+
+-- nor one of its form, whose boxes are few
+form_no_fault : (reading : Reading) (view : View) (dump : List ℕ) (table : Routes) (pairs : List Pair) (fault : InputFault) → IsSound reading dump table
+    → AreBoxes (seen_rows view table.rows) pairs → length pairs ≤ reading.limits.entries → FaultOfForm reading view dump fault → ⊥
+form_no_fault reading view dump table pairs fault is boxes few (inl has) = sound_no_fault reading dump table fault is has
+form_no_fault reading view dump table pairs fault is boxes few (inr (many, (too, is_too, more))) =
+    let same = sound_one reading dump table too is is_too in
+    not_many reading.limits (seen_rows view table.rows) (seen_rows view too.rows) pairs (ap (λ (t : Routes). seen_rows view t.rows) same) boxes few more
+
+-- nor have two
+both_no_fault : (reading other_reading : Reading) (dump other : List ℕ) (table other_table : Routes) (fault : RunFault) → IsSound reading dump table
+    → IsSound other_reading other other_table → FaultOfBoth reading other_reading dump other fault → ⊥
+both_no_fault reading other_reading dump other table other_table fault is other_is (inl (of_input, same, has)) = sound_no_fault reading dump table of_input is has
+both_no_fault reading other_reading dump other table other_table fault is other_is (inr (first, (of_input, same, has))) =
+    sound_no_fault other_reading other other_table of_input other_is has
+
+-- two dumps have one list of differences
+differ_one : (reading other_reading : Reading) (view : View) (dump other : List ℕ) (differences too : List Difference)
+    → Differ reading other_reading view dump other differences → Differ reading other_reading view dump other too → differences ≡ too
+differ_one reading other_reading view dump other differences too one two =
+    let left = ap (λ (t : Routes). seen_rows view t.rows) (sound_one reading dump one.table two.table one.sound two.sound) in
+    let right = ap (λ (t : Routes). seen_rows view t.rows) (sound_one other_reading other one.other_table two.other_table one.other_sound two.other_sound) in
+    differences_same _ _ _ _ differences too left right one.are_differences two.are_differences
+
+-- a text that asks for pairs has no fault
+asked_no_fault : (reading : Reading) (text : List ℕ) (pairs : List AddrPair) (fault : RunFault) → AreAskedBy reading text pairs → FaultOfPairs reading text fault → ⊥
+asked_no_fault reading text pairs fault are (inl (line, is, few, wrong)) = not_wrong (lines_of text) pairs line are.asked wrong
+asked_no_fault reading text pairs fault are (inr (is, over)) = let few = are.in_limit in absurd (omega (arith, few, over))
+
+says_no_fault : (job : Job) (reader second : Reads) (octets other text : List ℕ) (outcome : Outcome) (fault : RunFault) → reader.old.left ≡ Some octets
+    → second.old.left ≡ Some other → SaysBy job reader second text outcome → FaultOf job octets other fault → ⊥
+says_no_fault (jobs.Show reading format file) reader second octets other text outcome fault has other_has says (of_input, is, is_fault) =
+    sound_no_fault reading octets says.table of_input (sound (dump_of reader reading) octets says.table has says.gave) is_fault
+says_no_fault (jobs.Lookup reading pair format file quiet) reader second octets other text outcome fault has other_has says (of_input, is, is_fault) =
+    sound_no_fault reading octets says.table of_input (sound (dump_of reader reading) octets says.table has says.gave) is_fault
+says_no_fault (jobs.Each reading format file pairs quiet) reader second octets other text outcome fault has other_has says (inl is_fault) =
+    asked_no_fault reading other says.asked fault (asked_by (dump_of second reading) other says.asked other_has says.gave) is_fault
+says_no_fault (jobs.Each reading format file pairs quiet) reader second octets other text outcome fault has other_has says (inr (asked, (of_input, is, is_fault))) =
+    sound_no_fault reading octets says.answers.table of_input (sound (dump_of reader reading) octets says.answers.table has says.answers.gave) is_fault
+says_no_fault (jobs.Normalise reading view body hex file quiet) reader second octets other text outcome fault has other_has says (of_input, is, is_fault) =
+    let gave = says.gave in
+    let normal = gave.under.normalises in
+    let same = table_is_one _ _ _ gave.gave.given.dump gave.table normal.table gave.gave.given.is_table normal.is_table in
+    form_no_fault reading view octets gave.table normal.boxes of_input (sound (dump_of reader reading) octets gave.table has gave.gave)
+    (subst (λ (t : Routes). AreBoxes (seen_rows view t.rows) normal.boxes) (sym same) normal.are_boxes) normal.few is_fault
+says_no_fault (jobs.Pairs reading view count format file quiet) reader second octets other text outcome fault has other_has says (of_input, is, is_fault) =
+    form_no_fault reading view octets says.table says.canon.pairs of_input (sound (dump_of reader reading) octets says.table has says.gave.gave)
+    says.gave.is_canon.boxes says.gave.is_canon.few is_fault
+says_no_fault (jobs.Compare reading other_reading view format file another quiet) reader second octets other text outcome fault has other_has says is_fault =
+    both_no_fault reading other_reading octets other says.table says.other_table fault (sound (dump_of reader reading) octets says.table has says.gave.gave)
+    (sound (dump_of second other_reading) other says.other_table other_has says.gave.other_gave) is_fault
+says_no_fault (jobs.Differences reading other_reading view count format file another quiet) reader second octets other text outcome fault has other_has says (inl is_fault) =
+    both_no_fault reading other_reading octets other says.table says.other_table fault (sound (dump_of reader reading) octets says.table has says.have.gave.gave)
+    (sound (dump_of second other_reading) other says.other_table other_has says.have.gave.other_gave) is_fault
+says_no_fault (jobs.Differences reading other_reading view count format file another quiet) reader second octets other text outcome fault has other_has says (inr (is, (more, differ_too, many))) =
+    let few = says.few in
+    let one = differ reading other_reading view reader second octets other says.table says.other_table says.differences has other_has says.have in
+    let same = ap (λ (l : List Difference). length l) (differ_one reading other_reading view octets other says.differences more one differ_too) in
+    absurd (omega (arith, same, few, many))
+says_no_fault (jobs.Senders reading format file quiet) reader second octets other text outcome fault has other_has says is_fault = is_fault
+says_no_fault (jobs.Extract reading sender interface hex file quiet) reader second octets other text outcome fault has other_has says is_fault = is_fault
+
+-- octets have one fault
+dump_fault_one : (reading : Reading) (dump : List ℕ) (fault too : InputFault) → FaultOfDump reading dump fault → FaultOfDump reading dump too → fault ≡ too
+dump_fault_one reading dump fault too (inl (one, is_one, has_one)) (inl (two, is_two, has_two)) =
+    is_one ∙ ap (λ (f : Fault). input_faults.Dump f) (fault_is_one reading.limits reading.mode reading.sender dump one two has_one has_two) ∙ sym is_two
+dump_fault_one reading dump fault too (inl (one, is_one, has_one)) (inr (two, is_two, has_two)) = absurd (has_two.whole.accepted one has_one)
+dump_fault_one reading dump fault too (inr (one, is_one, has_one)) (inl (two, is_two, has_two)) = absurd (has_one.whole.accepted two has_two)
+dump_fault_one reading dump fault too (inr (one, is_one, has_one)) (inr (two, is_two, has_two)) =
+    is_one ∙ ap (λ (tlv : IgnoredTlv). input_faults.Ignored tlv) (ignored_one reading dump one two has_one has_two) ∙ sym is_two
+
+form_fault_one : (reading : Reading) (view : View) (dump : List ℕ) (fault too : InputFault) → FaultOfForm reading view dump fault
+    → FaultOfForm reading view dump too → fault ≡ too
+form_fault_one reading view dump fault too (inl one) (inl two) = dump_fault_one reading dump fault too one two
+form_fault_one reading view dump fault too (inl one) (inr (is_two, (table, is, boxes))) = absurd (sound_no_fault reading dump table fault is one)
+form_fault_one reading view dump fault too (inr (is_one, (table, is, boxes))) (inl two) = absurd (sound_no_fault reading dump table too is two)
+form_fault_one reading view dump fault too (inr one) (inr two) = one.0 ∙ sym two.0
+
+at_side_one : (side : Side) (Holds : InputFault → Type 0) (fault too : RunFault) → ((f g : InputFault) → Holds f → Holds g → f ≡ g)
+    → FaultAt side Holds fault → FaultAt side Holds too → fault ≡ too
+at_side_one side Holds fault too one (f, is, holds) (g, is_too, holds_too) = is ∙ ap (λ (h : InputFault). run_faults.Input side h) (one f g holds holds_too) ∙ sym is_too
+
+both_fault_one : (reading other_reading : Reading) (dump other : List ℕ) (fault too : RunFault)
+    → FaultOfBoth reading other_reading dump other fault → FaultOfBoth reading other_reading dump other too → fault ≡ too
+both_fault_one reading other_reading dump other fault too (inl one) (inl two) = at_side_one sides.First _ fault too (dump_fault_one reading dump) one two
+both_fault_one reading other_reading dump other fault too (inl (f, is, one)) (inr (first, two)) = absurd (sound_no_fault reading dump first.0 f first.1 one)
+both_fault_one reading other_reading dump other fault too (inr (first, one)) (inl (f, is, two)) = absurd (sound_no_fault reading dump first.0 f first.1 two)
+both_fault_one reading other_reading dump other fault too (inr (first, one)) (inr (first_too, two)) = at_side_one sides.Other _ fault too (dump_fault_one other_reading other) one two
+
+differences_fault_one : (reading other_reading : Reading) (view : View) (dump other : List ℕ) (fault too : RunFault)
+    → FaultOfDifferences reading other_reading view dump other fault → FaultOfDifferences reading other_reading view dump other too → fault ≡ too
+differences_fault_one reading other_reading view dump other fault too (inl one) (inl two) = both_fault_one reading other_reading dump other fault too one two
+differences_fault_one reading other_reading view dump other fault too (inl one) (inr (is_two, (more, differ, many))) =
+    absurd (both_no_fault reading other_reading dump other differ.table differ.other_table fault differ.sound differ.other_sound one)
+differences_fault_one reading other_reading view dump other fault too (inr (is_one, (more, differ, many))) (inl two) =
+    absurd (both_no_fault reading other_reading dump other differ.table differ.other_table too differ.sound differ.other_sound two)
+differences_fault_one reading other_reading view dump other fault too (inr one) (inr two) = one.0 ∙ sym two.0
+
+pairs_fault_one : (reading : Reading) (text : List ℕ) (fault fault_too : RunFault) → FaultOfPairs reading text fault → FaultOfPairs reading text fault_too → fault ≡ fault_too
+pairs_fault_one reading text fault fault_too (inl (line, is, few, wrong)) (inl (line_too, is_too, few_too, wrong_too)) =
+    is ∙ ap (λ (at : ℕ). run_faults.Pairs (pairs_faults.NotAPair at)) (first_wrong_one (lines_of text) line line_too wrong wrong_too) ∙ sym is_too
+pairs_fault_one reading text fault fault_too (inl (line, is, few, wrong)) (inr (is_too, over)) = absurd (omega (arith, few, over))
+pairs_fault_one reading text fault fault_too (inr (is, over)) (inl (line_too, is_too, few, wrong)) = absurd (omega (arith, few, over))
+pairs_fault_one reading text fault fault_too (inr (is, over)) (inr (is_too, over_too)) = is ∙ sym is_too
+
+fault_one : (job : Job) (octets other : List ℕ) (fault too : RunFault) → FaultOf job octets other fault → FaultOf job octets other too → fault ≡ too
+fault_one (jobs.Show reading format file) octets other fault too one two = at_side_one sides.First _ fault too (dump_fault_one reading octets) one two
+fault_one (jobs.Lookup reading pair format file quiet) octets other fault too one two = at_side_one sides.First _ fault too (dump_fault_one reading octets) one two
+fault_one (jobs.Each reading format file pairs quiet) octets other fault too (inl one) (inl two) = pairs_fault_one reading other fault too one two
+fault_one (jobs.Each reading format file pairs quiet) octets other fault too (inl one) (inr (asked, two)) = absurd (asked_no_fault reading other asked.0 fault asked.1 one)
+fault_one (jobs.Each reading format file pairs quiet) octets other fault too (inr (asked, one)) (inl two) = absurd (asked_no_fault reading other asked.0 too asked.1 two)
+fault_one (jobs.Each reading format file pairs quiet) octets other fault too (inr (asked, one)) (inr (asked_too, two)) = at_side_one sides.First _ fault too (dump_fault_one reading octets) one two
+fault_one (jobs.Normalise reading view body hex file quiet) octets other fault too one two = at_side_one sides.First _ fault too (form_fault_one reading view octets) one two
+fault_one (jobs.Pairs reading view count format file quiet) octets other fault too one two = at_side_one sides.First _ fault too (form_fault_one reading view octets) one two
+fault_one (jobs.Compare reading other_reading view format file another quiet) octets other fault too one two = both_fault_one reading other_reading octets other fault too one two
+fault_one (jobs.Differences reading other_reading view count format file another quiet) octets other fault too one two =
+    differences_fault_one reading other_reading view octets other fault too one two
+fault_one (jobs.Senders reading format file quiet) octets other fault too one two = absurd one
+fault_one (jobs.Extract reading sender interface hex file quiet) octets other fault too one two = absurd one
+
+-- ---- the laws
 
 -- what a writer took, in octets
 pub appended : (old new : Option (List ℕ)) (before after text : List ℕ) → old ≡ Some before → new ≡ Some after → Appends old new text → after ≡ before ++ text
@@ -773,125 +690,136 @@ appended None new before after text took takes appends = absurd cc
 appended (Some xs) None before after text took takes appends = absurd cc
 appended (Some xs) (Some ys) before after text took takes appends = cc
 
-kept : (old new : Option (List ℕ)) (before after : List ℕ) → old ≡ Some before → new ≡ Some after → Keeps old new → after ≡ before
-kept None new before after took takes keeps = absurd cc
-kept (Some xs) None before after took takes keeps = absurd cc
-kept (Some xs) (Some ys) before after took takes keeps = cc
-
-pub status_is_one : StatusIsOne
-status_is_one limits job dump other before after before_too after_too outcome outcome_too one two =
-    let first = (tell limits job dump other before after (Ok outcome) one).wrote in
-    let second = (tell limits job dump other before_too after_too (Ok outcome_too) two).wrote in
-    let same = says_one limits job dump other first.0 second.0 outcome.status outcome_too.status first.1 second.1 in
-    let wrote = appended _ _ before_too after_too second.0 two.took two.takes second.2 in
-    (same.1, (first.0, appended _ _ before after first.0 one.took one.takes first.2, wrote ∙ ap (λ (t : List ℕ). before_too ++ t) (sym same.0)))
-
-pub status_or_fault : StatusOrFault
-status_or_fault limits job dump other before after before_too after_too outcome fault one two = λ is.
-    let first = (tell limits job dump other before after (Ok outcome) one).wrote in
-    says_no_fault limits job dump other first.0 outcome.status fault first.1 ((tell limits job dump other before_too after_too (Err fault) two).cause is)
-
-pub fault_is_one_too : FaultIsOne
-fault_is_one_too limits job dump other before after before_too after_too fault fault_too one two is is_too =
-    fault_one limits job dump other fault fault_too ((tell limits job dump other before after (Err fault) one).cause is)
-    ((tell limits job dump other before_too after_too (Err fault_too) two).cause is_too)
-
-pub written_is_prefix : WrittenIsPrefix
-written_is_prefix limits job dump other before after before_too after_too outcome one two =
-    let left = (tell limits job dump other before after (Err run_faults.Write) one).prefix in
-    let whole = (tell limits job dump other before_too after_too (Ok outcome) two).wrote in
-    let same = says_one limits job dump other left.0 whole.0 left.1 outcome.status left.2 whole.1 in
-    let part = appended _ _ before after (take left.3.0 left.0) one.took one.takes left.3.1 in
-    (whole.0, left.3.0, appended _ _ before_too after_too whole.0 two.took two.takes whole.2, part ∙ ap (λ (t : List ℕ). before ++ take left.3.0 t) same.0)
-
+-- a fault that is known of where no write failed
 not_at_write : (fault : RunFault) (P Q : Type 0) → fault ≢ run_faults.Write → UnlessWrite fault P Q → P
-not_at_write run_faults.Read P Q not_write known = known
-not_at_write (run_faults.Dump fault) P Q not_write known = known
-not_at_write (run_faults.Ignored tlv) P Q not_write known = known
-not_at_write run_faults.OtherRead P Q not_write known = known
-not_at_write (run_faults.OtherDump fault) P Q not_write known = known
-not_at_write (run_faults.OtherIgnored tlv) P Q not_write known = known
+not_at_write (run_faults.Input side fault) P Q not_write known = known
 not_at_write (run_faults.Pairs fault) P Q not_write known = known
 not_at_write run_faults.Write P Q not_write known = absurd (not_write refl)
 
+not_write : (fault : RunFault) → IsOfOctets fault → fault ≢ run_faults.Write
+not_write fault is same = subst IsOfOctets same is
+
+-- a run's fault of octets is that of its job
+pub fault_of_run : (job : Job) (octets other before after : List ℕ) (fault : RunFault) → RanOver job octets other before after (Err fault) → IsOfOctets fault
+    → FaultOf job octets other fault
+fault_of_run job octets other before after fault run is =
+    cause_of job run.reader run.second _ octets other fault run.has run.other_has is (not_at_write fault _ _ (not_write fault is) run.ran.ran.cause)
+
+pub outcome_is_one : OutcomeIsOne
+outcome_is_one job octets other before after before_too after_too outcome outcome_too one two =
+    let (text, says, wrote) = one.ran.ran.wrote in
+    let (text_too, says_too, wrote_too) = two.ran.ran.wrote in
+    let same = says_one job octets other one.reader two.reader one.second two.second text text_too outcome outcome_too one.has two.has one.other_has two.other_has says says_too in (
+      same.1,
+      (
+        text,
+        appended _ _ before after text one.took one.takes wrote,
+        appended _ _ before_too after_too text_too two.took two.takes wrote_too ∙ ap (λ (t : List ℕ). before_too ++ t) (sym same.0),
+      ),
+    )
+
+pub outcome_or_fault : OutcomeOrFault
+outcome_or_fault job octets other before after before_too after_too outcome fault one two = λ is.
+    let (text, says, wrote) = one.ran.ran.wrote in
+    says_no_fault job one.reader one.second octets other text outcome fault one.has one.other_has says (fault_of_run job octets other before_too after_too fault two is)
+
+pub fault_is_one_too : FaultIsOne
+fault_is_one_too job octets other before after before_too after_too fault fault_too one two is is_too =
+    fault_one job octets other fault fault_too (fault_of_run job octets other before after fault one is) (fault_of_run job octets other before_too after_too fault_too two is_too)
+
+pub written_is_prefix : WrittenIsPrefix
+written_is_prefix job octets other before after before_too after_too outcome one two =
+    let (left, answer, says, (n, took)) = one.ran.ran.prefix in
+    let (text, says_too, wrote) = two.ran.ran.wrote in
+    let same = says_one job octets other one.reader two.reader one.second two.second left text answer outcome one.has two.has one.other_has two.other_has says says_too in
+    let part = appended _ _ before after (take n left) one.took one.takes took in
+    (text, n, appended _ _ before_too after_too text two.took two.takes wrote, part ∙ ap (λ (t : List ℕ). before ++ take n t) same.0)
+
 pub nothing_written : NothingWritten
-nothing_written limits job dump other before after fault one not_write =
-    kept _ _ before after one.took one.takes (not_at_write fault _ _ not_write (tell limits job dump other before after (Err fault) one).prefix)
+nothing_written job octets other before after fault one not_write =
+    let same = ap (λ (state : _). state.taken) (not_at_write fault _ _ not_write one.ran.ran.prefix) in
+    let taken : Some after ≡ Some before = sym one.takes ∙ same ∙ one.took in
+    cc
 
--- a fault of octets that is answered as a dump's own is that of the dump
-of_table_fault : (reading : Reading) (dump : List ℕ) (fault : Fault) → FaultOfTable reading dump (run_faults.Dump fault)
+-- ---- a dump's fault is that of all octets
+
+-- the fault that is answered for a dump is its own
+own_fault : (reading : Reading) (dump : List ℕ) (fault : Fault) → FaultOfDump reading dump (input_faults.Dump fault)
     → DumpFault reading.limits reading.mode reading.sender dump fault
-of_table_fault reading dump fault (inl (of_dump, is, has)) =
-    let same : of_dump ≡ fault = cc in subst (λ (f : Fault). DumpFault reading.limits reading.mode reading.sender dump f) same has
-of_table_fault reading dump fault (inr (tlv, is, ignored)) = absurd cc
+own_fault reading dump fault (inl (own, is, has)) =
+    let same : own ≡ fault = cc in subst (λ (f : Fault). DumpFault reading.limits reading.mode reading.sender dump f) same has
+own_fault reading dump fault (inr (tlv, is, ignored)) = absurd cc
 
-of_normal_fault : (reading : Reading) (dump : List ℕ) (fault : Fault) → FaultOfNormal reading dump (run_faults.Dump fault)
-    → fault ≢ faults.TooManyPairs → DumpFault reading.limits reading.mode reading.sender dump fault
-of_normal_fault reading dump fault (inl has) not_pairs = of_table_fault reading dump fault has
-of_normal_fault reading dump fault (inr (is, many)) not_pairs =
+-- so is one of its form, but for too many pairs
+own_form_fault : (reading : Reading) (view : View) (dump : List ℕ) (fault : Fault) → fault ≢ faults.TooManyPairs → FaultOfForm reading view dump (input_faults.Dump fault)
+    → DumpFault reading.limits reading.mode reading.sender dump fault
+own_form_fault reading view dump fault not_pairs (inl has) = own_fault reading dump fault has
+own_form_fault reading view dump fault not_pairs (inr (is, many)) = let same : fault ≡ faults.TooManyPairs = cc in absurd (not_pairs same)
+
+-- the fault that is told as that of the input on a side
+at_side : (side at : Side) (Holds : InputFault → Type 0) (fault : InputFault) → FaultAt at Holds (run_faults.Input side fault) → (side ≡ at) × Holds fault
+at_side side at Holds fault (of_input, is, holds) =
+    let same : of_input ≡ fault = cc in
+    let sides : side ≡ at = cc in
+    (sides, subst Holds same holds)
+
+-- the job reads a dump on this side, whose fault it is
+pub record HasDumpFault (job : Job) (side : Side) (octets : List ℕ) (fault : Fault) : Type 0 where
+  pub reading : Reading
+  pub is_read : reading_at side job ≡ Some reading
+  pub has : DumpFault reading.limits reading.mode reading.sender octets fault
+
+of_both : (job : Job) (reading other_reading : Reading) (side : Side) (octets other : List ℕ) (fault : Fault) → reading_at sides.First job ≡ Some reading
+    → reading_at sides.Other job ≡ Some other_reading → FaultOfBoth reading other_reading octets other (run_faults.Input side (input_faults.Dump fault))
+    → HasDumpFault job side (octets_at side octets other) fault
+of_both job reading other_reading sides.First octets other fault first second (inl has) =
+    record { reading = reading; is_read = first; has = own_fault reading octets fault (at_side sides.First sides.First _ _ has).1 }
+of_both job reading other_reading sides.Other octets other fault first second (inl has) =
+    let no = (at_side sides.Other sides.First _ _ has).0 in absurd cc
+of_both job reading other_reading sides.First octets other fault first second (inr (sound, has)) =
+    let no = (at_side sides.First sides.Other _ _ has).0 in absurd cc
+of_both job reading other_reading sides.Other octets other fault first second (inr (sound, has)) =
+    record { reading = other_reading; is_read = second; has = own_fault other_reading other fault (at_side sides.Other sides.Other _ _ has).1 }
+
+of_one : (job : Job) (reading : Reading) (side : Side) (octets other : List ℕ) (fault : Fault) (Holds : InputFault → Type 0) → reading_at sides.First job ≡ Some reading
+    → (Holds (input_faults.Dump fault) → DumpFault reading.limits reading.mode reading.sender octets fault)
+    → FaultAt sides.First Holds (run_faults.Input side (input_faults.Dump fault)) → HasDumpFault job side (octets_at side octets other) fault
+of_one job reading sides.First octets other fault Holds first own has =
+    record { reading = reading; is_read = first; has = own (at_side sides.First sides.First Holds _ has).1 }
+of_one job reading sides.Other octets other fault Holds first own has = let no = (at_side sides.Other sides.First Holds _ has).0 in absurd cc
+
+dump_fault_of : (job : Job) (side : Side) (octets other : List ℕ) (fault : Fault) → fault ≢ faults.TooManyPairs
+    → FaultOf job octets other (run_faults.Input side (input_faults.Dump fault)) → HasDumpFault job side (octets_at side octets other) fault
+dump_fault_of (jobs.Show reading format file) side octets other fault not_pairs has =
+    of_one (jobs.Show reading format file) reading side octets other fault _ refl (own_fault reading octets fault) has
+dump_fault_of (jobs.Lookup reading pair format file quiet) side octets other fault not_pairs has =
+    of_one (jobs.Lookup reading pair format file quiet) reading side octets other fault _ refl (own_fault reading octets fault) has
+dump_fault_of (jobs.Each reading format file pairs quiet) side octets other fault not_pairs (inl (inl (line, is, few, wrong))) = absurd cc
+dump_fault_of (jobs.Each reading format file pairs quiet) side octets other fault not_pairs (inl (inr (is, over))) = absurd cc
+dump_fault_of (jobs.Each reading format file pairs quiet) side octets other fault not_pairs (inr (asked, has)) =
+    of_one (jobs.Each reading format file pairs quiet) reading side octets other fault _ refl (own_fault reading octets fault) has
+dump_fault_of (jobs.Normalise reading view body hex file quiet) side octets other fault not_pairs has =
+    of_one (jobs.Normalise reading view body hex file quiet) reading side octets other fault _ refl (own_form_fault reading view octets fault not_pairs) has
+dump_fault_of (jobs.Pairs reading view count format file quiet) side octets other fault not_pairs has =
+    of_one (jobs.Pairs reading view count format file quiet) reading side octets other fault _ refl (own_form_fault reading view octets fault not_pairs) has
+dump_fault_of (jobs.Compare reading other_reading view format file another quiet) side octets other fault not_pairs has =
+    of_both (jobs.Compare reading other_reading view format file another quiet) reading other_reading side octets other fault refl refl has
+dump_fault_of (jobs.Differences reading other_reading view count format file another quiet) side octets other fault not_pairs (inl has) =
+    of_both (jobs.Differences reading other_reading view count format file another quiet) reading other_reading side octets other fault refl refl has
+dump_fault_of (jobs.Differences reading other_reading view count format file another quiet) side octets other fault not_pairs (inr (is, many)) =
     let same : fault ≡ faults.TooManyPairs = cc in absurd (not_pairs same)
+dump_fault_of (jobs.Senders reading format file quiet) side octets other fault not_pairs has = absurd has
+dump_fault_of (jobs.Extract reading sender interface hex file quiet) side octets other fault not_pairs has = absurd has
 
-of_each_fault : (reading : Reading) (dump text : List ℕ) (fault : Fault) → FaultOfEach reading dump text (run_faults.Dump fault)
-    → DumpFault reading.limits reading.mode reading.sender dump fault
-of_each_fault reading dump text fault (inl (inl (line, is, few, wrong))) = absurd cc
-of_each_fault reading dump text fault (inl (inr (is, over))) = absurd cc
-of_each_fault reading dump text fault (inr (asked, has)) = of_table_fault reading dump fault has
-
-of_first : (reading other_reading : Reading) (dump other : List ℕ) (fault : Fault)
-    → FaultOfTables reading other_reading dump other (run_faults.Dump fault) → DumpFault reading.limits reading.mode reading.sender dump fault
-of_first reading other_reading dump other fault (inl has) = of_table_fault reading dump fault has
-of_first reading other_reading dump other fault (inr (first, inl (of_other, is, has))) = absurd cc
-of_first reading other_reading dump other fault (inr (first, inr (tlv, is, has))) = absurd cc
-
-of_second : (reading other_reading : Reading) (dump other : List ℕ) (fault : Fault)
-    → FaultOfTables reading other_reading dump other (run_faults.OtherDump fault)
-    → DumpFault other_reading.limits other_reading.mode other_reading.sender other fault
-of_second reading other_reading dump other fault (inl (inl (of_dump, is, has))) = absurd cc
-of_second reading other_reading dump other fault (inl (inr (tlv, is, has))) = absurd cc
-of_second reading other_reading dump other fault (inr (first, inl (of_other, is, has))) =
-    let same : of_other ≡ fault = cc in
-    subst (λ (f : Fault). DumpFault other_reading.limits other_reading.mode other_reading.sender other f) same has
-of_second reading other_reading dump other fault (inr (first, inr (tlv, is, has))) = absurd cc
-
-of_first_difference : (reading other_reading : Reading) (dump other : List ℕ) (fault : Fault)
-    → FaultOfDifferences reading other_reading dump other (run_faults.Dump fault) → fault ≢ faults.TooManyPairs
-    → DumpFault reading.limits reading.mode reading.sender dump fault
-of_first_difference reading other_reading dump other fault (inl has) not_pairs = of_first reading other_reading dump other fault has
-of_first_difference reading other_reading dump other fault (inr (is, more)) not_pairs =
-    let same : fault ≡ faults.TooManyPairs = cc in absurd (not_pairs same)
-
-of_second_difference : (reading other_reading : Reading) (dump other : List ℕ) (fault : Fault)
-    → FaultOfDifferences reading other_reading dump other (run_faults.OtherDump fault)
-    → DumpFault other_reading.limits other_reading.mode other_reading.sender other fault
-of_second_difference reading other_reading dump other fault (inl has) = of_second reading other_reading dump other fault has
-of_second_difference reading other_reading dump other fault (inr (is, more)) = absurd cc
+pub dump_fault_of_run : (job : Job) (side : Side) (octets other before after : List ℕ) (fault : Fault)
+    → RanOver job octets other before after (Err (run_faults.Input side (input_faults.Dump fault))) → fault ≢ faults.Memory → fault ≢ faults.TooManyPairs
+    → HasDumpFault job side (octets_at side octets other) fault
+dump_fault_of_run job side octets other before after fault run not_memory not_pairs =
+    dump_fault_of job side octets other fault not_pairs (fault_of_run job octets other before after (run_faults.Input side (input_faults.Dump fault)) run not_memory)
 
 pub fault_is_of_all : FaultIsOfAll
-fault_is_of_all limits (jobs.Show given) dump other before after fault one not_memory not_pairs =
-    of_table_fault _ dump fault ((tell limits (jobs.Show given) dump other before after _ one).cause not_memory)
-fault_is_of_all limits (jobs.Lookup given pair) dump other before after fault one not_memory not_pairs =
-    of_table_fault _ dump fault ((tell limits (jobs.Lookup given pair) dump other before after _ one).cause not_memory)
-fault_is_of_all limits (jobs.Each given file) dump other before after fault one not_memory not_pairs =
-    of_each_fault _ dump other fault ((tell limits (jobs.Each given file) dump other before after _ one).cause not_memory)
-fault_is_of_all limits (jobs.Normalise given body hex) dump other before after fault one not_memory not_pairs =
-    of_normal_fault _ dump fault ((tell limits (jobs.Normalise given body hex) dump other before after _ one).cause not_memory) not_pairs
-fault_is_of_all limits (jobs.Pairs given count) dump other before after fault one not_memory not_pairs =
-    of_normal_fault _ dump fault ((tell limits (jobs.Pairs given count) dump other before after _ one).cause not_memory) not_pairs
-fault_is_of_all limits (jobs.Compare dumps) dump other before after fault one not_memory not_pairs =
-    of_first _ _ dump other fault ((tell limits (jobs.Compare dumps) dump other before after _ one).cause not_memory)
-fault_is_of_all limits (jobs.Differences dumps count) dump other before after fault one not_memory not_pairs =
-    of_first_difference _ _ dump other fault ((tell limits (jobs.Differences dumps count) dump other before after _ one).cause not_memory) not_pairs
-
--- the fault of the other of two dumps
-of_other : (limits : Bounds) (job : Job) (dumps : TwoDumps) (dump other : List ℕ) (fault : Fault) → IsOverBoth job dumps
-    → FaultOf limits job dump other (run_faults.OtherDump fault) → DumpFault limits dumps.mode dumps.other_from other fault
-of_other limits job dumps dump other fault (inl is) has =
-    of_second (left_reading limits dumps) (right_reading limits dumps) dump other fault
-    (subst (λ (j : Job). FaultOf limits j dump other (run_faults.OtherDump fault)) is has)
-of_other limits job dumps dump other fault (inr (count, is)) has =
-    of_second_difference (left_reading limits dumps) (right_reading limits dumps) dump other fault
-    (subst (λ (j : Job). FaultOf limits j dump other (run_faults.OtherDump fault)) is has)
-
-pub other_fault_is_of_all : OtherFaultIsOfAll
-other_fault_is_of_all limits job dumps dump other before after fault over one not_memory =
-    of_other limits job dumps dump other fault over ((tell limits job dump other before after _ one).cause not_memory)
+fault_is_of_all job side reading octets other before after fault is_read run not_memory not_pairs =
+    let found = dump_fault_of_run job side octets other before after fault run not_memory not_pairs in
+    let readings : Some found.reading ≡ Some reading = sym found.is_read ∙ is_read in
+    let same : found.reading ≡ reading = cc in
+    subst (λ (r : Reading). DumpFault r.limits r.mode r.sender (octets_at side octets other) fault) same found.has

@@ -6,9 +6,8 @@ use Rattle.std.specs.Prelude.{IsErr}
 use Rattle.std.specs.Io.KnownBytes.{Appends, Keeps}
 use Rattle.std.proofs.KnownBytes.{Appends-kept, Appends-nil, Appends-trans}
 use Rattle.babel_dump.specs.Device.{AppendsPrefix, OutputState}
-use Rattle.babel_dump.specs.Parts.{WroteText}
 use Rattle.babel_dump.specs.Run.{Output, output}
-use Rattle.babel_dump.specs.Slices.{Broke, Took, WroteFront}
+use Rattle.babel_dump.specs.Slices.{Broke, Took, WroteFront, WroteText}
 
 -- after a front, a prefix of more is one of both
 prefix_on : (a b c : OutputState) (front more : List ℕ) → Appends a.taken b.taken front → AppendsPrefix b.taken c.taken more

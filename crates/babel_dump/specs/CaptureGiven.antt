@@ -1,30 +1,31 @@
 -- What readers gave, as captures. No RFC speaks of readers: these are this project's own.
-use Rattle.std.specs.Prelude.{ℕ, Bool, true, false, ◌≡◌, ◌<◌, ◌⊎◌, List, Option, None, Some}
-use Rattle.std.specs.Io.KnownBytes.{Consumes, IsAtEnd}
+use Rattle.std.specs.Prelude.{ℕ, Bool, true, false, ◌≡◌, ◌⊎◌, List, Option, None, Some}
+use Rattle.std.specs.Io.KnownBytes.{Consumes}
 use Rattle.babel_capture.specs.Capture.{EndsShort, HasRead, IsRead, IsReadToCut, State}
 use Rattle.babel_capture.specs.Gathering.{Gathering}
 use Rattle.babel_capture.specs.Reading.{Stops}
 use Rattle.babel_capture.specs.declared.fault.Fault.{Fault}
 use Rattle.babel_capture.specs.declared.fault.Fault.TheVariants as faults
+use Rattle.babel_capture.specs.declared.wanted.Wanted.{Wanted}
 use Rattle.babel_dump.specs.Device.{InputState}
+use Rattle.babel_dump.specs.Given.{GaveOctets}
 use Rattle.babel_dump.specs.LeftOut.{LeavesNoneOut, first_left_out}
 use Rattle.babel_dump.specs.declared.capture_reading.CaptureReading.{CaptureReading}
 use Rattle.babel_dump.specs.declared.left_out.LeftOutDatagram.{LeftOutDatagram}
 
--- a reader of a capture that is read so, before a run and after it
+-- a reader of a capture that is read so, of which these datagrams are wanted, before a run and after it
 pub record CaptureInput : Type 0 where
   pub reading : CaptureReading
+  pub wanted : Wanted
   pub old : InputState
   pub new : InputState
 
-abbrev pub capture_from : InputState → InputState → CaptureReading → CaptureInput
-capture_from old new reading = record { reading = reading; old = old; new = new }
+abbrev pub capture_from : InputState → InputState → CaptureReading → Wanted → CaptureInput
+capture_from old new reading wanted = record { reading = reading; wanted = wanted; old = old; new = new }
 
 -- the reader gave these octets, all that it had, and met its end
-pub record GaveWhole (reader : CaptureInput) (octets : List ℕ) : Type 0 where
-  pub gave : Consumes reader.old.left reader.new.left octets
-  pub all : IsAtEnd reader.new.left
-  pub met_end : reader.old.ends < reader.new.ends
+abbrev pub GaveWhole : CaptureInput → List ℕ → Type 0
+GaveWhole reader = GaveOctets reader.old reader.new
 
 -- the octets are a capture; where a cut is accepted, its last block may be cut short, and this is where
 abbrev pub IsReadSo : (accept_cut : Bool) → (limit : ℕ) → List ℕ → Gathering → Option ℕ → Type 0
@@ -36,7 +37,7 @@ pub record GaveCapture (reader : CaptureInput) (gathering : Gathering) (cut : Op
   pub octets : List ℕ
   pub gave : GaveWhole reader octets
   pub is_read : IsReadSo reader.reading.accept_cut reader.reading.limit octets gathering cut
-  pub wanted : gathering.wanted ≡ reader.reading.wanted
+  pub wanted : gathering.wanted ≡ reader.wanted
 
 -- the reader gave such a capture, of which no wanted datagram was left out if it is read strictly
 pub record GaveSound (reader : CaptureInput) (gathering : Gathering) (cut : Option ℕ) : Type 0 where
@@ -54,14 +55,14 @@ pub record GaveLeftOut (reader : CaptureInput) (datagram : LeftOutDatagram) : Ty
 -- the octets, all that the reader had, end before the first block is whole; or, where no cut is accepted, within a later one
 pub record EndsTooSoon (reader : CaptureInput) (octets : List ℕ) (fault : Fault) : Type 0 where
   pub all : GaveWhole reader octets
-  pub short : EndsShort reader.reading.limit reader.reading.wanted octets fault
+  pub short : EndsShort reader.reading.limit reader.wanted octets fault
   pub not_accepted : reader.reading.accept_cut ≡ true → fault ≡ faults.NotCapture
 
 -- the fault is that of the octets that the reader gave, however they go on; or they end too soon
 pub record IsFaultOfCapture (reader : CaptureInput) (fault : Fault) : Type 0 where
   pub given : List ℕ
   pub gave : Consumes reader.old.left reader.new.left given
-  pub refused : Stops reader.reading.limit reader.reading.wanted given fault ⊎ EndsTooSoon reader given fault
+  pub refused : Stops reader.reading.limit reader.wanted given fault ⊎ EndsTooSoon reader given fault
 
 -- what a reader of captures was fed is what the device gave, all that it had
 pub record IsFedWhole (capture : State) (reader : CaptureInput) : Type 0 where

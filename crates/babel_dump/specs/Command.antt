@@ -1,104 +1,148 @@
--- What each command promises: what every run does, and its own text and status. These are this project's own.
-use Rattle.std.specs.Prelude.{ℕ, Bool, ◌≡◌, ◌≤◌, ◌⊎◌, List, length, None, Some, Result, IfErr}
+-- What each command over dumps promises: its own text and outcome, and the causes of its faults. These are this project's
+-- own.
+use Rattle.std.specs.Prelude.{ℕ, Bool, ◌≡◌, ◌<◌, ◌≤◌, ◌⊎◌, List, length, Result}
 use Rattle.babel_prefix.specs.Address.{Address}
-use Rattle.babel_tlv.specs.declared.fault.Fault.{Fault}
 use Rattle.babel_tlv.specs.declared.fault.Fault.TheVariants as faults
+use Rattle.babel_tlv.specs.declared.view.View.{View}
+use Rattle.babel_tlv.specs.Views.{keeps_all}
+use Rattle.babel_table.specs.Counts.{Counts}
 use Rattle.babel_table.specs.Rows.{Routes}
+use Rattle.babel_table.specs.Seen.{seen_rows}
 use Rattle.babel_canon.specs.Canonical.{Canonical}
+use Rattle.babel_canon.specs.Differences.{AreDifferences}
+use Rattle.babel_canon.specs.Verdict.{IsVerdict}
 use Rattle.babel_canon.specs.declared.every_difference.Difference.{Difference}
 use Rattle.babel_canon.specs.declared.verdict.Verdict.{Verdict}
-use Rattle.babel_dump.specs.Given.{GaveDifferences, GaveNormal, GavePairs, GaveTable, GaveVerdict, Input, IsFaultOfDifferences, IsFaultOfForm, IsFaultOfGiven}
+use Rattle.babel_dump.specs.Given.{GaveNormal, GavePairs, GaveTable, GaveTables, Input, IsFaultOfForm, IsFaultOfGiven}
 use Rattle.babel_dump.specs.InFormat.{differences_or_count_in, lookup_in, pairs_or_counts_in, show_in, verdict_in}
-use Rattle.babel_dump.specs.Run.{Output, Ran}
+use Rattle.babel_dump.specs.Run.{Called, InputCause, OfStatus, Output, Ran, RanAlone, calls_of}
 use Rattle.babel_dump.specs.RunText.{answer_in, differences_status, form_text, lookup_status, verdict_status}
 use Rattle.babel_dump.specs.declared.format.Format.{Format}
+use Rattle.babel_dump.specs.declared.input_fault.InputFault.TheVariants as input_faults
+use Rattle.babel_dump.specs.declared.outcome.Outcome.{Outcome}
+use Rattle.babel_dump.specs.declared.outcome.Reports.TheVariants as reports
 use Rattle.babel_dump.specs.declared.run_fault.RunFault.{RunFault}
 use Rattle.babel_dump.specs.declared.run_fault.RunFault.TheVariants as run_faults
+use Rattle.babel_dump.specs.declared.run_fault.Side.TheVariants as sides
+
+-- the outcome has this status, and the report of a dump, or of two
+abbrev pub IsOutcome : Outcome → ℕ → Counts → Type 0
+IsOutcome outcome status report = outcome ≡ record { status = status; reports = reports.Dump report }
+
+abbrev pub IsOutcomeOfBoth : Outcome → ℕ → Counts → Counts → Type 0
+IsOutcomeOfBoth outcome status report other = outcome ≡ record { status = status; reports = reports.Dumps report other }
 
 -- `show`: the rows and the report of the dump's table
-pub record Shows (reader : Input) (format : Format) (text : List ℕ) (status : ℕ) : Type 0 where
+pub record Shows (reader : Input) (format : Format) (text : List ℕ) (outcome : Outcome) : Type 0 where
   pub table : Routes
   pub gave : GaveTable reader table
   pub text_is : text ≡ show_in format table
-  pub status_is : status ≡ 0
+  pub outcome_is : IsOutcome outcome 0 table.report
 
 -- `lookup`: what the dump's table answers for a destination and a source
-pub record LooksUp (reader : Input) (dst src : Address) (format : Format) (text : List ℕ) (status : ℕ) : Type 0 where
+pub record LooksUp (reader : Input) (dst src : Address) (format : Format) (text : List ℕ) (outcome : Outcome) : Type 0 where
   pub table : Routes
   pub gave : GaveTable reader table
   pub text_is : text ≡ lookup_in format dst src (answer_in table dst src)
-  pub status_is : status ≡ lookup_status (answer_in table dst src)
+  pub outcome_is : IsOutcome outcome (lookup_status (answer_in table dst src)) table.report
 
--- `normalise`: the dump's canonical octets
-pub record WritesNormal (reader : Input) (body : ℕ) (hex : Bool) (text : List ℕ) (status : ℕ) : Type 0 where
+-- `normalise`: the dump's canonical octets under a view
+pub record WritesNormal (reader : Input) (view : View) (body : ℕ) (hex : Bool) (text : List ℕ) (outcome : Outcome) : Type 0 where
   pub octets : List ℕ
-  pub gave : GaveNormal reader body octets
+  pub report : Counts
+  pub gave : GaveNormal reader view body report octets
   pub text_is : text ≡ form_text hex octets
-  pub status_is : status ≡ 0
+  pub outcome_is : IsOutcome outcome 0 report
 
--- `pairs`: the canonical pairs of the dump's table, or how many rows and pairs there are
-pub record ListsPairs (reader : Input) (count : Bool) (format : Format) (text : List ℕ) (status : ℕ) : Type 0 where
+-- `pairs`: the canonical pairs of the dump's table under a view, or how many rows and pairs there are
+pub record ListsPairs (reader : Input) (view : View) (count : Bool) (format : Format) (text : List ℕ) (outcome : Outcome) : Type 0 where
   pub table : Routes
   pub canon : Canonical
-  pub gave : GavePairs reader table canon
-  pub text_is : text ≡ pairs_or_counts_in format reader.reading.view count table.rows canon.pairs
-  pub status_is : status ≡ 0
+  pub gave : GavePairs reader view table canon
+  pub text_is : text ≡ pairs_or_counts_in format view count table.rows canon.pairs
+  pub outcome_is : IsOutcome outcome 0 table.report
 
--- `compare`: how the answers of the dumps' tables compare
-pub record Compares (reader other : Input) (format : Format) (text : List ℕ) (status : ℕ) : Type 0 where
+-- `compare`: how the answers of the dumps' tables compare under a view
+pub record Compares (reader other : Input) (view : View) (format : Format) (text : List ℕ) (outcome : Outcome) : Type 0 where
+  pub table : Routes
+  pub other_table : Routes
+  pub gave : GaveTables reader other table other_table
   pub verdict : Verdict
-  pub gave : GaveVerdict reader other verdict
-  pub text_is : text ≡ verdict_in format reader.reading.view verdict
-  pub status_is : status ≡ verdict_status verdict
+  pub is_verdict : IsVerdict (seen_rows view table.rows) (seen_rows view other_table.rows) verdict
+  pub text_is : text ≡ verdict_in format view verdict
+  pub outcome_is : IsOutcomeOfBoth outcome (verdict_status verdict) table.report other_table.report
 
--- `compare --all`: all that the dumps' tables answer differently, or how many differences there are
-pub record ListsDifferences (reader other : Input) (count : Bool) (format : Format) (text : List ℕ) (status : ℕ) : Type 0 where
+-- two dumps' tables have these differences under a view
+pub record HaveDifferences (reader other : Input) (view : View) (table other_table : Routes) (differences : List Difference) : Type 0 where
+  pub gave : GaveTables reader other table other_table
+  pub are_differences : AreDifferences (seen_rows view table.rows) (seen_rows view other_table.rows) differences
+
+-- `compare --all`: all that the dumps' tables answer differently under a view, or how many differences there are
+pub record ListsDifferences (reader other : Input) (view : View) (count : Bool) (format : Format) (text : List ℕ) (outcome : Outcome) : Type 0 where
+  pub table : Routes
+  pub other_table : Routes
   pub differences : List Difference
-  pub gave : GaveDifferences reader other differences
+  pub have : HaveDifferences reader other view table other_table differences
   pub few : length differences ≤ reader.reading.limits.entries
-  pub text_is : text ≡ differences_or_count_in format reader.reading.view count differences
-  pub status_is : status ≡ differences_status (length differences)
-
-abbrev pub RanShow : Input → Format → Output → Result ℕ RunFault → Type 0
-RanShow reader format writer result = Ran reader None writer (IsFaultOfGiven reader) (Shows reader format) result
-
-abbrev pub RanLookup : Input → Address → Address → Format → Output → Result ℕ RunFault → Type 0
-RanLookup reader dst src format writer result = Ran reader None writer (IsFaultOfGiven reader) (LooksUp reader dst src format) result
-
-abbrev pub RanNormalise : Input → ℕ → Bool → Output → Result ℕ RunFault → Type 0
-RanNormalise reader body hex writer result = Ran reader None writer (IsFaultOfForm reader) (WritesNormal reader body hex) result
-
-abbrev pub RanPairs : Input → Bool → Format → Output → Result ℕ RunFault → Type 0
-RanPairs reader count format writer result = Ran reader None writer (IsFaultOfForm reader) (ListsPairs reader count format) result
+  pub text_is : text ≡ differences_or_count_in format view count differences
+  pub outcome_is : IsOutcomeOfBoth outcome (differences_status (length differences)) table.report other_table.report
 
 -- the reader gave a dump without a fault, and without an ignored TLV if it is read strictly
 abbrev pub GaveSound : Input → Type 0
 GaveSound reader = (table : Routes) × GaveTable reader table
 
--- Two dumps are read in turn: a fault of the first leaves the other reader as it was, and one of the other comes where the
--- first has none. Want of memory is the other's only while that is read, and else the first's. `AfterBoth` has the faults that
--- can come as the first's after both dumps, of which neither has one.
-abbrev pub InTurn : Input → Input → (AfterBoth : Fault → Type 0) → (untouched : Type 0) → RunFault → Type 0
-InTurn reader other AfterBoth untouched (run_faults.Dump fault) = untouched ⊎ (AfterBoth fault × GaveSound reader × GaveSound other)
-InTurn reader other AfterBoth untouched run_faults.OtherRead = GaveSound reader
-InTurn reader other AfterBoth untouched (run_faults.OtherIgnored tlv) = GaveSound reader
-InTurn reader other AfterBoth untouched (run_faults.OtherDump fault) = GaveSound reader
-InTurn reader other AfterBoth untouched (run_faults.Pairs fault) = ⊥
-InTurn reader other AfterBoth untouched run_faults.Write = GaveSound reader × GaveSound other
-InTurn reader other AfterBoth untouched fault = untouched
+-- Two dumps are read in turn: a fault of the first leaves the other reader as it was (`untouched`), and one of the other
+-- comes where the first has none.
+abbrev pub InTurn : Input → Input → (untouched : Type 0) → RunFault → Type 0
+InTurn reader other untouched (run_faults.Input sides.First fault) =
+    untouched × InputCause reader (IsFaultOfGiven reader) fault
+InTurn reader other untouched (run_faults.Input sides.Other fault) =
+    GaveSound reader × InputCause other (IsFaultOfGiven other) fault
+InTurn reader other untouched fault = ⊥
 
--- those of `compare`, and of `compare --all`
-abbrev pub IsOfMemory : Fault → Type 0
-IsOfMemory fault = fault ≡ faults.Memory
+-- want of memory that is told as the first dump's
+abbrev pub IsOfMemory : RunFault → Type 0
+IsOfMemory fault = fault ≡ run_faults.Input sides.First (input_faults.Dump faults.Memory)
 
-abbrev pub IsOfMemoryOrMany : Fault → Type 0
-IsOfMemoryOrMany fault = (fault ≡ faults.Memory) ⊎ (fault ≡ faults.TooManyPairs)
+-- too many pairs, or differences, are told so too
+abbrev pub IsOfMany : RunFault → Type 0
+IsOfMany fault = fault ≡ run_faults.Input sides.First (input_faults.Dump faults.TooManyPairs)
+
+-- A fault of a comparison: that of one of its dumps; or, where neither has one, want of memory.
+abbrev pub CompareCause : Input → Input → (untouched : Type 0) → RunFault → Type 0
+CompareCause reader other untouched fault =
+    InTurn reader other untouched fault ⊎ (IsOfMemory fault × GaveSound reader × GaveSound other)
+
+-- two dumps have more differences than the limit
+pub record HaveMany (reader other : Input) (view : View) : Type 0 where
+  pub table : Routes
+  pub other_table : Routes
+  pub differences : List Difference
+  pub have : HaveDifferences reader other view table other_table differences
+  pub many : reader.reading.limits.entries < length differences
+
+-- A fault of `compare --all`: that of a comparison; or that there are too many differences.
+abbrev pub DifferencesCause : Input → Input → View → (untouched : Type 0) → RunFault → Type 0
+DifferencesCause reader other view untouched fault =
+    CompareCause reader other untouched fault ⊎ (IsOfMany fault × HaveMany reader other view)
+
+abbrev pub RanShow : Input → Format → Output → Result ℕ RunFault → Type 0
+RanShow reader format writer = RanAlone reader (InputCause reader (IsFaultOfGiven reader)) writer (Shows reader format)
+
+abbrev pub RanLookup : Input → Address → Address → Format → Output → Result ℕ RunFault → Type 0
+RanLookup reader dst src format writer =
+    RanAlone reader (InputCause reader (IsFaultOfGiven reader)) writer (LooksUp reader dst src format)
+
+abbrev pub RanNormalise : Input → ℕ → Bool → Output → Result ℕ RunFault → Type 0
+RanNormalise reader body hex writer =
+    RanAlone reader (InputCause reader (IsFaultOfForm reader keeps_all)) writer (WritesNormal reader keeps_all body hex)
+
+abbrev pub RanPairs : Input → Bool → Format → Output → Result ℕ RunFault → Type 0
+RanPairs reader count format writer =
+    RanAlone reader (InputCause reader (IsFaultOfForm reader keeps_all)) writer (ListsPairs reader keeps_all count format)
 
 -- `untouched` says that the other reader is as it was
 pub record RanCompare (reader other : Input) (format : Format) (writer : Output) (untouched : Type 0) (result : Result ℕ RunFault) : Type 0 where
-  pub ran : Ran reader (Some other) writer (IsFaultOfGiven reader) (Compares reader other format) result
-  pub in_turn : IfErr result (InTurn reader other IsOfMemory untouched)
-
-pub record RanDifferences (reader other : Input) (count : Bool) (format : Format) (writer : Output) (untouched : Type 0) (result : Result ℕ RunFault) : Type 0 where
-  pub ran : Ran reader (Some other) writer (IsFaultOfDifferences reader other) (ListsDifferences reader other count format) result
-  pub in_turn : IfErr result (InTurn reader other IsOfMemoryOrMany untouched)
+  pub ran : Ran writer (CompareCause reader other untouched) (OfStatus (Compares reader other keeps_all format)) result
+  pub called : Called (calls_of reader) result
+  pub other_called : Called (calls_of other) result

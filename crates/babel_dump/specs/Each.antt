@@ -1,16 +1,17 @@
 -- What `lookup --each` promises: the pairs are read first, and then each is looked up in the dump. No RFC speaks of it: this
 -- is the project's own.
-use Rattle.std.specs.Prelude.{ℕ, ◌≡◌, ◌<◌, ◌≤◌, ◌⊎◌, List, None, Result, Err, length}
+use Rattle.std.specs.Prelude.{ℕ, ◌≡◌, ◌<◌, ◌≤◌, ◌⊎◌, List, length}
 use Rattle.std.specs.Io.KnownBytes.{Consumes}
-use Rattle.babel_tlv.specs.declared.fault.Fault.TheVariants as faults
 use Rattle.babel_table.specs.Rows.{Routes}
 use Rattle.babel_dump.specs.AskedPairs.{AskFor, IsFirstWrong, lines_of}
+use Rattle.babel_dump.specs.Command.{IsOfMemory, IsOutcome}
 use Rattle.babel_dump.specs.Given.{GaveAll, GaveTable, Input, IsFaultOfGiven}
 use Rattle.babel_dump.specs.InFormat.{each_in}
-use Rattle.babel_dump.specs.Run.{FewCalls, HasFailed, NoFailure, Output, Ran}
+use Rattle.babel_dump.specs.Run.{InputCause, OfFirst}
 use Rattle.babel_dump.specs.RunText.{each_status}
 use Rattle.babel_dump.specs.declared.addr_pair.AddrPair.{AddrPair}
 use Rattle.babel_dump.specs.declared.format.Format.{Format}
+use Rattle.babel_dump.specs.declared.outcome.Outcome.{Outcome}
 use Rattle.babel_dump.specs.declared.pairs_fault.PairsFault.TheVariants as pairs_faults
 use Rattle.babel_dump.specs.declared.run_fault.RunFault.{RunFault}
 use Rattle.babel_dump.specs.declared.run_fault.RunFault.TheVariants as run_faults
@@ -38,37 +39,35 @@ pub record GaveWrong (reader : Input) (line : ℕ) : Type 0 where
   pub gave : GaveText reader text
   pub wrong : IsFirstWrong (lines_of text) line
 
--- why there are no pairs, by what the reader gave; want of memory has no cause that a contract can see
+-- why there is no text, by what the reader gave; want of memory has no cause that a contract can see
+abbrev pub RefusesText : Input → RunFault → Type 0
+RefusesText reader (run_faults.Pairs pairs_faults.TooLong) = GaveTooMany reader
+RefusesText reader (run_faults.Pairs pairs_faults.Read) = reader.old.failures < reader.new.failures
+RefusesText reader (run_faults.Pairs fault) = ⊥
+RefusesText reader fault = IsOfMemory fault
+
+-- why there are no pairs: a line of the text is wrong, or there is no text
 abbrev pub RefusesPairs : Input → RunFault → Type 0
 RefusesPairs reader (run_faults.Pairs (pairs_faults.NotAPair line)) = GaveWrong reader line
-RefusesPairs reader (run_faults.Pairs pairs_faults.TooLong) = GaveTooMany reader
-RefusesPairs reader (run_faults.Pairs pairs_faults.Read) = HasFailed reader
-RefusesPairs reader (run_faults.Dump fault) = fault ≡ faults.Memory
-RefusesPairs reader fault = ⊥
+RefusesPairs reader fault = RefusesText reader fault
 
 -- what the dump's table answers for each of these pairs
-pub record LooksUpEach (reader : Input) (format : Format) (pairs : List AddrPair) (text : List ℕ) (status : ℕ) : Type 0 where
+pub record LooksUpEach (reader : Input) (format : Format) (pairs : List AddrPair) (text : List ℕ) (outcome : Outcome) : Type 0 where
   pub table : Routes
   pub gave : GaveTable reader table
   pub text_is : text ≡ each_in format table pairs
-  pub status_is : status ≡ each_status table pairs
+  pub outcome_is : IsOutcome outcome (each_status table pairs) table.report
 
--- the pairs are refused, and the dump's reader and the writer are as they were
-pub record RefusedPairs (reader pairs : Input) (writer : Output) (result : Result ℕ RunFault) : Type 0 where
-  pub fault : RunFault
-  pub answers : result ≡ Err fault
-  pub refuses : RefusesPairs pairs fault
-  pub unread : reader.new ≡ reader.old
-  pub unwritten : writer.new ≡ writer.old
-
--- each of the pairs that the reader of pairs gave is looked up
-pub record RanOverPairs (reader pairs : Input) (format : Format) (writer : Output) (result : Result ℕ RunFault) : Type 0 where
+-- what it answers for each of the pairs that the reader of pairs gave
+pub record LooksUpAsked (reader pairs : Input) (format : Format) (text : List ℕ) (outcome : Outcome) : Type 0 where
   pub asked : List AddrPair
   pub gave : GavePairsOf pairs asked
-  pub no_failure : NoFailure pairs
-  pub ran : Ran reader None writer (IsFaultOfGiven reader) (LooksUpEach reader format asked) result
+  pub answers : LooksUpEach reader format asked text outcome
 
--- the run of a lookup of each of the pairs that one reader gave, in the dump of another
-pub record RanEach (reader pairs : Input) (format : Format) (writer : Output) (result : Result ℕ RunFault) : Type 0 where
-  pub ran : RefusedPairs reader pairs writer result ⊎ RanOverPairs reader pairs format writer result
-  pub few_calls : FewCalls pairs
+-- A fault of a lookup of each of the pairs: that of the pairs, and then the dump's reader is as it was; or, where these
+-- have none, that of the dump.
+abbrev pub EachCause : Input → Input → RunFault → Type 0
+EachCause reader pairs fault =
+    (RefusesPairs pairs fault × (reader.new ≡ reader.old))
+    ⊎ (((asked : List AddrPair) × GavePairsOf pairs asked) × (pairs.new.failures ≡ pairs.old.failures)
+    × OfFirst (InputCause reader (IsFaultOfGiven reader)) fault)

@@ -4,19 +4,21 @@ use Rattle.babel_dump.specs.declared.job.DumpFile.{DumpFile}
 use Rattle.babel_dump.specs.declared.job.Job.{Job}
 use Rattle.babel_dump.specs.declared.job.Job.TheVariants as jobs
 
--- where the dump is read from, or the first of two
+-- where the input is read from, or the first of two
 abbrev pub first_file : Job → DumpFile
-first_file (jobs.Show dump) = dump.file
-first_file (jobs.Lookup dump pair) = dump.file
-first_file (jobs.Each dump pairs) = dump.file
-first_file (jobs.Normalise dump body hex) = dump.file
-first_file (jobs.Pairs dump count) = dump.file
-first_file (jobs.Compare dumps) = dumps.file
-first_file (jobs.Differences dumps count) = dumps.file
+first_file (jobs.Show reading format file) = file
+first_file (jobs.Lookup reading pair format file quiet) = file
+first_file (jobs.Each reading format file pairs quiet) = file
+first_file (jobs.Normalise reading view body hex file quiet) = file
+first_file (jobs.Pairs reading view count format file quiet) = file
+first_file (jobs.Compare reading other_reading view format file other quiet) = file
+first_file (jobs.Differences reading other_reading view count format file other quiet) = file
+first_file (jobs.Senders reading format file quiet) = file
+first_file (jobs.Extract reading sender interface hex file quiet) = file
 
 -- where the other dump of a comparison is read from, or the pairs of `--each`
 abbrev pub other_file : Job → Option DumpFile
-other_file (jobs.Each dump pairs) = Some pairs
-other_file (jobs.Compare dumps) = Some dumps.other
-other_file (jobs.Differences dumps count) = Some dumps.other
+other_file (jobs.Each reading format file pairs quiet) = Some pairs
+other_file (jobs.Compare reading other_reading view format file other quiet) = Some other
+other_file (jobs.Differences reading other_reading view count format file other quiet) = Some other
 other_file job = None

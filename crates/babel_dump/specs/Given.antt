@@ -1,34 +1,40 @@
 -- What readers gave, as dumps. No RFC speaks of readers: these are this project's own.
-use Rattle.std.specs.Prelude.{ℕ, ◌≡◌, ◌≢◌, ◌<◌, ◌⊎◌, false, true, List, length, Some}
+use Rattle.std.specs.Prelude.{ℕ, ◌≡◌, ◌≢◌, ◌<◌, ◌⊎◌, false, true, List, Some}
 use Rattle.std.specs.Io.KnownBytes.{Consumes, IsAtEnd}
 use Rattle.babel_prefix.specs.Address.{Address}
 use Rattle.babel_tlv.specs.declared.fault.Fault.{Fault}
 use Rattle.babel_tlv.specs.declared.fault.Fault.TheVariants as faults
 use Rattle.babel_tlv.specs.declared.mode.Mode.{Mode}
+use Rattle.babel_tlv.specs.declared.view.View.{View}
 use Rattle.babel_tlv.specs.Pair.{Pair}
 use Rattle.babel_tlv.specs.Views.{keeps_all}
 use Rattle.babel_table.specs.Bounds.{Bounds}
+use Rattle.babel_table.specs.Counts.{Counts}
 use Rattle.babel_table.specs.TableOf.{IsTableOf}
 use Rattle.babel_table.specs.DumpFault.{DumpFault, HasNoFault}
 use Rattle.babel_table.specs.Rows.{Routes}
 use Rattle.babel_table.specs.Seen.{seen_rows}
 use Rattle.babel_canon.specs.Canonical.{Canonical, HasManyBoxes, IsCanonical}
-use Rattle.babel_canon.specs.Differences.{AreDifferences}
 use Rattle.babel_canon.specs.Answers.{AnswerTheSame}
 use Rattle.babel_canon.specs.Fewest.{AreFewest}
 use Rattle.babel_canon.specs.Headline.{ReadsAgain, TellsApart}
 use Rattle.babel_canon.specs.Sent.{Sent, sent}
 use Rattle.babel_canon.specs.Normalises.{NormaliseFault, Normalises, SaysFewest, as_they_are}
-use Rattle.babel_canon.specs.Verdict.{IsVerdict}
 use Rattle.babel_canon.specs.Views.{AnswerTheSameUnder, ReadsAgainSeen}
-use Rattle.babel_canon.specs.declared.every_difference.Difference.{Difference}
-use Rattle.babel_canon.specs.declared.verdict.Verdict.{Verdict}
 use Rattle.babel_dump.specs.Device.{InputState}
 use Rattle.babel_dump.specs.Ignored.{IgnoresNone, first_ignored}
 use Rattle.babel_dump.specs.declared.ignored.IgnoredTlv.{IgnoredTlv}
 use Rattle.babel_dump.specs.declared.reading.Reading.{Reading}
 
--- a reader that is read so, before a run and after it
+-- a reader, before a run and after it
+pub record Reads : Type 0 where
+  pub old : InputState
+  pub new : InputState
+
+abbrev pub reads : InputState → InputState → Reads
+reads old new = record { old = old; new = new }
+
+-- a reader of a dump that is read so, before a run and after it
 pub record Input : Type 0 where
   pub reading : Reading
   pub old : InputState
@@ -37,16 +43,22 @@ pub record Input : Type 0 where
 abbrev pub read_from : InputState → InputState → Reading → Input
 read_from old new reading = record { reading = reading; old = old; new = new }
 
--- a reader whose dump may have ignored TLVs, and is seen whole
+abbrev pub dump_of : Reads → Reading → Input
+dump_of reader reading = read_from reader.old reader.new reading
+
+-- a reader of a dump whose TLVs may be ignored
 abbrev pub input : Bounds → Mode → Address → InputState → InputState → Input
 input limits mode sender old new =
-    read_from old new (record { limits = limits; mode = mode; sender = sender; strict = false; view = keeps_all })
+    read_from old new (record { limits = limits; mode = mode; sender = sender; strict = false })
 
--- the reader gave these octets, all that it had, and met its end
-pub record GaveAll (reader : Input) (dump : List ℕ) : Type 0 where
-  pub gave : Consumes reader.old.left reader.new.left dump
-  pub all : IsAtEnd reader.new.left
-  pub met_end : reader.old.ends < reader.new.ends
+-- a reader gave these octets, all that it had, and met its end
+pub record GaveOctets (old new : InputState) (octets : List ℕ) : Type 0 where
+  pub gave : Consumes old.left new.left octets
+  pub all : IsAtEnd new.left
+  pub met_end : old.ends < new.ends
+
+abbrev pub GaveAll : Input → List ℕ → Type 0
+GaveAll reader = GaveOctets reader.old reader.new
 
 -- the reader gave a dump, all that it had, which has no fault, and this is the table of that dump
 pub record GaveDump (reader : Input) (table : Routes) : Type 0 where
@@ -84,11 +96,11 @@ pub record IsFaultOfGiven (reader : Input) (fault : Fault) : Type 0 where
 
 -- the fault is that of the octets that the reader gave; or, where they have none, that the boxes of what the view sees of
 -- their table's answers are more than the limit
-abbrev pub IsFaultOfForm : Input → Fault → Type 0
-IsFaultOfForm reader fault =
+abbrev pub IsFaultOfForm : Input → View → Fault → Type 0
+IsFaultOfForm reader view fault =
     IsFaultOfGiven reader fault
     ⊎ ((fault ≡ faults.TooManyPairs) × ((table : Routes) × GaveTable reader table
-    × HasManyBoxes reader.reading.limits (seen_rows reader.reading.view table.rows)))
+    × HasManyBoxes reader.reading.limits (seen_rows view table.rows)))
 
 -- These are the canonical octets of what is seen of a dump: they tell it apart from each that answers
 -- otherwise, and, read with any sender, answer as it does; and no list of pairs says as much in fewer.
@@ -102,47 +114,26 @@ pub record IsNormal (Same : List Pair → List Pair → Type 0) (see : List Pair
 
 -- the reader gave a dump, all that it had, and these are its canonical octets under the view, read
 -- again with it or without; and, if it keeps every field, its canonical octets
-pub record GaveNormal (reader : Input) (body : ℕ) (octets : List ℕ) : Type 0 where
+pub record GaveNormal (reader : Input) (view : View) (body : ℕ) (report : Counts) (octets : List ℕ) :
+    Type 0 where
   pub table : Routes
   pub gave : GaveTable reader table
-  pub under : IsNormal (AnswerTheSameUnder reader.reading.view) (seen_rows reader.reading.view)
+  pub under : IsNormal (AnswerTheSameUnder view) (seen_rows view)
       reader.reading.limits reader.reading.mode body (sent reader.reading.sender gave.given.dump) octets
-  pub reads_without : (any : Address) → ReadsAgainSeen reader.reading.view as_they_are
+  pub reads_without : (any : Address) → ReadsAgainSeen view as_they_are
       reader.reading.limits reader.reading.mode body (sent reader.reading.sender gave.given.dump) octets any
-  pub whole : reader.reading.view ≡ keeps_all → IsNormal AnswerTheSame as_they_are
+  pub whole : view ≡ keeps_all → IsNormal AnswerTheSame as_they_are
       reader.reading.limits reader.reading.mode body (sent reader.reading.sender gave.given.dump) octets
+  pub report_is : report ≡ table.report
 
 -- the reader gave a dump, all that it had, and these are its table and the canonical form of what the view sees of it, with
 -- the fewest pairs
-pub record GavePairs (reader : Input) (table : Routes) (canon : Canonical) : Type 0 where
+pub record GavePairs (reader : Input) (view : View) (table : Routes) (canon : Canonical) : Type 0 where
   pub gave : GaveTable reader table
-  pub is_canon : IsCanonical reader.reading.limits 1024 (seen_rows reader.reading.view table.rows) canon
-  pub fewest : AreFewest (seen_rows reader.reading.view table.rows) canon.pairs
+  pub is_canon : IsCanonical reader.reading.limits 1024 (seen_rows view table.rows) canon
+  pub fewest : AreFewest (seen_rows view table.rows) canon.pairs
 
--- two readers gave a dump each, all that they had, and this is how the answers of the dumps' tables compare, as the view of
--- the first sees both
-pub record GaveVerdict (reader other : Input) (verdict : Verdict) : Type 0 where
-  pub table : Routes
+-- two readers gave a dump each, all that they had, with these tables
+pub record GaveTables (reader other : Input) (table other_table : Routes) : Type 0 where
   pub gave : GaveTable reader table
-  pub other_table : Routes
   pub other_gave : GaveTable other other_table
-  pub is_verdict :
-      IsVerdict (seen_rows reader.reading.view table.rows) (seen_rows reader.reading.view other_table.rows) verdict
-
--- two readers gave a dump each, all that they had, and these are all that the dumps' tables answer differently, as the view
--- of the first sees both
-pub record GaveDifferences (reader other : Input) (differences : List Difference) : Type 0 where
-  pub table : Routes
-  pub gave : GaveTable reader table
-  pub other_table : Routes
-  pub other_gave : GaveTable other other_table
-  pub are_differences :
-      AreDifferences (seen_rows reader.reading.view table.rows) (seen_rows reader.reading.view other_table.rows) differences
-
--- the fault is that of the octets that the first reader gave; or, where neither dump has one, that their differences are
--- more than the limit
-abbrev pub IsFaultOfDifferences : Input → Input → Fault → Type 0
-IsFaultOfDifferences reader other fault =
-    IsFaultOfGiven reader fault
-    ⊎ ((fault ≡ faults.TooManyPairs) × ((differences : List Difference) × GaveDifferences reader other differences
-    × (reader.reading.limits.entries < length differences)))

@@ -1,67 +1,103 @@
 -- What the run of a job promises: this project's own.
-use Rattle.std.specs.Prelude.{ℕ, Option, None, Some, Result, IfOk}
-use Rattle.babel_table.specs.Bounds.{Bounds}
-use Rattle.babel_dump.specs.Command.{RanCompare, RanDifferences, RanLookup, RanNormalise, RanPairs, RanShow}
-use Rattle.babel_dump.specs.Each.{RanEach}
-use Rattle.babel_dump.specs.Given.{Input}
-use Rattle.babel_dump.specs.Run.{Output, Reports, run_status}
+use Rattle.std.specs.Prelude.{ℕ, List, Option, None, Some, Result, IfOk, IfErr}
+use Rattle.babel_prefix.specs.Address.{Address}
+use Rattle.babel_capture.specs.declared.wanted.Wanted.{Wanted}
+use Rattle.babel_capture.specs.declared.wanted.Wanted.TheVariants as wanteds
+use Rattle.babel_dump.specs.CaptureGiven.{CaptureInput, capture_from}
+use Rattle.babel_dump.specs.CaptureRun.{CaptureCause, Extracts, IsNoFault, IsOnSeveral, ListsSenders, capture_calls}
+use Rattle.babel_dump.specs.Command.{CompareCause, Compares, DifferencesCause, ListsDifferences, ListsPairs, LooksUp, Shows, WritesNormal}
+use Rattle.babel_dump.specs.Each.{EachCause, LooksUpAsked}
+use Rattle.babel_dump.specs.Given.{IsFaultOfForm, IsFaultOfGiven, Reads, dump_of}
+use Rattle.babel_dump.specs.Parts.{Says}
+use Rattle.babel_dump.specs.Run.{Called, Calls, InputCause, OfFirst, Output, Ran, calls_of}
+use Rattle.babel_dump.specs.declared.capture_reading.CaptureReading.{CaptureReading}
 use Rattle.babel_dump.specs.declared.job.Job.{Job}
 use Rattle.babel_dump.specs.declared.job.Job.TheVariants as jobs
-use Rattle.babel_dump.specs.declared.job.OneDump.{OneDump}
-use Rattle.babel_dump.specs.declared.job.TwoDumps.{TwoDumps}
 use Rattle.babel_dump.specs.declared.outcome.Outcome.{Outcome}
 use Rattle.babel_dump.specs.declared.reading.Reading.{Reading}
 use Rattle.babel_dump.specs.declared.run_fault.RunFault.{RunFault}
+use Rattle.babel_dump.specs.declared.slices.Found.{Found}
 
--- how the dump of a command that reads one is read
-abbrev pub reading_of : Bounds → OneDump → Reading
-reading_of limits dump =
-    record { limits = limits; mode = dump.mode; sender = dump.from; strict = dump.strict; view = dump.view }
+-- the datagrams of one sender, on this interface where one is named
+abbrev pub wanted_of : Address → Option ℕ → Wanted
+wanted_of sender interface = wanteds.Sender sender interface
 
--- how the first dump of a comparison is read, and how the other is
-abbrev pub left_reading : Bounds → TwoDumps → Reading
-left_reading limits dumps =
-    record { limits = limits; mode = dumps.mode; sender = dumps.from; strict = dumps.strict; view = dumps.view }
+abbrev pub capture_of : Reads → CaptureReading → Wanted → CaptureInput
+capture_of reader reading wanted = capture_from reader.old reader.new reading wanted
 
-abbrev pub right_reading : Bounds → TwoDumps → Reading
-right_reading limits dumps =
-    record { limits = limits; mode = dumps.mode; sender = dumps.other_from; strict = dumps.strict; view = dumps.view }
+-- what a job says of what its readers gave, in its text and its outcome: what its command does, with the job's own words
+abbrev pub SaysBy : Job → (reader other : Reads) → List ℕ → Outcome → Type 0
+SaysBy (jobs.Show reading format file) reader other = Shows (dump_of reader reading) format
+SaysBy (jobs.Lookup reading pair format file quiet) reader other = LooksUp (dump_of reader reading) pair.dst pair.src format
+SaysBy (jobs.Each reading format file pairs quiet) reader other =
+    LooksUpAsked (dump_of reader reading) (dump_of other reading) format
+SaysBy (jobs.Normalise reading view body hex file quiet) reader other = WritesNormal (dump_of reader reading) view body hex
+SaysBy (jobs.Pairs reading view count format file quiet) reader other = ListsPairs (dump_of reader reading) view count format
+SaysBy (jobs.Compare reading other_reading view format file another quiet) reader other =
+    Compares (dump_of reader reading) (dump_of other other_reading) view format
+SaysBy (jobs.Differences reading other_reading view count format file another quiet) reader other =
+    ListsDifferences (dump_of reader reading) (dump_of other other_reading) view count format
+SaysBy (jobs.Senders reading format file quiet) reader other = ListsSenders (capture_of reader reading wanteds.Everyone) format
+SaysBy (jobs.Extract reading sender interface hex file quiet) reader other =
+    Extracts (capture_of reader reading (wanted_of sender interface)) hex
 
--- how the first dump of a job is read
-abbrev pub first_reading : Bounds → Job → Reading
-first_reading limits (jobs.Show dump) = reading_of limits dump
-first_reading limits (jobs.Lookup dump pair) = reading_of limits dump
-first_reading limits (jobs.Each dump pairs) = reading_of limits dump
-first_reading limits (jobs.Normalise dump body hex) = reading_of limits dump
-first_reading limits (jobs.Pairs dump count) = reading_of limits dump
-first_reading limits (jobs.Compare dumps) = left_reading limits dumps
-first_reading limits (jobs.Differences dumps count) = left_reading limits dumps
+-- why it says nothing; `untouched` says that the other reader is as it was
+abbrev pub CauseBy : Job → (reader other : Reads) → (untouched : Type 0) → RunFault → Type 0
+CauseBy (jobs.Show reading format file) reader other untouched =
+    OfFirst (InputCause (dump_of reader reading) (IsFaultOfGiven (dump_of reader reading)))
+CauseBy (jobs.Lookup reading pair format file quiet) reader other untouched =
+    OfFirst (InputCause (dump_of reader reading) (IsFaultOfGiven (dump_of reader reading)))
+CauseBy (jobs.Each reading format file pairs quiet) reader other untouched =
+    EachCause (dump_of reader reading) (dump_of other reading)
+CauseBy (jobs.Normalise reading view body hex file quiet) reader other untouched =
+    OfFirst (InputCause (dump_of reader reading) (IsFaultOfForm (dump_of reader reading) view))
+CauseBy (jobs.Pairs reading view count format file quiet) reader other untouched =
+    OfFirst (InputCause (dump_of reader reading) (IsFaultOfForm (dump_of reader reading) view))
+CauseBy (jobs.Compare reading other_reading view format file another quiet) reader other untouched =
+    CompareCause (dump_of reader reading) (dump_of other other_reading) untouched
+CauseBy (jobs.Differences reading other_reading view count format file another quiet) reader other untouched =
+    DifferencesCause (dump_of reader reading) (dump_of other other_reading) view untouched
+CauseBy (jobs.Senders reading format file quiet) reader other untouched =
+    OfFirst (CaptureCause (capture_of reader reading wanteds.Everyone) IsNoFault)
+CauseBy (jobs.Extract reading sender interface hex file quiet) reader other untouched =
+    let capture = capture_of reader reading (wanted_of sender interface) in
+    OfFirst (CaptureCause capture (IsOnSeveral capture))
 
--- what the other reader gave, where the job has another dump
-abbrev pub other_input : Bounds → Job → (Reading → Input) → Option Input
-other_input limits (jobs.Compare dumps) other = Some (other (right_reading limits dumps))
-other_input limits (jobs.Differences dumps count) other = Some (other (right_reading limits dumps))
-other_input limits job other = None
+-- how often it may call its first reader, and the other where it reads that too
+abbrev pub first_calls : Job → Reads → Calls
+first_calls (jobs.Show reading format file) reader = calls_of (dump_of reader reading)
+first_calls (jobs.Lookup reading pair format file quiet) reader = calls_of (dump_of reader reading)
+first_calls (jobs.Each reading format file pairs quiet) reader = calls_of (dump_of reader reading)
+first_calls (jobs.Normalise reading view body hex file quiet) reader = calls_of (dump_of reader reading)
+first_calls (jobs.Pairs reading view count format file quiet) reader = calls_of (dump_of reader reading)
+first_calls (jobs.Compare reading other_reading view format file another quiet) reader = calls_of (dump_of reader reading)
+first_calls (jobs.Differences reading other_reading view count format file another quiet) reader =
+    calls_of (dump_of reader reading)
+first_calls (jobs.Senders reading format file quiet) reader = capture_calls (capture_of reader reading wanteds.Everyone)
+first_calls (jobs.Extract reading sender interface hex file quiet) reader =
+    capture_calls (capture_of reader reading (wanted_of sender interface))
 
--- A job's run does what its command promises, with the job's own words. `reader` and `other` are what the two readers gave,
--- read so; `untouched` says that the other is as it was, which it is after each command over one dump.
-abbrev pub RanCommand : Bounds → Job → (reader other : Reading → Input) → Output → (untouched : Type 0) → Result ℕ RunFault → Type 0
-RanCommand limits (jobs.Show dump) reader other writer untouched result =
-    untouched × RanShow (reader (reading_of limits dump)) dump.format writer result
-RanCommand limits (jobs.Lookup dump pair) reader other writer untouched result =
-    untouched × RanLookup (reader (reading_of limits dump)) pair.dst pair.src dump.format writer result
-RanCommand limits (jobs.Each dump pairs) reader other writer untouched result =
-    RanEach (reader (reading_of limits dump)) (other (reading_of limits dump)) dump.format writer result
-RanCommand limits (jobs.Normalise dump body hex) reader other writer untouched result =
-    untouched × RanNormalise (reader (reading_of limits dump)) body hex writer result
-RanCommand limits (jobs.Pairs dump count) reader other writer untouched result =
-    untouched × RanPairs (reader (reading_of limits dump)) count dump.format writer result
-RanCommand limits (jobs.Compare dumps) reader other writer untouched result =
-    RanCompare (reader (left_reading limits dumps)) (other (right_reading limits dumps)) dumps.format writer untouched result
-RanCommand limits (jobs.Differences dumps count) reader other writer untouched result =
-    RanDifferences (reader (left_reading limits dumps)) (other (right_reading limits dumps)) count dumps.format writer untouched result
+abbrev pub other_calls : Job → Reads → Option Calls
+other_calls (jobs.Each reading format file pairs quiet) other = Some (calls_of (dump_of other reading))
+other_calls (jobs.Compare reading other_reading view format file another quiet) other = Some (calls_of (dump_of other other_reading))
+other_calls (jobs.Differences reading other_reading view count format file another quiet) other =
+    Some (calls_of (dump_of other other_reading))
+other_calls job other = None
 
--- it also says what was ignored of the dumps
-pub record RanJob (limits : Bounds) (job : Job) (reader other : Reading → Input) (writer : Output) (untouched : Type 0) (result : Result Outcome RunFault) : Type 0 where
-  pub ran : RanCommand limits job reader other writer untouched (run_status result)
-  pub reports : IfOk result (Reports (reader (first_reading limits job)) (other_input limits job other))
+-- it does so, and the other reader is as it was where it is not read
+abbrev pub OtherCalled : {T : Type 0} → Option Calls → (untouched : Type 0) → Result T RunFault → Type 0
+OtherCalled None untouched result = untouched
+OtherCalled (Some calls) untouched result = Called calls result
+
+-- what a job finds of what its readers gave
+pub record FoundBy (job : Job) (reader other : Reads) (untouched : Type 0) (result : Result Found RunFault) : Type 0 where
+  pub says : IfOk result (Says (SaysBy job reader other))
+  pub cause : IfErr result (CauseBy job reader other untouched)
+  pub called : Called (first_calls job reader) result
+  pub other_called : OtherCalled (other_calls job other) untouched result
+
+-- what its run does
+pub record RanJob (job : Job) (reader other : Reads) (writer : Output) (untouched : Type 0) (result : Result Outcome RunFault) : Type 0 where
+  pub ran : Ran writer (CauseBy job reader other untouched) (SaysBy job reader other) result
+  pub called : Called (first_calls job reader) result
+  pub other_called : OtherCalled (other_calls job other) untouched result

@@ -1,15 +1,14 @@
--- What a run over rows writes of what it found. These are this project's own.
-use Rattle.std.specs.Prelude.{ℕ, ◌≡◌, List, [], ◌++◌, Option, Result, Ok, Err, IfOk, IfErr, string_bytes}
+-- What a run writes of what it found. These are this project's own.
+use Rattle.std.specs.Prelude.{ℕ, ◌≡◌, List, [], ◌++◌, Result, Ok, Err, IfOk, IfErr}
 use Rattle.babel_tlv.specs.Views.{keeps_all}
 use Rattle.babel_dump.specs.InFormat.{pairs_in}
-use Rattle.babel_dump.specs.Parts.{WroteText}
-use Rattle.babel_dump.specs.Run.{Output, Reports}
-use Rattle.babel_dump.specs.Given.{Input}
+use Rattle.babel_dump.specs.Run.{Output}
+use Rattle.babel_dump.specs.Slices.{WroteText}
 use Rattle.babel_dump.specs.declared.format.Format.{Format}
 use Rattle.babel_dump.specs.declared.outcome.Outcome.{Outcome}
 use Rattle.babel_dump.specs.declared.run_fault.RunFault.{RunFault}
 use Rattle.babel_dump.specs.declared.run_fault.RunFault.TheVariants as run_faults
-use Rattle.babel_dump.specs.declared.slices.FoundRows.{FoundRows}
+use Rattle.babel_dump.specs.declared.slices.Found.{Found}
 use Rattle.babel_dump.specs.declared.slices.Rows.{Rows}
 use Rattle.babel_dump.specs.declared.slices.Rows.TheVariants as rows
 
@@ -20,17 +19,13 @@ lines_of format (rows.Pairs view pairs) = pairs_in format view pairs
 lines_of format rows.Empty = []
 
 -- the whole text of what was found
-abbrev pub found_text : FoundRows → List ℕ
-found_text found = lines_of found.format found.rows ++ string_bytes found.after
-
--- what was found says this, and has the reports of the dumps
-abbrev pub RowsSaySo : Input → Option Input → (List ℕ → ℕ → Type 0) → FoundRows → Type 0
-RowsSaySo reader other Says found = Says (found_text found) found.outcome.status × Reports reader other found.outcome
+abbrev pub found_text : Found → List ℕ
+found_text found = lines_of found.format found.rows ++ found.after.items
 
 -- What was found was written, and its outcome is answered, or that a write failed. Where nothing was found the fault is
 -- answered, and the writer is as it was.
-abbrev pub FinishedRows : Output → Result FoundRows RunFault → Result Outcome RunFault → Type 0
-FinishedRows writer (Ok found) result =
+abbrev pub Finished : Output → Result Found RunFault → Result Outcome RunFault → Type 0
+Finished writer (Ok found) result =
     WroteText writer (found_text found) result
     × IfOk result (λ outcome. outcome ≡ found.outcome) × IfErr result (λ fault. fault ≡ run_faults.Write)
-FinishedRows writer (Err fault) result = (result ≡ Err fault) × (writer.new ≡ writer.old)
+Finished writer (Err fault) result = (result ≡ Err fault) × (writer.new ≡ writer.old)

@@ -1,14 +1,16 @@
 //! What a reader gives, as a capture.
-ghost use Rattle.std.specs.Prelude.{◌≡◌, ◌≢◌, ℕ, ◌^◌, ◌<◌, true, List, [], None, IfOk, IfErr, OnOk};
+ghost use Rattle.std.specs.Prelude.{◌≡◌, ◌≢◌, ℕ, true, List, [], None, IfOk, IfErr, OnOk};
 ghost use Rattle.babel_capture.specs.Capture.{CaptureFault, HasRead};
 ghost use Rattle.babel_dump.specs.CaptureGiven.{GaveCapture, GaveSound, IsFedWhole, IsReadSo, capture_from};
-ghost use Rattle.babel_dump.specs.CaptureRun.{GatheredCapture, IsNoFault};
+ghost use Rattle.babel_dump.specs.CaptureRun.{CaptureCause, IsNoFault, capture_calls};
+ghost use Rattle.babel_dump.specs.Device.{HasRoomToCount};
+ghost use Rattle.babel_dump.specs.Parts.{Gathered};
 
 use crate::byte_in::ByteIn;
-use crate::capture_fault::CaptureRunFault;
 use crate::capture_reading::CaptureReading;
+use crate::input_fault::InputFault;
 use crate::left_out::first_left_out;
-use babel_capture::{Capture, Fault, Gathered};
+use babel_capture::{Capture, Fault, Wanted};
 use std::alloc::Global;
 
 /// How many octets one read asks for.
@@ -20,7 +22,7 @@ const LONGEST_HEADER: u64 = 24;
 /// What was read of a capture: what its packets give, and where it is cut short.
 #[derive(Drop)]
 pub(crate) struct CaptureRead {
-    pub gathered: Gathered,
+    pub gathered: babel_capture::Gathered,
     pub cut: Option<u64>,
 }
 
@@ -29,18 +31,18 @@ pub(crate) struct CaptureRead {
 pub(crate) fn read_capture<R: ByteIn>(
     alloc: Global,
     reading: CaptureReading,
+    wanted: Wanted,
     reader: &mut R,
-) -> Result<CaptureRead, CaptureRunFault>
-    requires failures { (R.state reader.old).failures < 2 ^ 63 }
-    requires reads { (R.state reader.old).reads < 2 ^ 63 }
-    requires ends { (R.state reader.old).ends < 2 ^ 63 }
-    ensures { let input = capture_from (R.state reader.old) (R.state reader.new) reading in
-        GatheredCapture input IsNoFault (λ read. GaveSound input read.gathered read.cut) result }
+) -> Result<CaptureRead, InputFault>
+    requires { HasRoomToCount (R.state reader.old) }
+    ensures { let input = capture_from (R.state reader.old) (R.state reader.new) reading wanted in
+        Gathered (capture_calls input) (CaptureCause input IsNoFault)
+        (λ read. GaveSound input read.gathered read.cut) result }
 {
-    let read = read_whole(alloc, &reading, reader)?;
+    let read = read_whole(alloc, reading, wanted, reader)?;
     if reading.strict {
         if let Some(datagram) = first_left_out(&read.gathered.report()) {
-            return Err(CaptureRunFault::LeftOut(datagram));
+            return Err(InputFault::LeftOut(datagram));
         }
     }
     Ok(read)
@@ -49,29 +51,19 @@ pub(crate) fn read_capture<R: ByteIn>(
 /// Reads a capture to its end, or to its first fault.
 fn read_whole<R: ByteIn>(
     alloc: Global,
-    reading: &CaptureReading,
+    reading: CaptureReading,
+    wanted: Wanted,
     reader: &mut R,
-) -> Result<CaptureRead, CaptureRunFault>
-    requires failures { (R.state reader.old).failures < 2 ^ 63 }
-    requires reads { (R.state reader.old).reads < 2 ^ 63 }
-    requires ends { (R.state reader.old).ends < 2 ^ 63 }
-    ensures { let input = capture_from (R.state reader.old) (R.state reader.new) reading.now in
-        GatheredCapture input IsNoFault (λ read. GaveCapture input read.gathered read.cut) result }
+) -> Result<CaptureRead, InputFault>
+    requires { HasRoomToCount (R.state reader.old) }
+    ensures { let input = capture_from (R.state reader.old) (R.state reader.new) reading wanted in
+        Gathered (capture_calls input) (CaptureCause input IsNoFault)
+        (λ read. GaveCapture input read.gathered read.cut) result }
 {
-    let mut capture = unread(alloc, reading);
+    let mut capture = Capture::new(alloc, u64::from(reading.limit), wanted);
     feed_all(&mut capture, reading, reader)?;
     let read = finished(capture, reading.accept_cut)?;
     Ok(read)
-}
-
-/// A capture that is read so, of which nothing was read.
-fn unread(alloc: Global, reading: &CaptureReading) -> Capture
-    ensures read { HasRead result [] }
-    ensures limit { result.limit ≡ reading.now.limit }
-    ensures wanted { result.progress.gathering.wanted ≡ reading.now.wanted }
-    ensures no_fault { result.fault ≡ None }
-{
-    Capture::new(alloc, u64::from(reading.limit), reading.wanted)
 }
 
 /// What was read of a capture that was fed whole, and may be cut short where that is accepted.
@@ -101,23 +93,21 @@ fn finished(capture: Capture, accept_cut: bool) -> Result<CaptureRead, Fault>
 #[tactic(auto, using(crate::proofs::Devices::gave_none, crate::proofs::CaptureFeeding::fed_more, crate::proofs::CaptureFeeding::fed_whole, crate::proofs::CaptureFeeding::fed_within))]
 fn feed_all<R: ByteIn>(
     capture: &mut Capture,
-    reading: &CaptureReading,
+    reading: CaptureReading,
     reader: &mut R,
-) -> Result<(), CaptureRunFault>
-    requires failures { (R.state reader.old).failures < 2 ^ 63 }
-    requires reads { (R.state reader.old).reads < 2 ^ 63 }
-    requires ends { (R.state reader.old).ends < 2 ^ 63 }
-    requires limit { capture.old.limit ≡ reading.now.limit }
-    requires wanted { capture.old.progress.gathering.wanted ≡ reading.now.wanted }
+) -> Result<(), InputFault>
+    requires counts { HasRoomToCount (R.state reader.old) }
+    requires limit { capture.old.limit ≡ reading.limit }
     requires fresh { HasRead capture.old [] }
     requires no_fault { capture.old.fault ≡ None }
 
-    ensures limit { capture.new.limit ≡ reading.now.limit }
-    ensures wanted { capture.new.progress.gathering.wanted ≡ reading.now.wanted }
+    ensures limit { capture.new.limit ≡ reading.limit }
+    ensures wanted { capture.new.progress.gathering.wanted ≡ capture.old.progress.gathering.wanted }
     ensures sound { OnOk result (capture.new.fault ≡ None) }
-    ensures gathered { let input =
-        capture_from (R.state reader.old) (R.state reader.new) reading.now in
-        GatheredCapture input IsNoFault (λ _. IsFedWhole capture.new input) result }
+    ensures gathered { let wanted = capture.old.progress.gathering.wanted in
+        let input = capture_from (R.state reader.old) (R.state reader.new) reading wanted in
+        Gathered (capture_calls input) (CaptureCause input IsNoFault)
+        (λ _. IsFedWhole capture.new input) result }
 {
     let mut piece = [0; PIECE];
     // Each read gives an octet at least, but for the last, and the capture refuses the first block
@@ -126,7 +116,7 @@ fn feed_all<R: ByteIn>(
         match reader.read(&mut piece) {
             Ok(0) => return Ok(()),
             Ok(n) => capture.feed(&piece[..n])?,
-            Err(_) => return Err(CaptureRunFault::Read),
+            Err(_) => return Err(InputFault::Read),
         }
     }
     unreachable!()

@@ -1,14 +1,10 @@
-use babel_capture::Wanted;
-
 /// How a capture is read.
-#[derive(Clone, Copy)]
-pub(crate) struct CaptureReading {
-    /// How many octets are read at most.
+#[derive(Clone, Copy, Debug)]
+pub struct CaptureReading {
+    /// How many octets are read at most: `--max-octets`.
     pub limit: u32,
-    /// Whose datagrams are wanted.
-    pub wanted: Wanted,
-    /// Whether a capture that is cut short is read to its last whole record.
+    /// Whether a capture that is cut short is read to its last whole record: `--accept-cut`.
     pub accept_cut: bool,
-    /// Whether a capture is refused of which a wanted datagram is left out.
+    /// Whether the capture is refused if a wanted datagram of it is left out: `--strict`.
     pub strict: bool,
 }

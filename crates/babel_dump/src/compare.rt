@@ -1,20 +1,21 @@
-ghost use Rattle.std.specs.Prelude.{◌≡◌, ◌^◌, ◌<◌, Some, IfErr, IfOk};
-ghost use Rattle.babel_dump.specs.Command.{Compares, InTurn, IsOfMemory, RanCompare};
-ghost use Rattle.babel_dump.specs.Given.{IsFaultOfGiven, input, read_from};
-ghost use Rattle.babel_dump.specs.Parts.{Gathered, SaysSo};
-ghost use Rattle.babel_dump.specs.Run.{Reports, output, run_status};
+ghost use Rattle.std.specs.Prelude.{◌≡◌, IfErr, IfOk};
+ghost use Rattle.babel_dump.specs.Command.{CompareCause, Compares, IsOfMemory, RanCompare};
+ghost use Rattle.babel_dump.specs.Device.{HasRoomToCount, HasRoomToWrite};
+ghost use Rattle.babel_dump.specs.Given.{input, read_from};
+ghost use Rattle.babel_dump.specs.Parts.{Gathered, Says, SaysVerdict};
+ghost use Rattle.babel_dump.specs.Run.{Called, calls_of, output};
 ghost use Rattle.babel_dump.specs.RunText.{verdict_status};
 ghost use Rattle.babel_dump.specs.declared.format.Format.TheVariants as formats;
 
-use crate::both::read_both;
+use crate::both::{SeenTables, read_both};
 use crate::byte_in::ByteIn;
 use crate::byte_out::ByteOut;
-use crate::finish::{Found, finish};
 use crate::format::Format;
-use crate::outcome::Outcome;
+use crate::outcome::{Outcome, Reports, status_alone};
 use crate::output::verdict_output;
 use crate::reading::Reading;
 use crate::run_fault::RunFault;
+use crate::slices::{Found, finish};
 use babel_canon::Verdict;
 use babel_prefix::Addr;
 use babel_table::Limits;
@@ -40,14 +41,9 @@ pub fn run_compare<R: ByteIn, S: ByteIn, W: ByteOut>(
     other: &mut S,
     writer: &mut W,
 ) -> Result<u8, RunFault>
-    requires reader_failures { (R.state reader.old).failures < 2 ^ 63 }
-    requires reader_reads { (R.state reader.old).reads < 2 ^ 63 }
-    requires reader_ends { (R.state reader.old).ends < 2 ^ 63 }
-    requires other_failures { (S.state other.old).failures < 2 ^ 63 }
-    requires other_reads { (S.state other.old).reads < 2 ^ 63 }
-    requires other_ends { (S.state other.old).ends < 2 ^ 63 }
-    requires writer_failures { (W.state writer.old).failures < 2 ^ 63 }
-    requires writer_flushes { (W.state writer.old).flushes < 2 ^ 63 }
+    requires reader { HasRoomToCount (R.state reader.old) }
+    requires other { HasRoomToCount (S.state other.old) }
+    requires writer { HasRoomToWrite (W.state writer.old) }
     ensures { let dump = input limits mode sender (R.state reader.old) (R.state reader.new) in
         let other_dump = input limits mode other_sender (S.state other.old) (S.state other.new) in
         let output = output (W.state writer.old) (W.state writer.new) in
@@ -58,80 +54,57 @@ pub fn run_compare<R: ByteIn, S: ByteIn, W: ByteOut>(
         mode,
         sender,
         strict: false,
-        view: View::all(),
     };
     let other_reading = Reading {
         sender: other_sender,
         ..reading
     };
-    let text = Format::Text;
-    let outcome = compare(alloc, reading, other_reading, text, reader, other, writer)?;
-    Ok(outcome.status)
-}
-
-/// `run_compare`, of two dumps that are read so, in a format.
-pub(crate) fn compare<R: ByteIn, S: ByteIn, W: ByteOut>(
-    alloc: Global,
-    reading: Reading,
-    other_reading: Reading,
-    format: Format,
-    reader: &mut R,
-    other: &mut S,
-    writer: &mut W,
-) -> Result<Outcome, RunFault>
-    requires reader_failures { (R.state reader.old).failures < 2 ^ 63 }
-    requires reader_reads { (R.state reader.old).reads < 2 ^ 63 }
-    requires reader_ends { (R.state reader.old).ends < 2 ^ 63 }
-    requires other_failures { (S.state other.old).failures < 2 ^ 63 }
-    requires other_reads { (S.state other.old).reads < 2 ^ 63 }
-    requires other_ends { (S.state other.old).ends < 2 ^ 63 }
-    requires writer_failures { (W.state writer.old).failures < 2 ^ 63 }
-    requires writer_flushes { (W.state writer.old).flushes < 2 ^ 63 }
-    ensures ran { let dump = read_from (R.state reader.old) (R.state reader.new) reading in
-        let other_dump = read_from (S.state other.old) (S.state other.new) other_reading in
-        let output = output (W.state writer.old) (W.state writer.new) in
-        RanCompare dump other_dump format output (other.new ≡ other.old) (run_status result) }
-    ensures reports { let dump = read_from (R.state reader.old) (R.state reader.new) reading in
-        let other_dump = read_from (S.state other.old) (S.state other.new) other_reading in
-        IfOk result (Reports dump (Some other_dump)) }
-{
-    let found = read_verdict(alloc, reading, other_reading, format, reader, other);
-    finish(writer, found)
+    let (view, format) = (View::all(), Format::Text);
+    let found = find_verdict(alloc, reading, other_reading, view, format, reader, other);
+    status_alone(finish(writer, found))
 }
 
 /// Reads two dumps, the first to its end before the other, and makes the lines of how their answers
-/// compare, as the view of the first sees both.
-fn read_verdict<R: ByteIn, S: ByteIn>(
+/// compare, as a view sees both.
+pub(crate) fn find_verdict<R: ByteIn, S: ByteIn>(
     alloc: Global,
     reading: Reading,
     other_reading: Reading,
+    view: View,
     format: Format,
     reader: &mut R,
     other: &mut S,
 ) -> Result<Found, RunFault>
-    requires reader_failures { (R.state reader.old).failures < 2 ^ 63 }
-    requires reader_reads { (R.state reader.old).reads < 2 ^ 63 }
-    requires reader_ends { (R.state reader.old).ends < 2 ^ 63 }
-    requires other_failures { (S.state other.old).failures < 2 ^ 63 }
-    requires other_reads { (S.state other.old).reads < 2 ^ 63 }
-    requires other_ends { (S.state other.old).ends < 2 ^ 63 }
+    requires reader { HasRoomToCount (R.state reader.old) }
+    requires other { HasRoomToCount (S.state other.old) }
     ensures gathered { let dump = read_from (R.state reader.old) (R.state reader.new) reading in
         let other_dump = read_from (S.state other.old) (S.state other.new) other_reading in
-        Gathered dump (Some other_dump) (IsFaultOfGiven dump)
-        (SaysSo dump (Some other_dump) (Compares dump other_dump format)) result }
-    ensures in_turn { let dump = read_from (R.state reader.old) (R.state reader.new) reading in
-        let other_dump = read_from (S.state other.old) (S.state other.new) other_reading in
-        IfErr result (InTurn dump other_dump IsOfMemory (other.new ≡ other.old)) }
+        Gathered (calls_of dump) (CompareCause dump other_dump (other.new ≡ other.old))
+        (Says (Compares dump other_dump view format)) result }
+    ensures other_calls { Called (calls_of
+        (read_from (S.state other.old) (S.state other.new) other_reading)) result }
 {
-    let seen = read_both(alloc, reading, other_reading, reader, other)?;
+    let seen = read_both(alloc, reading, other_reading, view, reader, other)?;
+    found_verdict(alloc, view, format, &seen)
+}
+
+/// The lines of how the answers of two tables compare. Want of memory is the first dump's.
+fn found_verdict(
+    alloc: Global,
+    view: View,
+    format: Format,
+    seen: &SeenTables,
+) -> Result<Found, RunFault>
+    ensures ok { IfOk result (Says (SaysVerdict view format seen.now)) }
+    ensures err { IfErr result IsOfMemory }
+{
     let verdict = babel_canon::compare(alloc, &seen.left, &seen.right)?;
-    let text = verdict_output(alloc, format, reading.view, &verdict)?.into_bytes();
+    let text = verdict_output(alloc, format, view, &verdict)?.into_bytes();
     let outcome = Outcome {
         status: verdict_status(&verdict),
-        report: *seen.left.report(),
-        other: Some(*seen.right.report()),
+        reports: Reports::Dumps(*seen.left.report(), *seen.right.report()),
     };
-    Ok(Found { text, outcome })
+    Ok(Found::text(alloc, text, outcome)?)
 }
 
 /// The status of a verdict.

@@ -3,108 +3,108 @@ ghost use Rattle.std.specs.Option.{option_copied};
 ghost use Rattle.babel_dump.specs.Files.{first_file, other_file};
 
 use crate::addr_pair::AddrPair;
+use crate::capture_reading::CaptureReading;
 use crate::format::Format;
+use crate::reading::Reading;
 use babel_canon::Body;
 use babel_prefix::Addr;
 use babel_table::Limits;
-use babel_tlv::{Mode, View};
+use babel_tlv::View;
 use std::alloc::AllocError;
 
-/// What the program's words ask for: a job, the limits that it is done within, and whether notes
-/// come after its output.
-#[derive(Debug, Drop)]
-pub struct Order {
-    pub job: Job,
-    pub limits: Limits,
-    /// Whether nothing is said of ignored TLVs: `--quiet`, and where `show` says it all.
-    pub quiet: bool,
-}
-
-/// What one of the program's commands is to do.
+/// What the program's words ask for.
 #[derive(Debug, Drop)]
 pub enum Job {
     /// `show`: the rows of a dump's table and its report.
     Show {
-        dump: OneDump,
+        reading: Reading,
+        format: Format,
+        file: DumpFile,
     },
     /// `lookup`: what a dump answers for two addresses.
     Lookup {
-        dump: OneDump,
+        reading: Reading,
         pair: AddrPair,
+        format: Format,
+        file: DumpFile,
+        quiet: bool,
     },
     /// `lookup --each`: what a dump answers for each of the pairs that a file asks for.
     Each {
-        dump: OneDump,
+        reading: Reading,
+        format: Format,
+        file: DumpFile,
         /// Where the pairs are read from: PAIRS.
         pairs: DumpFile,
+        quiet: bool,
     },
     /// `normalise`: the canonical octets of a dump.
     Normalise {
-        dump: OneDump,
+        reading: Reading,
+        /// Which fields of what is announced count: those that `--ignore` does not name.
+        view: View,
         /// How many octets the body of a canonical packet has at most: `--body`.
         body: Body,
         /// Whether the octets are written as hexadecimal digits: `--hex`.
         hex: bool,
+        file: DumpFile,
+        quiet: bool,
     },
     /// `pairs`: the canonical pairs of a dump.
     Pairs {
-        dump: OneDump,
+        reading: Reading,
+        view: View,
         /// Whether only the rows and the pairs are counted: `--count`.
         count: bool,
+        format: Format,
+        file: DumpFile,
+        quiet: bool,
     },
     /// `compare`: how the answers of two dumps compare.
     Compare {
-        dumps: TwoDumps,
+        reading: Reading,
+        other_reading: Reading,
+        view: View,
+        format: Format,
+        file: DumpFile,
+        other: DumpFile,
+        quiet: bool,
     },
     /// `compare --all`: all that two dumps answer differently.
     Differences {
-        dumps: TwoDumps,
+        reading: Reading,
+        other_reading: Reading,
+        view: View,
         /// Whether the differences are only counted: `--count`.
         count: bool,
+        format: Format,
+        file: DumpFile,
+        other: DumpFile,
+        quiet: bool,
+    },
+    /// `senders`: who sent Babel packets, by a capture.
+    Senders {
+        reading: CaptureReading,
+        format: Format,
+        file: DumpFile,
+        quiet: bool,
+    },
+    /// `extract`: the dump of one sender, of a capture.
+    Extract {
+        reading: CaptureReading,
+        /// The sender: `--from`.
+        sender: Addr,
+        /// The interface where its packets were captured: `--interface`. Where it is left out,
+        /// there may be only one.
+        interface: Option<u32>,
+        /// Whether the dump is written as hexadecimal digits: `--hex`.
+        hex: bool,
+        file: DumpFile,
+        quiet: bool,
     },
 }
 
-/// The dump of a command that reads one.
-#[derive(Debug, Drop)]
-pub struct OneDump {
-    /// The sender of the dump: `--from`.
-    pub from: Addr,
-    /// Whether retracted keys stay as unreachable rows: `--hold`.
-    pub mode: Mode,
-    /// Whether the dump is refused if a TLV of it is ignored: `--strict`.
-    pub strict: bool,
-    /// How what was found is written: `--json`. What `normalise` writes are octets, whatever the
-    /// format.
-    pub format: Format,
-    /// Which fields of what is announced count: those that `--ignore` does not name. What `show`
-    /// and `lookup` write is whole, whatever the view.
-    pub view: View,
-    /// Where the dump is read from: FILE.
-    pub file: DumpFile,
-}
-
-/// The dumps of a comparison.
-#[derive(Debug, Drop)]
-pub struct TwoDumps {
-    /// The sender of the first dump: `--from`.
-    pub from: Addr,
-    /// The sender of the other dump: `--other-from`.
-    pub other_from: Addr,
-    /// Whether retracted keys stay as unreachable rows, in both: `--hold`.
-    pub mode: Mode,
-    /// Whether a dump is refused if a TLV of it is ignored, either: `--strict`.
-    pub strict: bool,
-    /// How what was found is written: `--json`.
-    pub format: Format,
-    /// Which fields of what is announced count, in both: those that `--ignore` does not name.
-    pub view: View,
-    /// Where the first dump is read from: FILE.
-    pub file: DumpFile,
-    /// Where the other dump is read from: OTHER.
-    pub other: DumpFile,
-}
-
-/// Where a dump, or the pairs of `--each`, are read from.
+/// Where a dump, a capture, or the pairs of `--each`, are read from.
 #[derive(Debug, Drop)]
 pub enum DumpFile {
     /// Standard input: `-`, or a name that is left out.
@@ -114,17 +114,20 @@ pub enum DumpFile {
 }
 
 impl Job {
-    /// Where the dump is read from, or the first of two.
+    /// Where the input is read from, or the first of two.
     pub fn file(&self) -> &DumpFile
         ensures { result.now ≡ first_file self.now }
     {
         match self {
-            Job::Show { dump }
-            | Job::Lookup { dump, .. }
-            | Job::Each { dump, .. }
-            | Job::Normalise { dump, .. }
-            | Job::Pairs { dump, .. } => &dump.file,
-            Job::Compare { dumps } | Job::Differences { dumps, .. } => &dumps.file,
+            Job::Show { file, .. }
+            | Job::Lookup { file, .. }
+            | Job::Each { file, .. }
+            | Job::Normalise { file, .. }
+            | Job::Pairs { file, .. }
+            | Job::Compare { file, .. }
+            | Job::Differences { file, .. }
+            | Job::Senders { file, .. }
+            | Job::Extract { file, .. } => file,
         }
     }
 
@@ -133,9 +136,46 @@ impl Job {
         ensures { option_copied result ≡ other_file self.now }
     {
         match self {
-            Job::Compare { dumps } | Job::Differences { dumps, .. } => Some(&dumps.other),
+            Job::Compare { other, .. } | Job::Differences { other, .. } => Some(other),
             Job::Each { pairs, .. } => Some(pairs),
             _ => None,
+        }
+    }
+
+    /// The limits of its dump, or of the first of two; `None` where it reads a capture.
+    pub(crate) fn limits(&self) -> Option<Limits> {
+        match self {
+            Job::Show { reading, .. }
+            | Job::Lookup { reading, .. }
+            | Job::Each { reading, .. }
+            | Job::Normalise { reading, .. }
+            | Job::Pairs { reading, .. }
+            | Job::Compare { reading, .. }
+            | Job::Differences { reading, .. } => Some(reading.limits),
+            Job::Senders { .. } | Job::Extract { .. } => None,
+        }
+    }
+
+    /// How many octets of an input are read at most.
+    pub(crate) fn most_octets(&self) -> u32 {
+        match self {
+            Job::Senders { reading, .. } | Job::Extract { reading, .. } => reading.limit,
+            _ => self.limits().map_or(0, |limits| limits.bytes()),
+        }
+    }
+
+    /// Whether no note comes after the output: `--quiet`, and where `show` says it all.
+    pub fn is_quiet(&self) -> bool {
+        match self {
+            Job::Show { .. } => true,
+            Job::Lookup { quiet, .. }
+            | Job::Each { quiet, .. }
+            | Job::Normalise { quiet, .. }
+            | Job::Pairs { quiet, .. }
+            | Job::Compare { quiet, .. }
+            | Job::Differences { quiet, .. }
+            | Job::Senders { quiet, .. }
+            | Job::Extract { quiet, .. } => *quiet,
         }
     }
 }

@@ -1,117 +1,127 @@
-ghost use Rattle.std.specs.Prelude.{◌≡◌, ◌^◌, ◌<◌};
-ghost use Rattle.babel_dump.specs.Given.{read_from};
-ghost use Rattle.babel_dump.specs.JobRun.{RanJob, left_reading, reading_of, right_reading};
+ghost use Rattle.std.specs.Prelude.{◌≡◌};
+ghost use Rattle.babel_dump.specs.Device.{HasRoomToCount, HasRoomToWrite};
+ghost use Rattle.babel_dump.specs.Given.{reads};
+ghost use Rattle.babel_dump.specs.JobRun.{FoundBy, RanJob, wanted_of};
 ghost use Rattle.babel_dump.specs.Run.{output};
 
 use crate::byte_in::ByteIn;
 use crate::byte_out::ByteOut;
-use crate::compare::compare;
-use crate::differences::differences;
-use crate::each::each;
-use crate::job::{Job, OneDump, TwoDumps};
-use crate::lookup::lookup;
-use crate::normalise::normalise;
+use crate::compare::find_verdict;
+use crate::differences::find_differences;
+use crate::each::find_each;
+use crate::extract::find_packets;
+use crate::job::Job;
+use crate::lookup::find_answer;
+use crate::normalise::find_normal;
 use crate::outcome::Outcome;
-use crate::pairs::pairs;
-use crate::reading::Reading;
+use crate::pairs::find_pairs;
 use crate::run_fault::RunFault;
-use crate::show::show;
-use babel_table::Limits;
+use crate::senders::find_senders;
+use crate::show::find_rows;
+use crate::slices::{Found, finish};
+use babel_capture::Wanted;
+use babel_prefix::Addr;
 use std::alloc::Global;
 
-/// Does a job: the run of its command, with the job's own words. The other reader has the other
-/// dump of a comparison, or the pairs of `--each`; each other job leaves it as it was.
+/// Does a job: reads its input, finds what its command asks for, writes that, and flushes. The other
+/// reader has the other dump of a comparison, or the pairs of `--each`; each other job leaves it as
+/// it was.
 ///
 /// # Errors
 ///
-/// Those of the command's run; of a job that reads strictly also `Ignored` with the first TLV that
-/// was ignored, where the dump has no fault, and `OtherIgnored` for the other dump of a comparison.
+/// `Input` where nothing could be made of an input; of the other of a comparison it comes only where
+/// the first has no fault. `Pairs` with the fault of the pairs of `--each`, and then the dump is not
+/// read. `Write` where a write or the flush failed. At each other fault nothing is written.
 pub fn run_job<R: ByteIn, S: ByteIn, W: ByteOut>(
     alloc: Global,
-    limits: Limits,
     job: &Job,
     reader: &mut R,
     other: &mut S,
     writer: &mut W,
 ) -> Result<Outcome, RunFault>
-    requires reader_failures { (R.state reader.old).failures < 2 ^ 63 }
-    requires reader_reads { (R.state reader.old).reads < 2 ^ 63 }
-    requires reader_ends { (R.state reader.old).ends < 2 ^ 63 }
-    requires other_failures { (S.state other.old).failures < 2 ^ 63 }
-    requires other_reads { (S.state other.old).reads < 2 ^ 63 }
-    requires other_ends { (S.state other.old).ends < 2 ^ 63 }
-    requires writer_failures { (W.state writer.old).failures < 2 ^ 63 }
-    requires writer_flushes { (W.state writer.old).flushes < 2 ^ 63 }
-    ensures { RanJob limits job.now (read_from (R.state reader.old) (R.state reader.new))
-        (read_from (S.state other.old) (S.state other.new))
+    requires reader { HasRoomToCount (R.state reader.old) }
+    requires other { HasRoomToCount (S.state other.old) }
+    requires writer { HasRoomToWrite (W.state writer.old) }
+    ensures { RanJob job.now (reads (R.state reader.old) (R.state reader.new))
+        (reads (S.state other.old) (S.state other.new))
         (output (W.state writer.old) (W.state writer.new)) (other.new ≡ other.old) result }
 {
-    match job {
-        Job::Show { dump } => {
-            let reading = reading_of(limits, dump);
-            show(alloc, reading, dump.format, reader, writer)
-        }
-        Job::Lookup { dump, pair } => {
-            let reading = reading_of(limits, dump);
-            lookup(alloc, reading, *pair, dump.format, reader, writer)
-        }
-        Job::Each { dump, .. } => {
-            let reading = reading_of(limits, dump);
-            each(alloc, reading, dump.format, reader, other, writer)
-        }
-        Job::Normalise { dump, body, hex } => {
-            let reading = reading_of(limits, dump);
-            normalise(alloc, reading, *body, *hex, reader, writer)
-        }
-        Job::Pairs { dump, count } => {
-            let reading = reading_of(limits, dump);
-            pairs(alloc, reading, *count, dump.format, reader, writer)
-        }
-        Job::Compare { dumps } => {
-            let (left, right) = (left_reading(limits, dumps), right_reading(limits, dumps));
-            compare(alloc, left, right, dumps.format, reader, other, writer)
-        }
-        Job::Differences { dumps, count } => {
-            let left = left_reading(limits, dumps);
-            let right = right_reading(limits, dumps);
-            let (count, format) = (*count, dumps.format);
-            differences(alloc, left, right, count, format, reader, other, writer)
-        }
+    let found = find(alloc, job, reader, other);
+    finish(writer, found)
+}
+
+/// Reads a job's input, and finds what its command asks for.
+fn find<R: ByteIn, S: ByteIn>(
+    alloc: Global,
+    job: &Job,
+    reader: &mut R,
+    other: &mut S,
+) -> Result<Found, RunFault>
+    requires reader { HasRoomToCount (R.state reader.old) }
+    requires other { HasRoomToCount (S.state other.old) }
+    ensures { FoundBy job.now (reads (R.state reader.old) (R.state reader.new))
+        (reads (S.state other.old) (S.state other.new)) (other.new ≡ other.old) result }
+{
+    match *job {
+        Job::Show { reading, format, .. } => find_rows(alloc, reading, format, reader),
+        Job::Lookup {
+            reading,
+            pair,
+            format,
+            ..
+        } => find_answer(alloc, reading, pair, format, reader),
+        Job::Each {
+            reading, format, ..
+        } => find_each(alloc, reading, format, reader, other),
+        Job::Normalise {
+            reading,
+            view,
+            body,
+            hex,
+            ..
+        } => find_normal(alloc, reading, view, body, hex, reader),
+        Job::Pairs {
+            reading,
+            view,
+            count,
+            format,
+            ..
+        } => find_pairs(alloc, reading, view, count, format, reader),
+        Job::Compare {
+            reading,
+            other_reading,
+            view,
+            format,
+            ..
+        } => find_verdict(alloc, reading, other_reading, view, format, reader, other),
+        Job::Differences {
+            reading,
+            other_reading,
+            view,
+            count,
+            format,
+            ..
+        } => find_differences(alloc, reading, other_reading, view, count, format, reader, other),
+        Job::Senders {
+            reading, format, ..
+        } => find_senders(alloc, reading, format, reader),
+        Job::Extract {
+            reading,
+            sender,
+            interface,
+            hex,
+            ..
+        } => find_packets(alloc, reading, wanted(sender, interface), hex, reader),
     }
 }
 
-/// How the dump of a command that reads one is read.
-fn reading_of(limits: Limits, dump: &OneDump) -> Reading
-    ensures { result ≡ reading_of limits dump.now }
+/// The datagrams of one sender, on this interface where one is named.
+fn wanted(sender: Addr, interface: Option<u32>) -> Wanted
+    ensures { result ≡ wanted_of sender interface }
 {
-    Reading {
-        limits,
-        mode: dump.mode,
-        sender: dump.from,
-        strict: dump.strict,
-        view: dump.view,
-    }
-}
-
-/// How the first dump of a comparison is read.
-fn left_reading(limits: Limits, dumps: &TwoDumps) -> Reading
-    ensures { result ≡ left_reading limits dumps.now }
-{
-    Reading {
-        limits,
-        mode: dumps.mode,
-        sender: dumps.from,
-        strict: dumps.strict,
-        view: dumps.view,
-    }
-}
-
-/// How the other dump of a comparison is read.
-fn right_reading(limits: Limits, dumps: &TwoDumps) -> Reading
-    ensures { result ≡ right_reading limits dumps.now }
-{
-    Reading {
-        sender: dumps.other_from,
-        ..left_reading(limits, dumps)
-    }
+    let interface = match interface {
+        Some(number) => Some(u64::from(number)),
+        None => None,
+    };
+    Wanted::Sender { sender, interface }
 }

@@ -1,20 +1,21 @@
-ghost use Rattle.std.specs.Prelude.{◌^◌, ◌<◌, None, IfOk};
 ghost use Rattle.babel_dump.specs.Command.{RanNormalise, WritesNormal};
-ghost use Rattle.babel_dump.specs.Given.{IsFaultOfForm, input, read_from};
-ghost use Rattle.babel_dump.specs.Parts.{Gathered, SaysSo};
-ghost use Rattle.babel_dump.specs.Run.{Reports, output, run_status};
+ghost use Rattle.babel_dump.specs.Device.{HasRoomToCount, HasRoomToWrite};
+ghost use Rattle.babel_dump.specs.Given.{GaveNormal, IsFaultOfForm, input, read_from};
+ghost use Rattle.babel_dump.specs.Parts.{Gathered, Says};
+ghost use Rattle.babel_dump.specs.Run.{InputCause, OfFirst, calls_of, output};
 
 use crate::byte_in::ByteIn;
 use crate::byte_out::ByteOut;
-use crate::finish::{Found, finish};
-use crate::input::read_octets;
-use crate::outcome::Outcome;
+use crate::input::read_table;
+use crate::outcome::{Outcome, Reports, status_alone};
 use crate::reading::Reading;
 use crate::run_fault::RunFault;
+use crate::slices::{Found, finish};
 use crate::text::hex_text;
-use babel_canon::Body;
+use babel_canon::laws::{canonical_octets_tell_answers, canonical_octets_tell_answers_under};
+use babel_canon::{Body, canonical_octets};
 use babel_prefix::Addr;
-use babel_table::Limits;
+use babel_table::{Limits, Report};
 use babel_tlv::{Mode, View};
 use std::alloc::Global;
 
@@ -41,11 +42,8 @@ pub fn run_normalise<R: ByteIn, W: ByteOut>(
     reader: &mut R,
     writer: &mut W,
 ) -> Result<u8, RunFault>
-    requires reader_failures { (R.state reader.old).failures < 2 ^ 63 }
-    requires reader_reads { (R.state reader.old).reads < 2 ^ 63 }
-    requires reader_ends { (R.state reader.old).ends < 2 ^ 63 }
-    requires writer_failures { (W.state writer.old).failures < 2 ^ 63 }
-    requires writer_flushes { (W.state writer.old).flushes < 2 ^ 63 }
+    requires reader { HasRoomToCount (R.state reader.old) }
+    requires writer { HasRoomToWrite (W.state writer.old) }
     ensures { let dump = input limits mode sender (R.state reader.old) (R.state reader.new) in
         let output = output (W.state writer.old) (W.state writer.new) in
         RanNormalise dump body hex output result }
@@ -55,52 +53,27 @@ pub fn run_normalise<R: ByteIn, W: ByteOut>(
         mode,
         sender,
         strict: false,
-        view: View::all(),
     };
-    let outcome = normalise(alloc, reading, body, hex, reader, writer)?;
-    Ok(outcome.status)
+    let found = find_normal(alloc, reading, View::all(), body, hex, reader);
+    status_alone(finish(writer, found))
 }
 
-/// `run_normalise`, of a dump that is read so.
-pub(crate) fn normalise<R: ByteIn, W: ByteOut>(
+/// Reads a dump to its end, or to its first fault, and makes its canonical octets under a view, or
+/// their line.
+pub(crate) fn find_normal<R: ByteIn>(
     alloc: Global,
     reading: Reading,
-    body: Body,
-    hex: bool,
-    reader: &mut R,
-    writer: &mut W,
-) -> Result<Outcome, RunFault>
-    requires reader_failures { (R.state reader.old).failures < 2 ^ 63 }
-    requires reader_reads { (R.state reader.old).reads < 2 ^ 63 }
-    requires reader_ends { (R.state reader.old).ends < 2 ^ 63 }
-    requires writer_failures { (W.state writer.old).failures < 2 ^ 63 }
-    requires writer_flushes { (W.state writer.old).flushes < 2 ^ 63 }
-    ensures ran { let dump = read_from (R.state reader.old) (R.state reader.new) reading in
-        let output = output (W.state writer.old) (W.state writer.new) in
-        RanNormalise dump body hex output (run_status result) }
-    ensures reports { let dump = read_from (R.state reader.old) (R.state reader.new) reading in
-        IfOk result (Reports dump None) }
-{
-    let found = read_normal(alloc, reading, body, hex, reader);
-    finish(writer, found)
-}
-
-/// Reads a dump to its end, or to its first fault, and makes its canonical octets, or their line.
-fn read_normal<R: ByteIn>(
-    alloc: Global,
-    reading: Reading,
+    view: View,
     body: Body,
     hex: bool,
     reader: &mut R,
 ) -> Result<Found, RunFault>
-    requires failures { (R.state reader.old).failures < 2 ^ 63 }
-    requires reads { (R.state reader.old).reads < 2 ^ 63 }
-    requires ends { (R.state reader.old).ends < 2 ^ 63 }
+    requires { HasRoomToCount (R.state reader.old) }
     ensures { let dump = read_from (R.state reader.old) (R.state reader.new) reading in
-        Gathered dump None (IsFaultOfForm dump)
-        (SaysSo dump None (WritesNormal dump body hex)) result }
+        Gathered (calls_of dump) (OfFirst (InputCause dump (IsFaultOfForm dump view)))
+        (Says (WritesNormal dump view body hex)) result }
 {
-    let (report, octets) = read_octets(alloc, reading, body, reader)?;
+    let (report, octets) = read_octets(alloc, reading, view, body, reader)?;
     let text = if hex {
         hex_text(alloc, &octets)?.into_bytes()
     } else {
@@ -108,8 +81,31 @@ fn read_normal<R: ByteIn>(
     };
     let outcome = Outcome {
         status: 0,
-        report,
-        other: None,
+        reports: Reports::Dump(report),
     };
-    Ok(Found { text, outcome })
+    Ok(Found::text(alloc, text, outcome)?)
+}
+
+/// Reads a dump to its end, or to its first fault, and makes its canonical octets under the view,
+/// beside its report.
+fn read_octets<R: ByteIn>(
+    alloc: Global,
+    reading: Reading,
+    view: View,
+    body: Body,
+    reader: &mut R,
+) -> Result<(Report, Vec<u8>), RunFault>
+    requires { HasRoomToCount (R.state reader.old) }
+    ensures { let input = read_from (R.state reader.old) (R.state reader.new) reading in
+        Gathered (calls_of input) (OfFirst (InputCause input (IsFaultOfForm input view)))
+        (λ read. GaveNormal input view body read.0 read.1.items) result }
+{
+    let table = read_table(alloc, reading, reader)?;
+    let seen = table.seen(view);
+    let octets = canonical_octets(alloc, reading.limits, body, &seen)?;
+    // For the proof: what limits and sizes of bodies may be, and the laws of canonical octets.
+    let _valid = (reading.limits.entries(), body.octets());
+    canonical_octets_tell_answers();
+    canonical_octets_tell_answers_under();
+    Ok((*seen.report(), octets))
 }

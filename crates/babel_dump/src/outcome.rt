@@ -1,12 +1,40 @@
+ghost use Rattle.std.specs.Prelude.{◌≡◌};
+ghost use Rattle.babel_dump.specs.Run.{run_status};
+
+use crate::run_fault::RunFault;
+use babel_capture::Report as CaptureReport;
 use babel_table::Report;
 
-/// What a run answers: its status, and what was ignored of the dumps that it read.
+/// What a run answers: its status, and the reports of what it read.
 #[derive(Clone, Copy, Debug, PartialEq, Eq)]
 pub struct Outcome {
     /// The exit status, 0 or 1.
     pub status: u8,
-    /// The report of the dump, or of the first of a comparison.
-    pub report: Report,
-    /// The report of the other dump of a comparison.
-    pub other: Option<Report>,
+    pub reports: Reports,
+}
+
+/// The reports of what a run read.
+#[derive(Clone, Copy, Debug, PartialEq, Eq)]
+pub enum Reports {
+    /// Of a dump: which TLVs were ignored.
+    Dump(Report),
+    /// Of the two dumps of a comparison, in their order.
+    Dumps(Report, Report),
+    /// Of a capture.
+    Capture {
+        /// How many packets it has, and which wanted datagrams were left out.
+        report: CaptureReport,
+        /// The offset where it is cut short, if it is and that is accepted.
+        cut: Option<u64>,
+    },
+}
+
+/// The status of what a run answered, or its fault.
+pub(crate) fn status_alone(outcome: Result<Outcome, RunFault>) -> Result<u8, RunFault>
+    ensures { result ≡ run_status outcome }
+{
+    match outcome {
+        Ok(outcome) => Ok(outcome.status),
+        Err(fault) => Err(fault),
+    }
 }

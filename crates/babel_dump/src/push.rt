@@ -294,5 +294,14 @@ pub(crate) fn push_text(buffer: &mut Vec<u8>, text: &str)
     ensures text { buffer.new.items ≡ buffer.old.items ++ text.now }
     ensures room { TookRoom buffer.old buffer.new (length text.now) }
 {
-    buffer.extend_from_slice(text.as_bytes()).unwrap();
+    push_octets(buffer, text.as_bytes());
+}
+
+/// Appends octets.
+pub(crate) fn push_octets(buffer: &mut Vec<u8>, octets: &[u8])
+    requires { HasRoom buffer.old (length octets.now) }
+    ensures text { buffer.new.items ≡ buffer.old.items ++ octets.now }
+    ensures room { TookRoom buffer.old buffer.new (length octets.now) }
+{
+    buffer.extend_from_slice(octets).unwrap();
 }

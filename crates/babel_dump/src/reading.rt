@@ -1,19 +1,17 @@
 use babel_prefix::Addr;
 use babel_table::Limits;
-use babel_tlv::{Mode, View};
+use babel_tlv::Mode;
 
 /// How a dump is read.
-#[derive(Clone, Copy)]
-pub(crate) struct Reading {
-    /// How many octets are read at most, and how many rows its table has at most.
+#[derive(Clone, Copy, Debug)]
+pub struct Reading {
+    /// How many octets are read at most, and how many rows its table has at most: `--max-octets`,
+    /// `--max-routes`.
     pub limits: Limits,
-    /// Whether retracted keys stay as unreachable rows.
+    /// Whether retracted keys stay as unreachable rows: `--hold`.
     pub mode: Mode,
-    /// The address that the dump's packets were sent from.
+    /// The address that the dump's packets were sent from: `--from`, or `--other-from`.
     pub sender: Addr,
-    /// Whether a dump is refused of which a TLV is ignored.
+    /// Whether the dump is refused if a TLV of it is ignored: `--strict`.
     pub strict: bool,
-    /// Which fields of what is announced count, where answers are compared or put into canonical
-    /// form.
-    pub view: View,
 }

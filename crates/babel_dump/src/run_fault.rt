@@ -1,34 +1,50 @@
 ghost use Rattle.std.specs.Prelude.{◌≡◌};
-ghost use Rattle.babel_dump.specs.Run.{exit_status};
+ghost use Rattle.babel_dump.specs.Run.{exit_status, fault_status};
 
-use crate::ignored::IgnoredTlv;
+use crate::input_fault::InputFault;
 use crate::pairs_fault::PairsFault;
 use crate::write::WriteFailed;
 use babel_tlv::Fault;
 use std::alloc::AllocError;
+use std::fmt;
 use thiserror::Error;
 
+/// Which of two inputs. A command over one has the first alone.
+#[derive(Clone, Copy, Debug, PartialEq, Eq)]
+pub enum Side {
+    /// FILE.
+    First,
+    /// OTHER of a comparison.
+    Other,
+}
+
+impl Side {
+    /// The option that names the sender of the dump on this side.
+    pub fn option(self) -> &'static str {
+        match self {
+            Side::First => "--from",
+            Side::Other => "--other-from",
+        }
+    }
+}
+
+impl fmt::Display for Side {
+    /// What stands before the text of a fault of the input on this side.
+    fn fmt<W: fmt::Write>(&self, f: &mut fmt::Formatter<W>) -> fmt::Result {
+        match self {
+            Side::First => Ok(()),
+            Side::Other => f.write_str("other: "),
+        }
+    }
+}
+
 /// Why a run gave no status. `Display` gives the line for standard error.
-#[derive(Clone, Copy, Debug, PartialEq, Eq, Error)]
+#[derive(Debug, Drop, PartialEq, Eq, Error)]
 pub enum RunFault {
-    /// The dump is refused, or an allocation was.
-    #[error("{0}")]
-    Dump(Fault),
-    /// The second dump of a comparison is refused, or an allocation was while it was read.
-    #[error("other: {0}")]
-    OtherDump(Fault),
-    /// A TLV of the dump was ignored, and the dump is read strictly.
-    #[error("{0}")]
-    Ignored(IgnoredTlv),
-    /// A TLV of the second dump of a comparison was ignored, and the dump is read strictly.
-    #[error("other: {0}")]
-    OtherIgnored(IgnoredTlv),
-    /// A read failed.
-    #[error("read failed")]
-    Read,
-    /// A read of the second dump of a comparison failed.
-    #[error("other: read failed")]
-    OtherRead,
+    /// Nothing could be made of the input on this side. Want of memory is the first input's but
+    /// while the other is read.
+    #[error("{0}{1}")]
+    Input(Side, InputFault),
     /// The pairs of `--each` are refused.
     #[error("{0}")]
     Pairs(PairsFault),
@@ -37,37 +53,43 @@ pub enum RunFault {
     Write,
 }
 
-impl From<Fault> for RunFault {
+impl From<InputFault> for RunFault {
     ghost use Rattle.std.specs.Prelude.{◌≡◌};
+    ghost use Rattle.babel_dump.specs.declared.run_fault.Side.TheVariants as sides;
     ghost use Rattle.babel_dump.specs.declared.run_fault.RunFault.TheVariants as run_faults;
 
-    ghost from_gives = { λ fault run. run ≡ run_faults.Dump fault };
+    ghost from_gives = { λ fault run. run ≡ run_faults.Input sides.First fault };
+
+    fn from(fault: InputFault) -> RunFault {
+        RunFault::Input(Side::First, fault)
+    }
+}
+
+impl From<Fault> for RunFault {
+    ghost use Rattle.std.specs.Prelude.{◌≡◌};
+    ghost use Rattle.babel_dump.specs.declared.input_fault.InputFault.TheVariants as input_faults;
+    ghost use Rattle.babel_dump.specs.declared.run_fault.Side.TheVariants as sides;
+    ghost use Rattle.babel_dump.specs.declared.run_fault.RunFault.TheVariants as run_faults;
+
+    ghost from_gives = { λ fault run. run ≡ run_faults.Input sides.First (input_faults.Dump fault) };
 
     fn from(fault: Fault) -> RunFault {
-        RunFault::Dump(fault)
+        RunFault::Input(Side::First, InputFault::Dump(fault))
     }
 }
 
 impl From<AllocError> for RunFault {
     ghost use Rattle.std.specs.Prelude.{◌≡◌};
     ghost use Rattle.babel_tlv.specs.declared.fault.Fault.TheVariants as faults;
+    ghost use Rattle.babel_dump.specs.declared.input_fault.InputFault.TheVariants as input_faults;
+    ghost use Rattle.babel_dump.specs.declared.run_fault.Side.TheVariants as sides;
     ghost use Rattle.babel_dump.specs.declared.run_fault.RunFault.TheVariants as run_faults;
 
-    ghost from_gives = { λ _ run. run ≡ run_faults.Dump faults.Memory };
+    ghost from_gives = { λ _ run.
+        run ≡ run_faults.Input sides.First (input_faults.Dump faults.Memory) };
 
     fn from(_error: AllocError) -> RunFault {
-        RunFault::Dump(Fault::Memory)
-    }
-}
-
-impl From<PairsFault> for RunFault {
-    ghost use Rattle.std.specs.Prelude.{◌≡◌};
-    ghost use Rattle.babel_dump.specs.declared.run_fault.RunFault.TheVariants as run_faults;
-
-    ghost from_gives = { λ fault run. run ≡ run_faults.Pairs fault };
-
-    fn from(fault: PairsFault) -> RunFault {
-        RunFault::Pairs(fault)
+        RunFault::Input(Side::First, InputFault::Dump(Fault::Memory))
     }
 }
 
@@ -82,19 +104,27 @@ impl From<WriteFailed> for RunFault {
     }
 }
 
-/// The exit status of the program for what a run gave: the run's own, 2 where the pairs of `--each`
-/// are refused, 3 where a dump is, 4 where a read or a write failed, 5 where an allocation was
-/// refused.
+impl RunFault {
+    /// The exit status of the program: 2 where the pairs of `--each` are refused, 3 where an input
+    /// is, 4 where a read or a write failed, 5 where an allocation was refused.
+    pub fn status(&self) -> u8
+        ensures { result ≡ fault_status self.now }
+    {
+        match self {
+            RunFault::Input(_, fault) => fault.status(),
+            RunFault::Pairs(PairsFault::Read) => 4,
+            RunFault::Pairs(_) => 2,
+            RunFault::Write => 4,
+        }
+    }
+}
+
+/// The exit status of the program for what a run gave: the run's own, or that of its fault.
 pub fn status_of(outcome: &Result<u8, RunFault>) -> u8
     ensures { result ≡ exit_status outcome.now }
 {
     match outcome {
         Ok(status) => *status,
-        Err(RunFault::Dump(Fault::Memory) | RunFault::OtherDump(Fault::Memory)) => 5,
-        Err(RunFault::Dump(_) | RunFault::OtherDump(_)) => 3,
-        Err(RunFault::Ignored(_) | RunFault::OtherIgnored(_)) => 3,
-        Err(RunFault::Pairs(PairsFault::NotAPair { .. } | PairsFault::TooLong)) => 2,
-        Err(RunFault::Pairs(PairsFault::Read)) => 4,
-        Err(RunFault::Read | RunFault::OtherRead | RunFault::Write) => 4,
+        Err(fault) => fault.status(),
     }
 }

@@ -1,61 +1,44 @@
-ghost use Rattle.std.specs.Prelude.{◌^◌, ◌<◌};
 ghost use Rattle.babel_dump.specs.CaptureGiven.{capture_from};
-ghost use Rattle.babel_dump.specs.CaptureRun.{GatheredCapture, IsNoFault, ListsSenders, RanSenders, SaysOutcome};
-ghost use Rattle.babel_dump.specs.Run.{output};
+ghost use Rattle.babel_dump.specs.CaptureRun.{CaptureCause, IsNoFault, ListsSenders, capture_calls};
+ghost use Rattle.babel_dump.specs.Device.{HasRoomToCount};
+ghost use Rattle.babel_dump.specs.Parts.{Gathered, Says};
+ghost use Rattle.babel_dump.specs.Run.{OfFirst};
+ghost use Rattle.babel_capture.specs.declared.wanted.Wanted.TheVariants as wanteds;
 
 use crate::byte_in::ByteIn;
-use crate::byte_out::ByteOut;
-use crate::capture_fault::CaptureRunFault;
-use crate::capture_finish::{CaptureFound, finish_capture};
 use crate::capture_input::read_capture;
-use crate::capture_outcome::CaptureOutcome;
 use crate::capture_reading::CaptureReading;
 use crate::capture_text::senders_text;
 use crate::format::Format;
+use crate::outcome::{Outcome, Reports};
+use crate::run_fault::RunFault;
+use crate::slices::Found;
+use babel_capture::Wanted;
 use std::alloc::Global;
 
-/// Reads a capture that is read so, and writes a line for each sender on each interface, in a
-/// format. The status is 1 if there is none.
-pub(crate) fn senders<R: ByteIn, W: ByteOut>(
+/// Reads a capture to its end, or to its first fault, and makes the lines of its senders: one for
+/// each on each interface. The status is 1 if there is none.
+pub(crate) fn find_senders<R: ByteIn>(
     alloc: Global,
     reading: CaptureReading,
     format: Format,
     reader: &mut R,
-    writer: &mut W,
-) -> Result<CaptureOutcome, CaptureRunFault>
-    requires reader_failures { (R.state reader.old).failures < 2 ^ 63 }
-    requires reader_reads { (R.state reader.old).reads < 2 ^ 63 }
-    requires reader_ends { (R.state reader.old).ends < 2 ^ 63 }
-    requires writer_failures { (W.state writer.old).failures < 2 ^ 63 }
-    requires writer_flushes { (W.state writer.old).flushes < 2 ^ 63 }
-    ensures { RanSenders (capture_from (R.state reader.old) (R.state reader.new) reading) format
-        (output (W.state writer.old) (W.state writer.new)) result }
+) -> Result<Found, RunFault>
+    requires { HasRoomToCount (R.state reader.old) }
+    ensures { let input =
+        capture_from (R.state reader.old) (R.state reader.new) reading wanteds.Everyone in
+        Gathered (capture_calls input) (OfFirst (CaptureCause input IsNoFault))
+        (Says (ListsSenders input format)) result }
 {
-    let found = read_senders(alloc, reading, format, reader);
-    finish_capture(writer, found)
-}
-
-/// Reads a capture to its end, or to its first fault, and makes the lines of its senders.
-fn read_senders<R: ByteIn>(
-    alloc: Global,
-    reading: CaptureReading,
-    format: Format,
-    reader: &mut R,
-) -> Result<CaptureFound, CaptureRunFault>
-    requires failures { (R.state reader.old).failures < 2 ^ 63 }
-    requires reads { (R.state reader.old).reads < 2 ^ 63 }
-    requires ends { (R.state reader.old).ends < 2 ^ 63 }
-    ensures { let input = capture_from (R.state reader.old) (R.state reader.new) reading in
-        GatheredCapture input IsNoFault (SaysOutcome (ListsSenders input format)) result }
-{
-    let read = read_capture(alloc, reading, reader)?;
+    let read = read_capture(alloc, reading, Wanted::Everyone, reader)?;
     let senders = read.gathered.senders();
     let text = senders_text(alloc, format, senders)?.into_bytes();
-    let status = if senders.is_empty() { 1 } else { 0 };
-    let outcome = CaptureOutcome {
-        status,
-        report: read.gathered.report(),
-        cut: read.cut,
+    let outcome = Outcome {
+        status: if senders.is_empty() { 1 } else { 0 },
+        reports: Reports::Capture {
+            report: read.gathered.report(),
+            cut: read.cut,
+        },
     };
-    Ok(CaptureFound { text, outcome })
+    Ok(Found::text(alloc, text, outcome)?)
 }

@@ -1,19 +1,19 @@
 //! Lines that are written in slices: a buffer takes them, and is written out where it has no room
 //! for one more. So a text of any length takes no more memory than the buffer, which is there before
 //! the first octet is written.
-ghost use Rattle.std.specs.Prelude.{◌≡◌, ◌++◌, ◌-◌, ◌^◌, ◌<◌, ◌≤◌, [], OnOk, vec_capacity};
+ghost use Rattle.std.specs.Prelude.{◌≡◌, ◌++◌, ◌-◌, ◌^◌, ◌<◌, ◌≤◌, [], IfOk, OnOk, vec_capacity};
 ghost use Rattle.babel_tlv.specs.Views.{keeps_all};
+ghost use Rattle.babel_dump.specs.Device.{HasRoomToWrite};
 ghost use Rattle.babel_dump.specs.InFormat.{line_in, pairs_in};
-ghost use Rattle.babel_dump.specs.Parts.{WroteText};
 ghost use Rattle.babel_dump.specs.Run.{output};
-ghost use Rattle.babel_dump.specs.SlicedRows.{FinishedRows, lines_of};
-ghost use Rattle.babel_dump.specs.Slices.{WroteFront, HasRoom, TookRoom};
+ghost use Rattle.babel_dump.specs.SlicedRows.{Finished, found_text, lines_of};
+ghost use Rattle.babel_dump.specs.Slices.{HasRoom, TookRoom, WroteFront, WroteText};
 
 use crate::byte_out::ByteOut;
 use crate::format::Format;
 use crate::outcome::Outcome;
 use crate::pair_lines::PairLines;
-use crate::push::{push_pair_line, push_text};
+use crate::push::{push_octets, push_pair_line};
 use crate::push_json::push_pair_json;
 use crate::run_fault::RunFault;
 use crate::slice_buffer::{LONGEST_LINE, SliceBuffer};
@@ -21,6 +21,7 @@ use crate::write::{WriteFailed, write_all, write_text};
 use babel_canon::CanonicalPairs;
 use babel_table::Table;
 use babel_tlv::{Held, Key, View};
+use std::alloc::{AllocError, Global};
 
 /// Rows of which each has a line.
 #[derive(Drop)]
@@ -36,24 +37,40 @@ pub(crate) enum Rows {
 /// What a run found: rows, whose lines are written in a format, a text after these, and what it
 /// answers. The buffer is for the slices of the lines.
 #[derive(Drop)]
-pub(crate) struct FoundRows {
+pub(crate) struct Found {
     pub format: Format,
     pub rows: Rows,
-    pub after: String,
+    pub after: Vec<u8>,
     pub buffer: SliceBuffer,
     pub outcome: Outcome,
 }
 
+impl Found {
+    /// A text, and no rows.
+    pub fn text(alloc: Global, text: Vec<u8>, outcome: Outcome) -> Result<Found, AllocError>
+        ensures text { IfOk result (λ found. found_text found ≡ text.items) }
+        ensures outcome { IfOk result (λ found. found.outcome ≡ outcome) }
+    {
+        let buffer = SliceBuffer::new(alloc)?;
+        Ok(Found {
+            format: Format::Text,
+            rows: Rows::Empty,
+            after: text,
+            buffer,
+            outcome,
+        })
+    }
+}
+
 /// Writes the lines that a run found, if it did, and the text after them, and answers its outcome.
-pub(crate) fn finish_rows<W: ByteOut>(
+pub(crate) fn finish<W: ByteOut>(
     writer: &mut W,
-    found: Result<FoundRows, RunFault>,
+    found: Result<Found, RunFault>,
 ) -> Result<Outcome, RunFault>
-    requires few_failures { (W.state writer.old).failures < 2 ^ 64 - 1 }
-    requires few_flushes { (W.state writer.old).flushes < 2 ^ 64 - 1 }
-    ensures { FinishedRows (output (W.state writer.old) (W.state writer.new)) found result }
+    requires { HasRoomToWrite (W.state writer.old) }
+    ensures { Finished (output (W.state writer.old) (W.state writer.new)) found result }
 {
-    let FoundRows {
+    let Found {
         format,
         rows,
         after,
@@ -62,7 +79,7 @@ pub(crate) fn finish_rows<W: ByteOut>(
     } = found?;
     let mut buffer = buffer.into_octets();
     write_rows(writer, format, rows, &mut buffer)?;
-    write_last(writer, &mut buffer, after.as_str())?;
+    write_last(writer, &mut buffer, &after)?;
     Ok(outcome)
 }
 
@@ -149,7 +166,7 @@ pub(crate) fn make_room<W: ByteOut>(writer: &mut W, buffer: &mut Vec<u8>) -> Res
 fn write_last<W: ByteOut>(
     writer: &mut W,
     buffer: &mut Vec<u8>,
-    after: &str,
+    after: &[u8],
 ) -> Result<(), WriteFailed>
     requires few_failures { (W.state writer.old).failures < 2 ^ 64 - 1 }
     requires few_flushes { (W.state writer.old).flushes < 2 ^ 64 - 1 }
@@ -157,11 +174,11 @@ fn write_last<W: ByteOut>(
         (buffer.old.items ++ after.now) result }
 {
     if buffer.capacity() - buffer.len() >= after.len() {
-        push_text(buffer, after);
+        push_octets(buffer, after);
         return write_text(writer, buffer);
     }
     write_all(writer, buffer)?;
-    write_text(writer, after.as_bytes())
+    write_text(writer, after)
 }
 
 /// Appends a row of a table: a line in a format.

@@ -1,7 +1,6 @@
 ghost use Rattle.std.specs.Prelude.{◌-◌, ◌^◌, ◌<◌, []};
-ghost use Rattle.babel_dump.specs.Parts.{WroteText};
 ghost use Rattle.babel_dump.specs.Run.{output};
-ghost use Rattle.babel_dump.specs.Slices.{WroteFront};
+ghost use Rattle.babel_dump.specs.Slices.{WroteFront, WroteText};
 
 use crate::byte_out::ByteOut;
 

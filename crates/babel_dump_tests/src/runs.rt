@@ -92,12 +92,16 @@ fn split<'a>(alloc: Global, line: &'a str) -> Result<Vec<&'a str>, Fail> {
     Ok(words)
 }
 
-/// The job that words ask for of a dump that this sender sent.
-fn job(alloc: Global, mode: Mode, sender: &str, asked: &str) -> Result<Job, Fail> {
-    let line = match mode {
-        Mode::Plain => format!(in alloc; "{asked} --from {sender}")?,
-        Mode::Hold => format!(in alloc; "{asked} --from {sender} --hold")?,
+/// The job that words ask for of a dump that this sender sent, within these limits.
+fn job(alloc: Global, limits: Limits, mode: Mode, sender: &str, asked: &str) -> Result<Job, Fail> {
+    let (octets, routes) = (limits.bytes(), limits.entries());
+    let hold = match mode {
+        Mode::Plain => "",
+        Mode::Hold => "--hold",
     };
+    let line = format!(in alloc;
+        "{asked} --from {sender} {hold} --max-octets {octets} --max-routes {routes}"
+    )?;
     match read_words(alloc, &split(alloc, line.as_str())?) {
         Ok(job) => Ok(job),
         Err(_refusal) => Err(Fail::from("no job")),
@@ -114,18 +118,11 @@ fn run(alloc: Global, case: &Case<'_>) -> Result<Ran, Fail>
         script,
         ..
     } = *case;
-    let job = job(alloc, case.mode, case.sender, case.asked)?;
+    let job = job(alloc, case.limits, case.mode, case.sender, case.asked)?;
     let mut reader = ScriptedIn::new(dump, script.read, script.failing_read);
     let mut other = ScriptedIn::new(other, script.read, script.failing_other_read);
     let mut writer = ScriptedOut::new(alloc, script.written, script.failing_call);
-    let outcome = match run_job(
-        alloc,
-        case.limits,
-        &job,
-        &mut reader,
-        &mut other,
-        &mut writer,
-    ) {
+    let outcome = match run_job(alloc, &job, &mut reader, &mut other, &mut writer) {
         Ok(outcome) => Ok(outcome.status),
         Err(fault) => Err(fault),
     };
@@ -142,7 +139,7 @@ fn expect_run(
     rt: &impl Abort,
     alloc: Global,
     case: &Case<'_>,
-    fault: Option<RunFault>,
+    fault: Option<&RunFault>,
     status: u8,
     written: &[u8],
 ) -> Result<(u64, u64), Fail>
@@ -158,7 +155,7 @@ fn expect_run(
         ..
     } = case;
     assert_eq!(rt;
-        ran.outcome.err(),
+        ran.outcome.as_ref().err(),
         fault,
         "{asked} from {sender}, {mode:?}, of {text}, {script:?}"
     );

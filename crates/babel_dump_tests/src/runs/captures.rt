@@ -3,9 +3,7 @@ use super::devices::{ScriptedIn, ScriptedOut};
 use super::split;
 use super::words::expect_file;
 use babel_capture::Fault;
-use babel_dump::{
-    CaptureOrder, CaptureRunFault, Request, read_order, read_request, run_capture_job,
-};
+use babel_dump::{InputFault, Job, RunFault, Side, read_words, run_job, status_of};
 use std::alloc::Global;
 use std::process::Abort;
 use std::test::Fail;
@@ -47,41 +45,34 @@ static WRITTEN: [(&str, &str); 3] = [
 const TAKEN: usize = 7;
 
 /// What the words of a line ask for.
-fn order(alloc: Global, line: &str) -> Result<CaptureOrder, Fail> {
-    match read_request(alloc, &split(alloc, line)?) {
-        Ok(Request::Capture(order)) => Ok(order),
-        Ok(Request::Dumps(_order)) => Err(Fail::from("a job over dumps")),
+fn job(alloc: Global, line: &str) -> Result<Job, Fail> {
+    match read_words(alloc, &split(alloc, line)?) {
+        Ok(job) => Ok(job),
         Err(_refusal) => Err(Fail::from("no job")),
     }
 }
 
-/// How a run ended, with which fault, if any, and what it wrote.
+/// How a run ended, its status or its fault, and what it wrote.
 #[derive(Drop)]
 struct Ran {
-    fault: Option<CaptureRunFault>,
-    status: u8,
+    outcome: Result<u8, RunFault>,
     taken: Vec<u8>,
 }
 
 /// The run of what is asked of octets that come one by one, of which this read and this call of the writer fail, from 1.
 fn run(alloc: Global, line: &str, octets: &[u8], failing: (u64, u64)) -> Result<Ran, Fail> {
-    let order = order(alloc, line)?;
+    let job = job(alloc, line)?;
     let mut reader = ScriptedIn::new(octets, 1, failing.0);
+    let mut other = ScriptedIn::new(&[], 1, 0);
     let mut writer = ScriptedOut::new(alloc, TAKEN, failing.1);
-    let outcome = run_capture_job(alloc, order.limit, &order.job, &mut reader, &mut writer);
-    let taken = writer.into_taken();
-    match outcome {
-        Ok(outcome) => Ok(Ran {
-            fault: None,
-            status: outcome.status,
-            taken,
-        }),
-        Err(fault) => Ok(Ran {
-            status: fault.status(),
-            fault: Some(fault),
-            taken,
-        }),
-    }
+    let outcome = match run_job(alloc, &job, &mut reader, &mut other, &mut writer) {
+        Ok(outcome) => Ok(outcome.status),
+        Err(fault) => Err(fault),
+    };
+    Ok(Ran {
+        outcome,
+        taken: writer.into_taken(),
+    })
 }
 
 /// What is asked of these octets ends in this fault, if any, with this status, and writes these octets.
@@ -91,15 +82,15 @@ fn expect_run(
     line: &str,
     octets: &[u8],
     failing: (u64, u64),
-    fault: Option<CaptureRunFault>,
+    fault: Option<&RunFault>,
     status: u8,
     written: &[u8],
 ) -> Result<(), Fail> {
     let ran = run(alloc, line, octets, failing)?;
     let length = octets.len();
-    assert_eq!(rt; ran.fault, fault, "{line} of {length} octets, {failing:?}");
+    assert_eq!(rt; ran.outcome.as_ref().err(), fault, "{line} of {length} octets, {failing:?}");
     assert_eq!(rt;
-        ran.status,
+        status_of(&ran.outcome),
         status,
         "{line} of {length} octets, {failing:?}"
     );
@@ -132,8 +123,8 @@ fn octets_come_one_by_one(rt: HostRuntime) -> Result<(), Fail> {
 fn each_read_that_fails(rt: HostRuntime) -> Result<(), Fail> {
     for (line, _text) in &WRITTEN {
         for failing in 1..CAPTURE.len() as u64 + 2 {
-            let fault = Some(CaptureRunFault::Read);
-            expect_run(&rt, rt.alloc(), line, &CAPTURE, (failing, 0), fault, 4, &[])?;
+            let fault = RunFault::Input(Side::First, InputFault::Read);
+            expect_run(&rt, rt.alloc(), line, &CAPTURE, (failing, 0), Some(&fault), 4, &[])?;
         }
     }
     Ok(())
@@ -147,8 +138,8 @@ fn each_write_that_fails(rt: HostRuntime) -> Result<(), Fail> {
         for failing in 0..whole.len().div_ceil(TAKEN) + 1 {
             let written = whole.get(..failing * TAKEN).unwrap_or(whole);
             let failing = (0, failing as u64 + 1);
-            let fault = Some(CaptureRunFault::Write);
-            expect_run(&rt, rt.alloc(), line, &CAPTURE, failing, fault, 4, written)?;
+            let fault = RunFault::Write;
+            expect_run(&rt, rt.alloc(), line, &CAPTURE, failing, Some(&fault), 4, written)?;
         }
     }
     Ok(())
@@ -168,14 +159,14 @@ fn fault_of_cut(len: usize) -> Option<Fault> {
 fn a_capture_cut_at_each_octet(rt: HostRuntime) -> Result<(), Fail> {
     for len in 0..CAPTURE.len() {
         if let Some(fault) = fault_of_cut(len) {
-            let fault = Some(CaptureRunFault::Capture(fault));
+            let fault = RunFault::Input(Side::First, InputFault::Capture(fault));
             expect_run(
                 &rt,
                 rt.alloc(),
                 "senders",
                 &CAPTURE[..len],
                 (0, 0),
-                fault,
+                Some(&fault),
                 3,
                 &[],
             )?;
@@ -193,11 +184,14 @@ static WORDS: [(&str, u32, bool, Option<&str>); 2] = [
 #[test]
 fn words_of_captures(rt: HostRuntime) -> Result<(), Fail> {
     for (line, limit, quiet, file) in &WORDS {
-        let asked = order(rt.alloc(), line)?;
-        assert_eq!(rt; asked.limit, *limit, "of {line}");
-        assert_eq!(rt; asked.quiet, *quiet, "of {line}");
-        expect_file(&rt, line, asked.job.file(), *file);
+        let asked = job(rt.alloc(), line)?;
+        if let Job::Senders { reading, .. } | Job::Extract { reading, .. } = &asked {
+            assert_eq!(rt; reading.limit, *limit, "of {line}");
+        } else {
+            assert!(rt; false, "{line} reads no capture");
+        }
+        assert_eq!(rt; asked.is_quiet(), *quiet, "of {line}");
+        expect_file(&rt, line, asked.file(), *file);
     }
-    assert!(rt; read_order(rt.alloc(), &["senders"]).is_err());
     Ok(())
 }

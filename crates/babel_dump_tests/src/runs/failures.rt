@@ -2,7 +2,7 @@
 ghost use Rattle.std.specs.Prelude.{◌<◌};
 
 use super::{Case, ONE_BY_ONE, Script, all_asked, expect_run, run};
-use babel_dump::RunFault;
+use babel_dump::{InputFault, RunFault, Side};
 use babel_library_tests::dumps::{
     NESTED_SOURCES, ONE_FAMILY, ONE_ROUTE, TWO_FAMILIES, TWO_SOURCES, V4, V6, octets,
 };
@@ -87,7 +87,7 @@ fn expect_read_faults<'a>(
             script,
             ..case(sender, asked, text, &dump, &other)
         };
-        let reads = expect_run(rt, alloc, &case, Some(RunFault::Read), 4, &[])?;
+        let reads = expect_run(rt, alloc, &case, Some(&RunFault::Input(Side::First, InputFault::Read)), 4, &[])?;
         assert_eq!(rt; reads, (failing, 0), "{asked} of {text}");
     }
     Ok(())
@@ -120,7 +120,7 @@ fn expect_other_read_faults<'a>(
             script,
             ..case(sender, asked.as_str(), text, &dump, &other)
         };
-        let reads = expect_run(rt, alloc, &case, Some(RunFault::OtherRead), 4, &[])?;
+        let reads = expect_run(rt, alloc, &case, Some(&RunFault::Input(Side::Other, InputFault::Read)), 4, &[])?;
         assert_eq!(rt; reads, (dump.len() as u64 + 1, failing), "of {text}");
     }
     Ok(())
@@ -159,7 +159,7 @@ fn expect_write_faults<'a>(
             ..case(sender, asked, text, &dump, &other)
         };
         let part = whole.len().min(call.saturating_mul(TAKEN));
-        expect_run(rt, alloc, &case, Some(RunFault::Write), 4, &whole[..part])?;
+        expect_run(rt, alloc, &case, Some(&RunFault::Write), 4, &whole[..part])?;
     }
     Ok(())
 }
@@ -204,7 +204,7 @@ fn each_write_of_several_slices(rt: HostRuntime) -> Result<(), Fail> {
             assert_eq!(rt; ran.taken.len(), whole.len());
             return Ok(());
         }
-        assert_eq!(rt; ran.outcome.err(), Some(RunFault::Write), "call {call}");
+        assert_eq!(rt; ran.outcome, Err(RunFault::Write), "call {call}");
         assert!(rt;
             call == 1 || written < ran.taken.len() || ran.taken.len() == whole.len(),
             "call {call}"
@@ -227,19 +227,19 @@ fn a_write_that_takes_nothing(rt: HostRuntime) -> Result<(), Fail> {
             script,
             ..case(V4, asked, ONE_ROUTE, &dump, &[])
         };
-        expect_run(&rt, rt.alloc(), &case, Some(RunFault::Write), 4, &[])?;
+        expect_run(&rt, rt.alloc(), &case, Some(&RunFault::Write), 4, &[])?;
     }
     Ok(())
 }
 
 /// A dump in pieces of so many octets, of which the second read fails, the fault and its status, and how often it is read:
 /// a read that fails after octets, and a fault of octets before a read that would fail.
-static SECOND_READS: [(&str, usize, RunFault, u8, u64); 2] = [
-    (ONE_ROUTE, 20, RunFault::Read, 4, 2),
+const SECOND_READS: [(&str, usize, RunFault, u8, u64); 2] = [
+    (ONE_ROUTE, 20, RunFault::Input(Side::First, InputFault::Read), 4, 2),
     (
         "2a030000",
         100,
-        RunFault::Dump(Fault::BadVersion { at: 0 }),
+        RunFault::Input(Side::First, InputFault::Dump(Fault::BadVersion { at: 0 })),
         3,
         1,
     ),
@@ -260,7 +260,7 @@ fn a_second_read_that_fails(rt: HostRuntime) -> Result<(), Fail> {
                 script,
                 ..case(V4, asked, text, &dump, &dump)
             };
-            let found = expect_run(&rt, rt.alloc(), &case, Some(*fault), *status, &[])?;
+            let found = expect_run(&rt, rt.alloc(), &case, Some(fault), *status, &[])?;
             assert_eq!(rt; found, (*reads, 0), "{asked} of {text}");
         }
     }

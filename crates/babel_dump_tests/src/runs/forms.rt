@@ -1,6 +1,6 @@
 //! The canonical octets of dumps.
 use super::{Case, ONE_BY_ONE, Script, expect_run};
-use babel_dump::RunFault;
+use babel_dump::{InputFault, RunFault, Side};
 use babel_library_tests::dumps::{
     ALL_RETRACTED, BY_FLAG_FORM, DEFAULT_FORM, FAULTY_SUB_TLVS, HIDDEN_DEFAULT, MERGED, MORE_PAIRS,
     NESTED_SOURCES, NESTED_SOURCES_FORM, ONE_HELD_FORM, ONE_IGNORED, ONE_IGNORED_FORM,
@@ -172,7 +172,7 @@ fn canonical_octets_that_a_writer_takes_in_part(rt: HostRuntime) -> Result<(), F
             &rt,
             rt.alloc(),
             &case,
-            Some(RunFault::Write),
+            Some(&RunFault::Write),
             4,
             text.as_bytes(),
         )?;
@@ -186,7 +186,7 @@ static OF_MORE_PAIRS: [&str; 4] = [OCTETS, DIGITS, "pairs", "pairs --count"];
 #[test]
 fn more_pairs_than_the_limit(rt: HostRuntime) -> Result<(), Fail> {
     let dump = octets(rt.alloc(), MORE_PAIRS)?;
-    let fault = Some(RunFault::Dump(Fault::TooManyPairs));
+    let fault = RunFault::Input(Side::First, InputFault::Dump(Fault::TooManyPairs));
     for bytes in &[249, 332] {
         for asked in &OF_MORE_PAIRS {
             let case = Case {
@@ -199,7 +199,7 @@ fn more_pairs_than_the_limit(rt: HostRuntime) -> Result<(), Fail> {
                 other: &[],
                 script: ONE_BY_ONE,
             };
-            expect_run(&rt, rt.alloc(), &case, fault, 3, &[])?;
+            expect_run(&rt, rt.alloc(), &case, Some(&fault), 3, &[])?;
         }
     }
     Ok(())

@@ -10,7 +10,7 @@ use std::test::Fail;
 
 /// The pairs that are looked up in a dump of 10.1.0.0/24 and 10.1.2.0/24, the fault, the status, and what is answered.
 #[rattlefmt::skip]
-static OF_EACH: [(&str, Option<RunFault>, u8, &str); 7] = [
+const OF_EACH: [(&str, Option<RunFault>, u8, &str); 7] = [
     (
         "10.1.0.9 0.0.0.0\n#\n\n  # none\n \t10.1.2.9\t 0.0.0.0 \r\n",
         None,
@@ -54,7 +54,7 @@ fn answers_of_each(rt: HostRuntime) -> Result<(), Fail> {
     let dump = octets(rt.alloc(), TWO_ROUTES)?;
     for (pairs, fault, status, text) in &OF_EACH {
         let case = each(Limits::usual(), &dump, pairs);
-        expect_run(&rt, rt.alloc(), &case, *fault, *status, text.as_bytes())?;
+        expect_run(&rt, rt.alloc(), &case, fault.as_ref(), *status, text.as_bytes())?;
     }
     Ok(())
 }
@@ -82,8 +82,8 @@ fn pairs_that_are_not_read(rt: HostRuntime) -> Result<(), Fail> {
             script,
             ..each(limits, &[], pairs)
         };
-        let fault = Some(RunFault::Pairs(*fault));
-        let reads = expect_run(&rt, rt.alloc(), &case, fault, *status, &[])?;
+        let fault = RunFault::Pairs(*fault);
+        let reads = expect_run(&rt, rt.alloc(), &case, Some(&fault), *status, &[])?;
         assert_eq!(rt; reads.0, 0, "{pairs:?}");
     }
     Ok(())

@@ -1,9 +1,10 @@
 //! Dumps that are refused, and the texts and statuses of faults.
-ghost use Rattle.std.specs.Prelude.{◌^◌, ◌<◌};
+ghost use Rattle.std.specs.Prelude.{◌<◌};
+ghost use Rattle.babel_dump.specs.Device.{HasRoomToCount};
 
 use super::devices::{EndlessIn, ScriptedIn, ScriptedOut};
 use super::{COMPARE_V4, Case, ONE_BY_ONE, Script, all_asked, expect_run, job};
-use babel_dump::{ByteIn, IgnoredTlv, Job, RunFault, run_job, status_of};
+use babel_dump::{ByteIn, IgnoredTlv, InputFault, Job, RunFault, Side, run_job, status_of};
 use babel_library_tests::dumps::{HELD_AFTER_ONE, ONE_ROUTE, V4, octets};
 use babel_table::Limits;
 use babel_tlv::{Fault, Mode, Reason};
@@ -43,10 +44,10 @@ fn expect_refusal<'a>(
 ) -> Result<(), Fail> {
     let dump = octets(alloc, text)?;
     for asked in &all_asked(LOOKUP) {
-        let (dumps, fault) = ((dump.as_slice(), route), RunFault::Dump(fault));
+        let (dumps, fault) = ((dump.as_slice(), route), RunFault::Input(Side::First, InputFault::Dump(fault)));
         expect_refused(rt, alloc, limits, mode, asked, text, dumps, 1, fault)?;
     }
-    let (dumps, fault) = ((route, dump.as_slice()), RunFault::OtherDump(fault));
+    let (dumps, fault) = ((route, dump.as_slice()), RunFault::Input(Side::Other, InputFault::Dump(fault)));
     expect_refused(rt, alloc, limits, mode, COMPARE_V4, text, dumps, 2, fault)
 }
 
@@ -78,7 +79,7 @@ fn expect_refused<'a>(
             ..ONE_BY_ONE
         },
     };
-    expect_run(rt, alloc, &case, Some(fault), 3, &[])?;
+    expect_run(rt, alloc, &case, Some(&fault), 3, &[])?;
     Ok(())
 }
 
@@ -190,6 +191,11 @@ fn dumps_at_their_limits(rt: HostRuntime) -> Result<(), Fail> {
     Ok(())
 }
 
+/// What is asked of a dump of at most 83 octets and one route.
+fn narrow_job(alloc: Global, asked: &str) -> Result<Job, Fail> {
+    job(alloc, Limits::new(83, 1).ok_or("limits")?, Mode::Plain, V4, asked)
+}
+
 /// The job of two readers, one of which has no end, is refused with this fault under narrow limits.
 fn expect_too_long<R: ByteIn, S: ByteIn>(
     rt: &impl Abort,
@@ -199,16 +205,11 @@ fn expect_too_long<R: ByteIn, S: ByteIn>(
     other: &mut S,
     fault: RunFault,
 ) -> Result<(), Fail>
-    requires reader_failures { (R.state reader.old).failures < 2 ^ 63 }
-    requires reader_reads { (R.state reader.old).reads < 2 ^ 63 }
-    requires reader_ends { (R.state reader.old).ends < 2 ^ 63 }
-    requires other_failures { (S.state other.old).failures < 2 ^ 63 }
-    requires other_reads { (S.state other.old).reads < 2 ^ 63 }
-    requires other_ends { (S.state other.old).ends < 2 ^ 63 }
+    requires reader { HasRoomToCount (R.state reader.old) }
+    requires other { HasRoomToCount (S.state other.old) }
 {
-    let limits = Limits::new(83, 1).ok_or("limits")?;
     let mut writer = ScriptedOut::new(alloc, 1, 0);
-    let outcome = run_job(alloc, limits, job, reader, other, &mut writer);
+    let outcome = run_job(alloc, job, reader, other, &mut writer);
     assert_eq!(rt; outcome, Err(fault), "{job:?}");
     assert!(rt; writer.taken().is_empty());
     Ok(())
@@ -217,10 +218,10 @@ fn expect_too_long<R: ByteIn, S: ByteIn>(
 #[test]
 fn a_dump_without_end(rt: HostRuntime) -> Result<(), Fail> {
     for asked in &all_asked(LOOKUP) {
-        let job = job(rt.alloc(), Mode::Plain, V4, asked)?;
+        let job = narrow_job(rt.alloc(), asked)?;
         let mut reader = EndlessIn::new(PACKET);
         let mut other = ScriptedIn::new(&[], 1, 0);
-        let fault = RunFault::Dump(Fault::TooLong);
+        let fault = RunFault::Input(Side::First, InputFault::Dump(Fault::TooLong));
         expect_too_long(&rt, rt.alloc(), &job, &mut reader, &mut other, fault)?;
         assert!(rt; reader.reads() <= 84 && other.reads() == 0, "{job:?}");
     }
@@ -232,76 +233,76 @@ fn another_dump_without_end(rt: HostRuntime) -> Result<(), Fail> {
     let dump = octets(rt.alloc(), ONE_ROUTE)?;
     let mut reader = ScriptedIn::new(&dump, 1, 0);
     let mut other = EndlessIn::new(PACKET);
-    let job = job(rt.alloc(), Mode::Plain, V4, COMPARE_V4)?;
-    let fault = RunFault::OtherDump(Fault::TooLong);
+    let job = narrow_job(rt.alloc(), COMPARE_V4)?;
+    let fault = RunFault::Input(Side::Other, InputFault::Dump(Fault::TooLong));
     expect_too_long(&rt, rt.alloc(), &job, &mut reader, &mut other, fault)?;
     assert!(rt; other.reads() <= 84);
     Ok(())
 }
 
 /// Each fault, its status and its text.
-static TEXTS: [(RunFault, u8, &str); 16] = [
+const TEXTS: [(RunFault, u8, &str); 16] = [
     (
-        RunFault::Dump(Fault::Truncated { at: 29 }),
+        RunFault::Input(Side::First, InputFault::Dump(Fault::Truncated { at: 29 })),
         3,
         "truncated packet at 29",
     ),
     (
-        RunFault::Dump(Fault::BadMagic { at: 0 }),
+        RunFault::Input(Side::First, InputFault::Dump(Fault::BadMagic { at: 0 })),
         3,
         "bad magic at 0",
     ),
     (
-        RunFault::Dump(Fault::BadVersion { at: 7 }),
+        RunFault::Input(Side::First, InputFault::Dump(Fault::BadVersion { at: 7 })),
         3,
         "bad version at 7",
     ),
     (
-        RunFault::Dump(Fault::TlvPastEnd { at: 4 }),
+        RunFault::Input(Side::First, InputFault::Dump(Fault::TlvPastEnd { at: 4 })),
         3,
         "TLV past the end of its packet at 4",
     ),
     (
-        RunFault::Dump(Fault::EncodingSetsRouterId { at: 4 }),
+        RunFault::Input(Side::First, InputFault::Dump(Fault::EncodingSetsRouterId { at: 4 })),
         3,
         "router-id flag in an unread address encoding at 4",
     ),
     (
-        RunFault::Dump(Fault::TooManyRoutes { at: 55 }),
+        RunFault::Input(Side::First, InputFault::Dump(Fault::TooManyRoutes { at: 55 })),
         3,
         "too many routes at 55",
     ),
-    (RunFault::Dump(Fault::TooLong), 3, "dump too long"),
-    (RunFault::Dump(Fault::TooManyPairs), 3, "too many pairs"),
-    (RunFault::Dump(Fault::Memory), 5, "out of memory"),
+    (RunFault::Input(Side::First, InputFault::Dump(Fault::TooLong)), 3, "dump too long"),
+    (RunFault::Input(Side::First, InputFault::Dump(Fault::TooManyPairs)), 3, "too many pairs"),
+    (RunFault::Input(Side::First, InputFault::Dump(Fault::Memory)), 5, "out of memory"),
     (
-        RunFault::OtherDump(Fault::BadVersion { at: 0 }),
+        RunFault::Input(Side::Other, InputFault::Dump(Fault::BadVersion { at: 0 })),
         3,
         "other: bad version at 0",
     ),
     (
-        RunFault::OtherDump(Fault::Memory),
+        RunFault::Input(Side::Other, InputFault::Dump(Fault::Memory)),
         5,
         "other: out of memory",
     ),
     (
-        RunFault::Ignored(IgnoredTlv {
+        RunFault::Input(Side::First, InputFault::Ignored(IgnoredTlv {
             at: 198,
             reason: Reason::Short,
-        }),
+        })),
         3,
         "ignored TLV at 198: short",
     ),
     (
-        RunFault::OtherIgnored(IgnoredTlv {
+        RunFault::Input(Side::Other, InputFault::Ignored(IgnoredTlv {
             at: 29,
             reason: Reason::BadPlen,
-        }),
+        })),
         3,
         "other: ignored TLV at 29: bad-plen",
     ),
-    (RunFault::Read, 4, "read failed"),
-    (RunFault::OtherRead, 4, "other: read failed"),
+    (RunFault::Input(Side::First, InputFault::Read), 4, "read failed"),
+    (RunFault::Input(Side::Other, InputFault::Read), 4, "other: read failed"),
     (RunFault::Write, 4, "write failed"),
 ];
 
@@ -310,7 +311,7 @@ fn texts_and_statuses_of_faults(rt: HostRuntime) -> Result<(), Fail> {
     for (fault, status, text) in &TEXTS {
         let shown = format!(in rt.alloc(); "{fault}")?;
         assert_eq!(rt; shown.as_str(), *text);
-        assert_eq!(rt; status_of(&Err(*fault)), *status);
+        assert_eq!(rt; fault.status(), *status);
     }
     assert_eq!(rt; status_of(&Ok(0)), 0);
     assert_eq!(rt; status_of(&Ok(1)), 1);

@@ -7,8 +7,8 @@ use super::captures::{CAPTURE, SENDERS};
 use super::devices::ScriptedIn;
 use babel_canon::Body;
 use babel_dump::{
-    AddrPair, ByteOut, CaptureJob, DumpFile, Format, Job, OneCapture, OneDump, RunFault, TwoDumps,
-    run_capture_job, run_job,
+    AddrPair, ByteOut, CaptureReading, DumpFile, Format, InputFault, Job, Reading, RunFault, run_job,
+    status_of,
 };
 use babel_library_tests::dumps::{NESTED_SOURCES, ONE_FAMILY, TWO_FAMILIES, V4, V6};
 use babel_table::Limits;
@@ -90,13 +90,11 @@ fn outcome(
         failures: 0,
         flushes: 0,
     };
-    let limits = Limits::usual();
-    let outcome = run_job(alloc, limits, job, &mut reader, &mut other, &mut writer);
-    match outcome {
+    match run_job(alloc, job, &mut reader, &mut other, &mut writer) {
         Ok(given) if given.status == status && writer.rest.is_empty() && writer.flushes == 1 => Ok(
             (),
         ),
-        Err(RunFault::Dump(Fault::Memory) | RunFault::OtherDump(Fault::Memory))
+        Err(RunFault::Input(_, InputFault::Dump(Fault::Memory)))
             if writer.rest == text.as_bytes() && writer.flushes == 0 => { Err(Fail::from(REFUSED)) }
         _ => Err(Fail::from(OTHER)),
     }
@@ -114,116 +112,126 @@ fn decoded<'a>(text: &str, room: &'a mut [u8; 64]) -> Result<&'a [u8], Fail> {
     Ok(room.get(..length).ok_or("too many digits")?)
 }
 
-/// A dump on standard input, in mode plain.
-fn dump_from(sender: &str) -> Result<OneDump, Fail> {
-    Ok(OneDump {
-        from: address(sender)?,
+/// How a dump is read that this sender sent.
+fn reading(sender: &str) -> Result<Reading, Fail> {
+    Ok(Reading {
+        limits: Limits::usual(),
         mode: Mode::Plain,
+        sender: address(sender)?,
         strict: false,
-        format: Format::Text,
-        view: View::all(),
-        file: DumpFile::StandardInput,
     })
 }
 
 #[test]
 fn refused_memory_of_show(rt: HostRuntime) -> Result<(), Fail> {
-    let dump = dump_from(V4)?;
-    let job = Job::Show { dump };
+    let job = Job::Show {
+        reading: reading(V4)?,
+        format: Format::Text,
+        file: DumpFile::StandardInput,
+    };
     outcome(rt.alloc(), &job, NESTED_SOURCES, "", 0, ROWS)
 }
 
 #[test]
 fn refused_memory_of_lookup(rt: HostRuntime) -> Result<(), Fail> {
-    let dump = dump_from(V4)?;
     let dst = address("10.1.2.3")?;
-    let pair = AddrPair { dst, src: dst };
-    let job = Job::Lookup { dump, pair };
+    let job = Job::Lookup {
+        reading: reading(V4)?,
+        pair: AddrPair { dst, src: dst },
+        format: Format::Text,
+        file: DumpFile::StandardInput,
+        quiet: true,
+    };
     outcome(rt.alloc(), &job, NESTED_SOURCES, "", 0, ANSWER)
 }
 
 #[test]
 fn refused_memory_of_normalise(rt: HostRuntime) -> Result<(), Fail> {
-    let (dump, body) = (dump_from(V4)?, Body::usual());
     let job = Job::Normalise {
-        dump,
-        body,
+        reading: reading(V4)?,
+        view: View::all(),
+        body: Body::usual(),
         hex: true,
+        file: DumpFile::StandardInput,
+        quiet: true,
     };
     outcome(rt.alloc(), &job, NESTED_SOURCES, "", 0, DIGITS)
 }
 
-#[test]
-fn refused_memory_of_pairs(rt: HostRuntime) -> Result<(), Fail> {
-    let dump = dump_from(V6)?;
-    let job = Job::Pairs { dump, count: false };
-    outcome(rt.alloc(), &job, TWO_FAMILIES, "", 0, PAIRS)
-}
-
-#[test]
-fn refused_memory_of_count(rt: HostRuntime) -> Result<(), Fail> {
-    let dump = dump_from(V4)?;
-    let job = Job::Pairs { dump, count: true };
-    outcome(rt.alloc(), &job, NESTED_SOURCES, "", 0, COUNTS)
-}
-
-/// Two dumps that this sender sent, in mode plain.
-fn dumps_from(sender: &str) -> Result<TwoDumps, Fail> {
-    let from = address(sender)?;
-    Ok(TwoDumps {
-        from,
-        other_from: from,
-        mode: Mode::Plain,
-        strict: false,
-        format: Format::Text,
+/// The job of `pairs`, over a dump that this sender sent.
+fn pairs(sender: &str, count: bool) -> Result<Job, Fail> {
+    Ok(Job::Pairs {
+        reading: reading(sender)?,
         view: View::all(),
+        count,
+        format: Format::Text,
         file: DumpFile::StandardInput,
-        other: DumpFile::StandardInput,
+        quiet: true,
     })
 }
 
 #[test]
+fn refused_memory_of_pairs(rt: HostRuntime) -> Result<(), Fail> {
+    outcome(rt.alloc(), &pairs(V6, false)?, TWO_FAMILIES, "", 0, PAIRS)
+}
+
+#[test]
+fn refused_memory_of_count(rt: HostRuntime) -> Result<(), Fail> {
+    outcome(rt.alloc(), &pairs(V4, true)?, NESTED_SOURCES, "", 0, COUNTS)
+}
+
+#[test]
 fn refused_memory_of_compare(rt: HostRuntime) -> Result<(), Fail> {
-    let dumps = dumps_from(V6)?;
-    let job = Job::Compare { dumps };
+    let job = Job::Compare {
+        reading: reading(V6)?,
+        other_reading: reading(V6)?,
+        view: View::all(),
+        format: Format::Text,
+        file: DumpFile::StandardInput,
+        other: DumpFile::StandardInput,
+        quiet: true,
+    };
     outcome(rt.alloc(), &job, TWO_FAMILIES, ONE_FAMILY, 1, DIFFERENCE)
+}
+
+/// The job of `compare --all`, over dumps that ::1 sent.
+fn differences(count: bool) -> Result<Job, Fail> {
+    Ok(Job::Differences {
+        reading: reading(V6)?,
+        other_reading: reading(V6)?,
+        view: View::all(),
+        count,
+        format: Format::Text,
+        file: DumpFile::StandardInput,
+        other: DumpFile::StandardInput,
+        quiet: true,
+    })
 }
 
 #[test]
 fn refused_memory_of_differences(rt: HostRuntime) -> Result<(), Fail> {
-    let dumps = dumps_from(V6)?;
-    let job = Job::Differences {
-        dumps,
-        count: false,
-    };
+    let job = differences(false)?;
     outcome(rt.alloc(), &job, TWO_FAMILIES, ONE_FAMILY, 1, DIFFERENCES)
 }
 
 #[test]
 fn refused_memory_of_their_count(rt: HostRuntime) -> Result<(), Fail> {
-    let dumps = dumps_from(V6)?;
-    let job = Job::Differences { dumps, count: true };
-    outcome(
-        rt.alloc(),
-        &job,
-        TWO_FAMILIES,
-        ONE_FAMILY,
-        1,
-        "differences 1\n",
-    )
+    let (job, text) = (differences(true)?, "differences 1\n");
+    outcome(rt.alloc(), &job, TWO_FAMILIES, ONE_FAMILY, 1, text)
 }
 
 /// The run of a capture's job, in pieces of seven octets, with status 0. At `Memory` nothing was written.
-fn capture_outcome(alloc: Global, job: &CaptureJob, text: &str) -> Result<(), Fail> {
+fn capture_outcome(alloc: Global, job: &Job, text: &str) -> Result<(), Fail> {
     let mut reader = ScriptedIn::new(&CAPTURE, 7, 0);
+    let mut other = ScriptedIn::new(&[], 7, 0);
     let mut writer = ExpectingOut {
         rest: text.as_bytes(),
         failures: 0,
         flushes: 0,
     };
-    let status = match run_capture_job(alloc, 1_024, job, &mut reader, &mut writer) {
+    let status = match run_job(alloc, job, &mut reader, &mut other, &mut writer) {
         Ok(given) => given.status,
-        Err(fault) => fault.status(),
+        Err(fault) => status_of(&Err(fault)),
     };
     let is_written = writer.rest.is_empty() && writer.flushes == 1;
     let is_unwritten = writer.rest == text.as_bytes() && writer.flushes == 0;
@@ -235,29 +243,33 @@ fn capture_outcome(alloc: Global, job: &CaptureJob, text: &str) -> Result<(), Fa
     }
 }
 
-/// A capture on standard input.
-const ON_INPUT: OneCapture = OneCapture {
-    strict: false,
+/// How the capture is read.
+const READING: CaptureReading = CaptureReading {
+    limit: 1_024,
     accept_cut: false,
-    file: DumpFile::StandardInput,
+    strict: false,
 };
 
 #[test]
 fn refused_memory_of_senders(rt: HostRuntime) -> Result<(), Fail> {
-    let job = CaptureJob::Senders {
-        capture: ON_INPUT,
+    let job = Job::Senders {
+        reading: READING,
         format: Format::Text,
+        file: DumpFile::StandardInput,
+        quiet: true,
     };
     capture_outcome(rt.alloc(), &job, SENDERS)
 }
 
 #[test]
 fn refused_memory_of_extract(rt: HostRuntime) -> Result<(), Fail> {
-    let job = CaptureJob::Extract {
-        capture: ON_INPUT,
-        from: address("192.0.2.2")?,
+    let job = Job::Extract {
+        reading: READING,
+        sender: address("192.0.2.2")?,
         interface: Some(0),
         hex: true,
+        file: DumpFile::StandardInput,
+        quiet: true,
     };
     capture_outcome(rt.alloc(), &job, "2a020000\n")
 }

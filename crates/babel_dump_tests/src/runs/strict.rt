@@ -1,6 +1,6 @@
 //! Dumps that are refused for TLVs that are ignored.
 use super::{Case, ONE_BY_ONE, expect_run};
-use babel_dump::{IgnoredTlv, RunFault};
+use babel_dump::{IgnoredTlv, InputFault, RunFault, Side};
 use babel_library_tests::dumps::{ONE_ROUTE, V4, octets};
 use babel_table::Limits;
 use babel_tlv::{Fault, Mode, Reason};
@@ -42,7 +42,7 @@ fn expect<'a>(
     limits: Limits,
     asked: &'a str,
     dumps: (&'a str, &'a str),
-    fault: Option<RunFault>,
+    fault: Option<&RunFault>,
     status: u8,
     written: &str,
 ) -> Result<u64, Fail> {
@@ -65,18 +65,18 @@ fn expect<'a>(
 fn strictly_read_dumps(rt: HostRuntime) -> Result<(), Fail> {
     let usual = Limits::usual();
     for asked in &STRICT {
-        let fault = Some(RunFault::Ignored(FIRST));
-        let other_reads = expect(&rt, rt.alloc(), usual, asked, (VAIN, VAIN), fault, 3, "")?;
+        let fault = RunFault::Input(Side::First, InputFault::Ignored(FIRST));
+        let other_reads = expect(&rt, rt.alloc(), usual, asked, (VAIN, VAIN), Some(&fault), 3, "")?;
         assert_eq!(rt; other_reads, 0, "{asked}");
     }
-    let fault = Some(RunFault::OtherIgnored(FIRST));
+    let fault = RunFault::Input(Side::Other, InputFault::Ignored(FIRST));
     expect(
         &rt,
         rt.alloc(),
         usual,
         COMPARE,
         (ONE_ROUTE, VAIN),
-        fault,
+        Some(&fault),
         3,
         "",
     )?;
@@ -94,14 +94,14 @@ fn strictly_read_dumps(rt: HostRuntime) -> Result<(), Fail> {
 }
 
 /// What is asked of a dump whose pairs are too many, and the fault.
-static TOO_MANY_PAIRS: [(&str, RunFault); 2] = [
-    ("pairs", RunFault::Dump(Fault::TooManyPairs)),
+const TOO_MANY_PAIRS: [(&str, RunFault); 2] = [
+    ("pairs", RunFault::Input(Side::First, InputFault::Dump(Fault::TooManyPairs))),
     (
         "pairs --strict",
-        RunFault::Ignored(IgnoredTlv {
+        RunFault::Input(Side::First, InputFault::Ignored(IgnoredTlv {
             at: 41,
             reason: Reason::Short,
-        }),
+        })),
     ),
 ];
 
@@ -115,7 +115,7 @@ fn strict_comes_before_too_many_pairs(rt: HostRuntime) -> Result<(), Fail> {
             limits,
             asked,
             (NINE_PAIRS, ""),
-            Some(*fault),
+            Some(fault),
             3,
             "",
         )?;

@@ -1,6 +1,6 @@
 //! The program's words: jobs, refusals and help.
 use super::{address, split};
-use babel_dump::{DumpFile, Format, Job, OneDump, Refusal, TwoDumps, read_order, read_words};
+use babel_dump::{DumpFile, Format, Job, Reading, Refusal, read_words};
 use babel_prefix::Addr;
 use babel_table::Limits;
 use babel_tlv::Mode;
@@ -141,71 +141,104 @@ fn words_of_jobs(rt: HostRuntime) -> Result<(), Fail> {
 
 /// The job that these words ask for is the one that is wanted.
 fn expect_job(rt: &impl Abort, line: &str, job: &Job, wanted: &Wanted<'_>) -> Result<(), Fail> {
+    expect_file(rt, line, job.file(), wanted.file);
     match job {
-        Job::Show { dump } => expect_dump(rt, line, "show", dump, wanted),
-        Job::Lookup { dump, pair } => {
+        Job::Show { reading, format, .. } => {
+            expect_reading(rt, line, "show", reading, *format, wanted)
+        }
+        Job::Lookup {
+            reading,
+            pair,
+            format,
+            ..
+        } => {
             expect_address(rt, line, pair.dst, wanted.to)?;
             expect_address(rt, line, pair.src, wanted.src)?;
-            expect_dump(rt, line, "lookup", dump, wanted)
+            expect_reading(rt, line, "lookup", reading, *format, wanted)
         }
-        Job::Each { dump, pairs } => {
+        Job::Each {
+            reading,
+            format,
+            pairs,
+            ..
+        } => {
             expect_file(rt, line, pairs, wanted.other);
-            expect_dump(rt, line, "lookup", dump, wanted)
+            expect_reading(rt, line, "lookup", reading, *format, wanted)
         }
-        Job::Normalise { dump, body, hex } => {
+        Job::Normalise {
+            reading, body, hex, ..
+        } => {
             assert_eq!(rt; Some(body.octets()), wanted.body, "of {line}");
             assert_eq!(rt; *hex, wanted.hex, "of {line}");
-            expect_dump(rt, line, "normalise", dump, wanted)
+            expect_reading(rt, line, "normalise", reading, Format::Text, wanted)
         }
-        Job::Pairs { dump, count } => {
+        Job::Pairs {
+            reading,
+            count,
+            format,
+            ..
+        } => {
             assert_eq!(rt; *count, wanted.count, "of {line}");
-            expect_dump(rt, line, "pairs", dump, wanted)
+            expect_reading(rt, line, "pairs", reading, *format, wanted)
         }
-        Job::Compare { dumps } => {
+        Job::Compare {
+            reading,
+            other_reading,
+            format,
+            other,
+            ..
+        } => {
             assert!(rt; !wanted.all, "of {line}");
-            expect_dumps(rt, line, dumps, wanted)
+            expect_file(rt, line, other, wanted.other);
+            expect_readings(rt, line, reading, other_reading, *format, wanted)
         }
-        Job::Differences { dumps, count } => {
+        Job::Differences {
+            reading,
+            other_reading,
+            count,
+            format,
+            other,
+            ..
+        } => {
             assert!(rt; wanted.all, "of {line}");
             assert_eq!(rt; *count, wanted.count, "of {line}");
-            expect_dumps(rt, line, dumps, wanted)
+            expect_file(rt, line, other, wanted.other);
+            expect_readings(rt, line, reading, other_reading, *format, wanted)
         }
+        Job::Senders { .. } | Job::Extract { .. } => Err(Fail::from("a job over a capture")),
     }
 }
 
-/// The dumps of a comparison are those that are wanted.
-fn expect_dumps(
+/// The dumps of a comparison are read as is wanted: alike, but for their senders.
+fn expect_readings(
     rt: &impl Abort,
     line: &str,
-    dumps: &TwoDumps,
+    reading: &Reading,
+    other_reading: &Reading,
+    format: Format,
     wanted: &Wanted<'_>,
 ) -> Result<(), Fail> {
-    assert_eq!(rt; "compare", wanted.command, "of {line}");
-    assert_eq!(rt; dumps.mode, wanted.mode, "of {line}");
-    assert_eq!(rt; dumps.strict, wanted.strict, "of {line}");
-    assert_eq!(rt; dumps.format, wanted.format, "of {line}");
-    expect_address(rt, line, dumps.from, Some(wanted.from))?;
-    expect_address(rt, line, dumps.other_from, wanted.other_from)?;
-    expect_file(rt, line, &dumps.file, wanted.file);
-    expect_file(rt, line, &dumps.other, wanted.other);
-    Ok(())
+    assert_eq!(rt; other_reading.mode, reading.mode, "of {line}");
+    assert_eq!(rt; other_reading.strict, reading.strict, "of {line}");
+    assert_eq!(rt; other_reading.limits, reading.limits, "of {line}");
+    expect_address(rt, line, other_reading.sender, wanted.other_from)?;
+    expect_reading(rt, line, "compare", reading, format, wanted)
 }
 
-/// The command over one dump, and its dump, are those that are wanted.
-fn expect_dump(
+/// The command, and how its dump is read, are those that are wanted.
+fn expect_reading(
     rt: &impl Abort,
     line: &str,
     command: &str,
-    dump: &OneDump,
+    reading: &Reading,
+    format: Format,
     wanted: &Wanted<'_>,
 ) -> Result<(), Fail> {
     assert_eq!(rt; command, wanted.command, "of {line}");
-    assert_eq!(rt; dump.mode, wanted.mode, "of {line}");
-    assert_eq!(rt; dump.strict, wanted.strict, "of {line}");
-    assert_eq!(rt; dump.format, wanted.format, "of {line}");
-    expect_address(rt, line, dump.from, Some(wanted.from))?;
-    expect_file(rt, line, &dump.file, wanted.file);
-    Ok(())
+    assert_eq!(rt; reading.mode, wanted.mode, "of {line}");
+    assert_eq!(rt; reading.strict, wanted.strict, "of {line}");
+    assert_eq!(rt; format, wanted.format, "of {line}");
+    expect_address(rt, line, reading.sender, Some(wanted.from))
 }
 
 /// The address of a job is the one that is wanted.
@@ -348,8 +381,14 @@ static ORDERS: [(&str, u32, u32, bool); 9] = [
 
 /// The limits that words ask for, and whether they ask for no notes.
 fn asked(rt: &impl Abort, alloc: Global, line: &str) -> Result<(Limits, bool), Fail> {
-    match read_order(alloc, &split(alloc, line)?) {
-        Ok(order) => Ok((order.limits, order.quiet)),
+    match read_words(alloc, &split(alloc, line)?) {
+        Ok(job) => match &job {
+            Job::Show { reading, .. }
+            | Job::Normalise { reading, .. }
+            | Job::Pairs { reading, .. }
+            | Job::Compare { reading, .. } => Ok((reading.limits, job.is_quiet())),
+            _ => Err(Fail::from("another job")),
+        },
         Err(_refusal) => {
             assert!(rt; false, "no job of {line}");
             Err(Fail::from("no job"))

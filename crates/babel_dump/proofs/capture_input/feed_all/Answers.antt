@@ -10,10 +10,9 @@ returns-in_err-feed-in-Ok-clause-gathered g c =
     let fed = c.in_err-feed-in-Ok.ensures in
     let exit = err_from_is_err_and c.from_residual.result c.from_residual.ensures.1 in record {
       made = search rules;
-      no_failure = search rules;
       cause = rw (exit.1, exit.2) (fed_fault _ c.reads.capture c.feed.new.self _ c.reads.counter c.in-Ok.n _ _
           (record { limit = fed.same.0 ∙ so_far.from.limit; wanted = fed.same.1 ∙ so_far.from.wanted }) so_far.given c.in-Ok.ensures.octets.0 fed.fed fed.err);
-      few_calls = search rules;
+      called = search rules;
     }
 
 pub unreachable-requires : goal.unreachable-requires

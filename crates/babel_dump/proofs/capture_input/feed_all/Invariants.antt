@@ -5,7 +5,7 @@ use Rattle.babel_dump.proofs.capture_input.feed_all.Given as goal
 
 abbrev pub invariant-reads : goal.invariant-reads
 invariant-reads g l = record {
-  from : IsReadFrom l.capture l.reading;
+  from : IsReadFrom l.capture l.fn.reading l.initial.capture.progress.gathering.wanted;
   no_fault : l.capture.fault ≡ None;
   given : IsFedSoFar l.capture (g.R.ByteIn.state l.initial.reader).left (g.R.ByteIn.state l.reader).left l.counter;
   no_failure : (g.R.ByteIn.state l.reader).failures ≡ (g.R.ByteIn.state l.initial.reader).failures;

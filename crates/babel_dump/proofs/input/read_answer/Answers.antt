@@ -7,10 +7,8 @@ pub returns : goal.returns
 returns g c =
     let same = c.in_ok-feed_all.ensures.same in record {
       made = given_answer _ c.feed_all.new.feeder _ _ _ (record { limits = same.0; mode = same.1; sender = same.2 }) c.in_ok-feed_all.ensures.gathered.made c.in_ok-answer.ensures.ok;
-      no_failure = search rules;
       cause = search rules;
-      few_calls = search rules;
-      few_other_calls = search rules;
+      called = search rules;
     }
 
 pub returns-in_err-answer : goal.returns-in_err-answer
@@ -18,9 +16,7 @@ returns-in_err-answer g c =
     let same = c.in_ok-feed_all.ensures.same in
     let exit = err_from_is_err_and c.from_residual-in_err-answer.result c.from_residual-in_err-answer.ensures.1 in record {
       made = search rules;
-      no_failure = search rules;
       cause = rw (exit.1, exit.2) (λ not_memory. given_fault _ c.feed_all.new.feeder _ (record { limits = same.0; mode = same.1; sender = same.2 })
           c.in_ok-feed_all.ensures.gathered.made (c.in_err-answer.ensures.fault not_memory));
-      few_calls = search rules;
-      few_other_calls = search rules;
+      called = search rules;
     }

@@ -10,7 +10,7 @@ returns-then-count-clause-ok c =
     let format = c.args.format in
     let counted = c.in_ok-pairs.ensures.ok in
     says_pairs c.text_is_one.ensures c.args.limits c.args.view c.args.count format c.args.table c.seen-seen.result counted.pairs _ c.seen-seen.ensures counted.are_canonical
-    (c.in_ok-text.ensures
+    (ap (λ v. v.items) c.into_bytes.ensures.value ∙ c.in_ok-text.ensures
     ∙ ap (λ (n : ℕ). counts_in format n c.in_ok-pairs.pairs) c.len-rows.ensures
     ∙ ap (λ (rs : List Pair). counts_in format (length rs) c.in_ok-pairs.pairs) c.rows.ensures.value
     ∙ ap (λ (n : ℕ). counts_in format (length rows) n) counted.count_is
@@ -22,5 +22,5 @@ returns-clause-ok c =
     let pairs = c.in_ok-pairs-2.pairs in
     let lines = pairs_in c.args.format c.args.view pairs in
     says_pairs c.text_is_one.ensures c.args.limits c.args.view c.args.count c.args.format c.args.table c.seen-seen.result pairs _ c.seen-seen.ensures c.in_ok-pairs-2.ensures.ok
-    (ap (λ (after : List ℕ). lines ++ after) c.new.ensures.bytes ∙ append-nil lines
+    (ap (λ (after : List ℕ). lines ++ after) c.new.ensures.items ∙ append-nil lines
     ∙ sym (ap (λ (b : Bool). pairs_or_counts_in c.args.format c.args.view b rows pairs) c.if-count.false))
