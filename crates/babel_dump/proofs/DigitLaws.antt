@@ -1,7 +1,7 @@
--- Numbers of few digits, in decimal and in hexadecimal, digit by digit.
+-- Numbers of few digits in hexadecimal, digit by digit.
 use Rattle.std.proofs.Common.{◌≡◌, ℕ, suc, ◌/◌, ◌%◌, ◌<◌, ◌≤◌, Bool, true, false, cond, eqb, List, [], ◌∷◌, ◌++◌, refl, ◌∙◌, ap, append_assoc, arith}
 use Rattle.std.specs.Prelude.{◌≢◌}
-use Rattle.std.specs.Fmt.{decimal, digits, digits_onto, digit_glyph}
+use Rattle.std.specs.Fmt.{digits, digits_onto, digit_glyph}
 use Rattle.std.proofs.lemmas.Bool.Decides.{Decides-eqb}
 use Rattle.std.proofs.lemmas.Fmt.{hex_one_digit, hex_two_digits}
 
@@ -19,70 +19,6 @@ last base k n acc none = where_true (eqb (n / base) 0) _ _ ((Decides-eqb (n / ba
 step : (base k n : ℕ) (acc : List ℕ) → n / base ≢ 0
     → digits_onto (suc k) base false n acc ≡ digits_onto k base false (n / base) (digit_glyph false (n % base) ∷ acc)
 step base k n acc some = unless_true (eqb (n / base) 0) _ _ (λ t. some ((Decides-eqb (n / base) 0).0 t))
-
-ten_one : (n : ℕ) → n < 10 → decimal n ≡ digit_glyph false n ∷ []
-unfolding digits
-ten_one n small =
-    let same : n % 10 ≡ n = omega arith in
-    last 10 63 n [] (omega arith) ∙ ap (λ d. digit_glyph false d ∷ []) same
-
-ten_two : (n : ℕ) → 10 ≤ n → n < 100 → decimal n ≡ digit_glyph false (n / 10) ∷ digit_glyph false (n % 10) ∷ []
-unfolding digits
-ten_two n large small =
-    let low = digit_glyph false (n % 10) in
-    let same : n / 10 % 10 ≡ n / 10 = omega arith in
-    step 10 63 n [] (omega arith)
-    ∙ last 10 62 (n / 10) (low ∷ []) (omega arith)
-    ∙ ap (λ d. digit_glyph false d ∷ low ∷ []) same
-
-ten_three : (n : ℕ) → 100 ≤ n → n < 1000
-    → decimal n ≡ digit_glyph false (n / 100) ∷ digit_glyph false (n / 10 % 10) ∷ digit_glyph false (n % 10) ∷ []
-unfolding digits
-ten_three n large small =
-    let low = digit_glyph false (n % 10) in
-    let middle = digit_glyph false (n / 10 % 10) in
-    let same : n / 10 / 10 % 10 ≡ n / 100 = omega arith in
-    step 10 63 n [] (omega arith)
-    ∙ step 10 62 (n / 10) (low ∷ []) (omega arith)
-    ∙ last 10 61 (n / 10 / 10) (middle ∷ low ∷ []) (omega arith)
-    ∙ ap (λ d. digit_glyph false d ∷ middle ∷ low ∷ []) same
-
-ten_four : (n : ℕ) → 1000 ≤ n → n < 10000
-    → decimal n ≡ digit_glyph false (n / 1000) ∷ digit_glyph false (n / 100 % 10) ∷ digit_glyph false (n / 10 % 10) ∷ digit_glyph false (n % 10) ∷ []
-unfolding digits
-ten_four n large small =
-    let low = digit_glyph false (n % 10) in
-    let third = digit_glyph false (n / 10 % 10) in
-    let second = digit_glyph false (n / 10 / 10 % 10) in
-    let first : n / 10 / 10 / 10 % 10 ≡ n / 1000 = omega arith in
-    let same : n / 10 / 10 ≡ n / 100 = omega arith in
-    step 10 63 n [] (omega arith)
-    ∙ step 10 62 (n / 10) (low ∷ []) (omega arith)
-    ∙ step 10 61 (n / 10 / 10) (third ∷ low ∷ []) (omega arith)
-    ∙ last 10 60 (n / 10 / 10 / 10) (second ∷ third ∷ low ∷ []) (omega arith)
-    ∙ ap (λ d. digit_glyph false d ∷ second ∷ third ∷ low ∷ []) first
-    ∙ ap (λ d. digit_glyph false (n / 1000) ∷ digit_glyph false (d % 10) ∷ third ∷ low ∷ []) same
-
-ten_five : (n : ℕ) → 10000 ≤ n → n < 100000
-    → decimal n ≡ digit_glyph false (n / 10000) ∷ digit_glyph false (n / 1000 % 10) ∷ digit_glyph false (n / 100 % 10) ∷ digit_glyph false (n / 10 % 10)
-    ∷ digit_glyph false (n % 10) ∷ []
-unfolding digits
-ten_five n large small =
-    let low = digit_glyph false (n % 10) in
-    let fourth = digit_glyph false (n / 10 % 10) in
-    let third = digit_glyph false (n / 10 / 10 % 10) in
-    let second = digit_glyph false (n / 10 / 10 / 10 % 10) in
-    let first : n / 10 / 10 / 10 / 10 % 10 ≡ n / 10000 = omega arith in
-    let thousands : n / 10 / 10 / 10 ≡ n / 1000 = omega arith in
-    let hundreds : n / 10 / 10 ≡ n / 100 = omega arith in
-    step 10 63 n [] (omega arith)
-    ∙ step 10 62 (n / 10) (low ∷ []) (omega arith)
-    ∙ step 10 61 (n / 10 / 10) (fourth ∷ low ∷ []) (omega arith)
-    ∙ step 10 60 (n / 10 / 10 / 10) (third ∷ fourth ∷ low ∷ []) (omega arith)
-    ∙ last 10 59 (n / 10 / 10 / 10 / 10) (second ∷ third ∷ fourth ∷ low ∷ []) (omega arith)
-    ∙ ap (λ d. digit_glyph false d ∷ second ∷ third ∷ fourth ∷ low ∷ []) first
-    ∙ ap (λ d. digit_glyph false (n / 10000) ∷ digit_glyph false (d % 10) ∷ third ∷ fourth ∷ low ∷ []) thousands
-    ∙ ap (λ d. digit_glyph false (n / 10000) ∷ digit_glyph false (n / 1000 % 10) ∷ digit_glyph false (d % 10) ∷ fourth ∷ low ∷ []) hundreds
 
 hex_one : (n : ℕ) → n < 16 → digits 16 false n ≡ digit_glyph false n ∷ []
 hex_one = hex_one_digit false
@@ -119,28 +55,6 @@ hex_four n large small =
     ∙ ap (λ d. digit_glyph false (n / 4096) ∷ digit_glyph false (d % 16) ∷ third ∷ low ∷ []) same
 
 -- what stands before such a number grows digit by digit
-pub decimal_one : (before : List ℕ) (n : ℕ) → n < 10 → before ++ digit_glyph false n ∷ [] ≡ before ++ decimal n
-decimal_one before n small = rw (ten_one n small) refl
-
-pub decimal_two : (before : List ℕ) (n : ℕ) → 10 ≤ n → n < 100
-    → before ++ digit_glyph false (n / 10) ∷ [] ++ digit_glyph false (n % 10) ∷ [] ≡ before ++ decimal n
-decimal_two before n large small = rw (ten_two n large small) (simp append_assoc refl)
-
-pub decimal_three : (before : List ℕ) (n : ℕ) → 100 ≤ n → n < 1000
-    → before ++ digit_glyph false (n / 100) ∷ [] ++ digit_glyph false (n / 10 % 10) ∷ [] ++ digit_glyph false (n % 10) ∷ [] ≡ before ++ decimal n
-decimal_three before n large small = rw (ten_three n large small) (simp append_assoc refl)
-
-pub decimal_four : (before : List ℕ) (n : ℕ) → 1000 ≤ n → n < 10000
-    → before ++ digit_glyph false (n / 1000) ∷ [] ++ digit_glyph false (n / 100 % 10) ∷ [] ++ digit_glyph false (n / 10 % 10) ∷ [] ++ digit_glyph false (n % 10) ∷ []
-    ≡ before ++ decimal n
-decimal_four before n large small = rw (ten_four n large small) (simp append_assoc refl)
-
-pub decimal_five : (before : List ℕ) (n : ℕ) → 10000 ≤ n → n < 100000
-    → before ++ digit_glyph false (n / 10000) ∷ [] ++ digit_glyph false (n / 1000 % 10) ∷ [] ++ digit_glyph false (n / 100 % 10) ∷ [] ++ digit_glyph false (n / 10 % 10) ∷ []
-    ++ digit_glyph false (n % 10) ∷ []
-    ≡ before ++ decimal n
-decimal_five before n large small = rw (ten_five n large small) (simp append_assoc refl)
-
 pub group_one : (before : List ℕ) (n : ℕ) → n < 16 → before ++ digit_glyph false n ∷ [] ≡ before ++ digits 16 false n
 group_one before n small = rw (hex_one n small) refl
 

@@ -11,6 +11,7 @@ ghost use Rattle.babel_dump.specs.TextParts.{hex_digits};
 
 use babel_prefix::{Addr, Family, Prefix};
 use babel_tlv::{Ann, Held, Key, View};
+use itoa::{Buffer, Integer};
 
 /// Appends a row of a table, as the runs show it under a view.
 pub(crate) fn push_pair_line(buffer: &mut Vec<u8>, view: View, key: Key, held: Held)
@@ -103,7 +104,7 @@ pub(crate) fn push_prefix(buffer: &mut Vec<u8>, prefix: Prefix)
 {
     push_addr(buffer, prefix.addr());
     push_octet(buffer, b'/');
-    push_octet_number(buffer, prefix.len());
+    push_decimal(buffer, prefix.len());
 }
 
 /// Appends the address.
@@ -126,13 +127,13 @@ fn push_dotted(buffer: &mut Vec<u8>, octets: [u8; 4])
     ensures room { TookRoom buffer.old buffer.new 23 }
 {
     let [a, b, c, d] = octets;
-    push_octet_number(buffer, a);
+    push_decimal(buffer, a);
     push_octet(buffer, b'.');
-    push_octet_number(buffer, b);
+    push_decimal(buffer, b);
     push_octet(buffer, b'.');
-    push_octet_number(buffer, c);
+    push_decimal(buffer, c);
     push_octet(buffer, b'.');
-    push_octet_number(buffer, d);
+    push_decimal(buffer, d);
 }
 
 /// Appends the eight groups in hexadecimal, joined by `:`.
@@ -182,48 +183,14 @@ fn push_four_groups(buffer: &mut Vec<u8>, a: u16, b: u16, c: u16, d: u16)
     push_group(buffer, d);
 }
 
-/// Appends an octet in decimal.
-fn push_octet_number(buffer: &mut Vec<u8>, octet: u8)
-    requires { HasRoom buffer.old 5 }
-    ensures text { buffer.new.items ≡ buffer.old.items ++ decimal octet }
-    ensures room { TookRoom buffer.old buffer.new 5 }
-{
-    push_decimal(buffer, u16::from(octet));
-}
-
 /// Appends a number in decimal.
-fn push_decimal(buffer: &mut Vec<u8>, n: u16)
-    requires { HasRoom buffer.old 5 }
-    ensures text { buffer.new.items ≡ buffer.old.items ++ decimal n }
-    ensures room { TookRoom buffer.old buffer.new 5 }
+pub(crate) fn push_decimal<I: Integer>(buffer: &mut Vec<u8>, number: I)
+    requires { HasRoom buffer.old I.MAX_STR_LEN }
+    ensures text { buffer.new.items ≡ buffer.old.items ++ I.text number }
+    ensures room { TookRoom buffer.old buffer.new I.MAX_STR_LEN }
 {
-    if n < 10 {
-        push_digit(buffer, n as u8);
-        return;
-    }
-    if n < 100 {
-        push_digit(buffer, (n / 10) as u8);
-        push_digit(buffer, (n % 10) as u8);
-        return;
-    }
-    if n < 1_000 {
-        push_digit(buffer, (n / 100) as u8);
-        push_digit(buffer, (n / 10 % 10) as u8);
-        push_digit(buffer, (n % 10) as u8);
-        return;
-    }
-    if n < 10_000 {
-        push_digit(buffer, (n / 1_000) as u8);
-        push_digit(buffer, (n / 100 % 10) as u8);
-        push_digit(buffer, (n / 10 % 10) as u8);
-        push_digit(buffer, (n % 10) as u8);
-        return;
-    }
-    push_digit(buffer, (n / 10_000) as u8);
-    push_digit(buffer, (n / 1_000 % 10) as u8);
-    push_digit(buffer, (n / 100 % 10) as u8);
-    push_digit(buffer, (n / 10 % 10) as u8);
-    push_digit(buffer, (n % 10) as u8);
+    let mut digits = Buffer::new();
+    push_text(buffer, digits.format(number));
 }
 
 /// Appends a group of 16 bits in hexadecimal.
