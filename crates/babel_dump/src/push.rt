@@ -1,14 +1,16 @@
-//! A row's line, appended octet by octet to a buffer that has room for it, with no formatter between.
-ghost use Rattle.std.specs.Prelude.{◌≡◌, false, ◌∷◌, [], ◌++◌, ◌*◌, ◌/◌, ◌%◌, ◌^◌};
+//! Lines, appended octet by octet to a buffer that has room for them, with no formatter between.
+ghost use Rattle.std.specs.Prelude.{◌≡◌, ℕ, false, List, ◌∷◌, [], ◌++◌, ◌*◌, ◌/◌, ◌%◌, ◌^◌};
 ghost use Rattle.std.specs.Prelude.{◌<◌, ◌≤◌, if◌then◌else◌, length, map};
 ghost use Rattle.std.specs.List.{join_with_byte};
 ghost use Rattle.std.specs.Fmt.{decimal, digits, digit_glyph};
 ghost use Rattle.babel_prefix.specs.declared.family.Family.TheVariants.{V6};
 ghost use Rattle.babel_prefix.specs.Text.{printed, printed_bits, printed_prefix};
-ghost use Rattle.babel_dump.specs.RunText.{announcement_text, held_text, kept_text, pair_line};
+ghost use Rattle.babel_tlv.specs.Views.{keeps_all};
+ghost use Rattle.babel_dump.specs.RunText.{announcement_text, answer_line, answer_text, counts_text, difference_count_text, differ_lines, held_text, kept_text, newline, pair_line};
 ghost use Rattle.babel_dump.specs.Slices.{HasRoom, TookRoom};
 ghost use Rattle.babel_dump.specs.TextParts.{hex_digits};
 
+use crate::addr_pair::AddrPair;
 use babel_prefix::{Addr, Family, Prefix};
 use babel_tlv::{Ann, Held, Key, View};
 use itoa::{Buffer, Integer};
@@ -25,6 +27,96 @@ pub(crate) fn push_pair_line(buffer: &mut Vec<u8>, view: View, key: Key, held: H
     push_octet(buffer, b' ');
     push_held(buffer, view, held);
     push_octet(buffer, b'\n');
+}
+
+/// Appends what is answered for a destination and a source.
+pub(crate) fn push_answer_line(buffer: &mut Vec<u8>, pair: AddrPair, answer: Option<Held>)
+    requires { HasRoom buffer.old 174 }
+    ensures text { buffer.new.items
+        ≡ buffer.old.items ++ answer_line pair.dst pair.src answer }
+    ensures room { TookRoom buffer.old buffer.new 174 }
+{
+    push_addr(buffer, pair.dst);
+    push_text(buffer, " from ");
+    push_addr(buffer, pair.src);
+    push_octet(buffer, b' ');
+    push_answer(buffer, View::all(), answer);
+    push_octet(buffer, b'\n');
+}
+
+/// Appends the line of a lookup's answer.
+pub(crate) fn push_lookup(buffer: &mut Vec<u8>, answer: Option<Held>)
+    requires { HasRoom buffer.old 89 }
+    ensures text { buffer.new.items
+        ≡ buffer.old.items ++ (answer_text keeps_all answer ++ newline) }
+    ensures room { TookRoom buffer.old buffer.new 89 }
+{
+    push_answer(buffer, View::all(), answer);
+    push_octet(buffer, b'\n');
+}
+
+/// Appends what two tables answer for a destination and a source, under a view: three lines.
+pub(crate) fn push_differ<A: Shown>(
+    buffer: &mut Vec<u8>,
+    view: View,
+    dst: A,
+    src: A,
+    left: Option<Held>,
+    right: Option<Held>,
+)
+    requires { HasRoom buffer.old 293 }
+    ensures text { buffer.new.items
+        ≡ buffer.old.items ++ differ_lines view (A.text dst) (A.text src) left right }
+    ensures room { TookRoom buffer.old buffer.new 293 }
+{
+    push_text(buffer, "differ ");
+    dst.push(buffer);
+    push_text(buffer, " from ");
+    src.push(buffer);
+    push_octet(buffer, b'\n');
+    push_text(buffer, "left ");
+    push_answer(buffer, view, left);
+    push_octet(buffer, b'\n');
+    push_text(buffer, "right ");
+    push_answer(buffer, view, right);
+    push_octet(buffer, b'\n');
+}
+
+/// Appends how many rows and pairs there are.
+pub(crate) fn push_counts(buffer: &mut Vec<u8>, rows: usize, pairs: usize)
+    requires { HasRoom buffer.old 53 }
+    ensures text { buffer.new.items ≡ buffer.old.items ++ counts_text rows pairs }
+    ensures room { TookRoom buffer.old buffer.new 53 }
+{
+    push_text(buffer, "rows ");
+    push_decimal(buffer, rows);
+    push_octet(buffer, b'\n');
+    push_text(buffer, "pairs ");
+    push_decimal(buffer, pairs);
+    push_octet(buffer, b'\n');
+}
+
+/// Appends how many differences there are.
+pub(crate) fn push_difference_count(buffer: &mut Vec<u8>, count: usize)
+    requires { HasRoom buffer.old 33 }
+    ensures text { buffer.new.items ≡ buffer.old.items ++ difference_count_text count }
+    ensures room { TookRoom buffer.old buffer.new 33 }
+{
+    push_text(buffer, "differences ");
+    push_decimal(buffer, count);
+    push_octet(buffer, b'\n');
+}
+
+/// Appends what is answered, under a view: what stands for a key, or `none`.
+fn push_answer(buffer: &mut Vec<u8>, view: View, answer: Option<Held>)
+    requires { HasRoom buffer.old 88 }
+    ensures text { buffer.new.items ≡ buffer.old.items ++ answer_text view answer }
+    ensures room { TookRoom buffer.old buffer.new 88 }
+{
+    match answer {
+        Some(held) => push_held(buffer, view, held),
+        None => push_text(buffer, "none"),
+    }
 }
 
 /// Appends what stands for a key, under a view.
@@ -93,6 +185,36 @@ pub(crate) fn push_number(buffer: &mut Vec<u8>, kept: bool, ignored: &str, numbe
         push_decimal(buffer, number);
     } else {
         push_text(buffer, ignored);
+    }
+}
+
+/// What stands for a destination or a source in a line: an address or a prefix.
+pub(crate) trait Shown: Copy {
+    ghost text: { Self → List ℕ };
+
+    fn push(self, buffer: &mut Vec<u8>)
+        requires { HasRoom buffer.old 45 }
+        ensures text { buffer.new.items ≡ buffer.old.items ++ text self }
+        ensures room { TookRoom buffer.old buffer.new 45 };
+}
+
+impl Shown for Addr {
+    ghost use Rattle.babel_prefix.specs.Text.{printed};
+
+    ghost text = { printed };
+
+    fn push(self, buffer: &mut Vec<u8>) {
+        push_addr(buffer, self);
+    }
+}
+
+impl Shown for Prefix {
+    ghost use Rattle.babel_prefix.specs.Text.{printed_prefix};
+
+    ghost text = { printed_prefix };
+
+    fn push(self, buffer: &mut Vec<u8>) {
+        push_prefix(buffer, self);
     }
 }
 
@@ -247,7 +369,7 @@ fn push_digit(buffer: &mut Vec<u8>, digit: u8)
 }
 
 /// Appends an octet.
-fn push_octet(buffer: &mut Vec<u8>, octet: u8)
+pub(crate) fn push_octet(buffer: &mut Vec<u8>, octet: u8)
     requires { HasRoom buffer.old 1 }
     ensures text { buffer.new.items ≡ buffer.old.items ++ octet ∷ [] }
     ensures room { TookRoom buffer.old buffer.new 1 }

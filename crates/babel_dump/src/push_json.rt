@@ -1,13 +1,15 @@
-//! A row's line as JSON (RFC 8259), appended to a buffer that has room for it. No text of an address
+//! Lines as JSON (RFC 8259), appended to a buffer that has room for them. No text of an address
 //! or a router-id has a character that JSON escapes.
 ghost use Rattle.std.specs.Prelude.{◌≡◌, ◌++◌, Some};
 ghost use Rattle.hex.specs.Hex.{encode_lower};
-ghost use Rattle.babel_prefix.specs.Text.{printed, printed_prefix};
-ghost use Rattle.babel_dump.specs.JsonText.{addressed_json, announcement_json, answer_json, kept_json, pair_json, quoted};
+ghost use Rattle.babel_prefix.specs.Text.{printed};
+ghost use Rattle.babel_dump.specs.JsonText.{addressed_json, announcement_json, answer_json, answered_line, counts_json, differ_json, difference_count_json, kept_json, pair_json, quoted};
 ghost use Rattle.babel_dump.specs.Slices.{HasRoom, TookRoom};
 
-use crate::push::{push_addr, push_number, push_prefix, push_router_id, push_text};
-use babel_prefix::{Addr, Prefix};
+use crate::push::{
+    Shown, push_addr, push_decimal, push_number, push_octet, push_router_id, push_text,
+};
+use babel_prefix::Addr;
 use babel_tlv::{Ann, Held, Key, View};
 
 /// Appends a row of a table, as the runs show it under a view.
@@ -16,25 +18,104 @@ pub(crate) fn push_pair_json(buffer: &mut Vec<u8>, view: View, key: Key, held: H
     ensures text { buffer.new.items ≡ buffer.old.items ++ pair_json view (key, held) }
     ensures room { TookRoom buffer.old buffer.new 245 }
 {
+    push_answered(buffer, view, key.dst(), key.src(), Some(held));
+}
+
+/// Appends what is answered for a destination and a source, under a view: an object.
+pub(crate) fn push_answered<A: Shown>(
+    buffer: &mut Vec<u8>,
+    view: View,
+    dst: A,
+    src: A,
+    answer: Option<Held>,
+)
+    requires { HasRoom buffer.old 245 }
+    ensures text { buffer.new.items
+        ≡ buffer.old.items ++ answered_line view (A.text dst) (A.text src) answer }
+    ensures room { TookRoom buffer.old buffer.new 245 }
+{
     push_text(buffer, "{");
-    push_addressed(buffer, key.dst(), key.src());
+    push_addressed(buffer, dst, src);
     push_text(buffer, r#","answer":"#);
-    push_held_json(buffer, view, held);
-    push_text(buffer, "}\n");
+    push_answer_json(buffer, view, answer);
+    push_text(buffer, "}");
+    push_octet(buffer, b'\n');
+}
+
+/// Appends what two tables answer for a destination and a source, under a view: an object.
+pub(crate) fn push_differ_json<A: Shown>(
+    buffer: &mut Vec<u8>,
+    view: View,
+    dst: A,
+    src: A,
+    left: Option<Held>,
+    right: Option<Held>,
+)
+    requires { HasRoom buffer.old 379 }
+    ensures text { buffer.new.items
+        ≡ buffer.old.items ++ differ_json view (A.text dst) (A.text src) left right }
+    ensures room { TookRoom buffer.old buffer.new 379 }
+{
+    push_text(buffer, r#"{"same":false,"#);
+    push_addressed(buffer, dst, src);
+    push_text(buffer, r#","left":"#);
+    push_answer_json(buffer, view, left);
+    push_text(buffer, r#","right":"#);
+    push_answer_json(buffer, view, right);
+    push_text(buffer, "}");
+    push_octet(buffer, b'\n');
+}
+
+/// Appends how many rows and pairs there are: an object.
+pub(crate) fn push_counts_json(buffer: &mut Vec<u8>, rows: usize, pairs: usize)
+    requires { HasRoom buffer.old 59 }
+    ensures text { buffer.new.items ≡ buffer.old.items ++ counts_json rows pairs }
+    ensures room { TookRoom buffer.old buffer.new 59 }
+{
+    push_text(buffer, r#"{"rows":"#);
+    push_decimal(buffer, rows);
+    push_text(buffer, r#","pairs":"#);
+    push_decimal(buffer, pairs);
+    push_text(buffer, "}");
+    push_octet(buffer, b'\n');
+}
+
+/// Appends how many differences there are: an object.
+pub(crate) fn push_difference_count_json(buffer: &mut Vec<u8>, count: usize)
+    requires { HasRoom buffer.old 38 }
+    ensures text { buffer.new.items ≡ buffer.old.items ++ difference_count_json count }
+    ensures room { TookRoom buffer.old buffer.new 38 }
+{
+    push_text(buffer, r#"{"differences":"#);
+    push_decimal(buffer, count);
+    push_text(buffer, "}");
+    push_octet(buffer, b'\n');
 }
 
 /// Appends a destination and a source: two members of an object.
-fn push_addressed(buffer: &mut Vec<u8>, dst: Prefix, src: Prefix)
+fn push_addressed<A: Shown>(buffer: &mut Vec<u8>, dst: A, src: A)
     requires { HasRoom buffer.old 118 }
     ensures text { buffer.new.items
-        ≡ buffer.old.items ++ addressed_json (printed_prefix dst) (printed_prefix src) }
+        ≡ buffer.old.items ++ addressed_json (A.text dst) (A.text src) }
     ensures room { TookRoom buffer.old buffer.new 118 }
 {
     push_text(buffer, r#""destination":""#);
-    push_prefix(buffer, dst);
+    dst.push(buffer);
     push_text(buffer, r#"","source":""#);
-    push_prefix(buffer, src);
+    src.push(buffer);
     push_text(buffer, "\"");
+}
+
+/// Appends what is answered, under a view: the object of a route, `"unreachable"`, or `null`.
+fn push_answer_json(buffer: &mut Vec<u8>, view: View, answer: Option<Held>)
+    requires { HasRoom buffer.old 114 }
+    ensures text { buffer.new.items ≡ buffer.old.items ++ answer_json view answer }
+    ensures room { TookRoom buffer.old buffer.new 114 }
+{
+    match answer {
+        Some(held) => push_held_json(buffer, view, held),
+        None => push_text(buffer, "null"),
+    }
 }
 
 /// Appends what stands for a key, under a view: an object, or `"unreachable"`.
