@@ -1,28 +1,20 @@
 -- Lists of JSON values, one after the other.
-use Rattle.std.proofs.Common.{◌≡◌, ℕ, ◌+◌, ◌<◌, List, [], ◌∷◌, ◌++◌, length, take, get_or, Option, arith, rules, append_assoc, refl, ap, ◌∙◌, sym}
+use Rattle.std.proofs.Common.{◌≡◌, ℕ, ◌+◌, ◌<◌, List, [], ◌∷◌, ◌++◌, length, take, get_or, Option, arith, refl, ap, ◌∙◌, sym}
 use Rattle.std.proofs.lemmas.Grind.{common_steps}
 use Rattle.std.proofs.lemmas.List.{take_more}
 use Rattle.std.proofs.lemmas.List.Elements.{filter_map-append}
-use Rattle.std.proofs.lemmas.Str.{IsUtf8-from_ascii}
-use Rattle.std.proofs.lemmas.Str.Ascii.{IsAscii-nil, IsAscii-cons}
 use Rattle.std.specs.Prelude.{codes}
-use Rattle.std.specs.Fmt.{decimal}
 use Rattle.std.specs.List.{filter_map}
 use Rattle.std.specs.Option.{option_map}
-use Rattle.std.specs.Str.{IsUtf8}
 use Rattle.babel_tlv.specs.declared.reason.Reason.{Reason}
-use Rattle.babel_table.specs.Counts.{Counts, all_reasons, count_at, reason_place}
-use Rattle.babel_dump.specs.JsonText.{ignored_object, report_json}
+use Rattle.babel_table.specs.Counts.{Counts, count_at, reason_place}
+use Rattle.babel_dump.specs.JsonText.{ignored_object}
 use Rattle.babel_dump.specs.TextParts.{comma_separated, ignored_objects}
 
 -- what stands between these values and one more
 abbrev pub comma_after : List (List ℕ) → List ℕ
 comma_after [] = []
 comma_after (value ∷ values) = codes ","
-
-pub comma_is_text : (values : List (List ℕ)) → IsUtf8 (comma_after values)
-comma_is_text [] = IsUtf8-from_ascii _ IsAscii-nil
-comma_is_text (value ∷ values) = IsUtf8-from_ascii (codes ",") (IsAscii-cons 44 [] (search rules) IsAscii-nil)
 
 pub comma_separated-more : (values : List (List ℕ)) (value : List ℕ)
     → comma_separated (values ++ value ∷ []) ≡ (comma_separated values ++ comma_after values) ++ value
@@ -34,9 +26,9 @@ comma_after-more [] value = refl
 comma_after-more (first ∷ values) value = refl
 
 -- the text of one value more
-pub text_more : (text comma value after : List ℕ) (values more : List (List ℕ)) → text ≡ comma_separated values
-    → comma ≡ comma_after values → more ≡ values ++ value ∷ [] → after ≡ text ++ (comma ++ value) → after ≡ comma_separated more
-text_more text comma value after values more is_text is_comma is_more is_after =
+pub text_more : (before text comma value after : List ℕ) (values more : List (List ℕ)) → text ≡ before ++ comma_separated values
+    → comma ≡ comma_after values → more ≡ values ++ value ∷ [] → after ≡ text ++ (comma ++ value) → after ≡ before ++ comma_separated more
+text_more before text comma value after values more is_text is_comma is_more is_after =
     let separated = comma_separated-more values value in
     grind (arith, common_steps)
 
@@ -50,9 +42,3 @@ objects_more counts reasons i d counted within is =
     ap (filter_map object) (take_more reasons i d within)
     ∙ filter_map-append object (take i reasons) (get_or reasons i d ∷ [])
     ∙ ap (λ (found : Option (ℕ × ℕ)). ignored_objects counts (take i reasons) ++ filter_map (λ value. value) (option_map (ignored_object (get_or reasons i d)) found ∷ [])) (sym is)
-
--- the line of a report
-pub report_written : (counts : Counts) (tlvs : ℕ) (ignored : List ℕ) → tlvs ≡ counts.tlvs
-    → ignored ≡ comma_separated (ignored_objects counts all_reasons)
-    → codes "{\"tlvs\":" ++ (decimal tlvs ++ (codes ",\"ignored\":[" ++ (ignored ++ codes "]}\n"))) ≡ report_json counts
-report_written counts tlvs ignored is_tlvs is_ignored = rw is_tlvs (rw is_ignored (simp append_assoc refl))

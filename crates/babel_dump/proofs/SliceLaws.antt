@@ -1,5 +1,5 @@
 -- A text that is written in slices, one after the other.
-use Rattle.std.proofs.Common.{◌≡◌, ℕ, ◌+◌, ◌≤◌, List, [], ◌++◌, length, take, drop, Result, Ok, Err, refl, sym, ap, subst, ◌∙◌, append_assoc, append-nil, take-append-drop, arith}
+use Rattle.std.proofs.Common.{◌≡◌, ℕ, suc, ◌+◌, ◌<◌, ◌≤◌, List, [], ◌∷◌, ◌++◌, length, get_or, take, drop, drop-cons, flat_map, Result, Ok, Err, refl, sym, ap, subst, ◌∙◌, append_assoc, append-nil, take-append-drop, arith}
 use Rattle.std.proofs.lemmas.List.{take_all}
 use Rattle.std.proofs.Math.Seq.{take-append-add, take-append_seam}
 use Rattle.std.specs.Prelude.{IsErr}
@@ -149,3 +149,13 @@ not_flushed a b c text e first kept failures flushes = record {
   one_failure = omega (arith, failures, first.no_failure);
   one_flush = omega (arith, flushes, first.no_flush);
 }
+
+next : (i : ℕ) → suc i ≡ i + 1
+next i = omega arith
+
+-- the next of the lines was put behind what is left
+pub pushed_next : {A : Type 0} (f : A → List ℕ) (xs : List A) (i : ℕ) (x : A) (writer : Output) (text left now : List ℕ)
+    → Took writer text (left ++ flat_map f (drop i xs)) → i < length xs → x ≡ get_or xs i x → now ≡ left ++ f x → Took writer text (now ++ flat_map f (drop (i + 1) xs))
+pushed_next f xs i x writer text left now first within is put =
+    pushed writer text left (f x) now _ (flat_map f (drop (i + 1) xs)) first put
+    (ap (flat_map f) (drop-cons xs i x within ∙ ap (λ y. y ∷ drop (suc i) xs) (sym is)) ∙ ap (λ (k : ℕ). f x ++ flat_map f (drop k xs)) (next i))

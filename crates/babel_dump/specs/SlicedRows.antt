@@ -1,21 +1,31 @@
 -- What a run writes of what it found. These are this project's own.
 use Rattle.std.specs.Prelude.{ℕ, ◌≡◌, List, [], ◌++◌, Result, Ok, Err, IfOk, IfErr}
+use Rattle.std.specs.List.{flat_map}
 use Rattle.babel_tlv.specs.Views.{keeps_all}
-use Rattle.babel_dump.specs.InFormat.{pairs_in}
+use Rattle.babel_dump.specs.CaptureText.{senders_in}
+use Rattle.babel_dump.specs.InFormat.{answer_line_in, difference_in, pairs_in}
 use Rattle.babel_dump.specs.Run.{Output}
 use Rattle.babel_dump.specs.Slices.{WroteText}
 use Rattle.babel_dump.specs.declared.format.Format.{Format}
 use Rattle.babel_dump.specs.declared.outcome.Outcome.{Outcome}
+use Rattle.babel_dump.specs.declared.output.Answered.{Answered}
 use Rattle.babel_dump.specs.declared.run_fault.RunFault.{RunFault}
 use Rattle.babel_dump.specs.declared.run_fault.RunFault.TheVariants as run_faults
 use Rattle.babel_dump.specs.declared.slices.Found.{Found}
 use Rattle.babel_dump.specs.declared.slices.Rows.{Rows}
 use Rattle.babel_dump.specs.declared.slices.Rows.TheVariants as rows
 
+-- what is answered for a destination and a source
+abbrev pub answered_in : Format → Answered → List ℕ
+answered_in format answered = answer_line_in format answered.pair.dst answered.pair.src answered.held
+
 -- a line for each row
 abbrev pub lines_of : Format → Rows → List ℕ
 lines_of format (rows.Table table) = pairs_in format keeps_all table.rows
 lines_of format (rows.Pairs view pairs) = pairs_in format view pairs
+lines_of format (rows.Answers answers) = flat_map (answered_in format) answers.items
+lines_of format (rows.Differences view differences) = flat_map (difference_in format view) differences.items
+lines_of format (rows.Senders gathered) = senders_in format gathered.senders
 lines_of format rows.Empty = []
 
 -- the whole text of what was found

@@ -99,7 +99,7 @@ fn found_verdict(
     ensures err { IfErr result IsOfMemory }
 {
     let verdict = babel_canon::compare(alloc, &seen.left, &seen.right)?;
-    let text = verdict_output(alloc, format, view, &verdict)?.into_bytes();
+    let text = verdict_output(alloc, format, view, &verdict)?;
     let outcome = Outcome {
         status: verdict_status(&verdict),
         reports: Reports::Dumps(*seen.left.report(), *seen.right.report()),

@@ -10,10 +10,10 @@ use crate::both::{SeenTables, read_both};
 use crate::byte_in::ByteIn;
 use crate::format::Format;
 use crate::outcome::{Outcome, Reports};
-use crate::output::{difference_count_output, differences_output};
+use crate::output::{difference_count_output, same_output};
 use crate::reading::Reading;
 use crate::run_fault::RunFault;
-use crate::slices::Found;
+use crate::slices::{Found, Rows};
 use babel_canon::difference_count;
 use babel_table::Limits;
 use babel_tlv::View;
@@ -63,15 +63,20 @@ fn found_differences(
     let reports = Reports::Dumps(*left.report(), *right.report());
     if count {
         let number = difference_count(alloc, limits, &left, &right)?;
-        let text = difference_count_output(alloc, format, number)?.into_bytes();
+        let text = difference_count_output(alloc, format, number)?;
         let status = differences_status(number);
         return Ok(Found::text(alloc, text, Outcome { status, reports })?);
     }
     let differences = babel_canon::differences(alloc, limits, &left, &right)?;
     drop((left, right));
-    let text = differences_output(alloc, format, view, &differences)?.into_bytes();
+    let after = if differences.is_empty() {
+        same_output(alloc, format)?
+    } else {
+        Vec::new(alloc)
+    };
     let status = differences_status(differences.len());
-    Ok(Found::text(alloc, text, Outcome { status, reports })?)
+    let rows = Rows::Differences(view, differences);
+    Ok(Found::rows(alloc, format, rows, after, Outcome { status, reports })?)
 }
 
 /// The status of so many differences.

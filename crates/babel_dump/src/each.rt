@@ -1,4 +1,5 @@
-ghost use Rattle.std.specs.Prelude.{◌≡◌, IfOk, string_bytes};
+ghost use Rattle.std.specs.Prelude.{◌≡◌, IfOk};
+ghost use Rattle.std.specs.List.{flat_map};
 ghost use Rattle.babel_dump.specs.Device.{HasRoomToCount};
 ghost use Rattle.babel_dump.specs.Each.{EachCause, GavePairsOf, LooksUpAsked, LooksUpEach, RefusesPairs};
 ghost use Rattle.babel_dump.specs.Given.{IsFaultOfGiven, read_from};
@@ -6,6 +7,8 @@ ghost use Rattle.babel_dump.specs.InFormat.{each_in};
 ghost use Rattle.babel_dump.specs.Parts.{Gathered, Says};
 ghost use Rattle.babel_dump.specs.Run.{Called, InputCause, OfFirst, calls_of};
 ghost use Rattle.babel_dump.specs.RunText.{each_status};
+ghost use Rattle.babel_dump.specs.SlicedRows.{answered_in};
+ghost use Rattle.babel_dump.specs.declared.format.Format.{Format};
 
 use crate::addr_pair::AddrPair;
 use crate::asked_pairs::asked_pairs;
@@ -14,10 +17,10 @@ use crate::format::Format;
 use crate::input::{read_table, read_text};
 use crate::lookup::lookup_status;
 use crate::outcome::{Outcome, Reports};
-use crate::output::AnswerLine;
+use crate::output::Answered;
 use crate::reading::Reading;
 use crate::run_fault::RunFault;
-use crate::slices::Found;
+use crate::slices::{Found, Rows};
 use babel_table::Table;
 use std::alloc::{AllocError, Global};
 
@@ -72,34 +75,33 @@ fn find_answers<R: ByteIn>(
         (Says (LooksUpEach dump format asked.now)) result }
 {
     let table = read_table(alloc, reading, reader)?;
-    let (text, status) = answers(alloc, format, &table, asked)?;
+    let (answers, status) = answers(alloc, &table, asked)?;
     let outcome = Outcome {
         status,
         reports: Reports::Dump(*table.report()),
     };
-    Ok(Found::text(alloc, text.into_bytes(), outcome)?)
+    let rows = Rows::Answers(answers);
+    Ok(Found::rows(alloc, format, rows, Vec::new(alloc), outcome)?)
 }
 
-/// The lines of what a table answers for each of these pairs, and the status that they make.
+/// What a table answers for each of these pairs, and the status that these make.
 fn answers(
     alloc: Global,
-    format: Format,
     table: &Table,
     asked: &[AddrPair],
-) -> Result<(String, u8), AllocError>
-    ensures text { IfOk result (λ answers. string_bytes answers.0
-        ≡ each_in format table.now asked.now) }
+) -> Result<(Vec<Answered>, u8), AllocError>
+    ensures answers { IfOk result (λ answers. (format : Format)
+        → flat_map (answered_in format) answers.0.items ≡ each_in format table.now asked.now) }
     ensures status { IfOk result (λ answers. answers.1 ≡ each_status table.now asked.now) }
 {
-    let mut text = String::new(alloc);
+    let mut answers = Vec::with_capacity(alloc, asked.len())?;
     let mut status = 0;
     for pair in asked {
-        let answer = table.lookup(&pair.dst, &pair.src);
-        if lookup_status(answer.as_ref()) == 1 {
+        let held = table.lookup(&pair.dst, &pair.src);
+        if lookup_status(held.as_ref()) == 1 {
             status = 1;
         }
-        let line = AnswerLine(format, *pair, answer);
-        write!(text, "{line}")?;
+        answers.push(Answered { pair: *pair, held })?;
     }
-    Ok((text, status))
+    Ok((answers, status))
 }

@@ -75,7 +75,7 @@ pub(crate) fn find_answer<R: ByteIn>(
         status: lookup_status(answer.held.as_ref()),
         reports: Reports::Dump(answer.report),
     };
-    let text = lookup_output(alloc, format, pair, answer.held)?.into_bytes();
+    let text = lookup_output(alloc, format, pair, answer.held)?;
     Ok(Found::text(alloc, text, outcome)?)
 }
 

@@ -8,10 +8,10 @@ use crate::byte_in::ByteIn;
 use crate::byte_out::ByteOut;
 use crate::input::read_table;
 use crate::outcome::{Outcome, Reports, status_alone};
+use crate::output::hex_output;
 use crate::reading::Reading;
 use crate::run_fault::RunFault;
 use crate::slices::{Found, finish};
-use crate::text::hex_text;
 use babel_canon::laws::{canonical_octets_tell_answers, canonical_octets_tell_answers_under};
 use babel_canon::{Body, canonical_octets};
 use babel_prefix::Addr;
@@ -75,7 +75,7 @@ pub(crate) fn find_normal<R: ByteIn>(
 {
     let (report, octets) = read_octets(alloc, reading, view, body, reader)?;
     let text = if hex {
-        hex_text(alloc, &octets)?.into_bytes()
+        hex_output(alloc, &octets)?
     } else {
         octets
     };

@@ -1,77 +1,100 @@
 //! What the runs write, in the format that is asked for.
-ghost use Rattle.std.specs.Prelude.{◌≡◌, IfOk, string_bytes};
-ghost use Rattle.babel_dump.specs.InFormat.{counts_in, differences_in, lookup_in, report_in, verdict_in};
-ghost use Rattle.babel_dump.specs.TextParts.{difference_count_in, difference_lines_in, same_in};
+ghost use Rattle.std.specs.Prelude.{◌≡◌, ◌++◌, List, ℕ, IfOk};
+ghost use Rattle.babel_tlv.specs.declared.view.View.{View};
+ghost use Rattle.babel_dump.specs.CaptureText.{sender_in};
+ghost use Rattle.babel_dump.specs.InFormat.{counts_in, line_in, lookup_in, report_in, verdict_in};
+ghost use Rattle.babel_dump.specs.Slices.{HasRoom, TookRoom};
+ghost use Rattle.babel_dump.specs.TextParts.{difference_count_in, hex_text, same_in};
+ghost use Rattle.babel_dump.specs.declared.format.Format.{Format};
 
 use crate::addr_pair::AddrPair;
-use crate::differ::Differ;
 use crate::format::Format;
-use crate::json::{
-    DifferJson, LookupJson, counts_json, difference_count_json, push_report_json, same_json,
-    verdict_json,
+use crate::push::{
+    push_answer_line, push_counts, push_differ, push_difference_count, push_lookup, push_pair_line,
+    push_sender, push_text,
 };
-use crate::reason_text::push_report;
-use crate::text::{
-    DifferLines, EachLine, counts_text, difference_count_text, lookup_text, same_text, verdict_text,
+use crate::push_json::{
+    push_answered, push_counts_json, push_differ_json, push_difference_count_json, push_pair_json,
+    push_sender_json,
 };
+use crate::push_report::{push_report, push_report_json};
 use babel_canon::{Difference, Verdict};
+use babel_capture::{Origin, Tally};
 use babel_table::Report;
-use babel_tlv::{Held, View};
+use babel_tlv::{Held, Key, View};
 use std::alloc::{AllocError, Global};
-use std::fmt;
 
-/// What is answered for a destination and a source: a line in a format.
+/// No text of a few lines is longer, in octets: the report of a dump with TLVs ignored for each
+/// reason.
+const LONGEST_TEXT: usize = 1_483;
+
+/// What has a line of its own, or a few, in what is written.
+pub(crate) trait Line: Copy {
+    ghost text: { Format → View → Self → List ℕ };
+
+    fn push(self, buffer: &mut Vec<u8>, format: Format, view: View)
+        requires { HasRoom buffer.old 384 }
+        ensures text { buffer.new.items ≡ buffer.old.items ++ text format view self }
+        ensures room { TookRoom buffer.old buffer.new 384 };
+}
+
+/// What is answered for a destination and a source.
 #[derive(Clone, Copy)]
-pub(crate) struct AnswerLine(pub Format, pub AddrPair, pub Option<Held>);
+pub(crate) struct Answered {
+    pub pair: AddrPair,
+    pub held: Option<Held>,
+}
 
-impl fmt::Display for AnswerLine {
-    ghost use Rattle.std.specs.Prelude.{Some};
-    ghost use Rattle.babel_dump.specs.InFormat.{answer_line_in};
+impl Line for Answered {
+    ghost use Rattle.babel_dump.specs.SlicedRows.{answered_in};
 
-    ghost output = { λ line. Some (answer_line_in line.0 line.1.dst line.1.src line.2) };
+    ghost text = { λ format view answered. answered_in format answered };
 
-    fn fmt<W: fmt::Write>(&self, f: &mut fmt::Formatter<W>) -> fmt::Result {
-        match self.0 {
-            Format::Text => EachLine(self.1, self.2).fmt(f),
-            Format::Json => LookupJson(self.1, self.2).fmt(f),
+    fn push(self, buffer: &mut Vec<u8>, format: Format, _view: View) {
+        let Answered { pair, held } = self;
+        match format {
+            Format::Text => push_answer_line(buffer, pair, held),
+            Format::Json => push_answered(buffer, View::all(), pair.dst, pair.src, held),
         }
     }
 }
 
-/// What two tables answer for two prefixes: its lines in a format.
-#[derive(Clone, Copy)]
-struct DifferenceLines(Format, View, Difference);
-
-impl fmt::Display for DifferenceLines {
-    ghost use Rattle.std.specs.Prelude.{Some};
+impl Line for Difference {
     ghost use Rattle.babel_dump.specs.InFormat.{difference_in};
 
-    ghost output = { λ lines. Some (difference_in lines.0 lines.1 lines.2) };
+    ghost text = { difference_in };
 
-    fn fmt<W: fmt::Write>(&self, f: &mut fmt::Formatter<W>) -> fmt::Result {
-        let Difference { key, left, right } = self.2;
+    fn push(self, buffer: &mut Vec<u8>, format: Format, view: View) {
+        let Difference { key, left, right } = self;
         let (dst, src) = (key.dst(), key.src());
-        let differ = Differ {
-            dst,
-            src,
-            left,
-            right,
-        };
-        match self.0 {
-            Format::Text => DifferLines(self.1, differ).fmt(f),
-            Format::Json => DifferJson(self.1, differ).fmt(f),
+        match format {
+            Format::Text => push_differ(buffer, view, dst, src, left, right),
+            Format::Json => push_differ_json(buffer, view, dst, src, left, right),
         }
     }
 }
 
-impl Format {
-    /// The longest lines of a difference between two IPv4 routes, in octets. Room for so many is taken for each difference
-    /// at once.
-    fn difference_room(self) -> usize {
-        match self {
-            Format::Text => 191,
-            Format::Json => 277,
-        }
+/// Appends a row of a table: a line.
+pub(crate) fn push_line(buffer: &mut Vec<u8>, format: Format, view: View, key: Key, held: Held)
+    requires { HasRoom buffer.old 384 }
+    ensures text { buffer.new.items ≡ buffer.old.items ++ line_in format view (key, held) }
+    ensures room { TookRoom buffer.old buffer.new 384 }
+{
+    match format {
+        Format::Text => push_pair_line(buffer, view, key, held),
+        Format::Json => push_pair_json(buffer, view, key, held),
+    }
+}
+
+/// Appends a sender on an interface, and what it sent: a line.
+pub(crate) fn push_sender_in(buffer: &mut Vec<u8>, format: Format, origin: Origin, tally: Tally)
+    requires { HasRoom buffer.old 384 }
+    ensures text { buffer.new.items ≡ buffer.old.items ++ sender_in format (origin, tally) }
+    ensures room { TookRoom buffer.old buffer.new 384 }
+{
+    match format {
+        Format::Text => push_sender(buffer, origin, tally),
+        Format::Json => push_sender_json(buffer, origin, tally),
     }
 }
 
@@ -80,13 +103,13 @@ pub(crate) fn report_output(
     alloc: Global,
     format: Format,
     report: &Report,
-) -> Result<String, AllocError>
-    ensures { IfOk result (λ text. string_bytes text ≡ report_in format report.now) }
+) -> Result<Vec<u8>, AllocError>
+    ensures { IfOk result (λ text. text.items ≡ report_in format report.now) }
 {
-    let mut text = String::new(alloc);
+    let mut text = Vec::with_capacity(alloc, LONGEST_TEXT)?;
     match format {
-        Format::Text => push_report(&mut text, report)?,
-        Format::Json => push_report_json(alloc, &mut text, report)?,
+        Format::Text => push_report(&mut text, report),
+        Format::Json => push_report_json(&mut text, report),
     }
     Ok(text)
 }
@@ -97,13 +120,15 @@ pub(crate) fn counts_output(
     format: Format,
     rows: usize,
     pairs: usize,
-) -> Result<String, AllocError>
-    ensures { IfOk result (λ text. string_bytes text ≡ counts_in format rows pairs) }
+) -> Result<Vec<u8>, AllocError>
+    ensures { IfOk result (λ text. text.items ≡ counts_in format rows pairs) }
 {
+    let mut text = Vec::with_capacity(alloc, LONGEST_TEXT)?;
     match format {
-        Format::Text => counts_text(alloc, rows, pairs),
-        Format::Json => counts_json(alloc, rows, pairs),
+        Format::Text => push_counts(&mut text, rows, pairs),
+        Format::Json => push_counts_json(&mut text, rows, pairs),
     }
+    Ok(text)
 }
 
 /// The answer of a lookup.
@@ -112,16 +137,15 @@ pub(crate) fn lookup_output(
     format: Format,
     pair: AddrPair,
     answer: Option<Held>,
-) -> Result<String, AllocError>
-    ensures { IfOk result (λ text. string_bytes text ≡ lookup_in format pair.dst pair.src answer) }
+) -> Result<Vec<u8>, AllocError>
+    ensures { IfOk result (λ text. text.items ≡ lookup_in format pair.dst pair.src answer) }
 {
+    let mut text = Vec::with_capacity(alloc, LONGEST_TEXT)?;
     match format {
-        Format::Text => lookup_text(alloc, View::all(), answer),
-        Format::Json => {
-            let line = LookupJson(pair, answer);
-            format!(in alloc; "{line}")
-        }
+        Format::Text => push_lookup(&mut text, answer),
+        Format::Json => push_answered(&mut text, View::all(), pair.dst, pair.src, answer),
     }
+    Ok(text)
 }
 
 /// The lines of a verdict.
@@ -130,56 +154,37 @@ pub(crate) fn verdict_output(
     format: Format,
     view: View,
     verdict: &Verdict,
-) -> Result<String, AllocError>
-    ensures { IfOk result (λ text. string_bytes text ≡ verdict_in format view verdict.now) }
+) -> Result<Vec<u8>, AllocError>
+    ensures { IfOk result (λ text. text.items ≡ verdict_in format view verdict.now) }
 {
-    match format {
-        Format::Text => verdict_text(alloc, view, verdict),
-        Format::Json => verdict_json(alloc, view, verdict),
+    match *verdict {
+        Verdict::Same => same_output(alloc, format),
+        Verdict::Differ {
+            dst,
+            src,
+            left,
+            right,
+        } => {
+            let mut text = Vec::with_capacity(alloc, LONGEST_TEXT)?;
+            match format {
+                Format::Text => push_differ(&mut text, view, dst, src, left, right),
+                Format::Json => push_differ_json(&mut text, view, dst, src, left, right),
+            }
+            Ok(text)
+        }
     }
 }
 
 /// The line of two tables that answer the same.
-fn same_output(alloc: Global, format: Format) -> Result<String, AllocError>
-    ensures { IfOk result (λ text. string_bytes text ≡ same_in format) }
+pub(crate) fn same_output(alloc: Global, format: Format) -> Result<Vec<u8>, AllocError>
+    ensures { IfOk result (λ text. text.items ≡ same_in format) }
 {
+    let mut text = Vec::with_capacity(alloc, LONGEST_TEXT)?;
     match format {
-        Format::Text => same_text(alloc),
-        Format::Json => same_json(alloc),
-    }
-}
-
-/// The lines of each of these differences.
-fn difference_lines(
-    alloc: Global,
-    format: Format,
-    view: View,
-    listed: &[Difference],
-) -> Result<String, AllocError>
-    ensures { IfOk result (λ text. string_bytes text ≡ difference_lines_in format view listed.now) }
-{
-    let room = listed.len().saturating_mul(format.difference_room());
-    let mut text = String::with_capacity(alloc, room)?;
-    for difference in listed {
-        let lines = DifferenceLines(format, view, *difference);
-        write!(text, "{lines}")?;
+        Format::Text => push_text(&mut text, "same\n"),
+        Format::Json => push_text(&mut text, "{\"same\":true}\n"),
     }
     Ok(text)
-}
-
-/// The lines of all differences, or the line of two tables that answer the same.
-pub(crate) fn differences_output(
-    alloc: Global,
-    format: Format,
-    view: View,
-    differences: &[Difference],
-) -> Result<String, AllocError>
-    ensures { IfOk result (λ text. string_bytes text ≡ differences_in format view differences.now) }
-{
-    if differences.is_empty() {
-        return same_output(alloc, format);
-    }
-    difference_lines(alloc, format, view, differences)
 }
 
 /// How many differences there are.
@@ -187,11 +192,22 @@ pub(crate) fn difference_count_output(
     alloc: Global,
     format: Format,
     count: usize,
-) -> Result<String, AllocError>
-    ensures { IfOk result (λ text. string_bytes text ≡ difference_count_in format count) }
+) -> Result<Vec<u8>, AllocError>
+    ensures { IfOk result (λ text. text.items ≡ difference_count_in format count) }
 {
+    let mut text = Vec::with_capacity(alloc, LONGEST_TEXT)?;
     match format {
-        Format::Text => difference_count_text(alloc, count),
-        Format::Json => difference_count_json(alloc, count),
+        Format::Text => push_difference_count(&mut text, count),
+        Format::Json => push_difference_count_json(&mut text, count),
     }
+    Ok(text)
+}
+
+/// The octets as lower-case hexadecimal digits, on a line.
+pub(crate) fn hex_output(alloc: Global, octets: &[u8]) -> Result<Vec<u8>, AllocError>
+    ensures { IfOk result (λ text. text.items ≡ hex_text octets.now) }
+{
+    let mut text = hex::encode(alloc, octets)?.into_bytes();
+    text.push(b'\n')?;
+    Ok(text)
 }

@@ -3,7 +3,8 @@ ghost use Rattle.babel_tlv.specs.Pair.{Pair};
 
 use crate::byte_out::ByteOut;
 use crate::format::Format;
-use crate::slices::{make_room, push_line};
+use crate::output::push_line;
+use crate::slices::make_room;
 use crate::write::WriteFailed;
 use babel_canon::PairSink;
 use babel_tlv::{Held, Key, View};

@@ -111,7 +111,7 @@ fn found_pairs(
     if count {
         let pairs = pair_count(alloc, limits, &seen)?;
         let text = counts_output(alloc, format, rows, pairs)?;
-        return Ok((Rows::Empty, text.into_bytes()));
+        return Ok((Rows::Empty, text));
     }
     let pairs = CanonicalPairs::of(alloc, limits, &seen)?;
     Ok((Rows::Pairs(view, pairs), Vec::new(alloc)))

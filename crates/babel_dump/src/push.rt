@@ -6,11 +6,13 @@ ghost use Rattle.std.specs.Fmt.{decimal, digits, digit_glyph};
 ghost use Rattle.babel_prefix.specs.declared.family.Family.TheVariants.{V6};
 ghost use Rattle.babel_prefix.specs.Text.{printed, printed_bits, printed_prefix};
 ghost use Rattle.babel_tlv.specs.Views.{keeps_all};
+ghost use Rattle.babel_dump.specs.CaptureText.{sender_line};
 ghost use Rattle.babel_dump.specs.RunText.{announcement_text, answer_line, answer_text, counts_text, difference_count_text, differ_lines, held_text, kept_text, newline, pair_line};
 ghost use Rattle.babel_dump.specs.Slices.{HasRoom, TookRoom};
 ghost use Rattle.babel_dump.specs.TextParts.{hex_digits};
 
 use crate::addr_pair::AddrPair;
+use babel_capture::{Origin, Tally};
 use babel_prefix::{Addr, Family, Prefix};
 use babel_tlv::{Ann, Held, Key, View};
 use itoa::{Buffer, Integer};
@@ -104,6 +106,22 @@ pub(crate) fn push_difference_count(buffer: &mut Vec<u8>, count: usize)
 {
     push_text(buffer, "differences ");
     push_decimal(buffer, count);
+    push_octet(buffer, b'\n');
+}
+
+/// Appends a sender on an interface, and what it sent.
+pub(crate) fn push_sender(buffer: &mut Vec<u8>, origin: Origin, tally: Tally)
+    requires { HasRoom buffer.old 128 }
+    ensures text { buffer.new.items ≡ buffer.old.items ++ sender_line (origin, tally) }
+    ensures room { TookRoom buffer.old buffer.new 128 }
+{
+    push_addr(buffer, origin.sender);
+    push_text(buffer, " interface ");
+    push_decimal(buffer, origin.interface);
+    push_text(buffer, " packets ");
+    push_decimal(buffer, tally.packets);
+    push_text(buffer, " octets ");
+    push_decimal(buffer, tally.octets);
     push_octet(buffer, b'\n');
 }
 

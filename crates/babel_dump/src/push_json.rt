@@ -3,12 +3,14 @@
 ghost use Rattle.std.specs.Prelude.{◌≡◌, ◌++◌, Some};
 ghost use Rattle.hex.specs.Hex.{encode_lower};
 ghost use Rattle.babel_prefix.specs.Text.{printed};
+ghost use Rattle.babel_dump.specs.CaptureText.{sender_json};
 ghost use Rattle.babel_dump.specs.JsonText.{addressed_json, announcement_json, answer_json, answered_line, counts_json, differ_json, difference_count_json, kept_json, pair_json, quoted};
 ghost use Rattle.babel_dump.specs.Slices.{HasRoom, TookRoom};
 
 use crate::push::{
     Shown, push_addr, push_decimal, push_number, push_octet, push_router_id, push_text,
 };
+use babel_capture::{Origin, Tally};
 use babel_prefix::Addr;
 use babel_tlv::{Ann, Held, Key, View};
 
@@ -88,6 +90,24 @@ pub(crate) fn push_difference_count_json(buffer: &mut Vec<u8>, count: usize)
 {
     push_text(buffer, r#"{"differences":"#);
     push_decimal(buffer, count);
+    push_text(buffer, "}");
+    push_octet(buffer, b'\n');
+}
+
+/// Appends a sender on an interface, and what it sent: an object.
+pub(crate) fn push_sender_json(buffer: &mut Vec<u8>, origin: Origin, tally: Tally)
+    requires { HasRoom buffer.old 148 }
+    ensures text { buffer.new.items ≡ buffer.old.items ++ sender_json (origin, tally) }
+    ensures room { TookRoom buffer.old buffer.new 148 }
+{
+    push_text(buffer, r#"{"address":""#);
+    push_addr(buffer, origin.sender);
+    push_text(buffer, r#"","interface":"#);
+    push_decimal(buffer, origin.interface);
+    push_text(buffer, r#","packets":"#);
+    push_decimal(buffer, tally.packets);
+    push_text(buffer, r#","octets":"#);
+    push_decimal(buffer, tally.octets);
     push_text(buffer, "}");
     push_octet(buffer, b'\n');
 }

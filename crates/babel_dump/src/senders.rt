@@ -8,11 +8,10 @@ ghost use Rattle.babel_capture.specs.declared.wanted.Wanted.TheVariants as wante
 use crate::byte_in::ByteIn;
 use crate::capture_input::read_capture;
 use crate::capture_reading::CaptureReading;
-use crate::capture_text::senders_text;
 use crate::format::Format;
 use crate::outcome::{Outcome, Reports};
 use crate::run_fault::RunFault;
-use crate::slices::Found;
+use crate::slices::{Found, Rows};
 use babel_capture::Wanted;
 use std::alloc::Global;
 
@@ -31,14 +30,15 @@ pub(crate) fn find_senders<R: ByteIn>(
         (Says (ListsSenders input format)) result }
 {
     let read = read_capture(alloc, reading, Wanted::Everyone, reader)?;
-    let senders = read.gathered.senders();
-    let text = senders_text(alloc, format, senders)?.into_bytes();
-    let outcome = Outcome {
-        status: if senders.is_empty() { 1 } else { 0 },
-        reports: Reports::Capture {
-            report: read.gathered.report(),
-            cut: read.cut,
-        },
+    let status = if read.gathered.senders().is_empty() {
+        1
+    } else {
+        0
     };
-    Ok(Found::text(alloc, text, outcome)?)
+    let reports = Reports::Capture {
+        report: read.gathered.report(),
+        cut: read.cut,
+    };
+    let rows = Rows::Senders(read.gathered);
+    Ok(Found::rows(alloc, format, rows, Vec::new(alloc), Outcome { status, reports })?)
 }

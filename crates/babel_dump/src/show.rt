@@ -64,7 +64,7 @@ pub(crate) fn find_rows<R: ByteIn>(
         (Says (Shows dump format)) result }
 {
     let table = read_table(alloc, reading, reader)?;
-    let after = report_output(alloc, format, table.report())?.into_bytes();
+    let after = report_output(alloc, format, table.report())?;
     let buffer = SliceBuffer::new(alloc)?;
     let outcome = Outcome {
         status: 0,

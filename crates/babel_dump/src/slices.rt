@@ -2,26 +2,30 @@
 //! for one more. So a text of any length takes no more memory than the buffer, which is there before
 //! the first octet is written.
 ghost use Rattle.std.specs.Prelude.{◌≡◌, ◌++◌, ◌-◌, ◌^◌, ◌<◌, ◌≤◌, [], IfOk, OnOk, vec_capacity};
+ghost use Rattle.std.specs.List.{flat_map};
 ghost use Rattle.babel_tlv.specs.Views.{keeps_all};
+ghost use Rattle.babel_dump.specs.CaptureText.{senders_in};
 ghost use Rattle.babel_dump.specs.Device.{HasRoomToWrite};
-ghost use Rattle.babel_dump.specs.InFormat.{line_in, pairs_in};
+ghost use Rattle.babel_dump.specs.InFormat.{pairs_in};
 ghost use Rattle.babel_dump.specs.Run.{output};
 ghost use Rattle.babel_dump.specs.SlicedRows.{Finished, found_text, lines_of};
-ghost use Rattle.babel_dump.specs.Slices.{HasRoom, TookRoom, WroteFront, WroteText};
+ghost use Rattle.babel_dump.specs.Slices.{HasRoom, WroteFront, WroteText};
 
 use crate::byte_out::ByteOut;
 use crate::format::Format;
 use crate::outcome::Outcome;
+use crate::output::{Answered, Line, push_line, push_sender_in};
 use crate::pair_lines::PairLines;
-use crate::push::{push_octets, push_pair_line};
-use crate::push_json::push_pair_json;
+use crate::push::push_octets;
 use crate::run_fault::RunFault;
 use crate::slice_buffer::{LONGEST_LINE, SliceBuffer};
 use crate::write::{WriteFailed, write_all, write_text};
-use babel_canon::CanonicalPairs;
+use babel_canon::{CanonicalPairs, Difference};
+use babel_capture::{Gathered, Origin, Tally};
 use babel_table::Table;
-use babel_tlv::{Held, Key, View};
+use babel_tlv::View;
 use std::alloc::{AllocError, Global};
+use std::collections::BTreeMap;
 
 /// Rows of which each has a line.
 #[derive(Drop)]
@@ -30,6 +34,12 @@ pub(crate) enum Rows {
     Table(Table),
     /// Pairs, as a view shows them.
     Pairs(View, CanonicalPairs),
+    /// What is answered for destinations and sources.
+    Answers(Vec<Answered>),
+    /// Differences, as a view shows them.
+    Differences(View, Vec<Difference>),
+    /// The senders in a capture.
+    Senders(Gathered),
     /// None.
     Empty,
 }
@@ -46,19 +56,34 @@ pub(crate) struct Found {
 }
 
 impl Found {
+    /// Rows, and a text after their lines.
+    pub fn rows(
+        alloc: Global,
+        format: Format,
+        rows: Rows,
+        after: Vec<u8>,
+        outcome: Outcome,
+    ) -> Result<Found, AllocError>
+        ensures text { IfOk result (λ found.
+            found_text found ≡ lines_of format rows ++ after.items) }
+        ensures outcome { IfOk result (λ found. found.outcome ≡ outcome) }
+    {
+        let buffer = SliceBuffer::new(alloc)?;
+        Ok(Found {
+            format,
+            rows,
+            after,
+            buffer,
+            outcome,
+        })
+    }
+
     /// A text, and no rows.
     pub fn text(alloc: Global, text: Vec<u8>, outcome: Outcome) -> Result<Found, AllocError>
         ensures text { IfOk result (λ found. found_text found ≡ text.items) }
         ensures outcome { IfOk result (λ found. found.outcome ≡ outcome) }
     {
-        let buffer = SliceBuffer::new(alloc)?;
-        Ok(Found {
-            format: Format::Text,
-            rows: Rows::Empty,
-            after: text,
-            buffer,
-            outcome,
-        })
+        Found::rows(alloc, Format::Text, Rows::Empty, text, outcome)
     }
 }
 
@@ -92,13 +117,16 @@ fn write_rows<W: ByteOut>(
 ) -> Result<(), WriteFailed>
     requires few_failures { (W.state writer.old).failures < 2 ^ 64 - 1 }
     requires empty { buffer.old.items ≡ [] }
-    requires room { 256 ≤ vec_capacity buffer.old }
+    requires room { 384 ≤ vec_capacity buffer.old }
     ensures { WroteFront (output (W.state writer.old) (W.state writer.new))
         (lines_of format rows) buffer.new.items result }
 {
     match rows {
         Rows::Table(table) => write_table(writer, format, &table, buffer),
         Rows::Pairs(view, pairs) => write_pairs(writer, format, view, pairs, buffer),
+        Rows::Answers(answers) => write_lines(writer, format, View::all(), &answers, buffer),
+        Rows::Differences(view, listed) => write_lines(writer, format, view, &listed, buffer),
+        Rows::Senders(gathered) => write_senders(writer, format, gathered.senders(), buffer),
         Rows::Empty => Ok(()),
     }
 }
@@ -112,7 +140,7 @@ fn write_table<W: ByteOut>(
 ) -> Result<(), WriteFailed>
     requires few_failures { (W.state writer.old).failures < 2 ^ 64 - 1 }
     requires empty { buffer.old.items ≡ [] }
-    requires room { 256 ≤ vec_capacity buffer.old }
+    requires room { 384 ≤ vec_capacity buffer.old }
     ensures { WroteFront (output (W.state writer.old) (W.state writer.new))
         (pairs_in format keeps_all table.now.rows) buffer.new.items result }
 {
@@ -133,7 +161,7 @@ fn write_pairs<W: ByteOut>(
 ) -> Result<(), WriteFailed>
     requires few_failures { (W.state writer.old).failures < 2 ^ 64 - 1 }
     requires empty { buffer.old.items ≡ [] }
-    requires room { 256 ≤ vec_capacity buffer.old }
+    requires room { 384 ≤ vec_capacity buffer.old }
     ensures { WroteFront (output (W.state writer.old) (W.state writer.new))
         (pairs_in format view pairs) buffer.new.items result }
 {
@@ -146,13 +174,54 @@ fn write_pairs<W: ByteOut>(
     pairs.put(&mut lines)
 }
 
+/// Writes the line of each of these, but for the last of them, which the buffer has.
+fn write_lines<W: ByteOut, L: Line>(
+    writer: &mut W,
+    format: Format,
+    view: View,
+    lines: &[L],
+    buffer: &mut Vec<u8>,
+) -> Result<(), WriteFailed>
+    requires few_failures { (W.state writer.old).failures < 2 ^ 64 - 1 }
+    requires empty { buffer.old.items ≡ [] }
+    requires room { 384 ≤ vec_capacity buffer.old }
+    ensures { WroteFront (output (W.state writer.old) (W.state writer.new))
+        (flat_map (L.text format view) lines.now) buffer.new.items result }
+{
+    for line in lines {
+        make_room(writer, buffer)?;
+        line.push(buffer, format, view);
+    }
+    Ok(())
+}
+
+/// Writes the lines of senders, but for the last of them, which the buffer has.
+fn write_senders<W: ByteOut>(
+    writer: &mut W,
+    format: Format,
+    senders: &BTreeMap<Origin, Tally>,
+    buffer: &mut Vec<u8>,
+) -> Result<(), WriteFailed>
+    requires few_failures { (W.state writer.old).failures < 2 ^ 64 - 1 }
+    requires empty { buffer.old.items ≡ [] }
+    requires room { 384 ≤ vec_capacity buffer.old }
+    ensures { WroteFront (output (W.state writer.old) (W.state writer.new))
+        (senders_in format senders.now.entries) buffer.new.items result }
+{
+    for (origin, tally) in senders.iter() {
+        make_room(writer, buffer)?;
+        push_sender_in(buffer, format, *origin, *tally);
+    }
+    Ok(())
+}
+
 /// Writes what the buffer has where it has no room for a line more.
 pub(crate) fn make_room<W: ByteOut>(writer: &mut W, buffer: &mut Vec<u8>) -> Result<(), WriteFailed>
     requires few_failures { (W.state writer.old).failures < 2 ^ 64 - 1 }
-    requires room { 256 ≤ vec_capacity buffer.old }
+    requires room { 384 ≤ vec_capacity buffer.old }
     ensures front { WroteFront (output (W.state writer.old) (W.state writer.new))
         buffer.old.items buffer.new.items result }
-    ensures room { OnOk result (HasRoom buffer.new 256) }
+    ensures room { OnOk result (HasRoom buffer.new 384) }
 {
     if buffer.capacity() - buffer.len() >= LONGEST_LINE {
         return Ok(());
@@ -179,16 +248,4 @@ fn write_last<W: ByteOut>(
     }
     write_all(writer, buffer)?;
     write_text(writer, after)
-}
-
-/// Appends a row of a table: a line in a format.
-pub(crate) fn push_line(buffer: &mut Vec<u8>, format: Format, view: View, key: Key, held: Held)
-    requires { HasRoom buffer.old 256 }
-    ensures text { buffer.new.items ≡ buffer.old.items ++ line_in format view (key, held) }
-    ensures room { TookRoom buffer.old buffer.new 256 }
-{
-    match format {
-        Format::Text => push_pair_line(buffer, view, key, held),
-        Format::Json => push_pair_json(buffer, view, key, held),
-    }
 }
