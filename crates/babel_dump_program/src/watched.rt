@@ -5,12 +5,31 @@ use std::io::{Read, Write};
 /// How many of a dump's first octets are remembered: as many as tell a capture.
 const MAGIC: usize = 4;
 
+/// The first octets that a reader gave, at most four.
+#[derive(Drop)]
+struct Beginning {
+    octets: [u8; MAGIC],
+    len: usize,
+}
+
+impl Beginning {
+    /// Remembers these octets where fewer than four came before.
+    fn remember(&mut self, octets: &[u8]) {
+        for octet in octets {
+            let Some(place) = self.octets.get_mut(self.len) else {
+                return;
+            };
+            *place = *octet;
+            self.len = self.len.saturating_add(1);
+        }
+    }
+}
+
 /// A reader that remembers the first octets that it gave, and why it failed last.
 #[derive(Drop)]
 pub struct WatchedReader<R> {
     reader: R,
-    first: [u8; MAGIC],
-    given: usize,
+    beginning: Beginning,
     error: Option<io::Error>,
 }
 
@@ -18,17 +37,20 @@ impl<R> WatchedReader<R> {
     pub fn new(reader: R) -> WatchedReader<R> {
         WatchedReader {
             reader,
-            first: [0; MAGIC],
-            given: 0,
+            beginning: Beginning {
+                octets: [0; MAGIC],
+                len: 0,
+            },
             error: None,
         }
     }
 
     /// The first octets that it gave, at most four.
     pub fn begins(&self) -> &[u8] {
-        match self.first.get(..self.given) {
+        let beginning = &self.beginning;
+        match beginning.octets.get(..beginning.len) {
             Some(octets) => octets,
-            None => &self.first,
+            None => &beginning.octets,
         }
     }
 
@@ -36,25 +58,16 @@ impl<R> WatchedReader<R> {
     pub fn error(&self) -> Option<&io::Error> {
         self.error.as_ref()
     }
-
-    /// Remembers these octets where fewer than four came before.
-    fn remember(&mut self, octets: &[u8]) {
-        for octet in octets {
-            let Some(place) = self.first.get_mut(self.given) else {
-                return;
-            };
-            *place = *octet;
-            self.given = self.given.saturating_add(1);
-        }
-    }
 }
 
 impl<R: Read> Read for WatchedReader<R> {
+    ghost remaining = { λ r. R.remaining r.reader };
+
     fn read(&mut self, buf: &mut [u8]) -> io::Result<usize> {
         match self.reader.read(buf) {
             Ok(n) => {
                 if let Some(octets) = buf.get(..n) {
-                    self.remember(octets);
+                    self.beginning.remember(octets);
                 }
                 Ok(n)
             }
@@ -88,6 +101,8 @@ impl<W> WatchedWriter<W> {
 }
 
 impl<W: Write> Write for WatchedWriter<W> {
+    ghost contents = { λ w. W.contents w.writer };
+
     fn write(&mut self, buf: &[u8]) -> io::Result<usize> {
         let written = self.writer.write(buf);
         if let Err(error) = &written {
