@@ -1,16 +1,26 @@
 -- What follows of what views see of tables, and that the view that keeps all is none.
 use Rattle.std.specs.Prelude.{◌≡◌, ℕ, List, ◌↔◌}
+use Rattle.std.specs.Option.{option_map}
+use Rattle.babel_prefix.specs.Address.{Address}
+use Rattle.babel_prefix.specs.Entries.{answer_for}
 use Rattle.babel_tlv.specs.declared.mode.Mode.{Mode}
 use Rattle.babel_tlv.specs.declared.view.View.{View}
 use Rattle.babel_tlv.specs.Pair.{Pair}
-use Rattle.babel_tlv.specs.Views.{keeps_all}
+use Rattle.babel_tlv.specs.Views.{keeps_all, seen}
 use Rattle.babel_table.specs.Bounds.{Bounds}
+use Rattle.babel_table.specs.Rows.{entries_of}
 use Rattle.babel_table.specs.Seen.{seen_rows}
 use Rattle.babel_table.specs.TableRows.{AreRows}
 use Rattle.babel_canon.specs.Answers.{AnswerTheSame}
 use Rattle.babel_canon.specs.Sent.{Sent}
 use Rattle.babel_canon.specs.Normalises.{Normalises, as_they_are}
 use Rattle.babel_canon.specs.Views.{AnswerTheSameUnder}
+
+-- what a view sees of rows answers, for each two addresses, what it sees of the rows' answer
+abbrev pub AnswersAreSeen : Type 0
+AnswersAreSeen =
+    (view : View) (rows : List Pair) (d s : Address)
+    → answer_for (entries_of (seen_rows view rows)) d s ≡ option_map (seen view) (answer_for (entries_of rows) d s)
 
 -- tables answer the same under a view exactly where what the view sees of them answers the same
 abbrev pub SeenAnswersTell : Type 0

@@ -7,7 +7,7 @@ ghost use Rattle.babel_canon.specs.Fewest.{BoxesAreFewest};
 ghost use Rattle.babel_canon.specs.Packing.{TextIsOne};
 ghost use Rattle.babel_canon.specs.Normalises.{Headline};
 ghost use Rattle.babel_canon.specs.Views.{HeadlineUnder};
-ghost use Rattle.babel_canon.specs.ViewsTell.{AllNormalises, AllRowsAreSeen, SeenAnswersTell};
+ghost use Rattle.babel_canon.specs.ViewsTell.{AllNormalises, AllRowsAreSeen, AnswersAreSeen, SeenAnswersTell};
 ghost use Rattle.babel_canon.specs.OneOutcome.{NormalFormIsOne, NormaliseFaultIsOne, NormalFormHasNoFault, VerdictIsOne};
 
 /// Pairs have exactly one canonical text for each size of a body.
@@ -46,6 +46,11 @@ pub fn canonical_octets_tell_answers_under()
     ensures seen { SeenAnswersTell }
     ensures rows { AllRowsAreSeen }
     ensures all { AllNormalises }
+{}
+
+/// What a view sees of rows answers, address by address, what it sees of the rows' answer.
+pub fn answers_are_seen()
+    ensures { AnswersAreSeen }
 {}
 
 /// A dump has at most one canonical text for each size of a body; want of memory aside, at most one fault that keeps it from
