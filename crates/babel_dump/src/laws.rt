@@ -1,5 +1,6 @@
 //! Laws of the definitions.
 ghost use Rattle.babel_dump.specs.ExtractLaws.{ExtractedIsFramed};
+ghost use Rattle.babel_dump.specs.FirstIgnored.{FirstIsFirst, NoneIsNone, OffsetsOfDumpsRise};
 ghost use Rattle.babel_dump.specs.OneOutcome.{FaultIsOfAll, FaultIsOne, NamedIsNotSeveral, NothingWritten, OutcomeIsOne, OutcomeOrFault, WrittenIsPrefix};
 
 /// What a job's run over devices that say their octets answers, failed calls and want of memory
@@ -32,4 +33,12 @@ pub fn extracted_is_framed()
 /// A run of `extract` that names an interface is never refused for several.
 pub fn named_interface_is_one()
     ensures { NamedIsNotSeveral }
+{}
+
+/// A report says that no TLV was ignored exactly where no TLV is; and, as offsets in a dump rise, the
+/// first that it says was ignored is the first that is.
+pub fn ignored_is_first()
+    ensures none { NoneIsNone }
+    ensures first { FirstIsFirst }
+    ensures rise { OffsetsOfDumpsRise }
 {}
