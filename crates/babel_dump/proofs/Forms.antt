@@ -14,9 +14,11 @@ use Rattle.babel_table.proofs.SeenLaws.{all_rows}
 use Rattle.babel_canon.specs.Sizes.{IsBodySize}
 use Rattle.babel_canon.specs.Canonical.{AreCanonical, CanonicalFault, HasManyBoxes, SaysCanonical}
 use Rattle.babel_canon.specs.Answers.{AnswerTheSame}
+use Rattle.babel_canon.specs.AnswersAreTold.{AnswersAreTold}
+use Rattle.babel_canon.specs.AnswersTell.{AnswersTell}
 use Rattle.babel_canon.specs.Fewest.{AreFewest}
 use Rattle.babel_canon.specs.Sent.{Sent, sent}
-use Rattle.babel_canon.specs.Normalises.{Headline, Normalises, SaysFewest, as_they_are}
+use Rattle.babel_canon.specs.Normalises.{Headline, NormaliseFault, Normalises, SaysFewest, as_they_are}
 use Rattle.babel_canon.specs.Packing.{TextIsOne}
 use Rattle.babel_canon.specs.Views.{HeadlineUnder}
 use Rattle.babel_canon.specs.ViewsTell.{AllNormalises}
@@ -26,10 +28,10 @@ use Rattle.babel_dump.specs.Parts.{SaysPairs}
 use Rattle.babel_dump.specs.declared.format.Format.{Format}
 
 -- the canonical octets of what is seen of the table are those of the dump under the view
-pub gave_normal : Headline → HeadlineUnder → AllNormalises → (reader : Input) (view : View) (body : ℕ) (table seen : Routes) (report : Counts) (octets : List ℕ) → AreBounds reader.reading.limits
+pub gave_normal : Headline → HeadlineUnder → AllNormalises → AnswersAreTold → (reader : Input) (view : View) (body : ℕ) (table seen : Routes) (report : Counts) (octets : List ℕ) → AreBounds reader.reading.limits
     → IsBodySize body → GaveTable reader table → seen ≡ seen_table view table → report ≡ seen.report → SaysCanonical reader.reading.limits body seen.rows octets
     → GaveNormal reader view body report octets
-gave_normal headline under all reader view body table seen report octets bounds size given seen_is report_is says_seen =
+gave_normal headline under all are_told reader view body table seen report octets bounds size given seen_is report_is says_seen =
     let reading = reader.reading in
     let gave = given.given in
     let it : Sent = sent reading.sender gave.dump in
@@ -46,9 +48,12 @@ gave_normal headline under all reader view body table seen report octets bounds 
     let fewest : SaysFewest (seen_rows view) reading.limits reading.mode body it octets =
     record { table = table; is_table = gave.is_table; pairs = says.pairs; fewest = says.are_canonical.fewest; text = says.text } in
     let told = under view reading.limits reading.mode body bounds size it octets normal in
+    let plain_of : view ≡ keeps_all → Normalises as_they_are reading.limits reading.mode body it octets =
+    λ keeps. (all reading.limits reading.mode body it octets).0 (subst (λ (v : View). Normalises (seen_rows v) reading.limits reading.mode body it octets) keeps normal) in
+    let plain_told_of : view ≡ keeps_all → AnswersTell (Normalises as_they_are reading.limits reading.mode body) (NormaliseFault as_they_are reading.limits reading.mode) reading.mode it octets =
+    λ keeps. are_told reading.limits reading.mode body bounds size it octets (plain_of keeps) in
     let whole : view ≡ keeps_all → IsNormal AnswerTheSame as_they_are reading.limits reading.mode body it octets = λ keeps.
-    let plain : Normalises as_they_are reading.limits reading.mode body it octets = (all reading.limits reading.mode body it octets).0
-    (subst (λ (v : View). Normalises (seen_rows v) reading.limits reading.mode body it octets) keeps normal) in
+    let plain = plain_of keeps in
     let rows : seen_rows view table.rows ≡ table.rows = ap (λ (v : View). seen_rows v table.rows) keeps ∙ all_rows table.rows in
     let plain_fewest : SaysFewest as_they_are reading.limits reading.mode body it octets =
     record { table = table; is_table = gave.is_table; pairs = says.pairs; fewest = subst (λ (l : List Pair). AreFewest l says.pairs) rows says.are_canonical.fewest; text = says.text } in
@@ -60,6 +65,7 @@ gave_normal headline under all reader view body table seen report octets bounds 
       under = record { normalises = normal; fewest = fewest; tells_apart = told.0; reads_again = λ any. (told.1 any).0 };
       reads_without = λ any. (told.1 any).1;
       whole = whole;
+      told = plain_told_of;
       report_is = report_is ∙ ap (λ (t : Routes). t.report) seen_is;
     }
 

@@ -16,6 +16,7 @@ use Rattle.babel_table.specs.Rows.{Routes}
 use Rattle.babel_table.specs.Seen.{seen_rows}
 use Rattle.babel_canon.specs.Canonical.{Canonical, HasManyBoxes, IsCanonical}
 use Rattle.babel_canon.specs.Answers.{AnswerTheSame}
+use Rattle.babel_canon.specs.AnswersTell.{AnswersTell}
 use Rattle.babel_canon.specs.Fewest.{AreFewest}
 use Rattle.babel_canon.specs.Headline.{ReadsAgain, TellsApart}
 use Rattle.babel_canon.specs.Sent.{Sent, sent}
@@ -113,7 +114,8 @@ pub record IsNormal (Same : List Pair → List Pair → Type 0) (see : List Pair
       (NormaliseFault see limits mode) limits mode one octets any
 
 -- the reader gave a dump, all that it had, and these are its canonical octets under the view, read
--- again with it or without; and, if it keeps every field, its canonical octets
+-- again with it or without; and, if it keeps every field, its canonical octets, of which the
+-- headline is told in plain definitions
 pub record GaveNormal (reader : Input) (view : View) (body : ℕ) (report : Counts) (octets : List ℕ) :
     Type 0 where
   pub table : Routes
@@ -124,6 +126,10 @@ pub record GaveNormal (reader : Input) (view : View) (body : ℕ) (report : Coun
       reader.reading.limits reader.reading.mode body (sent reader.reading.sender gave.given.dump) octets any
   pub whole : view ≡ keeps_all → IsNormal AnswerTheSame as_they_are
       reader.reading.limits reader.reading.mode body (sent reader.reading.sender gave.given.dump) octets
+  pub told : view ≡ keeps_all → AnswersTell
+      (Normalises as_they_are reader.reading.limits reader.reading.mode body)
+      (NormaliseFault as_they_are reader.reading.limits reader.reading.mode)
+      reader.reading.mode (sent reader.reading.sender gave.given.dump) octets
   pub report_is : report ≡ table.report
 
 -- the reader gave a dump, all that it had, and these are its table and the canonical form of what the view sees of it, with

@@ -12,7 +12,9 @@ use crate::output::hex_output;
 use crate::reading::Reading;
 use crate::run_fault::RunFault;
 use crate::slices::{Found, finish};
-use babel_canon::laws::{canonical_octets_tell_answers, canonical_octets_tell_answers_under};
+use babel_canon::laws::{
+    answers_are_told, canonical_octets_tell_answers, canonical_octets_tell_answers_under,
+};
 use babel_canon::{Body, canonical_octets};
 use babel_prefix::Addr;
 use babel_table::{Limits, Report};
@@ -107,5 +109,6 @@ fn read_octets<R: ByteIn>(
     let _valid = (reading.limits.entries(), body.octets());
     canonical_octets_tell_answers();
     canonical_octets_tell_answers_under();
+    answers_are_told();
     Ok((*seen.report(), octets))
 }

@@ -5,7 +5,7 @@ use Rattle.babel_dump.proofs.normalise.read_octets.Goals as goal
 
 pub returns : goal.returns
 returns g c = record {
-  made = gave_normal c.canonical_octets_tell_answers.ensures c.canonical_octets_tell_answers_under.ensures.headline c.canonical_octets_tell_answers_under.ensures.all _ c.args.view c.args.body
+  made = gave_normal c.canonical_octets_tell_answers.ensures c.canonical_octets_tell_answers_under.ensures.headline c.canonical_octets_tell_answers_under.ensures.all c.answers_are_told.ensures.headline _ c.args.view c.args.body
       c.in_ok-table.table c.seen-seen.result _ c.in_ok-octets.octets.items c.entries.ensures.valid c.octets.ensures.valid c.in_ok-table.ensures.made c.seen-seen.ensures
       c.report.ensures c.in_ok-octets.ensures.ok;
   cause = search rules;
