@@ -3,6 +3,7 @@ mod devices;
 mod failures;
 mod forms;
 mod one_call;
+mod one_command;
 mod pairs_files;
 mod refusals;
 mod refused_memory;
