@@ -1,5 +1,6 @@
 """The program as a process: program.txt, and what a shell's words can't bring about."""
 
+import itertools
 import json
 import os
 import pathlib
@@ -20,6 +21,7 @@ ROUTER_ID = bytes.fromhex("060a0000 0200000000000001")
 ROWS = 262_144
 OCTETS = 33_554_432
 IN_A_PACKET = 2_048
+MANY = 1_001
 # Room for the program and its libraries, and not for the rows of most-routes.dump.
 LITTLE_MEMORY = 8 << 20
 SHOW = ["show", "--from", "192.0.2.1"]
@@ -44,14 +46,21 @@ def routes(count):
     return b"".join(packet(ROUTER_ID + b"".join(updates[start : start + IN_A_PACKET])) for start in starts)
 
 
+def hosts(tlv_before):
+    """A thousand and one hosts from 10.0.0.0 on, each after such a TLV of its own."""
+    return packet(ROUTER_ID + b"".join(tlv_before(place) + update((10 << 24) + place, 32, 256) for place in range(MANY)))
+
+
 def large_dumps():
-    """Dumps at the limits of the program, and past them."""
+    """Dumps at the limits of the program, and past them; and such as have many of what others have few."""
     yield "most-routes", routes(ROWS)
     yield "too-many-routes", routes(ROWS + 1)
     # The addresses outside 10.0.0.0/8 have the metric 768, which makes more pairs than there are rows.
     yield "too-many-pairs", routes(ROWS - 1) + packet(ROUTER_ID + update(0, 0, 768))
     longest = packet(bytes(65_535)) * (OCTETS // 65_539)
     yield "longest", longest + packet(bytes(OCTETS - len(longest) - 4))
+    yield "many-router-ids", hosts(lambda place: bytes.fromhex("060a0000") + ((2 << 56) + place).to_bytes(8, "big"))
+    yield "many-next-hops", hosts(lambda place: bytes.fromhex("07060100") + ((198 << 24) + place).to_bytes(4, "big"))
 
 
 def run(program, words, stdin=subprocess.DEVNULL, stdout=subprocess.PIPE, **how):
@@ -66,13 +75,13 @@ def expect(tally, what, found, wanted):
 
 def check_closed_pipe(program, tally):
     """Nobody reads what is written: it ends in silence, started with the signal of a closed pipe on or off."""
-    for disposition in signal.SIG_DFL, signal.SIG_IGN:
+    for words, disposition in itertools.product(([*SHOW, ONE_ROUTE], ["--help"], ["show", "--help"]), (signal.SIG_DFL, signal.SIG_IGN)):
         reader, writer = os.pipe()
         os.close(reader)
         ready = lambda: signal.signal(signal.SIGPIPE, disposition)
-        found = run(program, [*SHOW, ONE_ROUTE], stdout=writer, preexec_fn=ready, restore_signals=False)
+        found = run(program, words, stdout=writer, preexec_fn=ready, restore_signals=False)
         os.close(writer)
-        expect(tally, f"a closed pipe, the signal {disposition.name}", found, (141, b""))
+        expect(tally, f"{' '.join(map(str, words))} into a closed pipe, the signal {disposition.name}", found, (141, b""))
 
 
 def check_failed_read(program, tally):
@@ -100,6 +109,22 @@ def check_failed_write(program, tally):
     is_start = 0 < len(taken) < len(text) and text.startswith(taken)
     text = b"write failed\nhint: Resource temporarily unavailable (os error 11)\n"
     expect(tally, "a write that fails after what a pipe holds", (*found, is_start), (4, text, True))
+
+
+def check_full_file(program, tally):
+    """A file that may have ten octets takes those of a longer write, and no more: the text is not whole, and it says so."""
+    words = ["normalise", "--hex", "--from", "192.0.2.1", ONE_ROUTE]
+
+    def ready():
+        signal.signal(signal.SIGXFSZ, signal.SIG_IGN)
+        resource.setrlimit(resource.RLIMIT_FSIZE, (10, 10))
+
+    with tempfile.TemporaryFile() as output:
+        found = run(program, words, stdout=output, preexec_fn=ready, restore_signals=False)
+        output.seek(0)
+        taken = output.read()
+    text = b"write failed\nhint: File too large (os error 27)\n"
+    expect(tally, "a file that takes ten octets", (*found, taken), (4, text, b"2a02002106"))
 
 
 def check_little_memory(program, folder, tally):
@@ -200,6 +225,7 @@ def check(tally, _long):
         check_closed_pipe(program, tally)
         check_failed_read(program, tally)
         check_failed_write(program, tally)
+        check_full_file(program, tally)
         check_little_memory(program, folder, tally)
         check_manual(program, tally)
         check_examples(program, tally)
