@@ -1,5 +1,5 @@
 -- What the run of a job promises: this project's own.
-use Rattle.std.specs.Prelude.{ℕ, List, Option, None, Some, Result, IfOk, IfErr}
+use Rattle.std.specs.Prelude.{ℕ, List, Option, None, Some, Result}
 use Rattle.babel_prefix.specs.Address.{Address}
 use Rattle.babel_capture.specs.declared.wanted.Wanted.{Wanted}
 use Rattle.babel_capture.specs.declared.wanted.Wanted.TheVariants as wanteds
@@ -8,7 +8,6 @@ use Rattle.babel_dump.specs.CaptureRun.{CaptureCause, Extracts, IsNoFault, IsOnS
 use Rattle.babel_dump.specs.Command.{CompareCause, Compares, DifferencesCause, ListsDifferences, ListsPairs, LooksUp, Shows, WritesNormal}
 use Rattle.babel_dump.specs.Each.{EachCause, LooksUpAsked}
 use Rattle.babel_dump.specs.Given.{IsFaultOfForm, IsFaultOfGiven, Reads, dump_of}
-use Rattle.babel_dump.specs.Parts.{Says}
 use Rattle.babel_dump.specs.Run.{Called, Calls, InputCause, OfFirst, Output, Ran, calls_of}
 use Rattle.babel_dump.specs.declared.capture_reading.CaptureReading.{CaptureReading}
 use Rattle.babel_dump.specs.declared.job.Job.{Job}
@@ -16,7 +15,6 @@ use Rattle.babel_dump.specs.declared.job.Job.TheVariants as jobs
 use Rattle.babel_dump.specs.declared.outcome.Outcome.{Outcome}
 use Rattle.babel_dump.specs.declared.reading.Reading.{Reading}
 use Rattle.babel_dump.specs.declared.run_fault.RunFault.{RunFault}
-use Rattle.babel_dump.specs.declared.slices.Found.{Found}
 
 -- the datagrams of one sender, on this interface where one is named
 abbrev pub wanted_of : Address → Option ℕ → Wanted
@@ -88,13 +86,6 @@ other_calls job other = None
 abbrev pub OtherCalled : {T : Type 0} → Option Calls → (untouched : Type 0) → Result T RunFault → Type 0
 OtherCalled None untouched result = untouched
 OtherCalled (Some calls) untouched result = Called calls result
-
--- what a job finds of what its readers gave
-pub record FoundBy (job : Job) (reader other : Reads) (untouched : Type 0) (result : Result Found RunFault) : Type 0 where
-  pub says : IfOk result (Says (SaysBy job reader other))
-  pub cause : IfErr result (CauseBy job reader other untouched)
-  pub called : Called (first_calls job reader) result
-  pub other_called : OtherCalled (other_calls job other) untouched result
 
 -- what its run does
 pub record RanJob (job : Job) (reader other : Reads) (writer : Output) (untouched : Type 0) (result : Result Outcome RunFault) : Type 0 where

@@ -18,13 +18,15 @@ use Rattle.babel_canon.specs.declared.verdict.Verdict.{Verdict}
 use Rattle.babel_dump.specs.AskedPairs.{IsFirstWrong}
 use Rattle.babel_dump.specs.Command.{IsOfMany, IsOfMemory, IsOutcomeOfBoth}
 use Rattle.babel_dump.specs.Device.{AppendsPrefix}
-use Rattle.babel_dump.specs.Given.{GaveAll, GaveTables, Input}
+use Rattle.babel_dump.specs.Given.{GaveAll, GaveTables, Input, Reads}
 use Rattle.babel_dump.specs.InFormat.{differences_or_count_in, pairs_or_counts_in, verdict_in}
+use Rattle.babel_dump.specs.JobRun.{CauseBy, OtherCalled, SaysBy, first_calls, other_calls}
 use Rattle.babel_dump.specs.Run.{Called, Calls, Output}
 use Rattle.babel_dump.specs.RunText.{answer_in, differences_status, verdict_status}
 use Rattle.babel_dump.specs.SlicedRows.{found_text}
 use Rattle.babel_dump.specs.declared.both.SeenTables.{SeenTables}
 use Rattle.babel_dump.specs.declared.format.Format.{Format}
+use Rattle.babel_dump.specs.declared.job.Job.{Job}
 use Rattle.babel_dump.specs.declared.outcome.Outcome.{Outcome}
 use Rattle.babel_dump.specs.declared.pairs_fault.PairsFault.TheVariants as pairs_faults
 use Rattle.babel_dump.specs.declared.run_fault.RunFault.{RunFault}
@@ -97,3 +99,10 @@ HasManyDifferences limits seen fault =
     IsOfMemory fault
     ⊎ (IsOfMany fault × ((differences : List Difference) × AreDifferences seen.left.rows seen.right.rows differences
     × (limits.entries < length differences)))
+
+-- what a job finds of what its readers gave
+pub record FoundBy (job : Job) (reader other : Reads) (untouched : Type 0) (result : Result Found RunFault) : Type 0 where
+  pub says : IfOk result (Says (SaysBy job reader other))
+  pub cause : IfErr result (CauseBy job reader other untouched)
+  pub called : Called (first_calls job reader) result
+  pub other_called : OtherCalled (other_calls job other) untouched result

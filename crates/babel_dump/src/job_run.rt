@@ -1,7 +1,8 @@
 ghost use Rattle.std.specs.Prelude.{◌≡◌};
 ghost use Rattle.babel_dump.specs.Device.{HasRoomToCount, HasRoomToWrite};
 ghost use Rattle.babel_dump.specs.Given.{reads};
-ghost use Rattle.babel_dump.specs.JobRun.{FoundBy, RanJob, wanted_of};
+ghost use Rattle.babel_dump.specs.JobRun.{RanJob, wanted_of};
+ghost use Rattle.babel_dump.specs.Parts.{FoundBy};
 ghost use Rattle.babel_dump.specs.Run.{output};
 
 use crate::byte_in::ByteIn;
