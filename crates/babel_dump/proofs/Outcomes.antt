@@ -187,10 +187,10 @@ normal_one : (reading : Reading) (view : View) (body : ℕ) (hex : Bool) (dump :
     → (text ≡ text_too) × (outcome ≡ outcome_too)
 normal_one reading view body hex dump one two text text_too outcome outcome_too has has_too says again =
     let of_all : (reader : Reads) (octets given : List ℕ) → reader.old.left ≡ Some dump → GaveAll (dump_of reader reading) given
-        → Normalises (seen_rows view) reading.limits reading.mode body (sent reading.sender given) octets
-        → Normalises (seen_rows view) reading.limits reading.mode body (sent reading.sender dump) octets =
+    → Normalises (seen_rows view) reading.limits reading.mode body (sent reading.sender given) octets
+    → Normalises (seen_rows view) reading.limits reading.mode body (sent reading.sender dump) octets =
     λ reader octets given has gave normal. subst (λ (d : List ℕ). Normalises (seen_rows view) reading.limits reading.mode body (sent reading.sender d) octets)
-        (gave_all (dump_of reader reading) dump given has gave) normal in
+    (gave_all (dump_of reader reading) dump given has gave) normal in
     let same = form_is_one (seen_rows view) _ _ body _ says.octets again.octets
     (of_all one says.octets _ has says.gave.gave.given.gave says.gave.under.normalises)
     (of_all two again.octets _ has_too again.gave.gave.given.gave again.gave.under.normalises) in

@@ -1,18 +1,15 @@
 -- Parts of texts that functions inside make: this project's own.
-use Rattle.std.specs.Prelude.{ℕ, Bool, ◌==◌, List, ◌++◌, codes, Option}
+use Rattle.std.specs.Prelude.{ℕ, Bool, ◌==◌, List, ◌++◌, codes}
 use Rattle.std.specs.List.{filter_map, flat_map, join_by}
-use Rattle.std.specs.Option.{option_and_then, option_map}
+use Rattle.std.specs.Option.{option_map}
 use Rattle.hex.specs.Hex.{encode_lower}
 use Rattle.babel_prefix.specs.Address.{Address}
-use Rattle.babel_tlv.specs.declared.held.Held.{Held}
 use Rattle.babel_tlv.specs.declared.reason.Reason.{Reason}
-use Rattle.babel_tlv.specs.declared.view.View.{View}
 use Rattle.babel_table.specs.Counts.{Counts, reason_place, count_at}
 use Rattle.babel_table.specs.Rows.{Routes}
-use Rattle.babel_canon.specs.declared.every_difference.Difference.{Difference}
-use Rattle.babel_dump.specs.InFormat.{difference_in, in_format}
+use Rattle.babel_dump.specs.InFormat.{in_format}
 use Rattle.babel_dump.specs.JsonText.{difference_count_json, ignored_object, same_json}
-use Rattle.babel_dump.specs.RunText.{answer_in, answer_text, difference_count_text, ignored_line, lookup_status}
+use Rattle.babel_dump.specs.RunText.{answer_in, difference_count_text, ignored_line, lookup_status}
 use Rattle.babel_dump.specs.RunText.{newline, same_text}
 use Rattle.babel_dump.specs.declared.format.Format.{Format}
 
@@ -24,16 +21,9 @@ hex_digits octets = encode_lower octets
 abbrev pub hex_text : List ℕ → List ℕ
 hex_text octets = hex_digits octets ++ newline
 
--- what is made of two texts, where there are both
-abbrev pub of_both : (List ℕ → List ℕ → List ℕ) → (dst src : Option (List ℕ)) → Option (List ℕ)
-of_both make dst src = option_and_then (λ d. option_map (make d) src) dst
-
 -- there is no route for these addresses
 abbrev pub lacks_route : Routes → Address → Address → Bool
 lacks_route table dst src = lookup_status (answer_in table dst src) == 1
-
-abbrev pub lookup_text : View → Option Held → List ℕ
-lookup_text view answer = answer_text view answer ++ newline
 
 -- a line for each of these reasons that occurred
 abbrev pub ignored_lines : Counts → List Reason → List ℕ
@@ -51,10 +41,6 @@ comma_separated values = join_by (λ value. value) (codes ",") values
 -- `same`
 abbrev pub same_in : Format → List ℕ
 same_in format = in_format format same_text same_json
-
--- what says each of these differences
-abbrev pub difference_lines_in : Format → View → List Difference → List ℕ
-difference_lines_in format view differences = flat_map (difference_in format view) differences
 
 abbrev pub difference_count_in : Format → ℕ → List ℕ
 difference_count_in format count =

@@ -64,7 +64,11 @@ fn find<R: ByteIn, S: ByteIn>(
         (reads (S.state other.old) (S.state other.new)) (other.new ≡ other.old) result }
 {
     match *job {
-        Job::Show { reading, format, .. } => find_rows(alloc, reading, format, reader),
+        Job::Show {
+            reading,
+            format,
+            ..
+        } => find_rows(alloc, reading, format, reader),
         Job::Lookup {
             reading,
             pair,
@@ -72,7 +76,9 @@ fn find<R: ByteIn, S: ByteIn>(
             ..
         } => find_answer(alloc, reading, pair, format, reader),
         Job::Each {
-            reading, format, ..
+            reading,
+            format,
+            ..
         } => find_each(alloc, reading, format, reader, other),
         Job::Normalise {
             reading,
@@ -102,9 +108,20 @@ fn find<R: ByteIn, S: ByteIn>(
             count,
             format,
             ..
-        } => find_differences(alloc, reading, other_reading, view, count, format, reader, other),
+        } => find_differences(
+            alloc,
+            reading,
+            other_reading,
+            view,
+            count,
+            format,
+            reader,
+            other,
+        ),
         Job::Senders {
-            reading, format, ..
+            reading,
+            format,
+            ..
         } => find_senders(alloc, reading, format, reader),
         Job::Extract {
             reading,

@@ -40,5 +40,11 @@ pub(crate) fn find_senders<R: ByteIn>(
         cut: read.cut,
     };
     let rows = Rows::Senders(read.gathered);
-    Ok(Found::rows(alloc, format, rows, Vec::new(alloc), Outcome { status, reports })?)
+    Ok(Found::rows(
+        alloc,
+        format,
+        rows,
+        Vec::new(alloc),
+        Outcome { status, reports },
+    )?)
 }
