@@ -64,13 +64,16 @@ module _ (reader other : Input) (view : View) (seen : SeenTables) (gave : GaveBo
   differences_cause : (untouched : Type 0) (fault : RunFault) → HasManyDifferences reader.reading.limits seen fault
       → DifferencesCause reader other view untouched fault
   differences_cause untouched fault (inl memory) = inl (inr (memory, sound.0, sound.1))
-  differences_cause untouched fault (inr (is, (differences, are, many))) = inr (is, record {
-    table = gave.table;
-    other_table = gave.other_table;
-    differences = differences;
-    have = differ differences are;
-    many = many;
-  })
+  differences_cause untouched fault (inr (is, (differences, are, many))) = inr (
+    is,
+    record {
+      table = gave.table;
+      other_table = gave.other_table;
+      differences = differences;
+      have = differ differences are;
+      many = many;
+    },
+  )
 
 -- the readers were called as they were for the tables
 pub called_for : {T U : Type 0} (calls : Calls) (seen : T) (found : Result U RunFault) → Called {T = T} {E = RunFault} calls (Ok seen) → Called calls found

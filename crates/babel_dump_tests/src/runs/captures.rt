@@ -88,7 +88,11 @@ fn expect_run(
 ) -> Result<(), Fail> {
     let ran = run(alloc, line, octets, failing)?;
     let length = octets.len();
-    assert_eq!(rt; ran.outcome.as_ref().err(), fault, "{line} of {length} octets, {failing:?}");
+    assert_eq!(rt;
+        ran.outcome.as_ref().err(),
+        fault,
+        "{line} of {length} octets, {failing:?}"
+    );
     assert_eq!(rt;
         status_of(&ran.outcome),
         status,
@@ -124,7 +128,16 @@ fn each_read_that_fails(rt: HostRuntime) -> Result<(), Fail> {
     for (line, _text) in &WRITTEN {
         for failing in 1..CAPTURE.len() as u64 + 2 {
             let fault = RunFault::Input(Side::First, InputFault::Read);
-            expect_run(&rt, rt.alloc(), line, &CAPTURE, (failing, 0), Some(&fault), 4, &[])?;
+            expect_run(
+                &rt,
+                rt.alloc(),
+                line,
+                &CAPTURE,
+                (failing, 0),
+                Some(&fault),
+                4,
+                &[],
+            )?;
         }
     }
     Ok(())
@@ -139,7 +152,16 @@ fn each_write_that_fails(rt: HostRuntime) -> Result<(), Fail> {
             let written = whole.get(..failing * TAKEN).unwrap_or(whole);
             let failing = (0, failing as u64 + 1);
             let fault = RunFault::Write;
-            expect_run(&rt, rt.alloc(), line, &CAPTURE, failing, Some(&fault), 4, written)?;
+            expect_run(
+                &rt,
+                rt.alloc(),
+                line,
+                &CAPTURE,
+                failing,
+                Some(&fault),
+                4,
+                written,
+            )?;
         }
     }
     Ok(())

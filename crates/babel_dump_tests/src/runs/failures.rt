@@ -87,7 +87,14 @@ fn expect_read_faults<'a>(
             script,
             ..case(sender, asked, text, &dump, &other)
         };
-        let reads = expect_run(rt, alloc, &case, Some(&RunFault::Input(Side::First, InputFault::Read)), 4, &[])?;
+        let reads = expect_run(
+            rt,
+            alloc,
+            &case,
+            Some(&RunFault::Input(Side::First, InputFault::Read)),
+            4,
+            &[],
+        )?;
         assert_eq!(rt; reads, (failing, 0), "{asked} of {text}");
     }
     Ok(())
@@ -120,7 +127,14 @@ fn expect_other_read_faults<'a>(
             script,
             ..case(sender, asked.as_str(), text, &dump, &other)
         };
-        let reads = expect_run(rt, alloc, &case, Some(&RunFault::Input(Side::Other, InputFault::Read)), 4, &[])?;
+        let reads = expect_run(
+            rt,
+            alloc,
+            &case,
+            Some(&RunFault::Input(Side::Other, InputFault::Read)),
+            4,
+            &[],
+        )?;
         assert_eq!(rt; reads, (dump.len() as u64 + 1, failing), "of {text}");
     }
     Ok(())
@@ -235,7 +249,13 @@ fn a_write_that_takes_nothing(rt: HostRuntime) -> Result<(), Fail> {
 /// A dump in pieces of so many octets, of which the second read fails, the fault and its status, and how often it is read:
 /// a read that fails after octets, and a fault of octets before a read that would fail.
 const SECOND_READS: [(&str, usize, RunFault, u8, u64); 2] = [
-    (ONE_ROUTE, 20, RunFault::Input(Side::First, InputFault::Read), 4, 2),
+    (
+        ONE_ROUTE,
+        20,
+        RunFault::Input(Side::First, InputFault::Read),
+        4,
+        2,
+    ),
     (
         "2a030000",
         100,

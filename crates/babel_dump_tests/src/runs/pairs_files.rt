@@ -54,7 +54,14 @@ fn answers_of_each(rt: HostRuntime) -> Result<(), Fail> {
     let dump = octets(rt.alloc(), TWO_ROUTES)?;
     for (pairs, fault, status, text) in &OF_EACH {
         let case = each(Limits::usual(), &dump, pairs);
-        expect_run(&rt, rt.alloc(), &case, fault.as_ref(), *status, text.as_bytes())?;
+        expect_run(
+            &rt,
+            rt.alloc(),
+            &case,
+            fault.as_ref(),
+            *status,
+            text.as_bytes(),
+        )?;
     }
     Ok(())
 }

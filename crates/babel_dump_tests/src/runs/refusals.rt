@@ -44,10 +44,16 @@ fn expect_refusal<'a>(
 ) -> Result<(), Fail> {
     let dump = octets(alloc, text)?;
     for asked in &all_asked(LOOKUP) {
-        let (dumps, fault) = ((dump.as_slice(), route), RunFault::Input(Side::First, InputFault::Dump(fault)));
+        let (dumps, fault) = (
+            (dump.as_slice(), route),
+            RunFault::Input(Side::First, InputFault::Dump(fault)),
+        );
         expect_refused(rt, alloc, limits, mode, asked, text, dumps, 1, fault)?;
     }
-    let (dumps, fault) = ((route, dump.as_slice()), RunFault::Input(Side::Other, InputFault::Dump(fault)));
+    let (dumps, fault) = (
+        (route, dump.as_slice()),
+        RunFault::Input(Side::Other, InputFault::Dump(fault)),
+    );
     expect_refused(rt, alloc, limits, mode, COMPARE_V4, text, dumps, 2, fault)
 }
 
@@ -193,7 +199,13 @@ fn dumps_at_their_limits(rt: HostRuntime) -> Result<(), Fail> {
 
 /// What is asked of a dump of at most 83 octets and one route.
 fn narrow_job(alloc: Global, asked: &str) -> Result<Job, Fail> {
-    job(alloc, Limits::new(83, 1).ok_or("limits")?, Mode::Plain, V4, asked)
+    job(
+        alloc,
+        Limits::new(83, 1).ok_or("limits")?,
+        Mode::Plain,
+        V4,
+        asked,
+    )
 }
 
 /// The job of two readers, one of which has no end, is refused with this fault under narrow limits.
@@ -263,18 +275,36 @@ const TEXTS: [(RunFault, u8, &str); 16] = [
         "TLV past the end of its packet at 4",
     ),
     (
-        RunFault::Input(Side::First, InputFault::Dump(Fault::EncodingSetsRouterId { at: 4 })),
+        RunFault::Input(
+            Side::First,
+            InputFault::Dump(Fault::EncodingSetsRouterId { at: 4 }),
+        ),
         3,
         "router-id flag in an unread address encoding at 4",
     ),
     (
-        RunFault::Input(Side::First, InputFault::Dump(Fault::TooManyRoutes { at: 55 })),
+        RunFault::Input(
+            Side::First,
+            InputFault::Dump(Fault::TooManyRoutes { at: 55 }),
+        ),
         3,
         "too many routes at 55",
     ),
-    (RunFault::Input(Side::First, InputFault::Dump(Fault::TooLong)), 3, "dump too long"),
-    (RunFault::Input(Side::First, InputFault::Dump(Fault::TooManyPairs)), 3, "too many pairs"),
-    (RunFault::Input(Side::First, InputFault::Dump(Fault::Memory)), 5, "out of memory"),
+    (
+        RunFault::Input(Side::First, InputFault::Dump(Fault::TooLong)),
+        3,
+        "dump too long",
+    ),
+    (
+        RunFault::Input(Side::First, InputFault::Dump(Fault::TooManyPairs)),
+        3,
+        "too many pairs",
+    ),
+    (
+        RunFault::Input(Side::First, InputFault::Dump(Fault::Memory)),
+        5,
+        "out of memory",
+    ),
     (
         RunFault::Input(Side::Other, InputFault::Dump(Fault::BadVersion { at: 0 })),
         3,
@@ -286,23 +316,37 @@ const TEXTS: [(RunFault, u8, &str); 16] = [
         "other: out of memory",
     ),
     (
-        RunFault::Input(Side::First, InputFault::Ignored(IgnoredTlv {
-            at: 198,
-            reason: Reason::Short,
-        })),
+        RunFault::Input(
+            Side::First,
+            InputFault::Ignored(IgnoredTlv {
+                at: 198,
+                reason: Reason::Short,
+            }),
+        ),
         3,
         "ignored TLV at 198: short",
     ),
     (
-        RunFault::Input(Side::Other, InputFault::Ignored(IgnoredTlv {
-            at: 29,
-            reason: Reason::BadPlen,
-        })),
+        RunFault::Input(
+            Side::Other,
+            InputFault::Ignored(IgnoredTlv {
+                at: 29,
+                reason: Reason::BadPlen,
+            }),
+        ),
         3,
         "other: ignored TLV at 29: bad-plen",
     ),
-    (RunFault::Input(Side::First, InputFault::Read), 4, "read failed"),
-    (RunFault::Input(Side::Other, InputFault::Read), 4, "other: read failed"),
+    (
+        RunFault::Input(Side::First, InputFault::Read),
+        4,
+        "read failed",
+    ),
+    (
+        RunFault::Input(Side::Other, InputFault::Read),
+        4,
+        "other: read failed",
+    ),
     (RunFault::Write, 4, "write failed"),
 ];
 

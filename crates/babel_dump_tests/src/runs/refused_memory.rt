@@ -7,8 +7,8 @@ use super::captures::{CAPTURE, SENDERS};
 use super::devices::ScriptedIn;
 use babel_canon::Body;
 use babel_dump::{
-    AddrPair, ByteOut, CaptureReading, DumpFile, Format, InputFault, Job, Reading, RunFault, run_job,
-    status_of,
+    AddrPair, ByteOut, CaptureReading, DumpFile, Format, InputFault, Job, Reading, RunFault,
+    run_job, status_of,
 };
 use babel_library_tests::dumps::{NESTED_SOURCES, ONE_FAMILY, TWO_FAMILIES, V4, V6};
 use babel_table::Limits;

@@ -66,7 +66,16 @@ fn strictly_read_dumps(rt: HostRuntime) -> Result<(), Fail> {
     let usual = Limits::usual();
     for asked in &STRICT {
         let fault = RunFault::Input(Side::First, InputFault::Ignored(FIRST));
-        let other_reads = expect(&rt, rt.alloc(), usual, asked, (VAIN, VAIN), Some(&fault), 3, "")?;
+        let other_reads = expect(
+            &rt,
+            rt.alloc(),
+            usual,
+            asked,
+            (VAIN, VAIN),
+            Some(&fault),
+            3,
+            "",
+        )?;
         assert_eq!(rt; other_reads, 0, "{asked}");
     }
     let fault = RunFault::Input(Side::Other, InputFault::Ignored(FIRST));
@@ -95,13 +104,19 @@ fn strictly_read_dumps(rt: HostRuntime) -> Result<(), Fail> {
 
 /// What is asked of a dump whose pairs are too many, and the fault.
 const TOO_MANY_PAIRS: [(&str, RunFault); 2] = [
-    ("pairs", RunFault::Input(Side::First, InputFault::Dump(Fault::TooManyPairs))),
+    (
+        "pairs",
+        RunFault::Input(Side::First, InputFault::Dump(Fault::TooManyPairs)),
+    ),
     (
         "pairs --strict",
-        RunFault::Input(Side::First, InputFault::Ignored(IgnoredTlv {
-            at: 41,
-            reason: Reason::Short,
-        })),
+        RunFault::Input(
+            Side::First,
+            InputFault::Ignored(IgnoredTlv {
+                at: 41,
+                reason: Reason::Short,
+            }),
+        ),
     ),
 ];
 

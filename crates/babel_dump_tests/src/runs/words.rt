@@ -143,9 +143,11 @@ fn words_of_jobs(rt: HostRuntime) -> Result<(), Fail> {
 fn expect_job(rt: &impl Abort, line: &str, job: &Job, wanted: &Wanted<'_>) -> Result<(), Fail> {
     expect_file(rt, line, job.file(), wanted.file);
     match job {
-        Job::Show { reading, format, .. } => {
-            expect_reading(rt, line, "show", reading, *format, wanted)
-        }
+        Job::Show {
+            reading,
+            format,
+            ..
+        } => { expect_reading(rt, line, "show", reading, *format, wanted) }
         Job::Lookup {
             reading,
             pair,
@@ -166,7 +168,10 @@ fn expect_job(rt: &impl Abort, line: &str, job: &Job, wanted: &Wanted<'_>) -> Re
             expect_reading(rt, line, "lookup", reading, *format, wanted)
         }
         Job::Normalise {
-            reading, body, hex, ..
+            reading,
+            body,
+            hex,
+            ..
         } => {
             assert_eq!(rt; Some(body.octets()), wanted.body, "of {line}");
             assert_eq!(rt; *hex, wanted.hex, "of {line}");

@@ -10,7 +10,7 @@ returns-then-count-clause-ok c =
     let format = c.args.format in
     let counted = c.in_ok-pairs.ensures.ok in
     says_pairs c.text_is_one.ensures c.args.limits c.args.view c.args.count format c.args.table c.seen-seen.result counted.pairs _ c.seen-seen.ensures counted.are_canonical
-    (ap (λ v. v.items) c.into_bytes.ensures.value ∙ c.in_ok-text.ensures
+    (c.in_ok-text.ensures
     ∙ ap (λ (n : ℕ). counts_in format n c.in_ok-pairs.pairs) c.len-rows.ensures
     ∙ ap (λ (rs : List Pair). counts_in format (length rs) c.in_ok-pairs.pairs) c.rows.ensures.value
     ∙ ap (λ (n : ℕ). counts_in format (length rows) n) counted.count_is
