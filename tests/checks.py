@@ -23,8 +23,8 @@ def need(command, why):
 
 
 def built_program():
-    """The proved program, which ./babel-dump builds if it must."""
-    run = subprocess.run([TOP / "babel-dump", "--help"], stdin=subprocess.DEVNULL, stdout=subprocess.DEVNULL)
+    """The proved program, which is built if it must be."""
+    run = subprocess.run([TOP / "tools/proved.sh"], stdin=subprocess.DEVNULL)
     if run.returncode:
         raise Missing("the program could not be built; what its build said is above")
     return PROGRAM

@@ -15,16 +15,22 @@ from checks import PROGRAM, TOP, need
 
 VERDICT = re.compile(r"(\d+) passed, (\d+) failed\n")
 TRIED = re.compile(r"rt: must-fail (\S+): (.*)")
+PROVED = re.compile(r"rt: \w+ (proved|is kept: .*)\n")
 REFUSED = "refused, as it must be"
 BUILT = TOP / "crates/babel_dump_program/out/babel_dump_program"
 
 
 def run_gate():
-    """Runs the gate, shows all that it says, and returns its last line and its status."""
-    last = ""
+    """Runs the gate, shows all that it says, and how far it is, and returns its last line and its status."""
+    last, proved, begun = "", 0, time.monotonic()
+    crates = len(re.findall(r"^\w+:", (TOP / "crates.txt").read_text(), re.MULTILINE))
     with subprocess.Popen(["rt", "ci"], cwd=TOP, stdout=subprocess.PIPE, text=True, errors="replace") as gate:
         for last in gate.stdout:
             print(last, end="", flush=True)
+            if PROVED.fullmatch(last):
+                proved += 1
+                minutes = round((time.monotonic() - begun) // 60)
+                print(f"gate: {proved} of {crates} crates proved, {minutes} minutes so far", flush=True)
     return last, gate.returncode
 
 

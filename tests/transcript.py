@@ -72,11 +72,11 @@ def printed(run):
     return text + (f"? {run.returncode}\n" if run.returncode else "")
 
 
-def shell(command, folder, **how):
+def shell(command, folder, seconds=SECONDS, **how):
     """Runs a command by sh in a folder whose folder `tools` is on the PATH."""
     environment = {**os.environ, "PATH": f"{folder / 'tools'}:{os.environ['PATH']}", "LC_ALL": "C"}
     words = ["sh", "-c", command]
-    return subprocess.run(words, cwd=folder, env=environment, stdin=subprocess.DEVNULL, timeout=SECONDS, **how)
+    return subprocess.run(words, cwd=folder, env=environment, stdin=subprocess.DEVNULL, timeout=seconds, **how)
 
 
 def difference(expected, found):
