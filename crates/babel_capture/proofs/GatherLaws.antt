@@ -1,5 +1,5 @@
 -- What packets give, taken one by one.
-use Rattle.std.proofs.Common.{◌≡◌, ◌≢◌, ℕ, List, [], ◌∷◌, ◌++◌, ◌+◌, length, refl, sym, ap, subst, ◌∙◌, inl, inr}
+use Rattle.std.proofs.Common.{◌≡◌, ◌≢◌, ◌≤◌, ℕ, List, [], ◌∷◌, ◌++◌, ◌+◌, length, refl, sym, ap, subst, ◌∙◌, inl, inr}
 use Rattle.std.specs.Prelude.{Some, None, Result, Ok, Err, OnOk, IfErr, fold, ◌⊎◌}
 use Rattle.std.specs.List.{flat_map}
 use Rattle.babel_prefix.specs.Address.{Address}
@@ -47,19 +47,24 @@ senders-push made one = from [] made
 
 pub gathered-push : (before : List Sighting) (next : Sighting) (old new : Gathering) (what : Found) → new.wanted ≡ old.wanted
     → new.dump ≡ dump_with old.wanted old.dump (octets_found what) → new.report ≡ counted_with old.report (reason_of what)
-    → new.senders ≡ senders_with old.senders what → what ≢ snapped
+    → new.senders ≡ senders_with old.senders what → length new.senders ≤ 65536 → what ≢ snapped
     → IsGathered before old → next.number ≡ old.report.packets + 1 → Finds old.wanted next.interface next.what what → IsGathered (before ++ next ∷ []) new
-gathered-push before next old new what same dump report senders whole gathered number finds =
+gathered-push before next old new what same dump report senders few whole gathered number finds =
     let one : Made = made_of next what in
+    let is_senders : new.senders ≡ senders_of (gathered.made ++ one ∷ []) =
+    senders ∙ ap (λ (t : Senders). senders_with t what) gathered.senders ∙ sym (senders-push gathered.made one) in
     let is_number : one.number ≡ length gathered.made + 1 = number ∙ ap (λ c. c.packets + 1) gathered.report in
     record {
       made = gathered.made ++ one ∷ [];
-      are_made = subst (λ (w : Wanted). AreMade w (before ++ next ∷ []) (gathered.made ++ one ∷ [])) (sym same)
-          (made-push old.wanted before next gathered.made what gathered.are_made finds whole);
+      taken = record {
+        are_made = subst (λ (w : Wanted). AreMade w (before ++ next ∷ []) (gathered.made ++ one ∷ [])) (sym same)
+            (made-push old.wanted before next gathered.made what gathered.taken.are_made finds whole);
+        few = subst (λ (s : Senders). length s ≤ 65536) is_senders few;
+      };
       dump = subst (λ (w : Wanted). new.dump ≡ dump_of w (gathered.made ++ one ∷ [])) (sym same)
           (dump ∙ dump-push old.wanted gathered.made old.dump one gathered.dump);
       report = report ∙ ap (λ c. counted_with c (reason_of what)) gathered.report ∙ sym (counts-push gathered.made one is_number);
-      senders = senders ∙ ap (λ (t : Senders). senders_with t what) gathered.senders ∙ sym (senders-push gathered.made one);
+      senders = is_senders;
     }
 
 -- what is no packet leaves the dump
@@ -67,9 +72,13 @@ pub dump-stays : (wanted : Wanted) (dump : List ℕ) → dump ≡ dump_with want
 dump-stays wanteds.Everyone dump = refl
 dump-stays (wanteds.Sender sender interface) dump = sym (append-nil dump)
 
-pub on-ok2 : {T E : Type 0} {P Q R : Type 0} (r : Result T E) → (P → Q → R) → OnOk r P → OnOk r Q → OnOk r R
-on-ok2 (Ok x) goes one two = goes one two
-on-ok2 (Err e) goes one two = tt
+pub on-ok3 : {T E : Type 0} {P Q R S : Type 0} (r : Result T E) → (P → Q → R → S) → OnOk r P → OnOk r Q → OnOk r R → OnOk r S
+on-ok3 (Ok x) goes one two three = goes one two three
+on-ok3 (Err e) goes one two three = tt
+
+-- the senders of packets that were gathered, and the same ones after a packet of which none is found
+few_kept : (before : List Sighting) (old new : Gathering) → new.senders ≡ old.senders → IsGathered before old → length new.senders ≤ 65536
+few_kept before old new same gathered = subst (λ (s : Senders). length s ≤ 65536) (sym (same ∙ gathered.senders)) gathered.taken.few
 
 -- the same as the code meets them
 module _ (before : List Sighting) (next : Sighting) (old new : Gathering) (finding : Found) where
@@ -78,18 +87,18 @@ module _ (before : List Sighting) (next : Sighting) (old new : Gathering) (findi
 
   pub passed-push : finding ≡ passed → new.wanted ≡ old.wanted → new.dump ≡ old.dump → new.report ≡ counted_with old.report None → new.senders ≡ old.senders → Goes
   passed-push is same dump report senders gathered number finds =
-      gathered-push before next old new passed same (dump ∙ dump-stays old.wanted old.dump) report senders (λ e. cc) gathered number
+      gathered-push before next old new passed same (dump ∙ dump-stays old.wanted old.dump) report senders (few_kept before old new senders gathered) (λ e. cc) gathered number
       (subst (Finds old.wanted next.interface next.what) is finds)
 
   pub left-push : (reason : Reason) → finding ≡ left reason → new.wanted ≡ old.wanted → new.dump ≡ old.dump → new.report ≡ counted_with old.report (Some reason) → new.senders ≡ old.senders → Goes
   left-push reason is same dump report senders gathered number finds =
-      gathered-push before next old new (left reason) same (dump ∙ dump-stays old.wanted old.dump) report senders (λ e. cc) gathered number
+      gathered-push before next old new (left reason) same (dump ∙ dump-stays old.wanted old.dump) report senders (few_kept before old new senders gathered) (λ e. cc) gathered number
       (subst (Finds old.wanted next.interface next.what) is finds)
 
   pub found-push : (interface : ℕ) (sender : Address) (packet : List ℕ) → finding ≡ found interface sender packet → new.wanted ≡ old.wanted → new.dump ≡ dump_with old.wanted old.dump packet
-      → new.report ≡ counted_with old.report None → new.senders ≡ tallied old.senders (record { interface = interface; sender = sender }) packet → Goes
-  found-push interface sender packet is same dump report senders gathered number finds =
-      gathered-push before next old new (found interface sender packet) same dump report senders (λ e. cc) gathered number
+      → new.report ≡ counted_with old.report None → new.senders ≡ tallied old.senders (record { interface = interface; sender = sender }) packet → length new.senders ≤ 65536 → Goes
+  found-push interface sender packet is same dump report senders few gathered number finds =
+      gathered-push before next old new (found interface sender packet) same dump report senders few (λ e. cc) gathered number
       (subst (Finds old.wanted next.interface next.what) is finds)
 
 pub finds-at : (wanted here : Wanted) (interface : ℕ) (sight seen : Sight) (finding : Found) → wanted ≡ here → sight ≡ seen → Finds wanted interface sight finding → Finds here interface seen finding

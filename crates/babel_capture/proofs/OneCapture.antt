@@ -190,7 +190,7 @@ one_gathering one another wanted dump report senders =
 gathered_one : (sightings : List Sighting) (one another : Gathering) → IsGathered sightings one → IsGathered sightings another → one.wanted ≡ another.wanted → one ≡ another
 gathered_one sightings one another is is_too wanted =
     let made : is.made ≡ is_too.made =
-    made_one one.wanted sightings is.made is_too.made is.are_made (subst (λ (w : Wanted). AreMade w sightings is_too.made) (sym wanted) is_too.are_made) in
+    made_one one.wanted sightings is.made is_too.made is.taken.are_made (subst (λ (w : Wanted). AreMade w sightings is_too.made) (sym wanted) is_too.taken.are_made) in
     one_gathering one another wanted
     (is.dump ∙ ap (dump_of one.wanted) made ∙ ap (λ (w : Wanted). dump_of w is_too.made) wanted ∙ sym is_too.dump)
     (is.report ∙ ap counts_of made ∙ sym is_too.report)

@@ -102,4 +102,4 @@ named_is_one limit octets gathering place sender interface read wanted =
     few sender interface gathering.senders
     (subst (λ (s : Senders). IsOneAtMost sender interface s) (sym gathered.senders)
     (all_at_most sender interface (sightings_of read.is_read.blocks) gathered.made []
-    (subst (λ (w : Wanted). AreMade w (sightings_of read.is_read.blocks) gathered.made) wanted gathered.are_made) (inl refl)))
+    (subst (λ (w : Wanted). AreMade w (sightings_of read.is_read.blocks) gathered.made) wanted gathered.taken.are_made) (inl refl)))

@@ -67,4 +67,4 @@ in_dump (wanteds.Sender sender interface) sightings made are = in_made (wanteds.
 
 pub dump_packets : (limit : ℕ) (octets : List ℕ) (gathering : Gathering) → IsRead limit octets gathering → ArePackets gathering.dump
 dump_packets limit octets gathering read =
-    subst ArePackets (sym read.gathered.dump) (in_dump gathering.wanted (sightings_of read.blocks) read.gathered.made read.gathered.are_made)
+    subst ArePackets (sym read.gathered.dump) (in_dump gathering.wanted (sightings_of read.blocks) read.gathered.made read.gathered.taken.are_made)

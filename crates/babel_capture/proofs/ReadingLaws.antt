@@ -10,7 +10,7 @@ use Rattle.babel_capture.specs.Blocks.{BlockAt, BeginsBlock, HasHeader, header_o
 use Rattle.babel_capture.specs.Contents.{Content, block_said, context_after}
 use Rattle.babel_capture.specs.Context.{Before}
 use Rattle.babel_capture.specs.Counts.{Made, Counts}
-use Rattle.babel_capture.specs.Gathering.{AreMade, Gathering, IsGathered}
+use Rattle.babel_capture.specs.Gathering.{AreMade, AreTaken, Gathering, IsGathered}
 use Rattle.babel_capture.specs.Lengths.{block_len}
 use Rattle.babel_capture.specs.Reading.{Progress, LeadTo, BlockFails, StopsAt, Stops}
 use Rattle.babel_capture.specs.Tallies.{Senders, senders_of}
@@ -56,7 +56,7 @@ length-made wanted (first ∷ sightings) made (one, others, is, number, finds, w
 
 packets-are : (sightings : List Sighting) (gathering : Gathering) → IsGathered sightings gathering → gathering.report.packets ≡ length sightings
 packets-are sightings gathering gathered =
-    ap (λ (c : Counts). c.packets) gathered.report ∙ length-made gathering.wanted sightings gathered.made gathered.are_made
+    ap (λ (c : Counts). c.packets) gathered.report ∙ length-made gathering.wanted sightings gathered.made gathered.taken.are_made
 
 pub lead-push : (limit : ℕ) (read block : List ℕ) (old new : Progress) (content : Content) → IsBlock old.context old.at block → block_said old.context old.at block ≡ Ok content
     → new.context ≡ context_after old.context content → new.at ≡ old.at + length block
@@ -92,7 +92,7 @@ stops-behind limit wanted read octets used now fault same lead stops =
       whole = ap (λ (t : List ℕ). read ++ t) (sym (take-append-drop used octets)) ∙ sym (append_assoc read (take used octets) (drop used octets))
           ∙ ap (λ (t : List ℕ). t ++ drop used octets) lead.whole;
       are_blocks = lead.are_blocks;
-      are_made = subst (λ (w : Wanted). AreMade w (sightings_of lead.blocks) lead.gathered.made) same lead.gathered.are_made;
+      taken = subst (λ (w : Wanted). AreTaken w (sightings_of lead.blocks) lead.gathered.made) same lead.gathered.taken;
       stops = subst (λ (w : Wanted). StopsAt w (senders_of lead.gathered.made) (context_behind (start limit) lead.blocks) (length (octets_of lead.blocks)) (drop used octets) fault) same
           (subst (λ (s : Senders). StopsAt now.gathering.wanted s (context_behind (start limit) lead.blocks) (length (octets_of lead.blocks)) (drop used octets) fault) lead.gathered.senders
           (subst (λ (n : ℕ). StopsAt now.gathering.wanted now.gathering.senders (context_behind (start limit) lead.blocks) n (drop used octets) fault) place

@@ -51,7 +51,7 @@ stops-more limit wanted octets more fault stops = record {
   made = stops.made;
   whole = ap (λ (t : List ℕ). t ++ more) stops.whole ∙ append_assoc (octets_of stops.blocks) stops.rest more;
   are_blocks = stops.are_blocks;
-  are_made = stops.are_made;
+  taken = stops.taken;
   stops = stops-more-at wanted (senders_of stops.made) (context_behind (start limit) stops.blocks) (length (octets_of stops.blocks)) stops.rest more fault stops.stops;
 }
 
@@ -110,7 +110,7 @@ module _ (limit : ℕ) (progress : Progress) (pending fed : List ℕ) (taken : H
     made = taken.leads.gathered.made;
     whole = taken.whole ∙ ap (λ (t : List ℕ). t ++ pending) taken.leads.whole;
     are_blocks = taken.leads.are_blocks;
-    are_made = taken.leads.gathered.are_made;
+    taken = taken.leads.gathered.taken;
     partial = subst (λ (n : ℕ). IsPartial (context_behind (start limit) taken.leads.blocks) n pending) place_is
         (subst (λ (c : Before). IsPartial c progress.at pending) taken.leads.context taken.partial);
     short = subst (λ (n : ℕ). IsShortBy (context_behind (start limit) taken.leads.blocks) n pending fault) place_is

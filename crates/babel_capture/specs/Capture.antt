@@ -8,7 +8,7 @@ use Rattle.babel_capture.specs.Blocks.{BlockAt, IsPartial, AreBlocks, start, con
 use Rattle.babel_capture.specs.Blocks.{octets_of, sightings_of}
 use Rattle.babel_capture.specs.Context.{Before}
 use Rattle.babel_capture.specs.Counts.{Made}
-use Rattle.babel_capture.specs.Gathering.{Gathering, IsGathered, AreMade}
+use Rattle.babel_capture.specs.Gathering.{Gathering, IsGathered, AreTaken}
 use Rattle.babel_capture.specs.Reading.{Progress, HasStarted, HasTaken, Stops}
 
 -- the octets are a capture, whole blocks from the first to the last, and this is what its packets
@@ -44,7 +44,7 @@ pub record EndsShort (limit : ℕ) (wanted : Wanted) (octets : List ℕ) (fault 
   pub made : List Made
   pub whole : octets ≡ octets_of blocks ++ rest
   pub are_blocks : AreBlocks (start limit) 0 blocks
-  pub are_made : AreMade wanted (sightings_of blocks) made
+  pub taken : AreTaken wanted (sightings_of blocks) made
   pub partial : IsPartial (context_behind (start limit) blocks) (length (octets_of blocks)) rest
   pub short : IsShortBy (context_behind (start limit) blocks) (length (octets_of blocks)) rest fault
 

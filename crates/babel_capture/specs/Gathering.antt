@@ -1,5 +1,5 @@
 -- What is gathered of the packets of a capture.
-use Rattle.std.specs.Prelude.{◌≡◌, ◌≢◌, ℕ, List, [], ◌∷◌, ◌++◌, ◌⊎◌}
+use Rattle.std.specs.Prelude.{◌≡◌, ◌≢◌, ◌≤◌, ℕ, List, [], ◌∷◌, ◌++◌, ◌⊎◌, length}
 use Rattle.std.specs.List.{flat_map}
 use Rattle.babel_capture.specs.declared.fault.Fault.{Fault}
 use Rattle.babel_capture.specs.declared.fault.Fault.TheVariants as faults
@@ -20,6 +20,12 @@ AreMade wanted (sighting ∷ later) made =
     (one : Made) × (others : List Made) × (made ≡ one ∷ others) × (one.number ≡ sighting.number)
     × Finds wanted sighting.interface sighting.what one.what × (one.what ≢ snapped)
     × AreMade wanted later others
+
+-- What is made of packets that are taken, each of them: at most 65,536 senders are kept, each counted
+-- on each interface where it occurs.
+pub record AreTaken (wanted : Wanted) (sightings : List Sighting) (made : List Made) : Type 0 where
+  pub are_made : AreMade wanted sightings made
+  pub few : length (senders_of made) ≤ 65536
 
 -- the octets of the packet, if one was found
 abbrev pub octets_found : Found → List ℕ
@@ -48,7 +54,7 @@ pub record Gathering : Type 0 where
 -- what these packets give
 pub record IsGathered (sightings : List Sighting) (gathering : Gathering) : Type 0 where
   pub made : List Made
-  pub are_made : AreMade gathering.wanted sightings made
+  pub taken : AreTaken gathering.wanted sightings made
   pub dump : gathering.dump ≡ dump_of gathering.wanted made
   pub report : gathering.report ≡ counts_of made
   pub senders : gathering.senders ≡ senders_of made

@@ -9,7 +9,7 @@ use Rattle.babel_capture.specs.Blocks.{AreBlocks, start, context_behind, octets_
 use Rattle.babel_capture.specs.Contents.{Content, block_said}
 use Rattle.babel_capture.specs.Context.{Before}
 use Rattle.babel_capture.specs.Counts.{Made}
-use Rattle.babel_capture.specs.Gathering.{Gathering, IsGathered, IsRefused, AreMade}
+use Rattle.babel_capture.specs.Gathering.{Gathering, IsGathered, IsRefused, AreTaken}
 use Rattle.babel_capture.specs.Lengths.{block_len}
 use Rattle.babel_capture.specs.Tallies.{Senders, senders_of}
 
@@ -50,7 +50,7 @@ pub record Stops (limit : ℕ) (wanted : Wanted) (octets : List ℕ) (fault : Fa
   pub made : List Made
   pub whole : octets ≡ octets_of blocks ++ rest
   pub are_blocks : AreBlocks (start limit) 0 blocks
-  pub are_made : AreMade wanted (sightings_of blocks) made
+  pub taken : AreTaken wanted (sightings_of blocks) made
   pub stops : StopsAt wanted (senders_of made) (context_behind (start limit) blocks) (length
       (octets_of blocks)) rest fault
 

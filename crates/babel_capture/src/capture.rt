@@ -90,6 +90,10 @@ impl Capture {
             → HasRead self fed
             → CaptureFault self.limit self.progress.gathering.wanted fed fault) }
         ensures stays { IfSome self.fault (λ fault. result ≡ Err fault) }
+
+        // It takes no memory.
+        ensures memory { IfErr result (λ fault. fault ≡ Fault.Memory
+            → self.fault ≡ Some Fault.Memory) }
     {
         if let Some(fault) = self.fault {
             return Err(fault);
@@ -110,6 +114,10 @@ impl Capture {
             → HasRead self fed
             → CaptureFault self.limit self.progress.gathering.wanted fed fault) }
         ensures stays { IfSome self.fault (λ fault. result ≡ Err fault) }
+
+        // It takes no memory.
+        ensures memory { IfErr result (λ fault. fault ≡ Fault.Memory
+            → self.fault ≡ Some Fault.Memory) }
     {
         if let Some(fault) = self.fault {
             return Err(fault);

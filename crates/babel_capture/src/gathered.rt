@@ -1,4 +1,4 @@
-ghost use Rattle.std.specs.Prelude.{◌≡◌, ◌+◌, ◌^◌, ◌<◌, ◌≤◌, ◌++◌, ◌∷◌, [], ◌⊎◌, List, OnOk, IfErr};
+ghost use Rattle.std.specs.Prelude.{◌≡◌, ◌+◌, ◌^◌, ◌<◌, ◌≤◌, ◌++◌, ◌∷◌, [], ◌⊎◌, List, length, OnOk, IfErr};
 ghost use Rattle.babel_capture.specs.Blocks.{Sighting, sighting_of, sightings_in};
 ghost use Rattle.babel_capture.specs.Contents.{captured_of, content_of, holds};
 ghost use Rattle.babel_capture.specs.Gathering.{IsGathered, IsRefused, dump_with};
@@ -146,6 +146,7 @@ impl Gathered {
             ≡ dump_with self.old.wanted self.old.dump packet.now) }
         ensures senders { OnOk result (self.new.senders
             ≡ tallied self.old.senders origin packet.now) }
+        ensures few { OnOk result (length self.new.senders ≤ 65536) }
         ensures err { IfErr result (λ fault. (fault ≡ Fault.Memory)
             ⊎ ((fault ≡ Fault.TooManySenders at) × IsOneTooMany self.old.senders origin)) }
     {

@@ -1,4 +1,4 @@
-ghost use Rattle.std.specs.Prelude.{◌≡◌, ◌≤◌, ◌++◌, ◌⊎◌, ℕ, List, [], drop, length, vec_len, OnOk, IfOk, IfErr};
+ghost use Rattle.std.specs.Prelude.{◌≡◌, ◌≢◌, ◌≤◌, ◌++◌, ◌⊎◌, ℕ, List, [], drop, length, vec_len, OnOk, IfOk, IfErr};
 ghost use Rattle.babel_capture.specs.Capture.{CaptureFault, IsRead, IsReadToCut};
 ghost use Rattle.babel_capture.specs.Reading.{HasTaken, Stops};
 
@@ -124,6 +124,7 @@ impl Stream {
         ensures fault { IfErr result (λ fault. (limit : ℕ) (fed : List ℕ)
             → HasTaken limit self.reader self.pending.items fed
             → CaptureFault limit self.reader.gathering.wanted fed fault) }
+        ensures memory { IfErr result (λ fault. fault ≢ Fault.Memory) }
     {
         if !self.reader.has_started() {
             return Err(Fault::NotCapture);

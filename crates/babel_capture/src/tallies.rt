@@ -1,4 +1,4 @@
-ghost use Rattle.std.specs.Prelude.{◌≡◌, ◌⊎◌, [], IfErr, IfSome, None, OnOk};
+ghost use Rattle.std.specs.Prelude.{◌≡◌, ◌≤◌, ◌+◌, ◌^◌, ◌⊎◌, [], length, IfErr, IfNone, IfSome, None, OnOk};
 ghost use Rattle.babel_capture.specs.Tallies.{IsOneTooMany, one_more, tallied, tally_of};
 
 use crate::fault::Fault;
@@ -27,9 +27,11 @@ pub struct Tally {
 }
 
 impl Tally {
-    /// With one packet more; `None` if its octets are more than 2^64 - 1.
+    /// With one packet more; `None` if its packets or their octets are more than 2^64 - 1.
     fn with(self, packet: &[u8]) -> Option<Tally>
-        ensures { IfSome result (λ tally. tally ≡ one_more self packet.now) }
+        ensures some { IfSome result (λ tally. tally ≡ one_more self packet.now) }
+        ensures none { IfNone result ((2 ^ 64 ≤ self.packets + 1)
+            ⊎ (2 ^ 64 ≤ self.octets + length packet.now)) }
     {
         Some(Tally {
             packets: self.packets.checked_add(1)?,
@@ -45,11 +47,14 @@ pub struct Tallies {
 }
 
 impl Model for Tallies {
+    ghost use Rattle.std.specs.Prelude.{◌≤◌, length};
     ghost use Rattle.babel_capture.specs.Tallies.{Senders};
 
     ghost Value = { Senders };
 
     ghost view = { λ t. t.tallies.entries };
+
+    ghost invariant = { λ t. length t.tallies.entries ≤ 65536 };
 }
 
 impl Tallies {
@@ -73,6 +78,7 @@ impl Tallies {
     fn add_first(&mut self, at: u64, origin: Origin, packet: &[u8]) -> Result<(), Fault>
         requires { tally_of self.old origin ≡ None }
         ensures ok { OnOk result (self.new ≡ tallied self.old origin packet.now) }
+        ensures few { OnOk result (length self.new ≤ 65536) }
         ensures err { IfErr result (λ fault. (fault ≡ Fault.Memory)
             ⊎ ((fault ≡ Fault.TooManySenders at) × IsOneTooMany self.old origin)) }
     {
@@ -92,6 +98,7 @@ impl Tallies {
     /// Counts a packet, which is in the block at this offset.
     pub fn add(&mut self, at: u64, origin: Origin, packet: &[u8]) -> Result<(), Fault>
         ensures ok { OnOk result (self.new ≡ tallied self.old origin packet.now) }
+        ensures few { OnOk result (length self.new ≤ 65536) }
         ensures err { IfErr result (λ fault. (fault ≡ Fault.Memory)
             ⊎ ((fault ≡ Fault.TooManySenders at) × IsOneTooMany self.old origin)) }
     {

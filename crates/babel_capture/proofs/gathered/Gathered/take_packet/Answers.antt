@@ -6,7 +6,7 @@ use Rattle.babel_capture.specs.Counting.{counted_with}
 use Rattle.babel_capture.specs.Findings.{finding_of}
 use Rattle.babel_capture.specs.Gathering.{Gathering, dump_with}
 use Rattle.babel_capture.specs.Tallies.{tallied}
-use Rattle.babel_capture.proofs.GatherLaws.{on-ok2, finds-at, passed-push, left-push, found-push, too-many-refused}
+use Rattle.babel_capture.proofs.GatherLaws.{on-ok3, finds-at, passed-push, left-push, found-push, too-many-refused}
 use Rattle.babel_capture.proofs.gathered.Gathered.take_packet.Goals as goal
 
 pub returns-in-Passed-clause-ok : goal.returns-in-Passed-clause-ok
@@ -30,13 +30,13 @@ returns-in-Left-clause-ok c before gathered =
 pub returns-in-Packet-clause-ok : goal.returns-in-Packet-clause-ok
 returns-in-Packet-clause-ok c =
     let wanted = ap (λ (g : Gathering). g.wanted) c.self.view_is in
-    on-ok2 c.add.result (λ dump senders before gathered.
+    on-ok3 c.add.result (λ dump senders few before gathered.
     found-push before (sighting_of (c.args.self.now.report.packets + 1) c.args.at (captured_of c.args.packet.now)) c.args.self.now c.add.new.self _ c.in-Packet.interface c.in-Packet.sender c.in-Packet.packet.now (ap finding_of c.in-Packet.is)
     (c.add.ensures.wanted ∙ wanted)
     (dump ∙ ap (λ (g : Gathering). dump_with g.wanted g.dump c.in-Packet.packet.now) c.self.view_is)
     (c.add.ensures.report ∙ c.count-in-Packet.ensures ∙ ap (λ (g : Gathering). counted_with g.report None) c.self.view_is)
     (senders ∙ ap (λ (g : Gathering). tallied g.senders (record { interface = c.in-Packet.interface; sender = c.in-Packet.sender }) c.in-Packet.packet.now) c.self.view_is)
-    gathered refl (finds-at _ _ _ _ _ _ wanted c.look-seen.ensures c.finding.ensures)) c.add.ensures.dump c.add.ensures.senders
+    few gathered refl (finds-at _ _ _ _ _ _ wanted c.look-seen.ensures c.finding.ensures)) c.add.ensures.dump c.add.ensures.senders c.add.ensures.few
 
 pub returns-in-Packet-clause-err : goal.returns-in-Packet-clause-err
 returns-in-Packet-clause-err c =
