@@ -1,5 +1,5 @@
 -- Entries under an order: another value for a key that is there.
-use Rattle.std.proofs.Common.{◌≡◌, cond, List, [], ◌∷◌, Some, None, refl, sym, ap, ◌∙◌}
+use Rattle.std.proofs.Common.{◌≡◌, ◌≤◌, ◌+◌, length, arith, cond, List, [], ◌∷◌, Some, None, refl, sym, ap, ◌∙◌}
 use Rattle.std.specs.Cmp.{IsTotalOrder}
 use Rattle.std.specs.declared.cmp.Ordering.{Ordering}
 use Rattle.std.specs.declared.cmp.Ordering.TheVariants.{Less, Equal, Greater}
@@ -25,3 +25,25 @@ module _ {K X : Type 0} {R : K → K → Ordering} (o : IsTotalOrder R) where
           absurd cc
       by again Equal is f = refl
       by again Greater is f = ap (λ (l : List (K × X)). e ∷ l) (again f)
+
+-- ---- how many entries there are with one more
+
+module _ {K X : Type 0} (R : K → K → Ordering) where
+  pub insert-longer : (k : K) (v : X) (es : List (K × X)) → length es ≤ length (insert_entry R es k v)
+  insert-longer k v [] = omega arith
+  insert-longer k v (e ∷ es) = by (R k e.0) (insert-longer k v es)
+    where
+      by : (r : Ordering) → length es ≤ length (insert_entry R es k v) → length (e ∷ es) ≤ length (match_ordering r ((k, v) ∷ e ∷ es) ((e.0, v) ∷ es) (e ∷ insert_entry R es k v))
+      by Less again = omega arith
+      by Equal again = omega arith
+      by Greater again = omega arith
+
+  pub insert-new : (k : K) (v : X) (es : List (K × X)) → lookup (is_at (R k)) es ≡ None → length (insert_entry R es k v) ≡ length es + 1
+  insert-new k v [] none = refl
+  insert-new k v (e ∷ es) none = by (R k e.0) none (insert-new k v es)
+    where
+      by : (r : Ordering) → cond (is_eq r) (Some e.1) (lookup (is_at (R k)) es) ≡ None → (lookup (is_at (R k)) es ≡ None → length (insert_entry R es k v) ≡ length es + 1)
+          → length (match_ordering r ((k, v) ∷ e ∷ es) ((e.0, v) ∷ es) (e ∷ insert_entry R es k v)) ≡ length (e ∷ es) + 1
+      by Less is again = omega arith
+      by Equal is again = absurd cc
+      by Greater is again = (let longer = again is in omega arith)

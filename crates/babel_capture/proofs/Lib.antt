@@ -8,6 +8,7 @@ pub mod LaidOutLaws
 pub mod NumberLaws
 pub mod OctetLaws
 pub mod OneCapture
+pub mod OneFault
 pub mod OneOrigin
 pub mod PacketLaws
 pub mod ReadingLaws

@@ -87,7 +87,7 @@ cut_one : (wanted : Wanted) (what again : Found) → CutIs wanted what → CutIs
 cut_one wanteds.Everyone what again is is_again = is ∙ sym is_again
 cut_one (wanteds.Sender sender interface) what again is is_again = is ∙ sym is_again
 
-finds_one : (wanted : Wanted) (interface : ℕ) (sight : Sight) (what again : Found) → Finds wanted interface sight what → Finds wanted interface sight again → what ≡ again
+pub finds_one : (wanted : Wanted) (interface : ℕ) (sight : Sight) (what again : Found) → Finds wanted interface sight what → Finds wanted interface sight again → what ≡ again
 finds_one wanted interface other what again is is_again = is ∙ sym is_again
 finds_one wanted interface (fragment sender number) what again is is_again =
     either_one what again (IsWanted wanted sender (interface_in interface number)) _ _ _ _ (same_of what again (left reasons.Fragment)) (same_of what again passed) is is_again
@@ -101,7 +101,7 @@ one_made made others number what =
     let made_of : ℕ → Found → Made = λ n w. record { number = n; what = w } in
     ap (λ (n : ℕ). made_of n made.what) number ∙ ap (λ (w : Found). made_of others.number w) what
 
-made_one : (wanted : Wanted) (sightings : List Sighting) (made others : List Made) → AreMade wanted sightings made → AreMade wanted sightings others → made ≡ others
+pub made_one : (wanted : Wanted) (sightings : List Sighting) (made others : List Made) → AreMade wanted sightings made → AreMade wanted sightings others → made ≡ others
 made_one wanted [] made others are are_too = are ∙ sym are_too
 made_one wanted (sighting ∷ later) made others (one, rest, is, number, finds, whole, are) (again, rest_again, is_again, number_again, finds_again, whole_again, are_again) =
     let what : one.what ≡ again.what = finds_one wanted sighting.interface sighting.what one.what again.what finds finds_again in
@@ -111,17 +111,17 @@ made_one wanted (sighting ∷ later) made others (one, rest, is, number, finds, 
 
 -- ---- blocks
 
-abbrev len_or_none : Result ℕ Fault → ℕ
+abbrev pub len_or_none : Result ℕ Fault → ℕ
 len_or_none (Ok len) = len
 len_or_none (Err fault) = 0
 
-abbrev content_or_none : Result Content Fault → Content
+abbrev pub content_or_none : Result Content Fault → Content
 content_or_none (Ok content) = content
 content_or_none (Err fault) = nothing
 
 module _ (before : Before) (at : ℕ) where
   -- the octets of a block are known from its front, and so is what stands behind it
-  block_one : (block another rest behind : List ℕ) → IsBlock before at block → IsBlock before at another → block ++ rest ≡ another ++ behind → (block ≡ another) × (rest ≡ behind)
+  pub block_one : (block another rest behind : List ℕ) → IsBlock before at block → IsBlock before at another → block ++ rest ≡ another ++ behind → (block ≡ another) × (rest ≡ behind)
   block_one block another rest behind is is_too same =
       let header : header_of before block ≡ header_of before another =
       sym (take-append-le (header_len before.layout) block rest is.header) ∙ ap (take (header_len before.layout)) same
@@ -133,7 +133,7 @@ module _ (before : Before) (at : ℕ) where
       )
 
   -- less than a block begins with none
-  partial_none : (block rest : List ℕ) → IsBlock before at block → IsPartial before at (block ++ rest) → ⊥
+  pub partial_none : (block rest : List ℕ) → IsBlock before at block → IsPartial before at (block ++ rest) → ⊥
   partial_none block rest is (inl short) = omega (arith, short, is.header, length-append block rest)
   partial_none block rest is (inr (header, less)) =
       let front : header_of before (block ++ rest) ≡ header_of before block = take-append-le (header_len before.layout) block rest is.header in
@@ -141,13 +141,13 @@ module _ (before : Before) (at : ℕ) where
       subst (λ (r : Result ℕ Fault). IsOkAnd r (λ len. length (block ++ rest) < len)) (ap (block_len before at) front ∙ is.len) less in
       omega (arith, below, length-append block rest)
 
-one_block : (one another : BlockAt) → one.at ≡ another.at → one.octets ≡ another.octets → one.content ≡ another.content → one ≡ another
+pub one_block : (one another : BlockAt) → one.at ≡ another.at → one.octets ≡ another.octets → one.content ≡ another.content → one ≡ another
 one_block one another at octets content =
     let block_of : ℕ → List ℕ → Content → BlockAt = λ n t c. record { at = n; octets = t; content = c } in
     ap (λ (n : ℕ). block_of n one.octets one.content) at ∙ ap (λ (t : List ℕ). block_of another.at t one.content) octets
     ∙ ap (λ (c : Content). block_of another.at another.octets c) content
 
-blocks_one : (before : Before) (at : ℕ) (blocks others : List BlockAt) (rest behind : List ℕ) → AreBlocks before at blocks → AreBlocks before at others
+pub blocks_one : (before : Before) (at : ℕ) (blocks others : List BlockAt) (rest behind : List ℕ) → AreBlocks before at blocks → AreBlocks before at others
     → octets_of blocks ++ rest ≡ octets_of others ++ behind → IsPartial (context_behind before blocks) (at + length (octets_of blocks)) rest
     → IsPartial (context_behind before others) (at + length (octets_of others)) behind → (blocks ≡ others) × (rest ≡ behind)
 blocks_one before at [] [] rest behind are are_too same partial partial_too = (refl, same)
@@ -176,7 +176,7 @@ blocks_one before at (one ∷ blocks) (another ∷ others) rest behind (here, is
 
 -- ---- captures
 
-some_header : (layout : Layout) → 0 < header_len layout
+pub some_header : (layout : Layout) → 0 < header_len layout
 some_header layouts.Start = omega arith
 some_header (layouts.Pcap order) = omega arith
 some_header (layouts.Section order) = omega arith

@@ -18,6 +18,7 @@ pub mod Lengths
 pub mod Link
 pub mod Numbers
 pub mod OneCapture
+pub mod OneFault
 pub mod OneOrigin
 pub mod Octets
 pub mod Packets

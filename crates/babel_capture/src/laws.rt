@@ -3,6 +3,7 @@ ghost use Rattle.std.specs.Prelude.{◌≡◌, ℕ, ◌+◌, ◌≤◌, ◌++◌
 ghost use Rattle.babel_capture.specs.Capture.{IsRead};
 ghost use Rattle.babel_capture.specs.Gathering.{Gathering};
 ghost use Rattle.babel_capture.specs.OneCapture.{CaptureIsOne, CutCaptureIsOne};
+ghost use Rattle.babel_capture.specs.OneFault.{CutIsTheFault, FaultIsOne, ReadHasNoFault};
 ghost use Rattle.babel_capture.specs.OneOrigin.{NamedIsOne};
 ghost use Rattle.babel_capture.specs.Packets.{ArePackets, IsPastEnd};
 ghost use Rattle.babel_capture.specs.Reading.{Stops};
@@ -78,6 +79,13 @@ pub fn fault_stays()
 pub fn capture_is_one()
     ensures whole { CaptureIsOne }
     ensures cut { CutCaptureIsOne }
+{}
+
+/// Octets have one outcome or one fault.
+pub fn outcome_is_one()
+    ensures read { ReadHasNoFault }
+    ensures cut { CutIsTheFault }
+    ensures fault { FaultIsOne }
 {}
 
 /// Where the datagrams of one sender on one interface are wanted, there is one tally at most.

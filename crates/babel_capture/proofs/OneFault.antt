@@ -1,0 +1,411 @@
+-- Octets have one outcome or one fault: where the blocks of two readings are the same so far, the next block is taken in both, or
+-- fails in both, or is not whole in both.
+use Rattle.std.proofs.Common.{◌≡◌, ◌≢◌, ℕ, ◌+◌, ◌≤◌, ◌<◌, List, [], ◌∷◌, ◌++◌, length, drop, refl, sym, ap, subst, ◌∙◌, append_assoc, inl, inr, arith, length-append}
+use Rattle.std.specs.Prelude.{◌⊎◌, Some, None, Result, Ok, Err, fold}
+use Rattle.std.specs.Result.{IsOkAnd}
+use Rattle.std.proofs.lemmas.List.{take-append-drop, take-append-le}
+use Rattle.babel_capture.specs.declared.fault.Fault.{Fault}
+use Rattle.babel_capture.specs.declared.fault.Fault.TheVariants as faults
+use Rattle.babel_capture.specs.declared.wanted.Wanted.{Wanted}
+use Rattle.babel_capture.specs.Blocks.{AreBlocks, BeginsBlock, BlockAt, IsBlock, IsPartial, Sighting, context_behind, header_of, octets_of, sight_in, sightings_behind, sightings_in, sightings_of, start}
+use Rattle.babel_capture.specs.Capture.{CaptureFault, EndsShort, IsShortBy}
+use Rattle.babel_capture.specs.Contents.{Content, block_said, context_after, describes, file, holds, nothing, section}
+use Rattle.babel_capture.specs.Context.{Before}
+use Rattle.babel_capture.specs.Counts.{Made}
+use Rattle.babel_capture.specs.Findings.{Found, found, left, passed, snapped}
+use Rattle.babel_capture.specs.Gathering.{AreMade, AreTaken, IsRefused}
+use Rattle.babel_capture.specs.Lengths.{block_len, header_len}
+use Rattle.babel_capture.specs.OneFault.{CutIsTheFault, FaultIsOne, ReadHasNoFault}
+use Rattle.babel_capture.specs.Reading.{BlockFails, Stops, StopsAt}
+use Rattle.babel_capture.specs.Tallies.{Senders, origin_cmp, senders_with, tallied}
+use Rattle.babel_capture.proofs.Entries.{insert-longer, insert-new}
+use Rattle.babel_capture.proofs.OneCapture.{block_one, blocks_one, content_or_none, finds_one, made_one, one_block, partial_none, uncut}
+
+-- ---- senders
+
+-- the senders with those of some packets more
+abbrev more : Senders → List Made → Senders
+more senders made = fold (λ (s : Senders) (one : Made). senders_with s one.what) senders made
+
+with-longer : (senders : Senders) (what : Found) → length senders ≤ length (senders_with senders what)
+with-longer senders passed = omega arith
+with-longer senders (left reason) = omega arith
+with-longer senders snapped = omega arith
+with-longer senders (found interface sender packet) = insert-longer origin_cmp (record { interface = interface; sender = sender }) _ senders
+
+more-longer : (senders : Senders) (made : List Made) → length senders ≤ length (more senders made)
+more-longer senders [] = omega arith
+more-longer senders (one ∷ made) =
+    (let here = with-longer senders one.what in let later = more-longer (senders_with senders one.what) made in omega arith)
+
+more-append : (senders : Senders) (front back : List Made) → more senders (front ++ back) ≡ more (more senders front) back
+more-append senders [] back = refl
+more-append senders (one ∷ front) back = more-append (senders_with senders one.what) front back
+
+-- ---- packets in two parts
+
+record InTwo (wanted : Wanted) (front back : List Sighting) (made : List Made) : Type 0 where
+  first : List Made
+  later : List Made
+  whole : made ≡ first ++ later
+  are_first : AreMade wanted front first
+  are_later : AreMade wanted back later
+
+in_two : (wanted : Wanted) (front back : List Sighting) (made : List Made) → AreMade wanted (front ++ back) made → InTwo wanted front back made
+in_two wanted [] back made are = record { first = []; later = made; whole = refl; are_first = refl; are_later = are }
+in_two wanted (sighting ∷ front) back made (one, others, is, number, finds, whole, are) =
+    let parts = in_two wanted front back others are in
+    record {
+      first = one ∷ parts.first;
+      later = parts.later;
+      whole = is ∙ ap (λ (ms : List Made). one ∷ ms) parts.whole;
+      are_first = (one, parts.first, refl, number, finds, whole, parts.are_first);
+      are_later = parts.are_later;
+    }
+
+-- ---- blocks that are taken, behind others
+
+record AreRead (wanted : Wanted) (senders : Senders) (count : ℕ) (before : Before) (at : ℕ) (octets : List ℕ) (blocks : List BlockAt) (rest : List ℕ)
+    (made : List Made) : Type 0 where
+  whole : octets ≡ octets_of blocks ++ rest
+  are_blocks : AreBlocks before at blocks
+  are_made : AreMade wanted (sightings_behind count blocks) made
+  few : length (more senders made) ≤ 65536
+
+-- the packets of the first block, and those of the others
+module _ (wanted : Wanted) (senders : Senders) (count : ℕ) (before : Before) (at : ℕ) (octets : List ℕ) (block : BlockAt) (blocks : List BlockAt) (rest : List ℕ)
+    (made : List Made) (are : AreRead wanted senders count before at octets (block ∷ blocks) rest made) where
+  abbrev here : List Sighting
+  here = sightings_in (count + 1) block.at block.content
+
+  parts : InTwo wanted here (sightings_behind (count + length here) blocks) made
+  parts = in_two wanted here (sightings_behind (count + length here) blocks) made are.are_made
+
+  behind : AreRead wanted (more senders parts.first) (count + length here) (context_after before block.content) (at + length block.octets) (octets_of blocks ++ rest) blocks rest parts.later
+  behind = record {
+    whole = refl;
+    are_blocks = are.are_blocks.3;
+    are_made = parts.are_later;
+    few = subst (λ (s : Senders). length s ≤ 65536) (ap (more senders) parts.whole ∙ more-append senders parts.first parts.later) are.few;
+  }
+
+-- a packet that is refused is not taken
+refused_none : (wanted : Wanted) (senders : Senders) (number at : ℕ) (content : Content) (fault : Fault) (later : List Sighting) (made : List Made) → IsRefused wanted senders at content fault
+    → AreMade wanted (sightings_in number at content ++ later) made → length (more senders made) ≤ 65536 → ⊥
+refused_none wanted senders number at (file order interface) fault later made refused are few = refused
+refused_none wanted senders number at (section order) fault later made refused are few = refused
+refused_none wanted senders number at (describes interface) fault later made refused are few = refused
+refused_none wanted senders number at nothing fault later made refused are few = refused
+refused_none wanted senders number at (holds packet) fault later made (inl (told, finds)) (one, others, is, numbered, finds_too, whole, are) few =
+    whole (finds_one wanted packet.interface (sight_in packet) one.what snapped finds_too finds)
+refused_none wanted senders number at (holds packet) fault later made (inr (told, (origin, octets, finds, many))) (one, others, is, numbered, finds_too, whole, are) few =
+    let what : one.what ≡ found origin.interface origin.sender octets = finds_one wanted packet.interface (sight_in packet) one.what (found origin.interface origin.sender octets) finds_too finds in
+    let all : more senders made ≡ more (tallied senders origin octets) others =
+    ap (more senders) is ∙ ap (λ (w : Found). more (senders_with senders w) others) what in
+    let new : length (tallied senders origin octets) ≡ length senders + 1 = insert-new origin_cmp origin _ senders many.1 in
+    let longer = more-longer (tallied senders origin octets) others in
+    let full = many.0 in
+    omega (arith, ap length all)
+
+module _ (wanted : Wanted) (senders : Senders) (before : Before) (at : ℕ) where
+  -- octets that stop begin with no block that is taken
+  stop_taken : (count : ℕ) (octets : List ℕ) (fault : Fault) (block : BlockAt) (blocks : List BlockAt) (rest : List ℕ) (made : List Made) → StopsAt wanted senders before at octets fault
+      → AreRead wanted senders count before at octets (block ∷ blocks) rest made → ⊥
+  stop_taken count octets fault block blocks rest made stops are = by stops
+    where
+      behind_it : List ℕ
+      behind_it = octets_of blocks ++ rest
+
+      whole : octets ≡ block.octets ++ behind_it
+      whole = are.whole ∙ append_assoc block.octets (octets_of blocks) rest
+
+      is_block : IsBlock before at block.octets
+      is_block = are.are_blocks.1
+
+      front : header_of before octets ≡ header_of before block.octets
+      front = ap (header_of before) whole ∙ take-append-le (header_len before.layout) block.octets behind_it is_block.header
+
+      same_block : (other : List ℕ) → BeginsBlock before at octets other → other ≡ block.octets
+      same_block other begins = (block_one before at other block.octets (drop (length other) octets) behind_it begins.is_block is_block
+          (ap (λ (t : List ℕ). t ++ drop (length other) octets) begins.front ∙ take-append-drop (length other) octets ∙ whole)).0
+
+      by : StopsAt wanted senders before at octets fault → ⊥
+      by (inl (header, refused)) = (let both : Err fault ≡ Ok (length block.octets) = sym refused ∙ ap (block_len before at) front ∙ is_block.len in absurd cc)
+      by (inr (other, begins, inl failed)) =
+          (let both : Err fault ≡ Ok block.content = sym failed ∙ ap (block_said before at) (same_block other begins) ∙ are.are_blocks.2 in absurd cc)
+      by (inr (other, begins, inr (content, said, refused))) =
+          let content_is : content ≡ block.content = ap content_or_none (sym said ∙ ap (block_said before at) (same_block other begins) ∙ are.are_blocks.2) in
+          let here : at ≡ block.at = sym are.are_blocks.0 in
+          refused_none wanted senders (count + 1) block.at block.content fault (sightings_behind (count + length (sightings_in (count + 1) block.at block.content)) blocks) made
+          (subst (λ (n : ℕ). IsRefused wanted senders n block.content fault) here (subst (λ (c : Content). IsRefused wanted senders at c fault) content_is refused))
+          are.are_made are.few
+
+  -- they stop by one fault
+  refused_one : (content : Content) (one other : Fault) → IsRefused wanted senders at content one → IsRefused wanted senders at content other → one ≡ other
+  refused_one (file order interface) one other refused again = absurd refused
+  refused_one (section order) one other refused again = absurd refused
+  refused_one (describes interface) one other refused again = absurd refused
+  refused_one nothing one other refused again = absurd refused
+  refused_one (holds packet) one other (inl (told, finds)) (inl (told_too, finds_too)) = told ∙ sym told_too
+  refused_one (holds packet) one other (inl (told, finds)) (inr (told_too, (origin, octets, finds_too, many))) =
+      (let both : snapped ≡ found origin.interface origin.sender octets = finds_one wanted packet.interface (sight_in packet) snapped (found origin.interface origin.sender octets) finds finds_too in absurd cc)
+  refused_one (holds packet) one other (inr (told, (origin, octets, finds, many))) (inl (told_too, finds_too)) =
+      (let both : snapped ≡ found origin.interface origin.sender octets = finds_one wanted packet.interface (sight_in packet) snapped (found origin.interface origin.sender octets) finds_too finds in absurd cc)
+  refused_one (holds packet) one other (inr (told, many)) (inr (told_too, many_too)) = told ∙ sym told_too
+
+  fails_one : (block : List ℕ) (one other : Fault) → BlockFails wanted senders before at block one → BlockFails wanted senders before at block other → one ≡ other
+  fails_one block one other (inl failed) (inl failed_too) = (let both : Err one ≡ Err other = sym failed ∙ failed_too in cc)
+  fails_one block one other (inl failed) (inr (content, said, refused)) = (let both : Err one ≡ Ok content = sym failed ∙ said in absurd cc)
+  fails_one block one other (inr (content, said, refused)) (inl failed) = (let both : Err other ≡ Ok content = sym failed ∙ said in absurd cc)
+  fails_one block one other (inr (content, said, refused)) (inr (again, said_too, refused_too)) =
+      let same : again ≡ content = ap content_or_none (sym said_too ∙ said) in
+      refused_one content one other refused (subst (λ (c : Content). IsRefused wanted senders at c other) same refused_too)
+
+  header_begins : (octets block : List ℕ) (fault : Fault) → BeginsBlock before at octets block → block_len before at (header_of before octets) ≡ Err fault → ⊥
+  header_begins octets block fault begins refused =
+      let rest = drop (length block) octets in
+      let whole : block ++ rest ≡ octets = ap (λ (t : List ℕ). t ++ rest) begins.front ∙ take-append-drop (length block) octets in
+      let front : header_of before octets ≡ header_of before block =
+      ap (header_of before) (sym whole) ∙ take-append-le (header_len before.layout) block rest begins.is_block.header in
+      let both : Err fault ≡ Ok (length block) = sym refused ∙ ap (block_len before at) front ∙ begins.is_block.len in
+      absurd cc
+
+  begin_one : (octets block other : List ℕ) → BeginsBlock before at octets block → BeginsBlock before at octets other → other ≡ block
+  begin_one octets block other begins begins_too =
+      (block_one before at other block (drop (length other) octets) (drop (length block) octets) begins_too.is_block begins.is_block
+      (ap (λ (t : List ℕ). t ++ drop (length other) octets) begins_too.front ∙ take-append-drop (length other) octets
+      ∙ sym (ap (λ (t : List ℕ). t ++ drop (length block) octets) begins.front ∙ take-append-drop (length block) octets))).0
+
+  stop_one : (octets : List ℕ) (one other : Fault) → StopsAt wanted senders before at octets one → StopsAt wanted senders before at octets other → one ≡ other
+  stop_one octets one other (inl (header, refused)) (inl (header_too, refused_too)) = (let both : Err one ≡ Err other = sym refused ∙ refused_too in cc)
+  stop_one octets one other (inl (header, refused)) (inr (block, begins, fails)) = absurd (header_begins octets block one begins refused)
+  stop_one octets one other (inr (block, begins, fails)) (inl (header, refused)) = absurd (header_begins octets block other begins refused)
+  stop_one octets one other (inr (block, begins, fails)) (inr (again, begins_too, fails_too)) =
+      fails_one block one other fails (subst (λ (t : List ℕ). BlockFails wanted senders before at t other) (begin_one octets block again begins begins_too) fails_too)
+
+  -- octets that stop are not less than a block
+  stop_partial : (octets : List ℕ) (fault : Fault) → StopsAt wanted senders before at octets fault → IsPartial before at octets → ⊥
+  stop_partial octets fault (inl (header, refused)) (inl short) = omega (arith, header, short)
+  stop_partial octets fault (inl (header, refused)) (inr (header_too, less)) =
+      subst (λ (r : Result ℕ Fault). IsOkAnd r (λ len. length octets < len)) refused less
+  stop_partial octets fault (inr (block, begins, fails)) partial =
+      let rest = drop (length block) octets in
+      let whole : octets ≡ block ++ rest = sym (ap (λ (t : List ℕ). t ++ rest) begins.front ∙ take-append-drop (length block) octets) in
+      partial_none before at block rest begins.is_block (subst (IsPartial before at) whole partial)
+
+-- ---- two readings of the same octets
+
+-- the first block of both is one
+module _ (wanted : Wanted) (senders : Senders) (count : ℕ) (before : Before) (at : ℕ) (octets : List ℕ) where
+  first_one : (one another : BlockAt) (blocks others : List BlockAt) (rest other_rest : List ℕ) (made other_made : List Made)
+      → AreRead wanted senders count before at octets (one ∷ blocks) rest made → AreRead wanted senders count before at octets (another ∷ others) other_rest other_made → another ≡ one
+  first_one one another blocks others rest other_rest made other_made are are_too =
+      let same : another.octets ≡ one.octets = (block_one before at another.octets one.octets (octets_of others ++ other_rest) (octets_of blocks ++ rest) are_too.are_blocks.1 are.are_blocks.1
+      (sym (are_too.whole ∙ append_assoc another.octets (octets_of others) other_rest) ∙ (are.whole ∙ append_assoc one.octets (octets_of blocks) rest))).0 in
+      let content : another.content ≡ one.content = ap content_or_none (sym are_too.are_blocks.2 ∙ ap (block_said before at) same ∙ are.are_blocks.2) in
+      one_block another one (are_too.are_blocks.0 ∙ sym are.are_blocks.0) same content
+
+-- the fault, behind the first block
+module _ (wanted : Wanted) (senders : Senders) (before : Before) (at : ℕ) (block : BlockAt) (blocks : List BlockAt) (rest : List ℕ) (fault : Fault) where
+  stops_behind : (made first later : List Made) → made ≡ first ++ later
+      → StopsAt wanted (more senders made) (context_behind before (block ∷ blocks)) (at + length (octets_of (block ∷ blocks))) rest fault
+      → StopsAt wanted (more (more senders first) later) (context_behind (context_after before block.content) blocks) (at + length block.octets + length (octets_of blocks)) rest fault
+  stops_behind made first later whole stops =
+      subst (λ (n : ℕ). StopsAt wanted (more (more senders first) later) (context_behind (context_after before block.content) blocks) n rest fault) (omega (arith, length-append block.octets (octets_of blocks)))
+      (subst (λ (s : Senders). StopsAt wanted s (context_behind before (block ∷ blocks)) (at + length (octets_of (block ∷ blocks))) rest fault)
+      (ap (more senders) whole ∙ more-append senders first later) stops)
+
+stops_one : (wanted : Wanted) (senders : Senders) (count : ℕ) (before : Before) (at : ℕ) (octets : List ℕ) (blocks others : List BlockAt) (rest other_rest : List ℕ) (made other_made : List Made)
+    (one other : Fault) → AreRead wanted senders count before at octets blocks rest made → AreRead wanted senders count before at octets others other_rest other_made
+    → StopsAt wanted (more senders made) (context_behind before blocks) (at + length (octets_of blocks)) rest one
+    → StopsAt wanted (more senders other_made) (context_behind before others) (at + length (octets_of others)) other_rest other → one ≡ other
+stops_one wanted senders count before at octets [] [] rest other_rest made other_made one other are are_too stops stops_too =
+    let none : more senders made ≡ senders = ap (more senders) are.are_made in
+    let none_too : more senders other_made ≡ senders = ap (more senders) are_too.are_made in
+    let here : at + 0 ≡ at = omega arith in
+    let same : other_rest ≡ rest = sym are_too.whole ∙ are.whole in
+    stop_one wanted senders before at rest one other
+    (subst (λ (n : ℕ). StopsAt wanted senders before n rest one) here (subst (λ (s : Senders). StopsAt wanted s before (at + 0) rest one) none stops))
+    (subst (λ (t : List ℕ). StopsAt wanted senders before at t other) same
+    (subst (λ (n : ℕ). StopsAt wanted senders before n other_rest other) here (subst (λ (s : Senders). StopsAt wanted s before (at + 0) other_rest other) none_too stops_too)))
+stops_one wanted senders count before at octets [] (another ∷ others) rest other_rest made other_made one other are are_too stops stops_too =
+    let none : more senders made ≡ senders = ap (more senders) are.are_made in
+    let here : at + 0 ≡ at = omega arith in
+    absurd (stop_taken wanted senders before at count octets one another others other_rest other_made
+    (subst (λ (t : List ℕ). StopsAt wanted senders before at t one) (sym are.whole)
+    (subst (λ (n : ℕ). StopsAt wanted senders before n rest one) here (subst (λ (s : Senders). StopsAt wanted s before (at + 0) rest one) none stops))) are_too)
+stops_one wanted senders count before at octets (block ∷ blocks) [] rest other_rest made other_made one other are are_too stops stops_too =
+    let none : more senders other_made ≡ senders = ap (more senders) are_too.are_made in
+    let here : at + 0 ≡ at = omega arith in
+    absurd (stop_taken wanted senders before at count octets other block blocks rest made
+    (subst (λ (t : List ℕ). StopsAt wanted senders before at t other) (sym are_too.whole)
+    (subst (λ (n : ℕ). StopsAt wanted senders before n other_rest other) here (subst (λ (s : Senders). StopsAt wanted s before (at + 0) other_rest other) none stops_too))) are)
+stops_one wanted senders count before at octets (block ∷ blocks) (another ∷ others) rest other_rest made other_made one other are are_too stops stops_too =
+    let same : another ≡ block = first_one wanted senders count before at octets block another blocks others rest other_rest made other_made are are_too in
+    let are_again : AreRead wanted senders count before at octets (block ∷ others) other_rest other_made =
+    subst (λ (b : BlockAt). AreRead wanted senders count before at octets (b ∷ others) other_rest other_made) same are_too in
+    let stops_again : StopsAt wanted (more senders other_made) (context_behind before (block ∷ others)) (at + length (octets_of (block ∷ others))) other_rest other =
+    subst (λ (b : BlockAt). StopsAt wanted (more senders other_made) (context_behind before (b ∷ others)) (at + length (octets_of (b ∷ others))) other_rest other) same stops_too in
+    let split = parts wanted senders count before at octets block blocks rest made are in
+    let split_too = parts wanted senders count before at octets block others other_rest other_made are_again in
+    let firsts : split_too.first ≡ split.first = made_one wanted (sightings_in (count + 1) block.at block.content) split_too.first split.first split_too.are_first split.are_first in
+    let here = sightings_in (count + 1) block.at block.content in
+    let after = context_after before block.content in
+    let next = at + length block.octets in
+    let rests : octets_of others ++ other_rest ≡ octets_of blocks ++ rest =
+    (block_one before at block.octets block.octets (octets_of others ++ other_rest) (octets_of blocks ++ rest) are.are_blocks.1 are.are_blocks.1
+    (sym (are_again.whole ∙ append_assoc block.octets (octets_of others) other_rest) ∙ (are.whole ∙ append_assoc block.octets (octets_of blocks) rest))).1 in
+    stops_one wanted (more senders split.first) (count + length here) after next (octets_of blocks ++ rest) blocks others rest other_rest split.later split_too.later one other
+    (behind wanted senders count before at octets block blocks rest made are)
+    (subst (λ (s : Senders). AreRead wanted s (count + length here) after next (octets_of blocks ++ rest) others other_rest split_too.later) (ap (more senders) firsts)
+    (subst (λ (t : List ℕ). AreRead wanted (more senders split_too.first) (count + length here) after next t others other_rest split_too.later) rests
+    (behind wanted senders count before at octets block others other_rest other_made are_again)))
+    (stops_behind wanted senders before at block blocks rest one made split.first split.later split.whole stops)
+    (subst (λ (s : Senders). StopsAt wanted (more s split_too.later) (context_behind after others) (next + length (octets_of others)) other_rest other) (ap (more senders) firsts)
+    (stops_behind wanted senders before at block others other_rest other other_made split_too.first split_too.later split_too.whole stops_again))
+
+stops_whole : (wanted : Wanted) (senders : Senders) (count : ℕ) (before : Before) (at : ℕ) (octets : List ℕ) (blocks others : List BlockAt) (rest other_rest : List ℕ) (made other_made : List Made)
+    (fault : Fault) → AreRead wanted senders count before at octets blocks rest made → AreRead wanted senders count before at octets others other_rest other_made
+    → StopsAt wanted (more senders made) (context_behind before blocks) (at + length (octets_of blocks)) rest fault
+    → IsPartial (context_behind before others) (at + length (octets_of others)) other_rest → ⊥
+stops_whole wanted senders count before at octets [] [] rest other_rest made other_made fault are are_too stops partial =
+    let none : more senders made ≡ senders = ap (more senders) are.are_made in
+    let same : other_rest ≡ rest = sym are_too.whole ∙ are.whole in
+    stop_partial wanted senders before (at + 0) rest fault (subst (λ (s : Senders). StopsAt wanted s before (at + 0) rest fault) none stops)
+    (subst (IsPartial before (at + 0)) same partial)
+stops_whole wanted senders count before at octets [] (another ∷ others) rest other_rest made other_made fault are are_too stops partial =
+    let none : more senders made ≡ senders = ap (more senders) are.are_made in
+    let here : at + 0 ≡ at = omega arith in
+    stop_taken wanted senders before at count octets fault another others other_rest other_made
+    (subst (λ (t : List ℕ). StopsAt wanted senders before at t fault) (sym are.whole)
+    (subst (λ (n : ℕ). StopsAt wanted senders before n rest fault) here (subst (λ (s : Senders). StopsAt wanted s before (at + 0) rest fault) none stops))) are_too
+stops_whole wanted senders count before at octets (block ∷ blocks) [] rest other_rest made other_made fault are are_too stops partial =
+    let here : at + 0 ≡ at = omega arith in
+    let whole : other_rest ≡ block.octets ++ (octets_of blocks ++ rest) = sym are_too.whole ∙ are.whole ∙ append_assoc block.octets (octets_of blocks) rest in
+    partial_none before at block.octets (octets_of blocks ++ rest) are.are_blocks.1
+    (subst (λ (t : List ℕ). IsPartial before at t) whole (subst (λ (n : ℕ). IsPartial before n other_rest) here partial))
+stops_whole wanted senders count before at octets (block ∷ blocks) (another ∷ others) rest other_rest made other_made fault are are_too stops partial =
+    let same : another ≡ block = first_one wanted senders count before at octets block another blocks others rest other_rest made other_made are are_too in
+    let are_again : AreRead wanted senders count before at octets (block ∷ others) other_rest other_made =
+    subst (λ (b : BlockAt). AreRead wanted senders count before at octets (b ∷ others) other_rest other_made) same are_too in
+    let partial_again : IsPartial (context_behind before (block ∷ others)) (at + length (octets_of (block ∷ others))) other_rest =
+    subst (λ (b : BlockAt). IsPartial (context_behind before (b ∷ others)) (at + length (octets_of (b ∷ others))) other_rest) same partial in
+    let split = parts wanted senders count before at octets block blocks rest made are in
+    let split_too = parts wanted senders count before at octets block others other_rest other_made are_again in
+    let firsts : split_too.first ≡ split.first = made_one wanted (sightings_in (count + 1) block.at block.content) split_too.first split.first split_too.are_first split.are_first in
+    let here = sightings_in (count + 1) block.at block.content in
+    let after = context_after before block.content in
+    let next = at + length block.octets in
+    let rests : octets_of others ++ other_rest ≡ octets_of blocks ++ rest =
+    (block_one before at block.octets block.octets (octets_of others ++ other_rest) (octets_of blocks ++ rest) are.are_blocks.1 are.are_blocks.1
+    (sym (are_again.whole ∙ append_assoc block.octets (octets_of others) other_rest) ∙ (are.whole ∙ append_assoc block.octets (octets_of blocks) rest))).1 in
+    stops_whole wanted (more senders split.first) (count + length here) after next (octets_of blocks ++ rest) blocks others rest other_rest split.later split_too.later fault
+    (behind wanted senders count before at octets block blocks rest made are)
+    (subst (λ (s : Senders). AreRead wanted s (count + length here) after next (octets_of blocks ++ rest) others other_rest split_too.later) (ap (more senders) firsts)
+    (subst (λ (t : List ℕ). AreRead wanted (more senders split_too.first) (count + length here) after next t others other_rest split_too.later) rests
+    (behind wanted senders count before at octets block others other_rest other_made are_again)))
+    (stops_behind wanted senders before at block blocks rest fault made split.first split.later split.whole stops)
+    (subst (λ (n : ℕ). IsPartial (context_behind after others) n other_rest) (omega (arith, length-append block.octets (octets_of others))) partial_again)
+
+-- ---- captures
+
+-- whole blocks that are taken, and then less than a block
+record Ends (limit : ℕ) (wanted : Wanted) (octets : List ℕ) : Type 0 where
+  blocks : List BlockAt
+  rest : List ℕ
+  made : List Made
+  whole : octets ≡ octets_of blocks ++ rest
+  are_blocks : AreBlocks (start limit) 0 blocks
+  taken : AreTaken wanted (sightings_of blocks) made
+  partial : IsPartial (context_behind (start limit) blocks) (length (octets_of blocks)) rest
+
+module _ (limit : ℕ) (wanted : Wanted) (octets : List ℕ) where
+  from_start : (blocks : List BlockAt) (rest : List ℕ) (made : List Made) → octets ≡ octets_of blocks ++ rest → AreBlocks (start limit) 0 blocks → AreTaken wanted (sightings_of blocks) made
+      → AreRead wanted [] 0 (start limit) 0 octets blocks rest made
+  from_start blocks rest made whole are_blocks taken = record { whole = whole; are_blocks = are_blocks; are_made = taken.are_made; few = taken.few }
+
+  stops_from : (fault : Fault) (stops : Stops limit wanted octets fault)
+      → StopsAt wanted (more [] stops.made) (context_behind (start limit) stops.blocks) (0 + length (octets_of stops.blocks)) stops.rest fault
+  stops_from fault stops = subst (λ (n : ℕ). StopsAt wanted (more [] stops.made) (context_behind (start limit) stops.blocks) n stops.rest fault) (omega arith) stops.stops
+
+  none_stops : (fault : Fault) → Ends limit wanted octets → Stops limit wanted octets fault → ⊥
+  none_stops fault ends stops =
+      stops_whole wanted [] 0 (start limit) 0 octets stops.blocks ends.blocks stops.rest ends.rest stops.made ends.made fault
+      (from_start stops.blocks stops.rest stops.made stops.whole stops.are_blocks stops.taken)
+      (from_start ends.blocks ends.rest ends.made ends.whole ends.are_blocks ends.taken) (stops_from fault stops)
+      (subst (λ (n : ℕ). IsPartial (context_behind (start limit) ends.blocks) n ends.rest) (omega arith) ends.partial)
+
+  both_stop : (one other : Fault) → Stops limit wanted octets one → Stops limit wanted octets other → one ≡ other
+  both_stop one other stops stops_too =
+      stops_one wanted [] 0 (start limit) 0 octets stops.blocks stops_too.blocks stops.rest stops_too.rest stops.made stops_too.made one other
+      (from_start stops.blocks stops.rest stops.made stops.whole stops.are_blocks stops.taken)
+      (from_start stops_too.blocks stops_too.rest stops_too.made stops_too.whole stops_too.are_blocks stops_too.taken) (stops_from one stops) (stops_from other stops_too)
+
+  abbrev ends_of : (fault : Fault) → EndsShort limit wanted octets fault → Ends limit wanted octets
+  ends_of fault short = record {
+    blocks = short.blocks;
+    rest = short.rest;
+    made = short.made;
+    whole = short.whole;
+    are_blocks = short.are_blocks;
+    taken = short.taken;
+    partial = short.partial;
+  }
+
+  ends_one : (one other : Ends limit wanted octets) → (other.blocks ≡ one.blocks) × (other.rest ≡ one.rest)
+  ends_one one other =
+      blocks_one (start limit) 0 other.blocks one.blocks other.rest one.rest other.are_blocks one.are_blocks (sym other.whole ∙ one.whole)
+      (subst (λ (n : ℕ). IsPartial (context_behind (start limit) other.blocks) n other.rest) (omega arith) other.partial)
+      (subst (λ (n : ℕ). IsPartial (context_behind (start limit) one.blocks) n one.rest) (omega arith) one.partial)
+
+  -- how another ending falls short is how this one does
+  short_here : (one : Ends limit wanted octets) (fault : Fault) → EndsShort limit wanted octets fault
+      → IsShortBy (context_behind (start limit) one.blocks) (length (octets_of one.blocks)) one.rest fault
+  short_here one fault short =
+      let same = ends_one one (ends_of fault short) in
+      subst (λ (t : List ℕ). IsShortBy (context_behind (start limit) one.blocks) (length (octets_of one.blocks)) t fault) same.1
+      (subst (λ (bs : List BlockAt). IsShortBy (context_behind (start limit) bs) (length (octets_of bs)) short.rest fault) same.0 short.short)
+
+short_one : (before : Before) (at : ℕ) (rest : List ℕ) (one other : Fault) → IsShortBy before at rest one → IsShortBy before at rest other → one ≡ other
+short_one before at rest one other (inl (not, is)) (inl (not_too, is_too)) = is ∙ sym is_too
+short_one before at rest one other (inl (not, is)) (inr (started, some, is_too)) = absurd (not started)
+short_one before at rest one other (inr (started, some, is)) (inl (not, is_too)) = absurd (not started)
+short_one before at rest one other (inr (started, some, is)) (inr (started_too, some_too, is_too)) = is ∙ sym is_too
+
+pub fault_is_one : FaultIsOne
+fault_is_one limit wanted octets one other (inl stops) (inl stops_too) = both_stop limit wanted octets one other stops stops_too
+fault_is_one limit wanted octets one other (inl stops) (inr short) = absurd (none_stops limit wanted octets one (ends_of limit wanted octets other short) stops)
+fault_is_one limit wanted octets one other (inr short) (inl stops) = absurd (none_stops limit wanted octets other (ends_of limit wanted octets one short) stops)
+fault_is_one limit wanted octets one other (inr short) (inr short_too) =
+    short_one (context_behind (start limit) short.blocks) (length (octets_of short.blocks)) short.rest one other short.short
+    (short_here limit wanted octets (ends_of limit wanted octets one short) other short_too)
+
+pub cut_is_the_fault : CutIsTheFault
+cut_is_the_fault limit octets gathering cut is fault = by
+  where
+    ends : Ends limit gathering.wanted octets
+    ends = record {
+      blocks = is.is_read.blocks;
+      rest = is.rest;
+      made = is.is_read.gathered.made;
+      whole = is.whole ∙ ap (λ (t : List ℕ). t ++ is.rest) is.is_read.whole;
+      are_blocks = is.is_read.are_blocks;
+      taken = is.is_read.gathered.taken;
+      partial = subst (λ (n : ℕ). IsPartial (context_behind (start limit) is.is_read.blocks) n is.rest) (ap length is.is_read.whole) is.partial;
+    }
+
+    place : IsShortBy (context_behind (start limit) is.is_read.blocks) (length (octets_of is.is_read.blocks)) is.rest fault
+        → ((is.rest ≡ []) × (cut ≡ None)) ⊎ ((is.rest ≢ []) × (cut ≡ Some (length is.read))) → (at : ℕ) × (cut ≡ Some at) × (fault ≡ faults.CutShort at)
+    place (inl (not, told)) where_cut = absurd (not is.is_read.started)
+    place (inr (started, some, told)) (inl (none, at)) = absurd (some none)
+    place (inr (started, some, told)) (inr (some_too, at)) = (length is.read, at, told ∙ ap (λ (t : List ℕ). faults.CutShort (length t)) (sym is.is_read.whole))
+
+    by : CaptureFault limit gathering.wanted octets fault → (at : ℕ) × (cut ≡ Some at) × (fault ≡ faults.CutShort at)
+    by (inl stops) = absurd (none_stops limit gathering.wanted octets fault ends stops)
+    by (inr short) = place (short_here limit gathering.wanted octets ends fault short) is.where_cut
+
+pub read_has_no_fault : ReadHasNoFault
+read_has_no_fault limit octets gathering is fault failed =
+    let told = cut_is_the_fault limit octets gathering None (uncut limit octets gathering is) fault failed in
+    let both : None ≡ Some told.0 = told.1 in
+    absurd cc
