@@ -51,7 +51,7 @@ blocks-push before at (first ∷ blocks) b (here, one, first_said, are) is block
 
 length-made : (wanted : Wanted) (sightings : List Sighting) (made : List Made) → AreMade wanted sightings made → length made ≡ length sightings
 length-made wanted [] made are = ap length are
-length-made wanted (first ∷ sightings) made (one, others, is, number, finds, whole, are) =
+length-made wanted (first ∷ sightings) made (one, others, is, number, link, finds, takes, are) =
     (let rest : length others ≡ length sightings = length-made wanted sightings others are in omega (arith, ap length is, rest))
 
 packets-are : (sightings : List Sighting) (gathering : Gathering) → IsGathered sightings gathering → gathering.report.packets ≡ length sightings

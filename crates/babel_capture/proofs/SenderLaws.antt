@@ -16,7 +16,7 @@ use Rattle.babel_capture.specs.declared.tallies.Origin.{Origin}
 use Rattle.babel_capture.specs.declared.tallies.Tally.{Tally}
 use Rattle.babel_capture.specs.Capture.{IsRead}
 use Rattle.babel_capture.specs.Counts.{Made}
-use Rattle.babel_capture.specs.Findings.{Found, passed, left, snapped, found}
+use Rattle.babel_capture.specs.Findings.{Found, passed, untold, left, refused, found}
 use Rattle.babel_capture.specs.Gathering.{Gathering, octets_found}
 use Rattle.babel_capture.specs.Senders.{AreSenders, is_from, packets_from, tally_for}
 use Rattle.babel_capture.specs.Tallies.{Senders, no_packets, one_more, origin_cmp, senders_of, senders_with, tallied, tally_of}
@@ -83,10 +83,11 @@ with_packet before senders one k packet is are = record {
 
 with_one : (before : List Made) (senders : Senders) (one : Made) (what : Found) → one.what ≡ what → AreSenders before senders → AreSenders (before ++ one ∷ []) (senders_with senders what)
 with_one before senders one passed is are = unchanged before senders one (λ origin. ap (here origin) is) are
+with_one before senders one untold is are = unchanged before senders one (λ origin. ap (here origin) is) are
 with_one before senders one (left reason) is are = unchanged before senders one (λ origin. ap (here origin) is) are
-with_one before senders one snapped is are = unchanged before senders one (λ origin. ap (here origin) is) are
-with_one before senders one (found interface sender packet) is are =
-    with_packet before senders one (record { interface = interface; sender = sender }) packet (λ origin. ap (here origin) is) are
+with_one before senders one (refused lack) is are = unchanged before senders one (λ origin. ap (here origin) is) are
+with_one before senders one (found place sender packet) is are =
+    with_packet before senders one (record { place = place; sender = sender }) packet (λ origin. ap (here origin) is) are
 
 -- ---- and so with all of them
 

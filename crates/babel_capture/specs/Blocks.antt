@@ -5,6 +5,7 @@ use Rattle.std.specs.Prelude.{◌⊎◌}
 use Rattle.std.specs.List.{flat_map}
 use Rattle.std.specs.Result.{IsOkAnd}
 use Rattle.babel_capture.specs.declared.layout.Layout.TheVariants as layouts
+use Rattle.babel_capture.specs.declared.link.Link.{Link}
 use Rattle.babel_capture.specs.Contents.{Captured, Content, file, section, describes, holds}
 use Rattle.babel_capture.specs.Contents.{nothing, block_said, context_after}
 use Rattle.babel_capture.specs.Context.{Before}
@@ -69,23 +70,25 @@ octets_of blocks = flat_map (λ block. block.octets) blocks
 
 -- ---- packets
 
--- a packet of a capture: its number among the packets, from 1, the offset of its block, its
--- interface, and what its frame is
+-- a packet of a capture: its number among the packets, from 1, the offset of its block, its link
+-- type, and what its frame is
 pub record Sighting : Type 0 where
   pub number : ℕ
   pub at : ℕ
-  pub interface : ℕ
+  pub link : Link
   pub what : Sight
 
 -- what the frame of a packet is, which had at least the octets that were kept
 abbrev pub sight_in : Captured → Sight
-sight_in packet = frame_sight packet.link packet.frame (max packet.whole_len (length packet.frame))
+sight_in packet =
+    frame_sight packet.interface packet.link packet.frame (max packet.whole_len (length
+    packet.frame))
 
 abbrev pub sighting_of : ℕ → ℕ → Captured → Sighting
 sighting_of number at packet = record {
   number = number;
   at = at;
-  interface = packet.interface;
+  link = packet.link;
   what = sight_in packet;
 }
 

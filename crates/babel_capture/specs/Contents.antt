@@ -99,15 +99,19 @@ interface_said before at order block =
       snap_len = number_at order 4 block 12;
     }))
 
--- draft-ietf-opsawg-pcapng, 4.3: at least 32 octets, the interface's number in the section at 8,
--- the captured length at 20, the packet's at 24, and its octets from 28 on
-abbrev pub enhanced_said : Before → ℕ → Order → List ℕ → Result Content Fault
-enhanced_said before at order block =
-    let captured : ℕ = number_at order 4 block 20 in
+-- draft-ietf-opsawg-pcapng, 4.3, and the block that it replaced: at least 32 octets, the captured
+-- length at 20, the packet's at 24, and its octets from 28 on; of an interface with this number in
+-- the section
+abbrev pub kept_said : Before → ℕ → Order → List ℕ → ℕ → ℕ → Result Content Fault
+kept_said before at order block number captured =
+    if nat_lt (length block) (32 + captured) then Err (faults.BadLength at)
+    else packet_said before at (before.first + number) (slice_range block 28 (28 + captured))
+    (number_at order 4 block 24)
+
+abbrev pub numbered_said : Before → ℕ → Order → List ℕ → ℕ → Result Content Fault
+numbered_said before at order block number =
     if nat_lt (length block) 32 then Err (faults.BadLength at)
-    else if nat_lt (length block) (32 + captured) then Err (faults.BadLength at)
-    else packet_said before at (before.first + number_at order 4 block 8)
-    (slice_range block 28 (28 + captured)) (number_at order 4 block 24)
+    else kept_said before at order block number (number_at order 4 block 20)
 
 -- draft-ietf-opsawg-pcapng, 4.2, 4.4: so many octets of a packet are kept, where 0 sets no limit
 abbrev pub kept_len : ℕ → ℕ → ℕ
@@ -129,12 +133,14 @@ simple_said before at order block =
     else simple_of before at order block (slice_get before.interfaces before.first)
 
 -- draft-ietf-opsawg-pcapng, 4: a block by its type, with its total length at its end again; others
--- are passed over
+-- are passed over. The number of an interface has 32 bits at 8, and 16 bits there in the old packet
+-- block.
 abbrev pub typed_said : Before → ℕ → Order → List ℕ → ℕ → Result Content Fault
 typed_said before at order block kind =
     if kind == 1 then interface_said before at order block
     else if kind == 3 then simple_said before at order block
-    else if kind == 6 then enhanced_said before at order block
+    else if kind == 2 then numbered_said before at order block (number_at order 2 block 8)
+    else if kind == 6 then numbered_said before at order block (number_at order 4 block 8)
     else Ok nothing
 
 abbrev pub pcapng_said : Before → ℕ → Order → List ℕ → Result Content Fault

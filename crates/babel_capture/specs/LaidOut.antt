@@ -1,5 +1,5 @@
 -- Frames of Ethernet as their headers lay them out, whole: RFC 768; RFC 791, 3.1; RFC 8200, 3.
-use Rattle.std.specs.Prelude.{◌≡◌, ℕ, ◌+◌, ◌*◌, ◌^◌, ◌<◌, ◌≤◌, ◌⊎◌, List, ◌∷◌, ◌++◌, length}
+use Rattle.std.specs.Prelude.{◌≡◌, ℕ, ◌+◌, ◌*◌, ◌/◌, ◌^◌, ◌<◌, ◌≤◌, ◌⊎◌, List, ◌∷◌, ◌++◌, length}
 use Rattle.byteorder.specs.Endian.{big_bytes}
 
 -- RFC 768: source port, destination port, length of header and payload, checksum, and the payload
@@ -14,12 +14,11 @@ udp_octets udp =
     big_bytes 2 udp.source ++ big_bytes 2 udp.destination ++ big_bytes 2 (8 + length udp.payload)
     ++ big_bytes 2 udp.checksum ++ udp.payload
 
--- ports and length fit their fields, and a port is that of Babel
+-- RFC 8966, 4: both ports are that of Babel; the length fits its field
 pub record IsBabel (udp : UdpDatagram) : Type 0 where
-  pub source_fits : udp.source < 2 ^ 16
-  pub destination_fits : udp.destination < 2 ^ 16
+  pub source : udp.source ≡ 6696
+  pub destination : udp.destination ≡ 6696
   pub len_fits : 8 + length udp.payload < 2 ^ 16
-  pub port : (udp.source ≡ 6696) ⊎ (udp.destination ≡ 6696)
 
 -- RFC 8200, 3: the high half of the traffic class; its low half and the flow label; hop limit,
 -- source and destination
@@ -36,10 +35,12 @@ ipv6_octets ip carried =
     ++ 17 ∷ ip.hop_limit
     ∷ big_bytes 16 ip.sender ++ big_bytes 16 ip.destination ++ carried
 
--- class, length and sender fit their fields
+-- class, length and sender fit their fields, and the sender begins with the ten bits of fe80::/10:
+-- RFC 4291, 2.5.6; RFC 8966, 4
 pub record IsIpv6 (ip : Ipv6Header) (carried : List ℕ) : Type 0 where
   pub class_fits : ip.class < 2 ^ 4
   pub sender_fits : ip.sender < 2 ^ 128
+  pub link_local : ip.sender / 2 ^ 118 ≡ 0x3fa
   pub len_fits : length carried < 2 ^ 16
 
 -- RFC 791, 3.1: the words of the options; type of service, identification, flags and fragment

@@ -7,6 +7,7 @@ use Rattle.babel_capture.specs.Headers.{NextHeader}
 abbrev pub payload : HeldPayload → Payload
 payload held = record {
   ether_type = held.ether_type;
+  vlans = held.vlans;
   octets = held.part.octets.now;
   whole = held.part.whole;
 }

@@ -12,6 +12,7 @@ pub mod Gathering
 pub mod Headers
 pub mod Ipv4
 pub mod Ipv6
+pub mod Lack
 pub mod LaidOut
 pub mod Layers
 pub mod Lengths
@@ -22,6 +23,7 @@ pub mod OneFault
 pub mod OneOrigin
 pub mod Octets
 pub mod Packets
+pub mod Place
 pub mod Reading
 pub mod Senders
 pub mod Sight

@@ -4,18 +4,33 @@ use Rattle.std.specs.declared.cmp.Ordering.{Ordering}
 use Rattle.std.specs.Ordering.{on, then_cmp, nat_cmp}
 use Rattle.std.specs.BTreeMap.{insert_entry, is_at}
 use Rattle.std.specs.Map.{lookup}
-use Rattle.std.specs.Option.{unwrap_or}
+use Rattle.std.specs.Option.{unwrap_or, option_cmp}
 use Rattle.babel_prefix.specs.Order.{address_cmp}
+use Rattle.babel_capture.specs.declared.place.Place.{Place}
+use Rattle.babel_capture.specs.declared.place.Vlans.{Vlans}
 use Rattle.babel_capture.specs.declared.tallies.Origin.{Origin}
 use Rattle.babel_capture.specs.declared.tallies.Tally.{Tally}
 use Rattle.babel_capture.specs.Counts.{Made}
-use Rattle.babel_capture.specs.Findings.{Found, passed, left, snapped, found}
+use Rattle.babel_capture.specs.Findings.{Found, passed, untold, left, refused, found}
 
--- by interface, then by address
+-- by the outer number, none first, then by the others
+abbrev pub vlans_cmp : Vlans → Vlans → Ordering
+vlans_cmp =
+    then_cmp (on (λ v. v.first) nat_cmp)
+    (then_cmp (on (λ v. v.second) nat_cmp)
+    (then_cmp (on (λ v. v.third) nat_cmp) (on (λ v. v.fourth) nat_cmp)))
+
+-- by interface, then by link, none first, then by VLANs
+abbrev pub place_cmp : Place → Place → Ordering
+place_cmp =
+    then_cmp (on (λ p. p.interface) nat_cmp)
+    (then_cmp (on (λ p. p.link) (option_cmp nat_cmp)) (on (λ p. p.vlans) vlans_cmp))
+
+-- by place, then by address
 abbrev pub origin_cmp : Origin → Origin → Ordering
-origin_cmp = then_cmp (on (λ o. o.interface) nat_cmp) (on (λ o. o.sender) address_cmp)
+origin_cmp = then_cmp (on (λ o. o.place) place_cmp) (on (λ o. o.sender) address_cmp)
 
--- the tally of each sender on each interface
+-- the tally of each sender at each place
 abbrev pub Senders : Type 0
 Senders = List (Origin × Tally)
 
@@ -39,12 +54,13 @@ tallied senders origin packet =
 -- with what was made of one packet of the capture
 abbrev pub senders_with : Senders → Found → Senders
 senders_with senders passed = senders
+senders_with senders untold = senders
 senders_with senders (left reason) = senders
-senders_with senders snapped = senders
-senders_with senders (found interface sender packet) =
-    tallied senders (record { interface = interface; sender = sender }) packet
+senders_with senders (refused lack) = senders
+senders_with senders (found place sender packet) =
+    tallied senders (record { place = place; sender = sender }) packet
 
--- each sender on each interface of which a packet was found, by interface, then by address
+-- each sender at each place of which a packet was found, by place, then by address
 abbrev pub senders_of : List Made → Senders
 senders_of made = fold (λ senders one. senders_with senders one.what) [] made
 

@@ -1,7 +1,7 @@
 ghost use Rattle.std.specs.Prelude.{◌≡◌, ◌≤◌, ◌<◌, ◌+◌, ◌^◌, length, ◌-◌, ◌==◌, IfOk, IfErr, Ok, Err};
 ghost use Rattle.babel_capture.specs.Numbers.{number_at};
 ghost use Rattle.babel_capture.specs.Lengths.{header_len};
-ghost use Rattle.babel_capture.specs.Contents.{block_said, content_of, enhanced_said, file_said, interface_said, kept_len, packet_said, pcapng_said, section_said, simple_said, typed_said};
+ghost use Rattle.babel_capture.specs.Contents.{block_said, content_of, file_said, interface_said, kept_len, kept_said, numbered_said, packet_said, pcapng_said, section_said, simple_said, typed_said};
 
 use crate::context::Context;
 use crate::fault::Fault;
@@ -10,8 +10,11 @@ use crate::length::{SECTION, pcap_order, section_order};
 use crate::link::Link;
 use crate::order::Order;
 
-/// Types of blocks: draft-ietf-opsawg-pcapng, 4.2, 4.3, 4.4.
+/// Types of blocks: draft-ietf-opsawg-pcapng, 4.2, 4.3, 4.4. The packet block is an old one, which
+/// the enhanced packet block replaced.
 const INTERFACE_DESCRIPTION: u32 = 1;
+
+const PACKET: u32 = 2;
 
 const SIMPLE_PACKET: u32 = 3;
 
@@ -146,25 +149,48 @@ fn read_interface<'a>(
     }))
 }
 
-/// An enhanced packet block.
-fn read_enhanced<'a>(
+/// A block with a packet of the interface that has this number in the section: an enhanced packet
+/// block, or the block that it replaced.
+fn read_numbered<'a>(
     before: &Context,
     at: u64,
     order: Order,
     block: &'a [u8],
+    number: usize,
 ) -> Result<Block<'a>, Fault>
-    ensures ok { IfOk result (λ said. enhanced_said before.now at order block.now
+    requires { number < 2 ^ 32 }
+    ensures ok { IfOk result (λ said. numbered_said before.now at order block.now number
         ≡ Ok (content_of said)) }
-    ensures err { IfErr result (λ fault. enhanced_said before.now at order block.now ≡ Err fault) }
+    ensures err { IfErr result (λ fault. numbered_said before.now at order block.now number
+        ≡ Err fault) }
 {
     if block.len() < 32 {
         return Err(Fault::BadLength { at });
     }
     let captured = order.u32_at(block, 20) as usize;
+    read_kept(before, at, order, block, number, captured)
+}
+
+/// Such a block, of which so many octets are the packet's.
+fn read_kept<'a>(
+    before: &Context,
+    at: u64,
+    order: Order,
+    block: &'a [u8],
+    number: usize,
+    captured: usize,
+) -> Result<Block<'a>, Fault>
+    requires numbers { (number < 2 ^ 32) × (captured < 2 ^ 32) }
+    requires long { 32 ≤ length block.now }
+    ensures ok { IfOk result (λ said. kept_said before.now at order block.now number captured
+        ≡ Ok (content_of said)) }
+    ensures err { IfErr result (λ fault. kept_said before.now at order block.now number captured
+        ≡ Err fault) }
+{
     if block.len() < 32 + captured {
         return Err(Fault::BadLength { at });
     }
-    let interface = before.first() + order.u32_at(block, 8) as usize;
+    let interface = before.first() + number;
     read_packet(
         before,
         at,
@@ -218,6 +244,7 @@ fn read_typed<'a>(
     block: &'a [u8],
     kind: u32,
 ) -> Result<Block<'a>, Fault>
+    requires { 12 ≤ length block.now }
     ensures ok { IfOk result (λ said. typed_said before.now at order block.now kind
         ≡ Ok (content_of said)) }
     ensures err { IfErr result (λ fault. typed_said before.now at order block.now kind
@@ -226,7 +253,10 @@ fn read_typed<'a>(
     match kind {
         INTERFACE_DESCRIPTION => read_interface(before, at, order, block),
         SIMPLE_PACKET => read_simple(before, at, order, block),
-        ENHANCED_PACKET => read_enhanced(before, at, order, block),
+        PACKET => read_numbered(before, at, order, block, order.u16_at(block, 8) as usize),
+        ENHANCED_PACKET => {
+            read_numbered(before, at, order, block, order.u32_at(block, 8) as usize)
+        }
         _ => Ok(Block::Other),
     }
 }

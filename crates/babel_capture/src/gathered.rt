@@ -7,7 +7,6 @@ ghost use Rattle.babel_capture.specs.Tallies.{IsOneTooMany, tallied};
 use crate::block::{Block, Packet};
 use crate::fault::Fault;
 use crate::finding::Finding;
-use crate::frame::look;
 use crate::report::Report;
 use crate::tallies::{Origin, Tallies, Tally};
 use crate::wanted::Wanted;
@@ -79,8 +78,8 @@ impl Gathered {
         self.report
     }
 
-    /// How many packets each wanted sender sent on each interface, and of how many octets, by
-    /// interface, then by address. Datagrams that were left out are not counted.
+    /// How many packets each wanted sender sent at each place, and of how many octets, by place,
+    /// then by address. Datagrams that were left out are not counted.
     pub fn senders(&self) -> &BTreeMap<Origin, Tally>
         ensures { result.now.entries ≡ self.now.senders }
     {
@@ -99,24 +98,28 @@ impl Gathered {
             ⊎ IsRefused self.old.wanted self.old.senders at
             (holds (captured_of packet.now)) fault) }
     {
-        let seen = look(packet.link, packet.frame, packet.whole_len);
-        match self.wanted.finding(packet.interface, seen) {
+        let link = packet.link;
+        match self.wanted.finding(packet) {
             Finding::Passed => {
                 self.report.count(None);
+                Ok(())
+            }
+            Finding::Short => {
+                self.report.count_short();
                 Ok(())
             }
             Finding::Left(reason) => {
                 self.report.count(Some(reason));
                 Ok(())
             }
-            Finding::Snapped => Err(Fault::Snapped { at }),
+            Finding::Refused(lack) => Err(lack.fault(at)),
             Finding::Packet {
-                interface,
+                place,
                 sender,
                 packet,
             } => {
-                self.report.count(None);
-                self.add(at, Origin { interface, sender }, packet)
+                self.report.count_packet(link);
+                self.add(at, Origin { place, sender }, packet)
             }
         }
     }

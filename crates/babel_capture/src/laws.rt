@@ -5,6 +5,7 @@ ghost use Rattle.babel_capture.specs.Gathering.{Gathering};
 ghost use Rattle.babel_capture.specs.OneCapture.{CaptureIsOne, CutCaptureIsOne};
 ghost use Rattle.babel_capture.specs.OneFault.{CutIsTheFault, FaultIsOne, ReadHasNoFault};
 ghost use Rattle.babel_capture.specs.OneOrigin.{NamedIsOne};
+ghost use Rattle.babel_capture.specs.Place.{place_on};
 ghost use Rattle.babel_capture.specs.Packets.{ArePackets, IsPastEnd};
 ghost use Rattle.babel_capture.specs.Reading.{Stops};
 ghost use Rattle.babel_capture.specs.Senders.{AreSenders};
@@ -17,32 +18,36 @@ ghost use Rattle.babel_capture.specs.Frame.{frame_sight};
 ghost use Rattle.babel_capture.specs.LaidOut.{UdpDatagram, udp_octets, IsBabel};
 ghost use Rattle.babel_capture.specs.LaidOut.{Ipv4Header, ipv4_octets, IsIpv4, ipv4_frame};
 ghost use Rattle.babel_capture.specs.LaidOut.{Ipv6Header, ipv6_octets, IsIpv6, ipv6_frame};
-ghost use Rattle.babel_capture.specs.Sight.{datagram};
+ghost use Rattle.babel_capture.specs.Sight.{datagram, carries};
 ghost use Rattle.babel_capture.specs.declared.link.Link.{Link as LinkType};
 ghost use Rattle.babel_capture.specs.declared.link.Link.TheVariants.{Ethernet};
 ghost use Rattle.babel_prefix.specs.declared.family.Family.TheVariants.{V4, V6};
 
-/// What is seen of a frame is in the frame: a datagram was cut only if the recorder left octets
+/// What is seen of a frame is in the frame: a datagram was snapped only if the recorder left octets
 /// out, and a payload is some of the octets that it kept, one after the other.
 #[tactic(auto, using(crate::proofs::BackingLaws::frame_backed))]
 pub fn sight_is_backed()
-    ensures { (link : LinkType) (octets : List ℕ) (whole : ℕ)
-        → Backs octets whole (frame_sight link octets whole) }
+    ensures { (interface : ℕ) (link : LinkType) (octets : List ℕ) (all : ℕ)
+        → Backs octets all (frame_sight interface link octets all) }
 {}
 
 /// A Babel datagram in an Ethernet frame that is laid out as the RFCs say, with any options of IPv4
 /// and any padding, is seen as what it carries.
 pub fn laid_out_is_seen()
-    ensures ipv4 { (addresses padding : List ℕ) (ip : Ipv4Header) (udp : UdpDatagram) (whole : ℕ)
+    ensures ipv4 { (interface : ℕ) (addresses padding : List ℕ) (ip : Ipv4Header)
+        (udp : UdpDatagram) (all : ℕ)
         → length addresses ≡ 12 → IsBabel udp → IsIpv4 ip (udp_octets udp)
-        → 14 + length (ipv4_octets ip (udp_octets udp)) ≤ whole
-        → frame_sight Ethernet (ipv4_frame addresses ip udp padding) whole
-        ≡ datagram (record { family = V4; bits = ip.sender }) None udp.payload }
-    ensures ipv6 { (addresses padding : List ℕ) (ip : Ipv6Header) (udp : UdpDatagram) (whole : ℕ)
+        → 14 + length (ipv4_octets ip (udp_octets udp)) ≤ all
+        → frame_sight interface Ethernet (ipv4_frame addresses ip udp padding) all
+        ≡ datagram (place_on interface) (record { family = V4; bits = ip.sender })
+        (carries udp.payload) }
+    ensures ipv6 { (interface : ℕ) (addresses padding : List ℕ) (ip : Ipv6Header)
+        (udp : UdpDatagram) (all : ℕ)
         → length addresses ≡ 12 → IsBabel udp → IsIpv6 ip (udp_octets udp)
-        → 14 + length (ipv6_octets ip (udp_octets udp)) ≤ whole
-        → frame_sight Ethernet (ipv6_frame addresses ip udp padding) whole
-        ≡ datagram (record { family = V6; bits = ip.sender }) None udp.payload }
+        → 14 + length (ipv6_octets ip (udp_octets udp)) ≤ all
+        → frame_sight interface Ethernet (ipv6_frame addresses ip udp padding) all
+        ≡ datagram (place_on interface) (record { family = V6; bits = ip.sender })
+        (carries udp.payload) }
 {}
 
 /// The dump of a capture is whole Babel packets, end to end.
@@ -58,8 +63,8 @@ pub fn dump_is_framed()
         → (fault : DumpFault) → FrameFault gathering.dump fault → IsPastEnd fault }
 {}
 
-/// The senders that are counted of a capture are those of whom a packet was found: each once on
-/// each interface, by interface and then by address, with the number of its packets and of their
+/// The senders that are counted of a capture are those of whom a packet was found: each once at
+/// each place, by place and then by address, with the number of its packets and of their
 /// octets.
 pub fn senders_are_those_found()
     ensures { (limit : ℕ) (octets : List ℕ) (gathering : Gathering)
@@ -88,7 +93,7 @@ pub fn outcome_is_one()
     ensures fault { FaultIsOne }
 {}
 
-/// Where the datagrams of one sender on one interface are wanted, there is one tally at most.
+/// Where the datagrams of one sender at one place are wanted, there is one tally at most.
 pub fn named_is_one()
     ensures { NamedIsOne }
 {}

@@ -2,19 +2,20 @@ ghost use Rattle.std.specs.Prelude.{◌≡◌, ◌≤◌, ◌+◌, ◌^◌, ◌�
 ghost use Rattle.babel_capture.specs.Tallies.{IsOneTooMany, one_more, tallied, tally_of};
 
 use crate::fault::Fault;
+use crate::place::Place;
 use babel_prefix::Addr;
 use std::alloc::Global;
 use std::collections::BTreeMap;
 use std::marker::Model;
 
-/// How many senders are kept: each is counted on each interface where it occurs.
+/// How many senders are kept: each is counted at each place where it occurs.
 pub const MAX_SENDERS: usize = 65_536;
 
-/// A sender of Babel packets, on the interface where they were captured. These are ordered by
-/// interface, then by address.
+/// A sender of Babel packets, at the place where they were captured. These are ordered by place,
+/// then by address.
 #[derive(Clone, Copy, Debug, PartialEq, Eq, PartialOrd, Ord)]
 pub struct Origin {
-    pub interface: u64,
+    pub place: Place,
     pub sender: Addr,
 }
 
@@ -40,7 +41,7 @@ impl Tally {
     }
 }
 
-/// The tally of each sender on each interface.
+/// The tally of each sender at each place.
 #[derive(Drop)]
 pub struct Tallies {
     tallies: BTreeMap<Origin, Tally>,
@@ -67,7 +68,7 @@ impl Tallies {
         }
     }
 
-    /// The tallies, by interface, then by address.
+    /// The tallies, by place, then by address.
     pub fn as_map(&self) -> &BTreeMap<Origin, Tally>
         ensures { result.now.entries ≡ self.now }
     {
@@ -75,6 +76,7 @@ impl Tallies {
     }
 
     /// Counts the first packet of a sender.
+    #[tactic(auto, using(crate::proofs::TallyLaws::first_by))]
     fn add_first(&mut self, at: u64, origin: Origin, packet: &[u8]) -> Result<(), Fault>
         requires { tally_of self.old origin ≡ None }
         ensures ok { OnOk result (self.new ≡ tallied self.old origin packet.now) }

@@ -194,7 +194,7 @@ fn read(alloc: Global, limit: u64, octets: &[u8], step: usize) -> Result<String,
     };
     let wanted = Wanted::Sender {
         sender,
-        interface: None,
+        place: None,
     };
     let mut capture = Capture::new(alloc, limit, wanted);
     for piece in octets.chunks(step) {
