@@ -15,3 +15,4 @@ pub mod ReadingLaws
 pub mod SenderLaws
 pub mod StreamLaws
 pub mod TallyLaws
+pub mod UpdateLaws

@@ -1,5 +1,5 @@
 -- Tallies with one packet more are the stated ones, of a new sender and of one that is there.
-use Rattle.std.proofs.Common.{◌≡◌, ℕ, List, length, arith, Option, None, Some, sym, ap, subst, ◌∙◌, rules}
+use Rattle.std.proofs.Common.{◌+◌, ◌≡◌, ℕ, List, length, arith, Option, None, Some, sym, ap, subst, ◌∙◌, rules}
 use Rattle.std.specs.Cmp.{IsTotalOrder}
 use Rattle.std.specs.declared.cmp.Ordering.{Ordering}
 use Rattle.std.proofs.Math.Path.{fun_ext}
@@ -15,6 +15,7 @@ use Rattle.babel_capture.specs.declared.place.Place.{Place}
 use Rattle.babel_capture.specs.declared.place.Vlans.{Vlans}
 use Rattle.babel_capture.specs.declared.tallies.Origin.{Origin}
 use Rattle.babel_capture.specs.declared.tallies.Tally.{Tally}
+use Rattle.babel_capture.specs.Updates.{updates_in}
 use Rattle.babel_capture.specs.Tallies.{Senders, no_packets, one_more, origin_cmp, place_cmp, vlans_cmp, tallied, tally_of}
 use Rattle.babel_capture.proofs.Entries.{set_value-insert}
 
@@ -38,11 +39,12 @@ unknown-by senders origin = ap (λ (k : Origin → Origin → Ordering). lookup 
 
 -- the first packet of a sender
 pub first_by : (senders after : Senders) (origin : Origin) (packet : List ℕ) → tally_of senders origin ≡ None
-    → after ≡ insert_entry ghosts.cmp senders origin (record { packets = 1; octets = length packet }) → after ≡ tallied senders origin packet
+    → after ≡ insert_entry ghosts.cmp senders origin (record { packets = 1; octets = length packet; updates = updates_in packet }) → after ≡ tallied senders origin packet
 first_by senders after origin packet none entries =
-    let one : Tally = record { packets = 1; octets = length packet } in
+    let one : Tally = record { packets = 1; octets = length packet; updates = updates_in packet } in
     let is : one ≡ one_more (unwrap_or (lookup (is_at (ghosts.cmp origin)) senders) no_packets) packet =
-    ap (λ (n : ℕ). let t : Tally = record { packets = 1; octets = n } in t) (omega arith)
+    ap (λ (n : ℕ). let t : Tally = record { packets = 1; octets = n; updates = updates_in packet } in t) (omega arith)
+    ∙ ap (λ (n : ℕ). let t : Tally = record { packets = 1; octets = 0 + length packet; updates = n } in t) (omega arith)
     ∙ ap (λ (t : Option Tally). one_more (unwrap_or t no_packets) packet) (sym (unknown-by senders origin ∙ none)) in
     tallied-by senders after origin packet one is entries
 

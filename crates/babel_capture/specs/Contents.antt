@@ -1,6 +1,6 @@
 -- What the blocks of a capture say: draft-ietf-opsawg-pcap, 4 and 5; draft-ietf-opsawg-pcapng, 4.1
 -- to 4.4.
-use Rattle.std.specs.Prelude.{ℕ, ◌+◌, ◌-◌, ◌%◌, min, ◌==◌, nat_lt, nat_le, if◌then◌else◌, List, []}
+use Rattle.std.specs.Prelude.{ℕ, ◌+◌, ◌-◌, ◌%◌, min, Bool, ◌==◌, ◌&&◌, ◌||◌, nat_lt, nat_le, if◌then◌else◌, List, []}
 use Rattle.std.specs.Prelude.{◌∷◌, ◌++◌, length, slice_get, slice_range, Option, Some, None, Result}
 use Rattle.std.specs.Prelude.{Ok, Err}
 use Rattle.babel_capture.specs.declared.block.Block.{Block}
@@ -64,25 +64,44 @@ abbrev pub packet_said : Before → ℕ → ℕ → List ℕ → ℕ → Result 
 packet_said before at interface frame whole =
     packet_of at interface frame whole (slice_get before.interfaces interface)
 
+-- draft-ietf-opsawg-pcap, 4: the version is at 4 and 6, and it is 2.4
+abbrev pub is_file_version : Order → List ℕ → Bool
+is_file_version order block = number_at order 2 block 4 == 2 && number_at order 2 block 6 == 4
+
 -- draft-ietf-opsawg-pcap, 4: the link type is the lower half of the number at 20
 abbrev pub file_said : Before → ℕ → Order → List ℕ → Result Content Fault
 file_said before at order block =
     if nat_le 65536 (length before.interfaces) then Err (faults.TooManyInterfaces at)
-    else Ok (file order (record {
+    else if is_file_version order block then Ok (file order (record {
       link = number_at order 4 block 20 % 65536;
       snap_len = number_at order 4 block 16;
     }))
+    else Err (faults.Version at (number_at order 2 block 4) (number_at order 2 block 6))
 
 -- draft-ietf-opsawg-pcap, 5: the packet's length is at 12, and its octets begin at 16
 abbrev pub record_said : Before → ℕ → Order → List ℕ → Result Content Fault
 record_said before at order block =
     packet_said before at 0 (slice_range block 16 (length block)) (number_at order 4 block 12)
 
+-- draft-ietf-opsawg-pcapng, 4.1: at least 28 octets; the version of a section is at 12 and 14; it is
+-- 1.0, or 1.2, which readers are to take for the same
+abbrev pub is_section_version : Order → List ℕ → Bool
+is_section_version order block =
+    number_at order 2 block 12 == 1
+    && (number_at order 2 block 14 == 0 || number_at order 2 block 14 == 2)
+
+abbrev pub versioned_said : ℕ → Order → List ℕ → Result Content Fault
+versioned_said at order block =
+    if nat_lt (length block) 28 then Err (faults.BadLength at)
+    else if is_section_version order block then Ok (section order)
+    else Err (faults.Version at (number_at order 2 block 12) (number_at order 2 block 14))
+
 -- draft-ietf-opsawg-pcapng, 3.1, 4.1: the total length stands at the end of the block again
 abbrev pub section_of : ℕ → List ℕ → Result Order Fault → Result Content Fault
 section_of at block (Err fault) = Err fault
 section_of at block (Ok order) =
-    if number_at order 4 block (length block - 4) == length block then Ok (section order)
+    if number_at order 4 block (length block - 4) == length block
+    then versioned_said at order block
     else Err (faults.BadLength at)
 
 abbrev pub section_said : ℕ → List ℕ → Result Content Fault

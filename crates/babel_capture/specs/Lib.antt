@@ -29,3 +29,4 @@ pub mod Senders
 pub mod Sight
 pub mod Tallies
 pub mod Udp
+pub mod Updates

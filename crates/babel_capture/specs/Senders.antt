@@ -10,6 +10,7 @@ use Rattle.babel_capture.specs.declared.tallies.Tally.{Tally}
 use Rattle.babel_capture.specs.Counts.{Made}
 use Rattle.babel_capture.specs.Findings.{Found, passed, untold, left, refused, found}
 use Rattle.babel_capture.specs.Gathering.{octets_found}
+use Rattle.babel_capture.specs.Updates.{updates_in}
 use Rattle.babel_capture.specs.Tallies.{Senders, origin_cmp, tally_of}
 
 -- a packet of this sender at this place was found
@@ -26,12 +27,14 @@ abbrev pub packets_from : Origin → List Made → List (List ℕ)
 packets_from origin made =
     map (λ one. octets_found one.what) (filter (λ one. is_from origin one.what) made)
 
--- how many packets these are, and of how many octets in all; nothing where there are none
+-- how many packets these are, of how many octets and with how many Updates in all; nothing where
+-- there are none
 abbrev pub tally_for : List (List ℕ) → Option Tally
 tally_for [] = None
 tally_for (packet ∷ packets) = Some (record {
   packets = length (packet ∷ packets);
   octets = sum_by length (packet ∷ packets);
+  updates = sum_by updates_in (packet ∷ packets);
 })
 
 -- The senders, each at each place, by place and then by address, and each once: exactly

@@ -1,4 +1,4 @@
--- How many packets of Babel each sender sent, and of how many octets. It is this project's own.
+-- How many packets of Babel each sender sent, of how many octets, and with how many Updates. It is this project's own.
 use Rattle.std.specs.Prelude.{◌≡◌, ◌≤◌, ◌+◌, ℕ, List, [], length, fold, Option, None}
 use Rattle.std.specs.declared.cmp.Ordering.{Ordering}
 use Rattle.std.specs.Ordering.{on, then_cmp, nat_cmp}
@@ -11,6 +11,7 @@ use Rattle.babel_capture.specs.declared.place.Vlans.{Vlans}
 use Rattle.babel_capture.specs.declared.tallies.Origin.{Origin}
 use Rattle.babel_capture.specs.declared.tallies.Tally.{Tally}
 use Rattle.babel_capture.specs.Counts.{Made}
+use Rattle.babel_capture.specs.Updates.{updates_in}
 use Rattle.babel_capture.specs.Findings.{Found, passed, untold, left, refused, found}
 
 -- by the outer number, none first, then by the others
@@ -38,12 +39,15 @@ abbrev pub tally_of : Senders → Origin → Option Tally
 tally_of senders origin = lookup (is_at (origin_cmp origin)) senders
 
 abbrev pub no_packets : Tally
-no_packets = record { packets = 0; octets = 0 }
+no_packets = record { packets = 0; octets = 0; updates = 0 }
 
 -- one packet more
 abbrev pub one_more : Tally → List ℕ → Tally
-one_more tally packet =
-    record { packets = tally.packets + 1; octets = tally.octets + length packet }
+one_more tally packet = record {
+  packets = tally.packets + 1;
+  octets = tally.octets + length packet;
+  updates = tally.updates + updates_in packet;
+}
 
 -- with a packet of this sender
 abbrev pub tallied : Senders → Origin → List ℕ → Senders

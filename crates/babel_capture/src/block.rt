@@ -1,7 +1,7 @@
 ghost use Rattle.std.specs.Prelude.{◌≡◌, ◌≤◌, ◌<◌, ◌+◌, ◌^◌, length, ◌-◌, ◌==◌, IfOk, IfErr, Ok, Err};
 ghost use Rattle.babel_capture.specs.Numbers.{number_at};
 ghost use Rattle.babel_capture.specs.Lengths.{header_len};
-ghost use Rattle.babel_capture.specs.Contents.{block_said, content_of, file_said, interface_said, kept_len, kept_said, numbered_said, packet_said, pcapng_said, section_said, simple_said, typed_said};
+ghost use Rattle.babel_capture.specs.Contents.{block_said, content_of, file_said, interface_said, kept_len, kept_said, numbered_said, packet_said, pcapng_said, section_said, simple_said, typed_said, versioned_said};
 
 use crate::context::Context;
 use crate::fault::Fault;
@@ -19,6 +19,16 @@ const PACKET: u32 = 2;
 const SIMPLE_PACKET: u32 = 3;
 
 const ENHANCED_PACKET: u32 = 6;
+
+/// The version of pcap files, and those of sections of pcapng: draft-ietf-opsawg-pcap, 4;
+/// draft-ietf-opsawg-pcapng, 4.1.
+const FILE_MAJOR: u16 = 2;
+
+const FILE_MINOR: u16 = 4;
+
+const SECTION_MAJOR: u16 = 1;
+
+const OTHER_MINOR: u16 = 2;
 
 /// A captured packet.
 #[derive(Clone, Copy)]
@@ -101,11 +111,34 @@ fn read_file<'a>(
     if before.is_full() {
         return Err(Fault::TooManyInterfaces { at });
     }
+    let major = order.u16_at(block, 4);
+    let minor = order.u16_at(block, 6);
+    if major != FILE_MAJOR || minor != FILE_MINOR {
+        return Err(Fault::Version { at, major, minor });
+    }
     let interface = Interface {
         link: order.u32_at(block, 20) % 65_536,
         snap_len: order.u32_at(block, 16),
     };
     Ok(Block::File { order, interface })
+}
+
+/// The header of a section in this byte order.
+fn read_version<'a>(at: u64, order: Order, block: &'a [u8]) -> Result<Block<'a>, Fault>
+    ensures ok { IfOk result (λ said. versioned_said at order block.now
+        ≡ Ok (content_of said)) }
+    ensures err { IfErr result (λ fault. versioned_said at order block.now ≡ Err fault) }
+{
+    if block.len() < 28 {
+        return Err(Fault::BadLength { at });
+    }
+    let major = order.u16_at(block, 12);
+    let minor = order.u16_at(block, 14);
+    if major == SECTION_MAJOR && (minor == 0 || minor == OTHER_MINOR) {
+        Ok(Block::Section(order))
+    } else {
+        Err(Fault::Version { at, major, minor })
+    }
 }
 
 /// The header of a section.
@@ -117,7 +150,7 @@ fn read_section<'a>(at: u64, block: &'a [u8]) -> Result<Block<'a>, Fault>
     match section_order(block, at) {
         Ok(order) => {
             if ends_well(order, block) {
-                Ok(Block::Section(order))
+                read_version(at, order, block)
             } else {
                 Err(Fault::BadLength { at })
             }

@@ -17,6 +17,10 @@ pub enum Fault {
     /// The section that begins here says neither byte order: draft-ietf-opsawg-pcapng, 4.1.
     #[error("bad byte order at {at}")]
     BadOrder { at: u64 },
+    /// The pcap file, or the section, that begins here is of another version than those that are
+    /// read: draft-ietf-opsawg-pcap, 4; draft-ietf-opsawg-pcapng, 4.1.
+    #[error("version {major}.{minor} not read at {at}")]
+    Version { at: u64, major: u16, minor: u16 },
     /// The packet in the block that begins here is of an interface that was not described.
     #[error("no such interface at {at}")]
     NoInterface { at: u64 },

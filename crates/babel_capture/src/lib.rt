@@ -34,6 +34,7 @@ mod seen;
 mod stream;
 mod tallies;
 mod udp;
+mod updates;
 mod wanted;
 
 pub use capture::Capture;

@@ -1,8 +1,10 @@
 ghost use Rattle.std.specs.Prelude.{◌≡◌, ◌≤◌, ◌+◌, ◌^◌, ◌⊎◌, [], length, IfErr, IfNone, IfSome, None, OnOk};
+ghost use Rattle.babel_capture.specs.Updates.{updates_in};
 ghost use Rattle.babel_capture.specs.Tallies.{IsOneTooMany, one_more, tallied, tally_of};
 
 use crate::fault::Fault;
 use crate::place::Place;
+use crate::updates::updates_in;
 use babel_prefix::Addr;
 use std::alloc::Global;
 use std::collections::BTreeMap;
@@ -19,24 +21,28 @@ pub struct Origin {
     pub sender: Addr,
 }
 
-/// How many packets a sender sent, and how many octets these are: header and body, without what
-/// comes after them.
+/// How many packets a sender sent, how many octets these are, header and body, without what comes
+/// after them, and how many Updates they have.
 #[derive(Clone, Copy, Debug, PartialEq, Eq)]
 pub struct Tally {
     pub packets: u64,
     pub octets: u64,
+    pub updates: u64,
 }
 
 impl Tally {
-    /// With one packet more; `None` if its packets or their octets are more than 2^64 - 1.
+    /// With one packet more; `None` if its packets, their octets or their Updates are more than
+    /// 2^64 - 1.
     fn with(self, packet: &[u8]) -> Option<Tally>
         ensures some { IfSome result (λ tally. tally ≡ one_more self packet.now) }
         ensures none { IfNone result ((2 ^ 64 ≤ self.packets + 1)
-            ⊎ (2 ^ 64 ≤ self.octets + length packet.now)) }
+            ⊎ (2 ^ 64 ≤ self.octets + length packet.now)
+            ⊎ (2 ^ 64 ≤ self.updates + updates_in packet.now)) }
     {
         Some(Tally {
             packets: self.packets.checked_add(1)?,
             octets: self.octets.checked_add(packet.len() as u64)?,
+            updates: self.updates.checked_add(updates_in(packet))?,
         })
     }
 }
@@ -90,6 +96,7 @@ impl Tallies {
         let tally = Tally {
             packets: 1,
             octets: packet.len() as u64,
+            updates: updates_in(packet),
         };
         match self.tallies.insert(origin, tally) {
             Ok(_) => Ok(()),
