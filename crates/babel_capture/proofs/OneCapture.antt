@@ -15,7 +15,7 @@ use Rattle.babel_capture.specs.declared.lack.Lack.{Lack}
 use Rattle.babel_capture.specs.declared.place.Place.{Place}
 use Rattle.babel_capture.specs.declared.wanted.Wanted.{Wanted}
 use Rattle.babel_capture.specs.declared.wanted.Wanted.TheVariants as wanteds
-use Rattle.babel_capture.specs.Blocks.{AreBlocks, BlockAt, IsBlock, IsPartial, Sighting, context_behind, header_of, octets_of, sightings_of, start}
+use Rattle.babel_capture.specs.Blocks.{names_of, AreBlocks, BlockAt, IsBlock, IsPartial, Sighting, context_behind, header_of, octets_of, sightings_of, start}
 use Rattle.babel_capture.specs.Capture.{IsRead, IsReadToCut}
 use Rattle.babel_capture.specs.Contents.{Content, block_said, context_after, nothing}
 use Rattle.babel_capture.specs.Context.{Before}
@@ -187,17 +187,18 @@ some_header layouts.Start = omega arith
 some_header (layouts.Pcap order) = omega arith
 some_header (layouts.Section order) = omega arith
 
-one_gathering : (one another : Gathering) → one.wanted ≡ another.wanted → one.dump ≡ another.dump → one.report ≡ another.report → one.senders ≡ another.senders → one ≡ another
-one_gathering one another wanted dump report senders =
-    let of : Wanted → List ℕ → Counts → Senders → Gathering = λ w d r s. record { wanted = w; dump = d; report = r; senders = s } in
-    ap (λ (w : Wanted). of w one.dump one.report one.senders) wanted ∙ ap (λ (d : List ℕ). of another.wanted d one.report one.senders) dump
-    ∙ ap (λ (r : Counts). of another.wanted another.dump r one.senders) report ∙ ap (λ (s : Senders). of another.wanted another.dump another.report s) senders
+one_gathering : (one another : Gathering) → one.wanted ≡ another.wanted → one.names ≡ another.names → one.dump ≡ another.dump → one.report ≡ another.report → one.senders ≡ another.senders → one ≡ another
+one_gathering one another wanted names dump report senders =
+    let of : Wanted → List (List ℕ) → List ℕ → Counts → Senders → Gathering = λ w n d r s. record { wanted = w; names = n; dump = d; report = r; senders = s } in
+    ap (λ (w : Wanted). of w one.names one.dump one.report one.senders) wanted ∙ ap (λ (n : List (List ℕ)). of another.wanted n one.dump one.report one.senders) names
+    ∙ ap (λ (d : List ℕ). of another.wanted another.names d one.report one.senders) dump
+    ∙ ap (λ (r : Counts). of another.wanted another.names another.dump r one.senders) report ∙ ap (λ (s : Senders). of another.wanted another.names another.dump another.report s) senders
 
-gathered_one : (sightings : List Sighting) (one another : Gathering) → IsGathered sightings one → IsGathered sightings another → one.wanted ≡ another.wanted → one ≡ another
-gathered_one sightings one another is is_too wanted =
+gathered_one : (sightings : List Sighting) (one another : Gathering) → IsGathered sightings one → IsGathered sightings another → one.wanted ≡ another.wanted → one.names ≡ another.names → one ≡ another
+gathered_one sightings one another is is_too wanted names =
     let made : is.made ≡ is_too.made =
     made_one one.wanted sightings is.made is_too.made is.taken.are_made (subst (λ (w : Wanted). AreMade w sightings is_too.made) (sym wanted) is_too.taken.are_made) in
-    one_gathering one another wanted
+    one_gathering one another wanted names
     (is.dump ∙ ap (dump_of one.wanted) made ∙ ap (λ (w : Wanted). dump_of w is_too.made) wanted ∙ sym is_too.dump)
     (is.report ∙ ap counts_of made ∙ sym is_too.report)
     (is.senders ∙ ap senders_of made ∙ sym is_too.senders)
@@ -218,7 +219,8 @@ cut_capture_is_one limit octets one another place other_place is is_too wanted =
     by : (is.is_read.blocks ≡ is_too.is_read.blocks) × (is.rest ≡ is_too.rest) → (one ≡ another) × (place ≡ other_place)
     by (blocks, rest) = (
       gathered_one (sightings_of is.is_read.blocks) one another is.is_read.gathered
-          (subst (λ (bs : List BlockAt). IsGathered (sightings_of bs) another) (sym blocks) is_too.is_read.gathered) wanted,
+          (subst (λ (bs : List BlockAt). IsGathered (sightings_of bs) another) (sym blocks) is_too.is_read.gathered) wanted
+          (is.is_read.names ∙ ap names_of blocks ∙ sym is_too.is_read.names),
       places (is.is_read.whole ∙ ap octets_of blocks ∙ sym is_too.is_read.whole) rest is.where_cut is_too.where_cut,
     )
 

@@ -96,7 +96,7 @@ refused_none : (wanted : Wanted) (senders : Senders) (number at : ℕ) (content 
     → AreMade wanted (sightings_in number at content ++ later) made → length (more senders made) ≤ 65536 → ⊥
 refused_none wanted senders number at (file order interface) fault later made refuses are few = refuses
 refused_none wanted senders number at (section order) fault later made refuses are few = refuses
-refused_none wanted senders number at (describes interface) fault later made refuses are few = refuses
+refused_none wanted senders number at (describes interface name) fault later made refuses are few = refuses
 refused_none wanted senders number at nothing fault later made refuses are few = refuses
 refused_none wanted senders number at (holds packet) fault later made (inl (lack, told, finds)) (one, others, is, numbered, link, finds_too, takes, are) few =
     subst IsTaken (finds_one wanted (sight_in packet) one.what (refused lack) finds_too finds) takes
@@ -146,7 +146,7 @@ module _ (wanted : Wanted) (senders : Senders) (before : Before) (at : ℕ) wher
   refused_one : (content : Content) (one other : Fault) → IsRefused wanted senders at content one → IsRefused wanted senders at content other → one ≡ other
   refused_one (file order interface) one other refuses again = absurd refuses
   refused_one (section order) one other refuses again = absurd refuses
-  refused_one (describes interface) one other refuses again = absurd refuses
+  refused_one (describes interface name) one other refuses again = absurd refuses
   refused_one nothing one other refuses again = absurd refuses
   refused_one (holds packet) one other (inl (lack, told, finds)) (inl (lack_too, told_too, finds_too)) =
       let both : refused lack ≡ refused lack_too = finds_one wanted (sight_in packet) (refused lack) (refused lack_too) finds finds_too in

@@ -17,6 +17,7 @@ use Rattle.babel_capture.specs.Context.{Before}
 use Rattle.babel_capture.specs.Lengths.{pcap_order, section_order}
 use Rattle.babel_capture.specs.Link.{link_of}
 use Rattle.babel_capture.specs.Numbers.{number_at}
+use Rattle.babel_capture.specs.Options.{Options, all_options}
 
 -- a captured packet: the number of its interface, the interface's link type, the octets kept, and
 -- how many it had
@@ -26,12 +27,12 @@ pub record Captured : Type 0 where
   pub frame : List ℕ
   pub whole_len : ℕ
 
--- the header of a pcap file, the header of a section, an interface, a packet, or what is passed
--- over
+-- the header of a pcap file, the header of a section, an interface with its name, which is empty
+-- where it has none, a packet, or what is passed over
 pub data Content : Type 0 where
   file : (order : Order) (interface : Interface) → Content
   section : (order : Order) → Content
-  describes : (interface : Interface) → Content
+  describes : (interface : Interface) (name : List ℕ) → Content
   holds : (packet : Captured) → Content
   nothing : Content
 
@@ -43,7 +44,7 @@ context_after before (section order) = record before {
   layout = layouts.Section order;
   first = length before.interfaces;
 }
-context_after before (describes interface) = record before {
+context_after before (describes interface name) = record before {
   interfaces = before.interfaces ++ interface ∷ [];
 }
 context_after before (holds packet) = before
@@ -107,16 +108,29 @@ section_of at block (Ok order) =
 abbrev pub section_said : ℕ → List ℕ → Result Content Fault
 section_said at block = section_of at block (section_order at block)
 
+-- the names of the interfaces that a block describes; a pcap file has one, without a name
+abbrev pub names_in : Content → List (List ℕ)
+names_in (file order interface) = [] ∷ []
+names_in (section order) = []
+names_in (describes interface name) = name ∷ []
+names_in (holds packet) = []
+names_in nothing = []
+
 -- draft-ietf-opsawg-pcapng, 4.2: at least 20 octets, the link type at 8, the most that is kept of a
--- packet at 12
+-- packet at 12, and options from 16 on, none of which runs past the block
+abbrev pub described_said : ℕ → Order → List ℕ → Options → Result Content Fault
+described_said at order block options =
+    if options.is_cut then Err (faults.BadLength at)
+    else Ok (describes (record {
+      link = number_at order 2 block 8;
+      snap_len = number_at order 4 block 12;
+    }) options.name)
+
 abbrev pub interface_said : Before → ℕ → Order → List ℕ → Result Content Fault
 interface_said before at order block =
     if nat_lt (length block) 20 then Err (faults.BadLength at)
     else if nat_le 65536 (length before.interfaces) then Err (faults.TooManyInterfaces at)
-    else Ok (describes (record {
-      link = number_at order 2 block 8;
-      snap_len = number_at order 4 block 12;
-    }))
+    else described_said at order block (all_options order (slice_range block 16 (length block - 4)))
 
 -- draft-ietf-opsawg-pcapng, 4.3, and the block that it replaced: at least 32 octets, the captured
 -- length at 20, the packet's at 24, and its octets from 28 on; of an interface with this number in
@@ -194,6 +208,6 @@ captured_of packet = record {
 abbrev pub content_of : Block → Content
 content_of (blocks.File order interface) = file order interface
 content_of (blocks.Section order) = section order
-content_of (blocks.Interface interface) = describes interface
+content_of (blocks.Interface interface name) = describes interface name.now
 content_of (blocks.Packet packet) = holds (captured_of packet)
 content_of blocks.Other = nothing

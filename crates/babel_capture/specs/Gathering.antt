@@ -1,6 +1,7 @@
 -- What is gathered of the packets of a capture.
-use Rattle.std.specs.Prelude.{◌≡◌, ◌≤◌, ℕ, List, [], ◌∷◌, ◌++◌, ◌⊎◌, length}
+use Rattle.std.specs.Prelude.{◌≡◌, ◌≤◌, ℕ, List, [], ◌∷◌, ◌++◌, ◌⊎◌, length, slice_get}
 use Rattle.std.specs.List.{flat_map}
+use Rattle.std.specs.Option.{unwrap_or}
 use Rattle.babel_capture.specs.declared.fault.Fault.{Fault}
 use Rattle.babel_capture.specs.declared.fault.Fault.TheVariants as faults
 use Rattle.babel_capture.specs.declared.lack.Lack.{Lack}
@@ -54,12 +55,17 @@ abbrev pub dump_with : Wanted → List ℕ → List ℕ → List ℕ
 dump_with wanteds.Everyone dump octets = dump
 dump_with (wanteds.Sender sender place) dump octets = dump ++ octets
 
--- what was gathered so far
+-- what was gathered so far, and the names of the interfaces, which are empty where they have none
 pub record Gathering : Type 0 where
   pub wanted : Wanted
+  pub names : List (List ℕ)
   pub dump : List ℕ
   pub report : Counts
   pub senders : Senders
+
+-- the name of the interface with this number
+abbrev pub name_of : Gathering → ℕ → List ℕ
+name_of gathering interface = unwrap_or (slice_get gathering.names interface) []
 
 -- what these packets give
 pub record IsGathered (sightings : List Sighting) (gathering : Gathering) : Type 0 where

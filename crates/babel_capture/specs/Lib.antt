@@ -19,6 +19,7 @@ pub mod Lengths
 pub mod Link
 pub mod Numbers
 pub mod OneCapture
+pub mod Options
 pub mod OneFault
 pub mod OneOrigin
 pub mod Octets

@@ -8,6 +8,7 @@ use crate::fault::Fault;
 use crate::layout::{Interface, Layout};
 use crate::length::{SECTION, pcap_order, section_order};
 use crate::link::Link;
+use crate::options::read_options;
 use crate::order::Order;
 
 /// Types of blocks: draft-ietf-opsawg-pcapng, 4.2, 4.3, 4.4. The packet block is an old one, which
@@ -47,11 +48,17 @@ pub struct Packet<'a> {
 #[derive(Clone, Copy)]
 pub enum Block<'a> {
     /// The header of a pcap file, which describes its one interface.
-    File { order: Order, interface: Interface },
+    File {
+        order: Order,
+        interface: Interface,
+    },
     /// The header of a section of a pcapng file.
     Section(Order),
-    /// A description of an interface.
-    Interface(Interface),
+    /// A description of an interface, and its name, which is empty where it has none.
+    Interface {
+        interface: Interface,
+        name: &'a [u8],
+    },
     /// A captured packet.
     Packet(Packet<'a>),
     /// What is passed over.
@@ -176,10 +183,18 @@ fn read_interface<'a>(
     if before.is_full() {
         return Err(Fault::TooManyInterfaces { at });
     }
-    Ok(Block::Interface(Interface {
+    let options = read_options(order, &block[16..block.len() - 4]);
+    if options.is_cut {
+        return Err(Fault::BadLength { at });
+    }
+    let interface = Interface {
         link: order.u16_at(block, 8) as u32,
         snap_len: order.u32_at(block, 12),
-    }))
+    };
+    Ok(Block::Interface {
+        interface,
+        name: options.name,
+    })
 }
 
 /// A block with a packet of the interface that has this number in the section: an enhanced packet

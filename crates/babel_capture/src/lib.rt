@@ -24,6 +24,7 @@ pub mod laws;
 mod layout;
 mod length;
 mod link;
+mod options;
 mod order;
 mod part;
 mod place;
