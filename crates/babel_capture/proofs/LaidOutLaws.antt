@@ -1,5 +1,5 @@
 -- What is laid out as the headers say is seen as what it carries.
-use Rattle.std.proofs.Common.{◌≡◌, ℕ, zero, suc, ◌+◌, ◌-◌, ◌*◌, ◌/◌, ◌^◌, ◌<◌, ◌≤◌, ◌⊎◌, inl, inr, true, false, List, [], ◌∷◌, ◌++◌, length, take, drop, refl, sym, ap, ◌∙◌, length-append, arith, nat_lt, slice_index, bit_and, not, ◌==◌}
+use Rattle.std.proofs.Common.{◌≡◌, ℕ, zero, suc, ◌+◌, ◌-◌, ◌*◌, ◌/◌, ◌^◌, ◌<◌, ◌≤◌, ◌⊎◌, inl, inr, true, false, List, [], ◌∷◌, ◌++◌, length, take, drop, refl, sym, ap, ◌∙◌, length-append, append_assoc, arith, nat_lt, slice_index, bit_and, not, ◌==◌}
 use Rattle.std.proofs.Math.Seq.{drop-append_seam, drop-append-add, take-append_seam, take-length}
 use Rattle.std.proofs.lemmas.Bool.Decides.{nat_tests}
 use Rattle.std.proofs.lemmas.Nat.{and_mask}
@@ -9,14 +9,18 @@ use Rattle.babel_prefix.specs.Address.{Address}
 use Rattle.babel_prefix.specs.declared.family.Family.TheVariants.{V4, V6}
 use Rattle.babel_capture.specs.declared.link.Link.TheVariants as links
 use Rattle.babel_capture.specs.declared.place.Place.{Place}
-use Rattle.babel_capture.specs.Ethernet.{Payload, is_tag, past_tag, past_tags, ip_sight, typed_sight}
-use Rattle.babel_capture.specs.Frame.{frame_sight}
+use Rattle.babel_capture.specs.declared.place.Vlans.{Vlans}
+use Rattle.std.specs.Prelude.{fold, Contains, nat_le, Some}
+use Rattle.std.specs.List.{All}
+use Rattle.std.proofs.lemmas.List.Elements.{All-head, All-tail}
+use Rattle.babel_capture.specs.Ethernet.{Payload, in_vlans, is_tag, past_tag, past_tags, ip_sight, typed_sight}
+use Rattle.babel_capture.specs.Frame.{frame_sight, header_sight, leads_to_ip, on_link, raw_sight}
 use Rattle.babel_capture.specs.Headers.{NextHeader, past_header, past_headers}
 use Rattle.babel_capture.specs.Ipv4.{ipv4_sight, ipv4_header_len, total_len, carries_udp, is_later_fragment, has_more_fragments}
 use Rattle.babel_capture.specs.Ipv6.{ipv6_sight, payload_len, first_header}
-use Rattle.babel_capture.specs.LaidOut.{UdpDatagram, udp_octets, IsBabel, Ipv4Header, ipv4_octets, IsIpv4, Ipv6Header, ipv6_octets, IsIpv6, ethernet_octets, ipv4_frame, ipv6_frame}
+use Rattle.babel_capture.specs.LaidOut.{UdpDatagram, udp_octets, IsBabel, Ipv4Header, ipv4_octets, IsIpv4, Ipv6Header, ipv6_octets, IsIpv6, IsOverIp, Tag, IsTag, first_type, after_type, vlans_of, cooked2_octets, ethernet_octets, linked_place, tagged_place}
 use Rattle.babel_capture.specs.Octets.{network_number, ip_version}
-use Rattle.babel_capture.specs.Place.{no_vlans, place_on}
+use Rattle.babel_capture.specs.Place.{no_vlans, place_on, with_vlan}
 use Rattle.babel_capture.specs.Sight.{datagram, carries}
 use Rattle.babel_capture.specs.Udp.{udp_sight, udp_len, source_port, destination_port, may_send}
 use Rattle.babel_capture.proofs.OctetLaws.{big_from-drop}
@@ -187,7 +191,34 @@ babel_over_ipv4 place ip udp padding all babel fits there =
     ipv4_seen place octets carried header ip.sender all (omega arith) version at_header (omega arith) (omega arith) at_total (omega arith) (refl, is_first) is_last at_sender kept
     ∙ udp_laid_out place address udp (length carried) babel refl (omega arith)
 
--- ---- Ethernet
+-- ---- either of them
+
+ip_laid_out : (place : Place) (ether_type : ℕ) (sender : Address) (udp : UdpDatagram) (packet padding : List ℕ) (vlans : Vlans) (all : ℕ) → IsBabel udp → IsOverIp ether_type sender udp packet → length packet ≤ all
+    → ip_sight place (record { ether_type = ether_type; vlans = vlans; octets = packet ++ padding; whole = all }) ≡ datagram place sender (carries udp.payload)
+ip_laid_out place ether_type sender udp packet padding vlans all babel (inl over) there =
+    let ip = over.ip in
+    let options = length-append ip.options (udp_octets udp) in
+    rw (over.is_type, over.is_packet, over.is_sender) (babel_over_ipv4 place ip udp padding all babel over.fits (omega (arith, options, over.fits.options_len, ap length over.is_packet)))
+ip_laid_out place ether_type sender udp packet padding vlans all babel (inr over) there =
+    let ip = over.ip in
+    rw (over.is_type, over.is_packet, over.is_sender) (babel_over_ipv6 place ip udp padding all babel over.fits (omega (arith, ap length over.is_packet)))
+
+type_plain : (ether_type : ℕ) (sender : Address) (udp : UdpDatagram) (packet : List ℕ) → IsOverIp ether_type sender udp packet → is_tag ether_type ≡ false
+type_plain ether_type sender udp packet (inl over) = rw over.is_type refl
+type_plain ether_type sender udp packet (inr over) = rw over.is_type refl
+
+type_leads : (ether_type : ℕ) (sender : Address) (udp : UdpDatagram) (packet : List ℕ) → IsOverIp ether_type sender udp packet → leads_to_ip ether_type ≡ true
+type_leads ether_type sender udp packet (inl over) = rw over.is_type refl
+type_leads ether_type sender udp packet (inr over) = rw over.is_type refl
+
+type_fits : (ether_type : ℕ) (sender : Address) (udp : UdpDatagram) (packet : List ℕ) → IsOverIp ether_type sender udp packet → ether_type < 2 ^ 16
+type_fits ether_type sender udp packet (inl over) = omega (arith, over.is_type)
+type_fits ether_type sender udp packet (inr over) = omega (arith, over.is_type)
+
+tag_leads : (kind : ℕ) → Contains (0x8100 ∷ 0x88a8 ∷ 0x9100 ∷ 0x9200 ∷ []) kind → leads_to_ip kind ≡ true
+tag_leads kind one = grind (arith, nat_tests, one)
+
+-- ---- tags
 
 past_no_tag : (payload : Payload) → is_tag payload.ether_type ≡ false → past_tag payload ≡ payload
 unfolding past_tag
@@ -198,36 +229,159 @@ unfolding past_tags
 past-no_tag zero payload plain = refl
 past-no_tag (suc n) payload plain = ap past_tag (past-no_tag n payload plain) ∙ past_no_tag payload plain
 
-ethernet_laid_out : (interface : ℕ) (addresses : List ℕ) (ether_type : ℕ) (packet padding : List ℕ) (all : ℕ) → length addresses ≡ 12 → ether_type < 2 ^ 16
-    → is_tag ether_type ≡ false
-    → frame_sight interface links.Ethernet (ethernet_octets addresses ether_type packet padding) all
-    ≡ ip_sight (place_on interface) (record { ether_type = ether_type; vlans = no_vlans; octets = packet ++ padding; whole = all - 14 })
-unfolding frame_sight typed_sight
-ethernet_laid_out interface addresses ether_type packet padding all sized fits plain =
-    let rest = packet ++ padding in
-    let octets = addresses ++ (big_bytes 2 ether_type ++ rest) in
-    let payload : Payload = record { ether_type = ether_type; vlans = no_vlans; octets = rest; whole = all - 14 } in
-    let at_type : network_number 12 2 octets ≡ ether_type =
-    ap (λ (place : ℕ). network_number place 2 octets) (sym sized) ∙ number-back addresses 2 ether_type rest fits in
-    let header : 14 ≡ length addresses + 2 = omega arith in
-    let at_rest : drop 14 octets ≡ rest = ap (λ (n : ℕ). drop n octets) header ∙ drop-append-add addresses (big_bytes 2 ether_type ++ rest) 2 in
-    let long : nat_lt (length octets) 14 ≡ false =
-    let count = length-append addresses (big_bytes 2 ether_type ++ rest) in grind (arith, nat_tests) in
-    rw (long, at_type, at_rest, past-no_tag 4 payload plain) refl
+-- the first of them first
+past-first : (n : ℕ) (payload : Payload) → past_tags (suc n) payload ≡ past_tags n (past_tag payload)
+unfolding past_tags
+past-first zero payload = refl
+past-first (suc n) payload = ap past_tag (past-first n payload)
 
-pub ipv6_in_ethernet : (interface : ℕ) (addresses padding : List ℕ) (ip : Ipv6Header) (udp : UdpDatagram) (all : ℕ) → length addresses ≡ 12
-    → IsBabel udp → IsIpv6 ip (udp_octets udp) → 14 + length (ipv6_octets ip (udp_octets udp)) ≤ all
-    → frame_sight interface links.Ethernet (ipv6_frame addresses ip udp padding) all
-    ≡ datagram (place_on interface) (record { family = V6; bits = ip.sender }) (carries udp.payload)
-ipv6_in_ethernet interface addresses padding ip udp all sized babel fits there =
-    ethernet_laid_out interface addresses 0x86dd (ipv6_octets ip (udp_octets udp)) padding all sized (omega arith) refl
-    ∙ babel_over_ipv6 (place_on interface) ip udp padding (all - 14) babel fits (omega arith)
+kind_of : (kind : ℕ) → Contains (0x8100 ∷ 0x88a8 ∷ 0x9100 ∷ 0x9200 ∷ []) kind → (is_tag kind ≡ true) × (kind < 2 ^ 16)
+kind_of kind one = grind (arith, nat_tests, one)
 
-pub ipv4_in_ethernet : (interface : ℕ) (addresses padding : List ℕ) (ip : Ipv4Header) (udp : UdpDatagram) (all : ℕ) → length addresses ≡ 12
-    → IsBabel udp → IsIpv4 ip (udp_octets udp) → 14 + length (ipv4_octets ip (udp_octets udp)) ≤ all
-    → frame_sight interface links.Ethernet (ipv4_frame addresses ip udp padding) all
-    ≡ datagram (place_on interface) (record { family = V4; bits = ip.sender }) (carries udp.payload)
-ipv4_in_ethernet interface addresses padding ip udp all sized babel fits there =
+first_fits : (tags : List Tag) (ether_type : ℕ) → All IsTag tags → ether_type < 2 ^ 16 → first_type tags ether_type < 2 ^ 16
+first_fits [] ether_type are fits = fits
+first_fits (tag ∷ tags) ether_type are fits = (kind_of tag.kind (All-head IsTag tag tags are).is_kind).1
+
+abbrev payload_of : List Tag → ℕ → List ℕ → Vlans → ℕ → Payload
+payload_of tags ether_type packet vlans all = record { ether_type = first_type tags ether_type; vlans = vlans; octets = after_type tags ether_type packet; whole = all }
+
+-- past one tag
+past_one : (tag : Tag) (tags : List Tag) (ether_type : ℕ) (packet : List ℕ) (vlans : Vlans) (all : ℕ) → IsTag tag → first_type tags ether_type < 2 ^ 16
+    → past_tag (payload_of (tag ∷ tags) ether_type packet vlans all) ≡ payload_of tags ether_type packet (with_vlan vlans tag.number) (all - 4)
+unfolding past_tag
+past_one tag tags ether_type packet vlans all is fits =
+    let rest = after_type tags ether_type packet in
+    let next = big_bytes 2 (first_type tags ether_type) in
+    let control = tag.priority * 2 ^ 12 + tag.number in
+    let octets = big_bytes 2 control ++ (next ++ rest) in
+    let priority = is.priority_fits in
+    let number = is.number_fits in
+    let kind = (kind_of tag.kind is.is_kind).0 in
+    let long : nat_le 4 (length octets) ≡ true = grind (arith, nat_tests) in
+    let at_control : network_number 0 2 octets ≡ control = number-back [] 2 control (next ++ rest) (omega arith) in
+    let at_type : network_number 2 2 octets ≡ first_type tags ether_type = number-back (big_bytes 2 control) 2 (first_type tags ether_type) rest fits in
+    let at_number : bit_and control 0x0fff ≡ tag.number = and_mask control 12 ∙ omega arith in
+    rw (kind, long, at_type, at_control, at_number) refl
+
+past-tags : (tags : List Tag) (n : ℕ) (ether_type : ℕ) (packet : List ℕ) (vlans : Vlans) (all : ℕ) → length tags ≤ n → All IsTag tags → ether_type < 2 ^ 16 → is_tag ether_type ≡ false
+    → past_tags n (payload_of tags ether_type packet vlans all)
+    ≡ payload_of [] ether_type packet (fold (λ (v : Vlans) (t : Tag). with_vlan v t.number) vlans tags) (all - 4 * length tags)
+past-tags [] n ether_type packet vlans all few are fits plain =
+    past-no_tag n (payload_of [] ether_type packet vlans all) plain ∙ ap (payload_of [] ether_type packet vlans) (omega arith)
+past-tags (tag ∷ tags) zero ether_type packet vlans all few are fits plain = absurd (omega arith)
+past-tags (tag ∷ tags) (suc n) ether_type packet vlans all few are fits plain =
+    let later = All-tail IsTag tag tags are in
+    past-first n (payload_of (tag ∷ tags) ether_type packet vlans all)
+    ∙ ap (past_tags n) (past_one tag tags ether_type packet vlans all (All-head IsTag tag tags are) (first_fits tags ether_type later fits))
+    ∙ past-tags tags n ether_type packet (with_vlan vlans tag.number) (all - 4) (omega arith) later fits plain
+    ∙ ap (payload_of [] ether_type packet (fold (λ (v : Vlans) (t : Tag). with_vlan v t.number) (with_vlan vlans tag.number) tags)) (omega arith)
+
+-- a datagram after up to four tags
+typed_laid_out : (place : Place) (tags : List Tag) (ether_type : ℕ) (sender : Address) (udp : UdpDatagram) (packet padding : List ℕ) (all : ℕ) → length tags ≤ 4 → All IsTag tags
+    → IsBabel udp → IsOverIp ether_type sender udp packet → 4 * length tags + length packet ≤ all
+    → typed_sight place (payload_of tags ether_type (packet ++ padding) no_vlans all) ≡ datagram (in_vlans place (vlans_of tags)) sender (carries udp.payload)
+unfolding typed_sight
+typed_laid_out place tags ether_type sender udp packet padding all few are babel over there =
+    let past = past-tags tags 4 ether_type (packet ++ padding) no_vlans all few are (type_fits ether_type sender udp packet over) (type_plain ether_type sender udp packet over) in
+    ap (λ (p : Payload). ip_sight (in_vlans place p.vlans) p) past
+    ∙ ip_laid_out (in_vlans place (vlans_of tags)) ether_type sender udp packet padding (vlans_of tags) (all - 4 * length tags) babel over (omega arith)
+
+after-long : (tags : List Tag) (ether_type : ℕ) (packet : List ℕ) → length (after_type tags ether_type packet) ≡ 4 * length tags + length packet
+after-long [] ether_type packet = omega arith
+after-long (tag ∷ tags) ether_type packet =
+    (let later = after-long tags ether_type packet in omega (arith, length-append (big_bytes 2 (first_type tags ether_type)) (after_type tags ether_type packet)))
+
+-- ---- frames
+
+-- a header that ends with the EtherType
+header_laid_out : (header : ℕ) (place : Place) (front : List ℕ) (tags : List Tag) (ether_type : ℕ) (packet : List ℕ) (all : ℕ) → length front ≡ header → first_type tags ether_type < 2 ^ 16
+    → header_sight header (header + 2) place (ethernet_octets front tags ether_type packet) all ≡ typed_sight place (payload_of tags ether_type packet no_vlans (all - (header + 2)))
+header_laid_out header place front tags ether_type packet all sized fits =
+    let rest = after_type tags ether_type packet in
+    let next = big_bytes 2 (first_type tags ether_type) in
+    let octets = front ++ (next ++ rest) in
+    let at_type : network_number header 2 octets ≡ first_type tags ether_type =
+    ap (λ (field : ℕ). network_number field 2 octets) (sym sized) ∙ number-back front 2 (first_type tags ether_type) rest fits in
+    let at_rest : drop (header + 2) octets ≡ rest = ap (λ (n : ℕ). drop (n + 2) octets) (sym sized) ∙ drop-append-add front (next ++ rest) 2 in
+    let long : nat_lt (length octets) (header + 2) ≡ false =
+    let count = length-append front (next ++ rest) in grind (arith, nat_tests) in
+    rw (long, at_type, at_rest) refl
+
+module _ (interface : ℕ) (tags : List Tag) (ether_type : ℕ) (sender : Address) (udp : UdpDatagram) (packet padding : List ℕ) (all : ℕ) (few : length tags ≤ 4) (are : All IsTag tags)
+    (babel : IsBabel udp) (over : IsOverIp ether_type sender udp packet) where
+  fits_first : first_type tags ether_type < 2 ^ 16
+  fits_first = first_fits tags ether_type are (type_fits ether_type sender udp packet over)
+
+  pub in_ethernet : (addresses : List ℕ) → length addresses ≡ 12 → 14 + 4 * length tags + length packet ≤ all
+      → frame_sight interface links.Ethernet (ethernet_octets addresses tags ether_type (packet ++ padding)) all ≡ datagram (tagged_place interface tags) sender (carries udp.payload)
+  unfolding frame_sight
+  in_ethernet addresses sized there =
+      header_laid_out 12 (place_on interface) addresses tags ether_type (packet ++ padding) all sized fits_first
+      ∙ typed_laid_out (place_on interface) tags ether_type sender udp packet padding (all - 14) few are babel over (omega arith)
+
+  pub in_cooked : (front : List ℕ) → length front ≡ 14 → 16 + 4 * length tags + length packet ≤ all
+      → frame_sight interface links.Cooked (ethernet_octets front tags ether_type (packet ++ padding)) all ≡ datagram (tagged_place interface tags) sender (carries udp.payload)
+  unfolding frame_sight
+  in_cooked front sized there =
+      header_laid_out 14 (place_on interface) front tags ether_type (packet ++ padding) all sized fits_first
+      ∙ typed_laid_out (place_on interface) tags ether_type sender udp packet padding (all - 16) few are babel over (omega arith)
+
+  first_leads : leads_to_ip (first_type tags ether_type) ≡ true
+  first_leads = leads_by tags are
+    where
+      leads_by : (tags : List Tag) → All IsTag tags → leads_to_ip (first_type tags ether_type) ≡ true
+      leads_by [] are = type_leads ether_type sender udp packet over
+      leads_by (tag ∷ tags) are = tag_leads tag.kind (All-head IsTag tag tags are).is_kind
+
+  pub in_cooked2 : (reserved rest : List ℕ) (link : ℕ) → length reserved ≡ 2 → length rest ≡ 12 → link < 2 ^ 32 → 20 + 4 * length tags + length packet ≤ all
+      → frame_sight interface links.Cooked2 (cooked2_octets reserved link rest tags ether_type (packet ++ padding)) all ≡ datagram (linked_place interface link tags) sender (carries udp.payload)
+  unfolding frame_sight
+  in_cooked2 reserved rest link sized sized_rest link_fits there =
+      let next = big_bytes 2 (first_type tags ether_type) in
+      let after = after_type tags ether_type (packet ++ padding) in
+      let octets = cooked2_octets reserved link rest tags ether_type (packet ++ padding) in
+      let linked : Place = record (place_on interface) { link = Some link } in
+      let at_type : network_number 0 2 octets ≡ first_type tags ether_type = number-back [] 2 (first_type tags ether_type) (reserved ++ (big_bytes 4 link ++ (rest ++ after))) fits_first in
+      let four : 4 ≡ length (next ++ reserved) = omega (arith, length-append next reserved, sized) in
+      let whole_is : octets ≡ (next ++ reserved) ++ (big_bytes 4 link ++ (rest ++ after)) = sym (append_assoc next reserved (big_bytes 4 link ++ (rest ++ after))) in
+      let at_link : network_number 4 4 octets ≡ link =
+      ap (λ (field : ℕ). network_number field 4 octets) four ∙ ap (network_number (length (next ++ reserved)) 4) whole_is
+      ∙ number-back (next ++ reserved) 4 link (rest ++ after) link_fits in
+      let front = ((next ++ reserved) ++ big_bytes 4 link) ++ rest in
+      let all_is : octets ≡ front ++ after =
+      whole_is ∙ sym (append_assoc (next ++ reserved) (big_bytes 4 link) (rest ++ after)) ∙ sym (append_assoc ((next ++ reserved) ++ big_bytes 4 link) rest after) in
+      let front_long : length front ≡ 20 =
+      omega (arith, length-append ((next ++ reserved) ++ big_bytes 4 link) rest, length-append (next ++ reserved) (big_bytes 4 link), length-append next reserved, sized, sized_rest) in
+      let at_rest : drop 20 octets ≡ after = ap (drop 20) all_is ∙ ap (λ (n : ℕ). drop n (front ++ after)) (sym front_long) ∙ drop-append_seam front after in
+      let count : length octets ≡ 20 + length after = ap length all_is ∙ length-append front after ∙ ap (λ (n : ℕ). n + length after) front_long in
+      let some : nat_lt (length octets) 2 ≡ false = grind (arith, nat_tests) in
+      let long : nat_lt (length octets) 20 ≡ false = grind (arith, nat_tests) in
+      let leads : not (leads_to_ip (network_number 0 2 octets)) ≡ false = rw (at_type, first_leads) refl in
+      let header : header_sight 0 20 (on_link interface octets) octets all ≡ typed_sight linked (payload_of tags ether_type (packet ++ padding) no_vlans (all - 20)) =
+      rw (long, at_type, at_rest, at_link) refl in
+      rw (some, leads) (header ∙ typed_laid_out linked tags ether_type sender udp packet padding (all - 20) few are babel over (omega arith))
+
+-- ---- raw IP
+
+raw_laid_out : (place : Place) (ether_type : ℕ) (sender : Address) (udp : UdpDatagram) (packet padding : List ℕ) (all : ℕ) → IsBabel udp → IsOverIp ether_type sender udp packet → length packet ≤ all
+    → raw_sight place (packet ++ padding) all ≡ datagram place sender (carries udp.payload)
+raw_laid_out place ether_type sender udp packet padding all babel (inl over) there =
+    let ip = over.ip in
+    let words = over.fits.words_fit in
+    let octets = ipv4_octets ip (udp_octets udp) ++ padding in
     let options = length-append ip.options (udp_octets udp) in
-    ethernet_laid_out interface addresses 0x0800 (ipv4_octets ip (udp_octets udp)) padding all sized (omega arith) refl
-    ∙ babel_over_ipv4 (place_on interface) ip udp padding (all - 14) babel fits (omega (arith, options, fits.options_len))
+    let version : ip_version octets ≡ 4 = omega arith in
+    let some : nat_lt (length octets) 1 ≡ false = grind (arith, nat_tests) in
+    rw (over.is_packet, over.is_sender, some, version) (babel_over_ipv4 place ip udp padding all babel over.fits (omega (arith, options, over.fits.options_len, ap length over.is_packet)))
+raw_laid_out place ether_type sender udp packet padding all babel (inr over) there =
+    let ip = over.ip in
+    let class = over.fits.class_fits in
+    let octets = ipv6_octets ip (udp_octets udp) ++ padding in
+    let version : ip_version octets ≡ 6 = omega arith in
+    let some : nat_lt (length octets) 1 ≡ false = grind (arith, nat_tests) in
+    rw (over.is_packet, over.is_sender, some, version) (babel_over_ipv6 place ip udp padding all babel over.fits (omega (arith, ap length over.is_packet)))
+
+pub in_raw : (interface : ℕ) (ether_type : ℕ) (sender : Address) (udp : UdpDatagram) (packet padding : List ℕ) (all : ℕ) → IsBabel udp → IsOverIp ether_type sender udp packet → length packet ≤ all
+    → frame_sight interface links.RawIp (packet ++ padding) all ≡ datagram (place_on interface) sender (carries udp.payload)
+unfolding frame_sight
+in_raw interface = raw_laid_out (place_on interface)

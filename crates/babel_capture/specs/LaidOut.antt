@@ -1,6 +1,12 @@
--- Frames of Ethernet as their headers lay them out, whole: RFC 768; RFC 791, 3.1; RFC 8200, 3.
-use Rattle.std.specs.Prelude.{◌≡◌, ℕ, ◌+◌, ◌*◌, ◌/◌, ◌^◌, ◌<◌, ◌≤◌, ◌⊎◌, List, ◌∷◌, ◌++◌, length}
+-- Frames as their headers lay them out, whole: RFC 768; RFC 791, 3.1; RFC 8200, 3; IEEE 802.1Q, 9.
+use Rattle.std.specs.Prelude.{◌≡◌, ℕ, ◌+◌, ◌*◌, ◌/◌, ◌^◌, ◌<◌, ◌≤◌, ◌⊎◌, List, [], ◌∷◌, ◌++◌}
+use Rattle.std.specs.Prelude.{length, fold, Some, Contains}
 use Rattle.byteorder.specs.Endian.{big_bytes}
+use Rattle.babel_prefix.specs.Address.{Address}
+use Rattle.babel_prefix.specs.declared.family.Family.TheVariants.{V4, V6}
+use Rattle.babel_capture.specs.declared.place.Place.{Place}
+use Rattle.babel_capture.specs.declared.place.Vlans.{Vlans}
+use Rattle.babel_capture.specs.Place.{no_vlans, place_on, with_vlan}
 
 -- RFC 768: source port, destination port, length of header and payload, checksum, and the payload
 pub record UdpDatagram : Type 0 where
@@ -70,16 +76,75 @@ pub record IsIpv4 (ip : Ipv4Header) (carried : List ℕ) : Type 0 where
   pub sender_fits : ip.sender < 2 ^ 32
   pub len_fits : 20 + 4 * ip.words + length carried < 2 ^ 16
 
--- IEEE 802.3, 3.2: two addresses of six octets, an EtherType, a packet, and padding
-abbrev pub ethernet_octets : List ℕ → ℕ → List ℕ → List ℕ → List ℕ
-ethernet_octets addresses ether_type packet padding =
-    addresses ++ (big_bytes 2 ether_type ++ (packet ++ padding))
+-- IEEE 802.1Q, 9: a tag: the EtherType that says that one comes next, its priority and drop bit, and
+-- the number of its VLAN
+pub record Tag : Type 0 where
+  pub kind : ℕ
+  pub priority : ℕ
+  pub number : ℕ
 
--- RFC 894; RFC 2464, 3: a datagram over IPv4, and over IPv6
-abbrev pub ipv4_frame : List ℕ → Ipv4Header → UdpDatagram → List ℕ → List ℕ
-ipv4_frame addresses ip udp padding =
-    ethernet_octets addresses 0x0800 (ipv4_octets ip (udp_octets udp)) padding
+-- priority with drop bit, and number, fit their 4 and 12 bits
+pub record IsTag (tag : Tag) : Type 0 where
+  pub is_kind : Contains (0x8100 ∷ 0x88a8 ∷ 0x9100 ∷ 0x9200 ∷ []) tag.kind
+  pub priority_fits : tag.priority < 2 ^ 4
+  pub number_fits : tag.number < 2 ^ 12
 
-abbrev pub ipv6_frame : List ℕ → Ipv6Header → UdpDatagram → List ℕ → List ℕ
-ipv6_frame addresses ip udp padding =
-    ethernet_octets addresses 0x86dd (ipv6_octets ip (udp_octets udp)) padding
+-- IEEE 802.1Q, 9: the EtherType of what comes next, a tag if there are any; and what comes after it:
+-- each tag's two octets and the next EtherType, and at last the packet
+abbrev pub first_type : List Tag → ℕ → ℕ
+first_type [] ether_type = ether_type
+first_type (tag ∷ tags) ether_type = tag.kind
+
+abbrev pub after_type : List Tag → ℕ → List ℕ → List ℕ
+after_type [] ether_type packet = packet
+after_type (tag ∷ tags) ether_type packet =
+    big_bytes 2 (tag.priority * 2 ^ 12 + tag.number)
+    ++ (big_bytes 2 (first_type tags ether_type) ++ after_type tags ether_type packet)
+
+-- the VLANs that tags name, the outer one first
+abbrev pub vlans_of : List Tag → Vlans
+vlans_of tags = fold (λ vlans tag. with_vlan vlans tag.number) no_vlans tags
+
+-- ---- link headers
+
+-- what stands before an IP packet in a frame, which is on this interface: by IEEE 802.3, 3.2, two
+-- addresses of six octets, and the EtherType; in frames of Linux cooked, version 1, fourteen octets,
+-- and the EtherType; in those of version 2 the EtherType, two octets, the number of the link in four,
+-- and twelve octets more (tcpdump.org/linktypes.html)
+abbrev pub ethernet_octets : List ℕ → List Tag → ℕ → List ℕ → List ℕ
+ethernet_octets addresses tags ether_type packet =
+    addresses ++ (big_bytes 2 (first_type tags ether_type) ++ after_type tags ether_type packet)
+
+abbrev pub cooked2_octets : List ℕ → ℕ → List ℕ → List Tag → ℕ → List ℕ → List ℕ
+cooked2_octets reserved link rest tags ether_type packet =
+    big_bytes 2 (first_type tags ether_type)
+    ++ (reserved ++ (big_bytes 4 link ++ (rest ++ after_type tags ether_type packet)))
+
+-- the IP packet of a Babel datagram from this sender, with its EtherType: RFC 894; RFC 2464, 3
+pub record OverIpv4 (ether_type : ℕ) (sender : Address) (udp : UdpDatagram)
+    (packet : List ℕ) : Type 0 where
+  pub is_type : ether_type ≡ 0x0800
+  pub ip : Ipv4Header
+  pub fits : IsIpv4 ip (udp_octets udp)
+  pub is_sender : sender ≡ record { family = V4; bits = ip.sender }
+  pub is_packet : packet ≡ ipv4_octets ip (udp_octets udp)
+
+pub record OverIpv6 (ether_type : ℕ) (sender : Address) (udp : UdpDatagram)
+    (packet : List ℕ) : Type 0 where
+  pub is_type : ether_type ≡ 0x86dd
+  pub ip : Ipv6Header
+  pub fits : IsIpv6 ip (udp_octets udp)
+  pub is_sender : sender ≡ record { family = V6; bits = ip.sender }
+  pub is_packet : packet ≡ ipv6_octets ip (udp_octets udp)
+
+abbrev pub IsOverIp : ℕ → Address → UdpDatagram → List ℕ → Type 0
+IsOverIp ether_type sender udp packet =
+    OverIpv4 ether_type sender udp packet ⊎ OverIpv6 ether_type sender udp packet
+
+-- the place that such a frame is seen at
+abbrev pub tagged_place : ℕ → List Tag → Place
+tagged_place interface tags = record (place_on interface) { vlans = vlans_of tags }
+
+abbrev pub linked_place : ℕ → ℕ → List Tag → Place
+linked_place interface link tags =
+    record { interface = interface; link = Some link; vlans = vlans_of tags }

@@ -1,5 +1,5 @@
 //! What follows from the definitions alone.
-ghost use Rattle.std.specs.Prelude.{◌≡◌, ℕ, ◌+◌, ◌≤◌, ◌++◌, List, length, None};
+ghost use Rattle.std.specs.Prelude.{◌≡◌, ℕ, ◌+◌, ◌*◌, ◌^◌, ◌<◌, ◌≤◌, ◌++◌, List, length, None};
 ghost use Rattle.babel_capture.specs.Capture.{IsRead};
 ghost use Rattle.babel_capture.specs.Gathering.{Gathering};
 ghost use Rattle.babel_capture.specs.OneCapture.{CaptureIsOne, CutCaptureIsOne};
@@ -15,13 +15,12 @@ ghost use Rattle.babel_capture.specs.declared.fault.Fault.{Fault};
 ghost use Rattle.babel_capture.specs.declared.wanted.Wanted.{Wanted};
 ghost use Rattle.babel_capture.specs.Backing.{Backs};
 ghost use Rattle.babel_capture.specs.Frame.{frame_sight};
-ghost use Rattle.babel_capture.specs.LaidOut.{UdpDatagram, udp_octets, IsBabel};
-ghost use Rattle.babel_capture.specs.LaidOut.{Ipv4Header, ipv4_octets, IsIpv4, ipv4_frame};
-ghost use Rattle.babel_capture.specs.LaidOut.{Ipv6Header, ipv6_octets, IsIpv6, ipv6_frame};
+ghost use Rattle.babel_capture.specs.LaidOut.{UdpDatagram, IsBabel, IsOverIp, Tag, IsTag, cooked2_octets, ethernet_octets, linked_place, tagged_place};
+ghost use Rattle.std.specs.List.{All};
+ghost use Rattle.babel_prefix.specs.Address.{Address};
 ghost use Rattle.babel_capture.specs.Sight.{datagram, carries};
 ghost use Rattle.babel_capture.specs.declared.link.Link.{Link as LinkType};
-ghost use Rattle.babel_capture.specs.declared.link.Link.TheVariants.{Ethernet};
-ghost use Rattle.babel_prefix.specs.declared.family.Family.TheVariants.{V4, V6};
+ghost use Rattle.babel_capture.specs.declared.link.Link.TheVariants.{Cooked, Cooked2, Ethernet, RawIp};
 
 /// What is seen of a frame is in the frame: a datagram was snapped only if the recorder left octets
 /// out, and a payload is some of the octets that it kept, one after the other.
@@ -31,23 +30,39 @@ pub fn sight_is_backed()
         → Backs octets all (frame_sight interface link octets all) }
 {}
 
-/// A Babel datagram in an Ethernet frame that is laid out as the RFCs say, with any options of IPv4
-/// and any padding, is seen as what it carries.
+/// A Babel datagram that is laid out as the RFCs say, over IPv4 with any options or over IPv6, in a
+/// frame of Ethernet or of Linux cooked, of either version, with up to four VLAN tags, or of raw IP,
+/// and with any padding, is seen as what it carries, from its sender and at its place.
 pub fn laid_out_is_seen()
-    ensures ipv4 { (interface : ℕ) (addresses padding : List ℕ) (ip : Ipv4Header)
-        (udp : UdpDatagram) (all : ℕ)
-        → length addresses ≡ 12 → IsBabel udp → IsIpv4 ip (udp_octets udp)
-        → 14 + length (ipv4_octets ip (udp_octets udp)) ≤ all
-        → frame_sight interface Ethernet (ipv4_frame addresses ip udp padding) all
-        ≡ datagram (place_on interface) (record { family = V4; bits = ip.sender })
-        (carries udp.payload) }
-    ensures ipv6 { (interface : ℕ) (addresses padding : List ℕ) (ip : Ipv6Header)
-        (udp : UdpDatagram) (all : ℕ)
-        → length addresses ≡ 12 → IsBabel udp → IsIpv6 ip (udp_octets udp)
-        → 14 + length (ipv6_octets ip (udp_octets udp)) ≤ all
-        → frame_sight interface Ethernet (ipv6_frame addresses ip udp padding) all
-        ≡ datagram (place_on interface) (record { family = V6; bits = ip.sender })
-        (carries udp.payload) }
+    ensures ethernet { (interface : ℕ) (tags : List Tag) (ether_type : ℕ) (sender : Address)
+        (udp : UdpDatagram) (packet padding : List ℕ) (all : ℕ)
+        → length tags ≤ 4 → All IsTag tags → IsBabel udp → IsOverIp ether_type sender udp packet
+        → (addresses : List ℕ) → length addresses ≡ 12
+        → 14 + 4 * length tags + length packet ≤ all
+        → frame_sight interface Ethernet
+        (ethernet_octets addresses tags ether_type (packet ++ padding)) all
+        ≡ datagram (tagged_place interface tags) sender (carries udp.payload) }
+    ensures cooked { (interface : ℕ) (tags : List Tag) (ether_type : ℕ) (sender : Address)
+        (udp : UdpDatagram) (packet padding : List ℕ) (all : ℕ)
+        → length tags ≤ 4 → All IsTag tags → IsBabel udp → IsOverIp ether_type sender udp packet
+        → (front : List ℕ) → length front ≡ 14
+        → 16 + 4 * length tags + length packet ≤ all
+        → frame_sight interface Cooked
+        (ethernet_octets front tags ether_type (packet ++ padding)) all
+        ≡ datagram (tagged_place interface tags) sender (carries udp.payload) }
+    ensures cooked2 { (interface : ℕ) (tags : List Tag) (ether_type : ℕ) (sender : Address)
+        (udp : UdpDatagram) (packet padding : List ℕ) (all : ℕ)
+        → length tags ≤ 4 → All IsTag tags → IsBabel udp → IsOverIp ether_type sender udp packet
+        → (reserved rest : List ℕ) (link : ℕ) → length reserved ≡ 2 → length rest ≡ 12
+        → link < 2 ^ 32 → 20 + 4 * length tags + length packet ≤ all
+        → frame_sight interface Cooked2
+        (cooked2_octets reserved link rest tags ether_type (packet ++ padding)) all
+        ≡ datagram (linked_place interface link tags) sender (carries udp.payload) }
+    ensures raw { (interface ether_type : ℕ) (sender : Address) (udp : UdpDatagram)
+        (packet padding : List ℕ) (all : ℕ)
+        → IsBabel udp → IsOverIp ether_type sender udp packet → length packet ≤ all
+        → frame_sight interface RawIp (packet ++ padding) all
+        ≡ datagram (place_on interface) sender (carries udp.payload) }
 {}
 
 /// The dump of a capture is whole Babel packets, end to end.

@@ -1,8 +1,14 @@
-use Rattle.babel_capture.proofs.LaidOutLaws.{ipv4_in_ethernet, ipv6_in_ethernet}
+use Rattle.babel_capture.proofs.LaidOutLaws.{in_cooked, in_cooked2, in_ethernet, in_raw}
 use Rattle.babel_capture.proofs.laws.laid_out_is_seen.Goals as goal
 
-pub returns-clause-ipv4 : goal.returns-clause-ipv4
-returns-clause-ipv4 c = ipv4_in_ethernet
+pub returns-clause-ethernet : goal.returns-clause-ethernet
+returns-clause-ethernet c = in_ethernet
 
-pub returns-clause-ipv6 : goal.returns-clause-ipv6
-returns-clause-ipv6 c = ipv6_in_ethernet
+pub returns-clause-cooked : goal.returns-clause-cooked
+returns-clause-cooked c = in_cooked
+
+pub returns-clause-cooked2 : goal.returns-clause-cooked2
+returns-clause-cooked2 c = in_cooked2
+
+pub returns-clause-raw : goal.returns-clause-raw
+returns-clause-raw c = in_raw
