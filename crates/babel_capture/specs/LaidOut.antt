@@ -1,6 +1,7 @@
 -- Frames as their headers lay them out, whole: RFC 768; RFC 791, 3.1; RFC 8200, 3; IEEE 802.1Q, 9.
 use Rattle.std.specs.Prelude.{◌≡◌, ℕ, ◌+◌, ◌*◌, ◌/◌, ◌^◌, ◌<◌, ◌≤◌, ◌⊎◌, List, [], ◌∷◌, ◌++◌}
 use Rattle.std.specs.Prelude.{length, fold, Some, Contains}
+use Rattle.std.specs.List.{All}
 use Rattle.byteorder.specs.Endian.{big_bytes}
 use Rattle.babel_prefix.specs.Address.{Address}
 use Rattle.babel_prefix.specs.declared.family.Family.TheVariants.{V4, V6}
@@ -35,11 +36,34 @@ pub record Ipv6Header : Type 0 where
   pub sender : ℕ
   pub destination : ℕ
 
-abbrev pub ipv6_octets : Ipv6Header → List ℕ → List ℕ
-ipv6_octets ip carried =
-    (6 * 2 ^ 4 + ip.class) ∷ big_bytes 3 ip.flow ++ big_bytes 2 (length carried)
-    ++ 17 ∷ ip.hop_limit
-    ∷ big_bytes 16 ip.sender ++ big_bytes 16 ip.destination ++ carried
+-- RFC 8200, 4: an extension header of hop-by-hop options, routing or destination options: its number,
+-- its octets in units of 8 without the first, and what it holds
+pub record Extension : Type 0 where
+  pub number : ℕ
+  pub units : ℕ
+  pub holds : List ℕ
+
+pub record IsExtension (header : Extension) : Type 0 where
+  pub is_number : Contains (0 ∷ 43 ∷ 60 ∷ []) header.number
+  pub holds_len : length header.holds ≡ 6 + 8 * header.units
+
+-- the number of what comes first, an extension header if there are any, and else UDP; and the
+-- octets, where each header begins with the number of what comes after it
+abbrev pub first_number : List Extension → ℕ
+first_number [] = 17
+first_number (header ∷ headers) = header.number
+
+abbrev pub extended : List Extension → List ℕ → List ℕ
+extended [] carried = carried
+extended (header ∷ headers) carried =
+    first_number headers ∷ header.units ∷ (header.holds ++ extended headers carried)
+
+-- RFC 8200, 3: a packet of UDP, after these extension headers
+abbrev pub ipv6_octets : Ipv6Header → List Extension → List ℕ → List ℕ
+ipv6_octets ip headers carried =
+    (6 * 2 ^ 4 + ip.class) ∷ big_bytes 3 ip.flow
+    ++ big_bytes 2 (length (extended headers carried)) ++ first_number headers ∷ ip.hop_limit
+    ∷ big_bytes 16 ip.sender ++ big_bytes 16 ip.destination ++ extended headers carried
 
 -- class, length and sender fit their fields, and the sender begins with the ten bits of fe80::/10:
 -- RFC 4291, 2.5.6; RFC 8966, 4
@@ -68,11 +92,10 @@ ipv4_octets ip carried =
     ++ big_bytes 2 ip.id ++ big_bytes 2 ip.flags ++ ip.ttl ∷ 17 ∷ big_bytes 2 ip.checksum
     ++ big_bytes 4 ip.sender ++ big_bytes 4 ip.destination ++ ip.options ++ carried
 
--- options, length and sender fit their fields, and it is no fragment: no flag but "don't fragment"
+-- options, length and sender fit their fields
 pub record IsIpv4 (ip : Ipv4Header) (carried : List ℕ) : Type 0 where
   pub words_fit : ip.words ≤ 10
   pub options_len : length ip.options ≡ 4 * ip.words
-  pub no_fragment : (ip.flags ≡ 0) ⊎ (ip.flags ≡ 0x4000)
   pub sender_fits : ip.sender < 2 ^ 32
   pub len_fits : 20 + 4 * ip.words + length carried < 2 ^ 16
 
@@ -120,12 +143,14 @@ cooked2_octets reserved link rest tags ether_type packet =
     big_bytes 2 (first_type tags ether_type)
     ++ (reserved ++ (big_bytes 4 link ++ (rest ++ after_type tags ether_type packet)))
 
--- the IP packet of a Babel datagram from this sender, with its EtherType: RFC 894; RFC 2464, 3
+-- the IP packet of a Babel datagram from this sender, with its EtherType: RFC 894; RFC 2464, 3. Over
+-- IPv4 it is no fragment: no flag but "don't fragment".
 pub record OverIpv4 (ether_type : ℕ) (sender : Address) (udp : UdpDatagram)
     (packet : List ℕ) : Type 0 where
   pub is_type : ether_type ≡ 0x0800
   pub ip : Ipv4Header
   pub fits : IsIpv4 ip (udp_octets udp)
+  pub no_fragment : (ip.flags ≡ 0) ⊎ (ip.flags ≡ 0x4000)
   pub is_sender : sender ≡ record { family = V4; bits = ip.sender }
   pub is_packet : packet ≡ ipv4_octets ip (udp_octets udp)
 
@@ -133,9 +158,23 @@ pub record OverIpv6 (ether_type : ℕ) (sender : Address) (udp : UdpDatagram)
     (packet : List ℕ) : Type 0 where
   pub is_type : ether_type ≡ 0x86dd
   pub ip : Ipv6Header
-  pub fits : IsIpv6 ip (udp_octets udp)
   pub is_sender : sender ≡ record { family = V6; bits = ip.sender }
-  pub is_packet : packet ≡ ipv6_octets ip (udp_octets udp)
+  pub headers : List Extension
+  pub few : length headers ≤ 8
+  pub are_headers : All IsExtension headers
+  pub fits : IsIpv6 ip (extended headers (udp_octets udp))
+  pub is_packet : packet ≡ ipv6_octets ip headers (udp_octets udp)
+
+-- the first of several fragments of a Babel datagram over IPv4 (RFC 791, 3.1): the flag "more
+-- fragments", and the offset 0; it has the ports, and whatever comes after them
+pub record IsFirstFragment (ether_type : ℕ) (sender : Address) (packet : List ℕ) : Type 0 where
+  pub is_type : ether_type ≡ 0x0800
+  pub ip : Ipv4Header
+  pub more : List ℕ
+  pub fits : IsIpv4 ip (big_bytes 2 6696 ++ (big_bytes 2 6696 ++ more))
+  pub flag : ip.flags ≡ 0x2000
+  pub is_sender : sender ≡ record { family = V4; bits = ip.sender }
+  pub is_packet : packet ≡ ipv4_octets ip (big_bytes 2 6696 ++ (big_bytes 2 6696 ++ more))
 
 abbrev pub IsOverIp : ℕ → Address → UdpDatagram → List ℕ → Type 0
 IsOverIp ether_type sender udp packet =

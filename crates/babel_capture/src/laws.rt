@@ -15,11 +15,12 @@ ghost use Rattle.babel_capture.specs.declared.fault.Fault.{Fault};
 ghost use Rattle.babel_capture.specs.declared.wanted.Wanted.{Wanted};
 ghost use Rattle.babel_capture.specs.Backing.{Backs};
 ghost use Rattle.babel_capture.specs.Frame.{frame_sight};
-ghost use Rattle.babel_capture.specs.LaidOut.{UdpDatagram, IsBabel, IsOverIp, Tag, IsTag, cooked2_octets, ethernet_octets, linked_place, tagged_place};
+ghost use Rattle.babel_capture.specs.LaidOut.{UdpDatagram, IsBabel, IsFirstFragment, IsOverIp, Tag, IsTag, cooked2_octets, ethernet_octets, linked_place, tagged_place};
 ghost use Rattle.std.specs.List.{All};
 ghost use Rattle.babel_prefix.specs.Address.{Address};
-ghost use Rattle.babel_capture.specs.Sight.{datagram, carries};
+ghost use Rattle.babel_capture.specs.Sight.{datagram, carries, lacking};
 ghost use Rattle.babel_capture.specs.declared.link.Link.{Link as LinkType};
+ghost use Rattle.babel_capture.specs.declared.lack.Lack.TheVariants.{Fragment};
 ghost use Rattle.babel_capture.specs.declared.link.Link.TheVariants.{Cooked, Cooked2, Ethernet, RawIp};
 
 /// What is seen of a frame is in the frame: a datagram was snapped only if the recorder left octets
@@ -30,8 +31,8 @@ pub fn sight_is_backed()
         → Backs octets all (frame_sight interface link octets all) }
 {}
 
-/// A Babel datagram that is laid out as the RFCs say, over IPv4 with any options or over IPv6, in a
-/// frame of Ethernet or of Linux cooked, of either version, with up to four VLAN tags, or of raw IP,
+/// A Babel datagram that is laid out as the RFCs say, over IPv4 with any options or over IPv6
+/// with up to eight extension headers, in a frame of Ethernet or of Linux cooked, of either version, with up to four VLAN tags, or of raw IP,
 /// and with any padding, is seen as what it carries, from its sender and at its place.
 pub fn laid_out_is_seen()
     ensures ethernet { (interface : ℕ) (tags : List Tag) (ether_type : ℕ) (sender : Address)
@@ -63,6 +64,19 @@ pub fn laid_out_is_seen()
         → IsBabel udp → IsOverIp ether_type sender udp packet → length packet ≤ all
         → frame_sight interface RawIp (packet ++ padding) all
         ≡ datagram (place_on interface) sender (carries udp.payload) }
+{}
+
+/// The first of several fragments of a Babel datagram over IPv4, in a frame of Ethernet with up to
+/// four VLAN tags, is seen as a fragment.
+pub fn first_fragment_is_seen()
+    ensures { (interface : ℕ) (tags : List Tag) (ether_type : ℕ) (sender : Address)
+        (packet padding : List ℕ) (all : ℕ) → length tags ≤ 4 → All IsTag tags
+        → IsFirstFragment ether_type sender packet
+        → (addresses : List ℕ) → length addresses ≡ 12
+        → 14 + 4 * length tags + length packet ≤ all
+        → frame_sight interface Ethernet
+        (ethernet_octets addresses tags ether_type (packet ++ padding)) all
+        ≡ datagram (tagged_place interface tags) sender (lacking Fragment) }
 {}
 
 /// The dump of a capture is whole Babel packets, end to end.
