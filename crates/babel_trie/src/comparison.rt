@@ -8,6 +8,7 @@ ghost use Rattle.babel_trie.specs.declared.table.Node.{Node};
 ghost use Rattle.babel_trie.specs.Told.{IsTold, AreTold, KnowsTold, HasDifference};
 
 use crate::apart::{behind, last_before, nearer};
+use crate::block::SourceBlock;
 use crate::difference::{are_one, both_same};
 use crate::differing::{Differing, told_apart};
 use crate::fit::last_address;
@@ -53,7 +54,7 @@ impl<V: LawfulOrd> Comparison<V> {
         &mut self,
         table: &Table<Option<V>>,
         both: Both<Loose<Option<V>>>,
-        bits: u8,
+        block: SourceBlock,
     ) -> Result<Loose<Option<Differing<V>>>, AllocError>
         requires sound { IsSound ⟦<Sources<Option<Differing<V>>> as Ord>⟧.cmp
             ⟦<Sources<Option<Differing<V>>> as LawfulOrd>⟧.mark
@@ -80,11 +81,11 @@ impl<V: LawfulOrd> Comparison<V> {
         if let Some((left, right)) = both_same(both.left, both.right) {
             return Ok(Loose::Same(told_apart(left, right)));
         }
-        if let Some(known) = self.known.recall(both) {
+        if let Some(known) = self.known.recall(both, block.bits) {
             return Ok(known);
         }
-        let (left_low, left_high) = table.halves(both.left);
-        let (right_low, right_high) = table.halves(both.right);
+        let (left_low, left_high) = table.halves(block, &both.left);
+        let (right_low, right_high) = table.halves(block, &both.right);
         let (low, high) = (
             Both {
                 left: left_low,
@@ -95,11 +96,10 @@ impl<V: LawfulOrd> Comparison<V> {
                 right: right_high,
             },
         );
-        let low = self.told(table, low, bits - 1)?;
-        let high = self.told(table, high, bits - 1)?;
-        let mut whole = Loose::Same(None);
-        self.differences.join(&low, &high, &mut whole)?;
-        self.known.remember(both, whole)?;
+        let low = self.told(table, low, block.low())?;
+        let high = self.told(table, high, block.high())?;
+        let whole = self.differences.join(block, &low, &high)?;
+        self.known.remember(both, block.bits, whole)?;
         Ok(whole)
     }
 
@@ -133,7 +133,7 @@ impl<V: LawfulOrd> Comparison<V> {
             left: table.opened(left),
             right: table.opened(right),
         };
-        let told = self.told(table, both, bits)?;
+        let told = self.told(table, both, SourceBlock::whole(bits))?;
         let sources = self.differences.stored(&told)?;
         Ok(sources)
     }

@@ -7,6 +7,7 @@ ghost use Rattle.babel_trie.specs.declared.difference.Tables.TheVariants.{One};
 ghost use Rattle.babel_trie.specs.declared.table.Node.{Node};
 ghost use Rattle.babel_trie.specs.declared.table.Loose.TheVariants.{Same};
 
+use crate::block::SourceBlock;
 use crate::lawful::{LawfulOrd, are_same};
 use crate::table::{Loose, Node, Sources, Table};
 
@@ -29,16 +30,6 @@ impl Tables {
             Tables::Two => false,
         }
     }
-}
-
-/// An address of the upper half of a block, counted from the block's start.
-fn in_upper_half(at: u128, bits: u8) -> u128
-    requires some { 0 < bits }
-    requires width { bits ≤ 128 }
-    requires room { 2 ^ (bits - 1) + at < 2 ^ 128 }
-    ensures { result ≡ 2 ^ (bits - 1) + at }
-{
-    (1 << (bits - 1)) + at
 }
 
 /// Whether the two are one.
@@ -64,63 +55,49 @@ pub fn both_same<V: Copy>(whole: Loose<V>, other: Loose<V>) -> Option<(V, V)>
     }
 }
 
-impl<V: LawfulOrd> Table<V> {
-    /// The lowest address of a block, counted from its start, at which two tries have different
-    /// values.
+impl<V: LawfulOrd> Table<Option<V>> {
+    /// The lowest address of a block at which two tries have different values.
     fn first_apart(
         &self,
-        whole: Loose<V>,
-        other: &Table<V>,
-        other_whole: Loose<V>,
+        whole: Loose<Option<V>>,
+        other: &Table<Option<V>>,
+        other_whole: Loose<Option<V>>,
         tables: Tables,
-        bits: u8,
-    ) -> Option<u128>
-        requires trie { IsTrie bits self.now.nodes.items whole }
-        requires other_trie { IsTrie bits other.now.nodes.items other_whole }
-        requires one { tables ≡ One → self.now.nodes.items ≡ other.now.nodes.items }
-        requires width { bits ≤ 128 }
-        ensures { (t u : Shape V) → Stands self.now.nodes.items whole t
-            → Stands other.now.nodes.items other_whole u
-            → IsFirstDifference (2 ^ bits) (value_at t bits) (value_at u bits) result }
-    {
+        block: SourceBlock,
+    ) -> Option<u128> {
         if tables.are_one_trie(whole, other_whole) {
             return None;
         }
         if let Some((left, right)) = both_same(whole, other_whole) {
-            return if are_same(left, right) { None } else { Some(0) };
+            return if are_same(left, right) {
+                None
+            } else {
+                Some(block.start)
+            };
         }
-        let (low, high) = self.halves(whole);
-        let (other_low, other_high) = other.halves(other_whole);
-        if let Some(at) = self.first_apart(low, other, other_low, tables, bits - 1) {
+        let (low, high) = self.halves(block, &whole);
+        let (other_low, other_high) = other.halves(block, &other_whole);
+        if let Some(at) = self.first_apart(low, other, other_low, tables, block.low()) {
             return Some(at);
         }
-        let at = self.first_apart(high, other, other_high, tables, bits - 1)?;
-        Some(in_upper_half(at, bits))
+        self.first_apart(high, other, other_high, tables, block.high())
     }
 
-    /// The lowest address at which two tries have different values.
+    /// The lowest address of this width at which two tries have different values.
     pub fn first_difference(
         &self,
-        sources: Sources<V>,
-        other: &Table<V>,
-        other_sources: Sources<V>,
+        sources: Sources<Option<V>>,
+        other: &Table<Option<V>>,
+        other_sources: Sources<Option<V>>,
         tables: Tables,
-        bits: u8,
-    ) -> Option<u128>
-        requires trie { HasTrie bits self.now.nodes.items sources }
-        requires other_trie { HasTrie bits other.now.nodes.items other_sources }
-        requires one { tables ≡ One → self.now.nodes.items ≡ other.now.nodes.items }
-        requires width { bits ≤ 128 }
-        ensures { (t u : Shape V) → Represents self.now.nodes.items sources t
-            → Represents other.now.nodes.items other_sources u
-            → IsFirstDifference (2 ^ bits) (value_at t bits) (value_at u bits) result }
-    {
+        width: u8,
+    ) -> Option<u128> {
         self.first_apart(
             self.opened(sources),
             other,
             other.opened(other_sources),
             tables,
-            bits,
+            SourceBlock::whole(width),
         )
     }
 }

@@ -1,6 +1,6 @@
 //! What was found for two tries that were compared, so that it is not looked for again. Of two
-//! tries of which one still has bits that lead to its block nothing is remembered: they soon come
-//! to two that have none.
+//! tries of which one has a smaller block than is compared nothing is remembered: they soon come to
+//! two that have not.
 ghost use Rattle.std.specs.Prelude.{◌≡◌, ◌⊎◌, IfSome, OnOk};
 ghost use Rattle.std.specs.BTreeMap.{IsEmpty};
 ghost use Rattle.babel_prefix.specs.Members.{Listed};
@@ -63,37 +63,42 @@ impl<T: LawfulOrd, R: Copy> Known<T, R> {
     }
 }
 
-/// Whether no bits lead to the block of a trie: it is one value, or has its halves at once.
-fn is_at_block<V: Copy>(trie: Loose<V>) -> bool {
+/// Whether a trie is one value, or a node of this block.
+fn is_at_block<V: Copy>(trie: Loose<V>, bits: u8) -> bool {
     match trie {
         Loose::Same(_) => true,
-        Loose::Split(node) => node.skip == 0,
+        Loose::Split(node) => node.bits == bits,
     }
 }
 
-/// Whether no bits lead to the blocks of two tries.
-fn are_at_blocks<V: Copy>(both: Both<Loose<V>>) -> bool {
-    is_at_block(both.left) && is_at_block(both.right)
+/// Whether two tries of a block are one value, or nodes of this block.
+fn are_at_block<V: Copy>(both: Both<Loose<V>>, bits: u8) -> bool {
+    is_at_block(both.left, bits) && is_at_block(both.right, bits)
 }
 
 impl<V: LawfulOrd, R: Copy> Known<Loose<V>, R> {
-    /// What was found for two tries, if it is remembered.
-    pub fn recall(&self, both: Both<Loose<V>>) -> Option<R>
+    /// What was found for two tries of a block of so many bits, if it is remembered.
+    pub fn recall(&self, both: Both<Loose<V>>, bits: u8) -> Option<R>
         ensures { IfSome result (λ r. Listed self.now.found.entries (both, r)) }
     {
-        if are_at_blocks(both) {
+        if are_at_block(both, bits) {
             self.get(both)
         } else {
             None
         }
     }
 
-    /// Remembers what was found for two tries, where no bits lead to their blocks.
-    pub fn remember(&mut self, both: Both<Loose<V>>, found: R) -> Result<(), AllocError>
+    /// Remembers what was found for two tries, where their nodes are of this block.
+    pub fn remember(
+        &mut self,
+        both: Both<Loose<V>>,
+        bits: u8,
+        found: R,
+    ) -> Result<(), AllocError>
         ensures { OnOk result ((k : Both (Loose V)) (r : R) → Listed self.new.found.entries (k, r)
             → ((k ≡ both) × (r ≡ found)) ⊎ Listed self.old.found.entries (k, r)) }
     {
-        if are_at_blocks(both) {
+        if are_at_block(both, bits) {
             self.keep(both, found)?;
         }
         Ok(())

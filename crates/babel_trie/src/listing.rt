@@ -18,27 +18,15 @@ ghost use Rattle.babel_trie.specs.declared.table.Loose.TheVariants.{Split};
 ghost use Rattle.babel_trie.specs.declared.table.Sources.{Sources};
 ghost use Rattle.babel_trie.specs.declared.table.Sources.TheVariants.{Constant};
 
+use crate::block::SourceBlock;
 use crate::cut::run_last;
 use crate::fit::{first_bits, last_address};
 use crate::lawful::LawfulOrd;
 use crate::rows::Row;
 use crate::runs::Change;
 use crate::sink::Sink;
-use crate::table::{Loose, Node, Sources, Table, bit_at};
+use crate::table::{Node, Sources, Table};
 use babel_prefix::{Addr, Family, Prefix};
-
-/// The place, shifted by this many bits.
-#[tactic(auto, using(crate::proofs::ListLaws::no_place, crate::proofs::ListLaws::place_shifted))]
-fn shifted(place: u128, bits: u8, family: Family) -> u128
-    requires bits { bits ≤ width_of family }
-    requires place { place < 2 ^ (width_of family - bits) }
-    ensures { result ≡ place * 2 ^ bits }
-{
-    if bits == 128 {
-        return 0;
-    }
-    place << bits
-}
 
 /// The prefix of the block with this many free bits at an address.
 fn block_prefix(family: Family, start: u128, bits: u8) -> Prefix
@@ -52,31 +40,6 @@ fn block_prefix(family: Family, start: u128, bits: u8) -> Prefix
     Prefix::new(Addr::new(family, start).unwrap(), len).unwrap()
 }
 
-/// The prefix of the block at this place among the blocks that differ in this many bits.
-fn node_prefix(family: Family, bits: u8, place: u128) -> Prefix
-    requires bits { bits ≤ width_of family }
-    requires place { place < 2 ^ (width_of family - bits) }
-    ensures family { result.address.family ≡ family }
-    ensures valid { IsAddressPrefix result }
-    ensures block { block_of result ≡ node_block (width_of family) bits place }
-{
-    block_prefix(family, shifted(place, bits, family), bits)
-}
-
-/// The places of the halves of a block.
-#[tactic(auto, using(crate::proofs::ListLaws::child_place))]
-fn places(family: Family, bits: u8, place: u128) -> (u128, u128)
-    requires some { 0 < bits }
-    requires bits { bits ≤ width_of family }
-    requires place { place < 2 ^ (width_of family - bits) }
-    ensures low { result.0 ≡ place * 2 }
-    ensures high { result.1 ≡ place * 2 + 1 }
-    ensures low_in { result.0 < 2 ^ (width_of family - (bits - 1)) }
-    ensures high_in { result.1 < 2 ^ (width_of family - (bits - 1)) }
-{
-    (place * 2, place * 2 + 1)
-}
-
 /// Whether nothing is answered for any source.
 fn answers_nothing<V: Copy>(sources: Sources<Option<V>>) -> bool
     ensures yes { result ≡ true → sources ≡ Constant None }
@@ -88,199 +51,66 @@ fn answers_nothing<V: Copy>(sources: Sources<Option<V>>) -> bool
     }
 }
 
-/// Whether nothing is answered beside the block of a node.
-fn has_nothing_beside<V: Copy>(node: &Node<Option<V>>) -> bool
-    ensures yes { result ≡ true → 0 < node.now.skip → node.now.outside ≡ Constant None }
-{
-    node.skip == 0 || answers_nothing(node.outside)
-}
-
-/// The bits that are left in the block of a node, and its place.
-fn block_of_node<V: Copy>(
-    node: &Node<Option<V>>,
-    family: Family,
-    bits: u8,
-    place: u128,
-) -> (u8, u128)
-    requires skip { node.now.skip < bits }
-    requires bits { bits ≤ width_of family }
-    requires place { place < 2 ^ (width_of family - bits) }
-    ensures bits { result.0 ≡ bits - node.now.skip }
-    ensures place { result.1 ≡ place * 2 ^ node.now.skip + node.now.path % 2 ^ node.now.skip }
-    ensures inside { result.1 < 2 ^ (width_of family - result.0) }
-{
-    let first = shifted(place, node.skip, family);
-    (bits - node.skip, first + node.path % bit_at(node.skip))
-}
-
 /// Puts out the row of one destination prefix and the sources of a block, where something is
 /// answered there.
 fn push_constant<V: Copy, S: Sink<V>>(
     constant: Option<V>,
     family: Family,
     dst: Prefix,
-    bits: u8,
-    place: u128,
+    block: SourceBlock,
     out: &mut S,
-) -> Result<(), S::Error>
-    requires dst_family { dst.address.family ≡ family }
-    requires bits { bits ≤ width_of family }
-    requires place { place < 2 ^ (width_of family - bits) }
-    requires can { S.can_put out.old }
-    ensures can { OnOk result (S.can_put out.new) }
-    ensures ok { OnOk result ((t : Shape (Option V)) (start : S) (rows : List (Entry V))
-        → leaf constant ≡ t → S.has start out.old rows
-        → S.has start out.new (rows ++ map (entry_at family)
-        (rows_at (block_of dst) (leaves (width_of family) bits place t)))) }
-    ensures err { OnErr result ((t : Shape (Option V)) (start : S) (rows : List (Entry V))
-        → leaf constant ≡ t → S.has start out.old rows
-        → StopsAmong (S.stopped start out.new) rows (map (entry_at family)
-        (rows_at (block_of dst) (leaves (width_of family) bits place t)))) }
-{
+) -> Result<(), S::Error> {
     let Some(value) = constant else {
         return Ok(());
     };
-    out.put((dst, node_prefix(family, bits, place), value))?;
+    out.put((dst, block_prefix(family, block.start, block.bits), value))?;
     Ok(())
 }
 
 impl<V: LawfulOrd> Table<Option<V>> {
     /// Puts out the rows of one destination prefix and the sources of a block, in order.
-    #[cycle(push_rows)]
-    fn push_sources<S: Sink<V>>(
+    #[cycle(push_sources)]
+    pub fn push_sources<S: Sink<V>>(
         &self,
-        sources: &Sources<Option<V>>,
+        sources: Sources<Option<V>>,
         family: Family,
         dst: Prefix,
-        bits: u8,
-        place: u128,
+        block: SourceBlock,
         out: &mut S,
-    ) -> Result<(), S::Error>
-        requires trie { HasTrie bits self.now.nodes.items sources.now }
-        requires dst_family { dst.address.family ≡ family }
-        requires bits { bits ≤ width_of family }
-        requires place { place < 2 ^ (width_of family - bits) }
-        requires can { S.can_put out.old }
-        ensures can { OnOk result (S.can_put out.new) }
-        ensures ok { OnOk result ((t : Shape (Option V)) (start : S) (rows : List (Entry V))
-            → Represents self.now.nodes.items sources.now t → S.has start out.old rows
-            → S.has start out.new (rows ++ map (entry_at family)
-            (rows_at (block_of dst) (leaves (width_of family) bits place t)))) }
-        ensures err { OnErr result ((t : Shape (Option V)) (start : S) (rows : List (Entry V))
-            → Represents self.now.nodes.items sources.now t → S.has start out.old rows
-            → StopsAmong (S.stopped start out.new) rows (map (entry_at family)
-            (rows_at (block_of dst) (leaves (width_of family) bits place t)))) }
-    {
+    ) -> Result<(), S::Error> {
         match sources {
-            Sources::Constant(constant) => push_constant(*constant, family, dst, bits, place, out),
+            Sources::Constant(constant) => push_constant(constant, family, dst, block, out),
             Sources::Stored(number) => {
                 let node = &self.nodes()[number.index()];
-                self.push_node(node, family, dst, bits, place, out)
+                let block = match node.outside {
+                    None => node.block(),
+                    Some(_) => block,
+                };
+                self.push_node(node, family, dst, block, out)
             }
         }
     }
 
-    /// The same of the sources that a node stands for: where nothing is answered beside its block,
-    /// of the two halves of that.
-    #[cycle(push_rows)]
+    /// The same of what a node says in its block or one around it.
+    #[cycle(push_sources)]
     fn push_node<S: Sink<V>>(
         &self,
         node: &Node<Option<V>>,
         family: Family,
         dst: Prefix,
-        bits: u8,
-        place: u128,
+        block: SourceBlock,
         out: &mut S,
-    ) -> Result<(), S::Error>
-        requires trie { IsTrie bits self.now.nodes.items (Split node.now) }
-        requires dst_family { dst.address.family ≡ family }
-        requires bits { bits ≤ width_of family }
-        requires place { place < 2 ^ (width_of family - bits) }
-        requires can { S.can_put out.old }
-        ensures can { OnOk result (S.can_put out.new) }
-        ensures ok { OnOk result ((t : Shape (Option V)) (start : S) (rows : List (Entry V))
-            → Stands self.now.nodes.items (Split node.now) t → S.has start out.old rows
-            → S.has start out.new (rows ++ map (entry_at family)
-            (rows_at (block_of dst) (leaves (width_of family) bits place t)))) }
-        ensures err { OnErr result ((t : Shape (Option V)) (start : S) (rows : List (Entry V))
-            → Stands self.now.nodes.items (Split node.now) t → S.has start out.old rows
-            → StopsAmong (S.stopped start out.new) rows (map (entry_at family)
-            (rows_at (block_of dst) (leaves (width_of family) bits place t)))) }
-    {
-        if has_nothing_beside(node) {
-            let (bits, place) = block_of_node(node, family, bits, place);
-            let (low_place, high_place) = places(family, bits, place);
-            self.push_sources(&node.low, family, dst, bits - 1, low_place, out)?;
-            return self.push_sources(&node.high, family, dst, bits - 1, high_place, out);
+    ) -> Result<(), S::Error> {
+        if node.bits == block.bits {
+            self.push_sources(node.low, family, dst, block.low(), out)?;
+            return self.push_sources(node.high, family, dst, block.high(), out);
         }
-        let (low, high) = self.halves(Loose::Split(*node));
-        let (low_place, high_place) = places(family, bits, place);
-        self.push_rows(&low, family, dst, bits - 1, low_place, out)?;
-        self.push_rows(&high, family, dst, bits - 1, high_place, out)
-    }
-
-    /// The same of sources that are not stored.
-    #[cycle(push_rows)]
-    pub fn push_rows<S: Sink<V>>(
-        &self,
-        whole: &Loose<Option<V>>,
-        family: Family,
-        dst: Prefix,
-        bits: u8,
-        place: u128,
-        out: &mut S,
-    ) -> Result<(), S::Error>
-        requires trie { IsTrie bits self.now.nodes.items whole.now }
-        requires dst_family { dst.address.family ≡ family }
-        requires bits { bits ≤ width_of family }
-        requires place { place < 2 ^ (width_of family - bits) }
-        requires can { S.can_put out.old }
-        ensures can { OnOk result (S.can_put out.new) }
-        ensures ok { OnOk result ((t : Shape (Option V)) (start : S) (rows : List (Entry V))
-            → Stands self.now.nodes.items whole.now t → S.has start out.old rows
-            → S.has start out.new (rows ++ map (entry_at family)
-            (rows_at (block_of dst) (leaves (width_of family) bits place t)))) }
-        ensures err { OnErr result ((t : Shape (Option V)) (start : S) (rows : List (Entry V))
-            → Stands self.now.nodes.items whole.now t → S.has start out.old rows
-            → StopsAmong (S.stopped start out.new) rows (map (entry_at family)
-            (rows_at (block_of dst) (leaves (width_of family) bits place t)))) }
-    {
-        match whole {
-            Loose::Same(constant) => push_constant(*constant, family, dst, bits, place, out),
-            Loose::Split(node) => self.push_node(node, family, dst, bits, place, out),
+        if node.start < block.middle() {
+            self.push_node(node, family, dst, block.low(), out)?;
+            return push_constant(node.outside, family, dst, block.high(), out);
         }
-    }
-
-    /// Puts out the rows of one destination prefix and any source, in order: one row where one value
-    /// is answered for all sources.
-    fn push_block<S: Sink<V>>(
-        &self,
-        whole: Loose<Option<V>>,
-        family: Family,
-        dst: Prefix,
-        out: &mut S,
-    ) -> Result<(), S::Error>
-        requires trie { IsTrie (width_of family) self.now.nodes.items whole }
-        requires dst_family { dst.address.family ≡ family }
-        requires can { S.can_put out.old }
-        ensures can { OnOk result (S.can_put out.new) }
-        ensures ok { OnOk result ((t : Shape (Option V)) (start : S) (rows : List (Entry V))
-            → Stands self.now.nodes.items whole t → S.has start out.old rows
-            → S.has start out.new (rows ++ map (entry_at family)
-            (rows_at (block_of dst) (leaves (width_of family) (width_of family) 0 t)))) }
-        ensures err { OnErr result ((t : Shape (Option V)) (start : S) (rows : List (Entry V))
-            → Stands self.now.nodes.items whole t → S.has start out.old rows
-            → StopsAmong (S.stopped start out.new) rows (map (entry_at family)
-            (rows_at (block_of dst) (leaves (width_of family) (width_of family) 0 t)))) }
-    {
-        let Loose::Same(constant) = whole else {
-            return self.push_rows(&whole, family, dst, family.width(), 0, out);
-        };
-        let Some(value) = constant else {
-            return Ok(());
-        };
-        out.put((dst, Prefix::whole(family), value))?;
-        Ok(())
+        push_constant(node.outside, family, dst, block.low(), out)?;
+        self.push_node(node, family, dst, block.high(), out)
     }
 
     /// Puts out the rows of the largest blocks from one destination to another, in order, all with
@@ -308,12 +138,12 @@ impl<V: LawfulOrd> Table<Option<V>> {
             (sources_at (width_of family) self.now.nodes.items sources)
             (largest_in (width_of family) from last))))) }
     {
-        let whole = self.opened(sources);
+        let whole = SourceBlock::whole(family.width());
         let mut at = from;
         loop {
             let bits = first_bits(at, last);
             let dst = block_prefix(family, at, bits);
-            self.push_block(whole, family, dst, out)?;
+            self.push_sources(sources, family, dst, whole, out)?;
             let end = last_address(at, bits);
             if end == last {
                 return Ok(());

@@ -343,7 +343,7 @@ impl<V: LawfulOrd> Table<Option<V>> {
         let mut due = first_due(most);
         loop {
             if due <= list.len() && FEW_NODES <= self.nodes().len() {
-                if self.early_count(alloc, &list)? > most {
+                if self.early_count(alloc, &list, width)? > most {
                     return Ok(None);
                 }
                 due = list.len().saturating_mul(2);
