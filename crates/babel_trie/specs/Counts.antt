@@ -1,8 +1,8 @@
 -- How many leaves with a value the tries of a table have: this project's own.
-use Rattle.std.specs.Prelude.{◌≡◌, ℕ, ◌+◌, ◌*◌, ◌-◌, ◌^◌, min, List, length, get_or, Option, Some}
+use Rattle.std.specs.Prelude.{◌≡◌, ℕ, ◌+◌, ◌*◌, ◌-◌, ◌^◌, min, List, length, get_or, slice_get, Option, Some}
 use Rattle.std.specs.Prelude.{None}
 use Rattle.babel_trie.specs.Shape.{Shape, leaf, fork}
-use Rattle.babel_trie.specs.Interned.{Represents}
+use Rattle.babel_trie.specs.Interned.{IsIn, RepresentsIn}
 use Rattle.babel_trie.specs.Sound.{IsBelow}
 use Rattle.babel_trie.specs.declared.table.Node.{Node}
 use Rattle.babel_trie.specs.declared.table.Sources.{Sources}
@@ -19,21 +19,27 @@ module _ {V : Type 0} where
   value_count (leaf (Some v)) = 1
   value_count (fork low high) = value_count low + value_count high
 
-  -- the same, from the counts of the nodes
-  abbrev pub sources_count : List ℕ → Sources (Option V) → ℕ
-  sources_count counts (Constant None) = 0
-  sources_count counts (Constant (Some v)) = 1
-  sources_count counts (Stored number) = get_or counts number.0 0
+  -- one value, or none
+  abbrev pub one_if_some : Option V → ℕ
+  one_if_some None = 0
+  one_if_some (Some v) = 1
 
-  -- the same of a node, from the counts of those before it
-  abbrev pub node_count : List ℕ → Node (Option V) → ℕ
-  node_count counts node =
-      capped (node.skip * sources_count counts node.outside
-      + (sources_count counts node.low + sources_count counts node.high))
+  -- the leaves of a node in a block of so many bits, by how many it has in its own: beside that one
+  -- for each bit by which it is smaller
+  abbrev pub count_around : ℕ → ℕ → Option (Node (Option V)) → ℕ
+  count_around bits count None = count
+  count_around bits count (Some node) =
+      capped (count + one_if_some node.outside * (bits - node.bits))
+
+  -- the same of sources, by the nodes and their counts
+  abbrev pub sources_count : List (Node (Option V)) → List ℕ → ℕ → Sources (Option V) → ℕ
+  sources_count nodes counts bits (Constant v) = one_if_some v
+  sources_count nodes counts bits (Stored number) =
+      count_around bits (get_or counts number.0 0) (slice_get nodes number.0)
 
   -- the counts of the nodes up to a number
   pub record AreCounted (nodes : List (Node (Option V))) (n : ℕ) (counts : List ℕ) : Type 0 where
     pub len : length counts ≡ n
-    pub each : (s : Sources (Option V)) (t : Shape (Option V)) → IsBelow n s →
-        Represents nodes s t →
-        sources_count counts s ≡ capped (value_count t)
+    pub each : (bits start : ℕ) (s : Sources (Option V)) (t : Shape (Option V)) → IsBelow n s →
+        IsIn None nodes bits start s → RepresentsIn None nodes bits start s t →
+        sources_count nodes counts bits s ≡ capped (value_count t)

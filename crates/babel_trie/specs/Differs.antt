@@ -1,5 +1,5 @@
 -- The first place at which two functions differ: this project's own.
-use Rattle.std.specs.Prelude.{◌≡◌, ◌≢◌, ℕ, ◌<◌, Option, MatchOption}
+use Rattle.std.specs.Prelude.{◌≡◌, ◌≢◌, ℕ, ◌-◌, ◌<◌, ◌≤◌, Option, MatchOption}
 use Rattle.babel_trie.specs.Boxes.{Answers}
 
 module _ {X : Type 0} where
@@ -16,6 +16,11 @@ module _ {X : Type 0} where
   -- the first difference below n, or none
   abbrev pub IsFirstDifference : ℕ → (ℕ → X) → (ℕ → X) → Option ℕ → Type 0
   IsFirstDifference n f g found = MatchOption found (AgreeBelow n f g) (DifferFirst n f g)
+
+  -- the first difference of n numbers, by how far it is from this one, or none
+  abbrev pub IsFirstFrom : ℕ → ℕ → (ℕ → X) → (ℕ → X) → Option ℕ → Type 0
+  IsFirstFrom start n f g found = MatchOption found (AgreeBelow n f g)
+      (λ at. (start ≤ at) × DifferFirst n f g (at - start))
 
 module _ {V : Type 0} where
   -- the two agree for each destination below n and each source below m

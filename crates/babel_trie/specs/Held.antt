@@ -1,39 +1,54 @@
 -- The trie that sources stand for, and the order of rows: this project's own.
-use Rattle.std.specs.Prelude.{◌≡◌, ℕ, suc, zero, ◌%◌, ◌^◌, cond, List, Option, Some, None}
+use Rattle.std.specs.Prelude.{◌≡◌, ℕ, suc, zero, ◌+◌, ◌^◌, ◌==◌, nat_lt, cond, List, Option, Some}
+use Rattle.std.specs.Prelude.{None}
 use Rattle.std.specs.List.{slice_get}
 use Rattle.babel_prefix.specs.Address.{block_of}
 use Rattle.babel_prefix.specs.Entries.{Entry}
 use Rattle.babel_trie.specs.Rows.{IsNoLater}
-use Rattle.babel_trie.specs.Shape.{Shape, leaf, fork, is_low}
+use Rattle.babel_trie.specs.Interned.{inside_of, RepresentsIn, HasTrieIn}
+use Rattle.babel_trie.specs.Shape.{Shape, leaf, fork}
+use Rattle.babel_trie.specs.declared.table.Loose.{Loose}
+use Rattle.babel_trie.specs.declared.table.Loose.TheVariants.{Same, Split}
 use Rattle.babel_trie.specs.declared.table.Node.{Node}
 use Rattle.babel_trie.specs.declared.table.Sources.{Sources}
 use Rattle.babel_trie.specs.declared.table.Sources.TheVariants.{Constant, Stored}
 
-module _ {V : Type 0} where
-  -- a trie inside a block that a path of some bits leads to, and another beside it
-  abbrev pub along : ℕ → ℕ → Shape V → Shape V → Shape V
-  along zero path outside inside = inside
-  along (suc skip) path outside inside =
-      cond (is_low (suc skip) path) (fork (along skip (path % 2 ^ skip) outside inside) outside)
-      (fork outside (along skip (path % 2 ^ skip) outside inside))
+module _ {V : Type 0} (other : V) (nodes : List (Node V)) where
+  -- what the sources are, and some value where there is no node
+  abbrev pub split_or : Option (Node V) → Loose V
+  split_or None = Same other
+  split_or (Some node) = Split node
 
-  -- a node by the tries of what it names, with some value where there is no node
-  abbrev pub node_trie : V → (Sources V → Shape V) → Option (Node V) → Shape V
-  node_trie other trie None = leaf other
-  node_trie other trie (Some node) =
-      along node.skip node.path (trie node.outside) (fork (trie node.low) (trie node.high))
+  abbrev pub opened : Sources V → Loose V
+  opened (Constant v) = Same v
+  opened (Stored number) = split_or (slice_get nodes number.0)
 
-  -- the trie that they stand for, through so many nodes
-  abbrev pub trie_at : V → List (Node V) → ℕ → Sources V → Shape V
-  trie_at other nodes zero s = leaf other
-  trie_at other nodes (suc rest) (Constant v) = leaf v
-  trie_at other nodes (suc rest) (Stored number) =
-      node_trie other (trie_at other nodes rest) (slice_get nodes number.0)
+  -- the trie that it stands for in the block of so many bits from this address on
+  abbrev pub trie_at : ℕ → ℕ → Loose V → Shape V
+  trie_at bits start (Same v) = leaf v
+  trie_at zero start (Split node) = leaf other
+  trie_at (suc bits) start (Split node) =
+      cond (node.bits == suc bits)
+      (fork (trie_at bits start (opened node.low)) (trie_at bits (start + 2 ^ bits)
+      (opened node.high)))
+      (cond (nat_lt node.start (start + 2 ^ bits))
+      (fork (trie_at bits start (Split (inside_of other bits node))) (leaf node.outside))
+      (fork (leaf node.outside) (trie_at bits (start + 2 ^ bits)
+      (Split (inside_of other bits node)))))
 
 module _ {V : Type 0} where
   -- the trie of sources that they stand for
   abbrev pub sources_at : ℕ → List (Node (Option V)) → Sources (Option V) → Shape (Option V)
-  sources_at w nodes s = trie_at None nodes (suc w) s
+  sources_at w nodes s = trie_at None nodes w 0 (opened None nodes s)
+
+  -- they stand for the trie, of all sources of this width
+  abbrev pub Represents : ℕ → List (Node (Option V)) → Sources (Option V) → Shape (Option V) →
+      Type 0
+  Represents w nodes = RepresentsIn None nodes w 0
+
+  -- they stand for a reduced trie of all sources of this width
+  abbrev pub HasTrie : ℕ → List (Node (Option V)) → Sources (Option V) → Type 0
+  HasTrie w nodes = HasTrieIn None nodes w 0
 
   -- the place of a row by the starts and lengths of its destination and its source
   abbrev pub row_place : Entry V → (ℕ × ℕ) × (ℕ × ℕ)

@@ -1,14 +1,20 @@
--- Tries as constants and numbers of a table of nodes: this project's own.
-use Rattle.std.specs.Prelude.{◌≡◌, ◌↔◌, ◌⊎◌, ℕ, zero, suc, ◌+◌, ◌-◌, ◌%◌, ◌^◌, ◌<◌, ◌≤◌, ◌==◌, Bool, cond}
-use Rattle.std.specs.Prelude.{true, false, max, List, Some}
+-- Tries as constants and numbers of a table of nodes, each of which names its block: this project's
+-- own.
+use Rattle.std.specs.Prelude.{◌≡◌, ◌↔◌, ◌⊎◌, ℕ, ◌+◌, ◌-◌, ◌^◌, ◌<◌, ◌≤◌, ◌==◌, cond}
+use Rattle.std.specs.Prelude.{max, List, Some}
 use Rattle.std.specs.Prelude.{slice_get}
-use Rattle.babel_trie.specs.Shape.{Shape, leaf, fork, is_low, height, HasHalves, IsReduced}
+use Rattle.babel_trie.specs.Rows.{IsPlace}
+use Rattle.babel_trie.specs.Shape.{Shape, leaf, fork, height, HasHalves, IsReduced}
 use Rattle.babel_trie.specs.declared.table.Loose.{Loose}
 use Rattle.babel_trie.specs.declared.table.Loose.TheVariants.{Same, Split}
 use Rattle.babel_trie.specs.declared.table.Node.{Node}
 use Rattle.babel_trie.specs.declared.table.NodeNumber.{NodeNumber}
 use Rattle.babel_trie.specs.declared.table.Sources.{Sources}
 use Rattle.babel_trie.specs.declared.table.Sources.TheVariants.{Constant, Stored}
+
+-- where the upper half of a block starts
+abbrev pub middle_of : ℕ → ℕ → ℕ
+middle_of bits start = start + 2 ^ (bits - 1)
 
 module _ {V : Type 0} where
   -- what the sources are, without the table
@@ -17,96 +23,138 @@ module _ {V : Type 0} where
   Opens nodes (Stored number) x =
       (node : Node V) × (slice_get nodes number.0 ≡ Some node) × (x ≡ Split node)
 
-  -- the node from one bit further on its path, which is at its block once no bit is left
-  abbrev pub inner : Node V → Node V
-  inner node = record {
-    skip = node.skip - 1;
-    path = node.path % 2 ^ (node.skip - 1);
-    outside = cond (node.skip == 1) node.low node.outside;
+  -- the node with this value beside its block
+  abbrev pub with_outside : V → Node V → Node V
+  with_outside v node = record {
+    bits = node.bits;
+    start = node.start;
+    outside = v;
     low = node.low;
     high = node.high;
   }
 
-  -- the halves of a node: at its block those that it names, and on its path to the block the rest
-  -- of the path, and what is beside it
-  abbrev pub HaveHalves : List (Node V) → Node V → Loose V → Loose V → Type 0
-  HaveHalves nodes node low high =
-      ((node.skip ≡ 0) × Opens nodes node.low low × Opens nodes node.high high)
-      ⊎ ((0 < node.skip) × (is_low node.skip node.path ≡ true) × (low ≡ Split (inner node))
-      × Opens nodes node.outside high)
-      ⊎ ((0 < node.skip) × (is_low node.skip node.path ≡ false) × Opens nodes node.outside low
-      × (high ≡ Split (inner node)))
+  -- what a node says in a block of so many bits: where that is its own, nothing beside it is asked
+  abbrev pub inside_of : V → ℕ → Node V → Node V
+  inside_of nothing bits node = cond (node.bits == bits) (with_outside nothing node) node
 
-  -- the same, of one half inside, the lower or the upper, and the other beside it
-  abbrev pub HaveHalvesBy : Bool → List (Node V) → Node V → Loose V → Loose V → Type 0
-  HaveHalvesBy low nodes node inside beside =
-      HaveHalves nodes node (cond low inside beside) (cond low beside inside)
+  abbrev pub loose_inside : V → ℕ → Loose V → Loose V
+  loose_inside nothing bits (Same v) = Same v
+  loose_inside nothing bits (Split node) = Split (inside_of nothing bits node)
 
-  abbrev pub HalvesAt : List (Node V) → Loose V → Loose V → Loose V → Type 0
-  HalvesAt nodes (Same v) low high = ⊥
-  HalvesAt nodes (Split node) low high = HaveHalves nodes node low high
+-- the halves of a block, of which a node says the rest: those that it names, where the block is its
+-- own, and else the node in the half where its block is, and in the other the value beside it
+module _ {V : Type 0} (nothing : V) (nodes : List (Node V)) where
+  abbrev pub HaveHalves : ℕ → ℕ → Node V → Loose V → Loose V → Type 0
+  HaveHalves bits start node low high =
+      ((node.bits ≡ bits) × Opens nodes node.low low × Opens nodes node.high high)
+      ⊎ ((node.bits < bits) × (node.start < middle_of bits start)
+      × (low ≡ Split (inside_of nothing (bits - 1) node)) × (high ≡ Same node.outside))
+      ⊎ ((node.bits < bits) × (middle_of bits start ≤ node.start) × (low ≡ Same node.outside)
+      × (high ≡ Split (inside_of nothing (bits - 1) node)))
 
-  -- it stands for the trie
-  abbrev pub Stands : List (Node V) → Loose V → Shape V → Type 0
-  Stands nodes x (leaf v) = x ≡ Same v
-  Stands nodes x (fork low high) =
-      (l : Loose V) × (h : Loose V) × HalvesAt nodes x l h × Stands nodes l low
-      × Stands nodes h high
+  abbrev pub HalvesAt : ℕ → ℕ → Loose V → Loose V → Loose V → Type 0
+  HalvesAt bits start (Same v) low high = ⊥
+  HalvesAt bits start (Split node) low high = (0 < bits) × HaveHalves bits start node low high
 
-  -- they stand for the trie
-  abbrev pub Represents : List (Node V) → Sources V → Shape V → Type 0
-  Represents nodes s t = (x : Loose V) × Opens nodes s x × Stands nodes x t
+  -- in the block it stands for the trie
+  abbrev pub StandsIn : ℕ → ℕ → Loose V → Shape V → Type 0
+  StandsIn bits start x (leaf v) = x ≡ Same v
+  StandsIn bits start x (fork low high) =
+      (l : Loose V) × (h : Loose V) × HalvesAt bits start x l h
+      × StandsIn (bits - 1) start l low × StandsIn (bits - 1) (middle_of bits start) h high
 
-  -- what a stored node is from some bits further on its path, or the constant
-  abbrev pub further : ℕ → Node V → Node V
-  further zero node = node
-  further (suc passed) node = inner (further passed node)
+  -- in the block they stand for the trie
+  abbrev pub RepresentsIn : ℕ → ℕ → Sources V → Shape V → Type 0
+  RepresentsIn bits start s t = (x : Loose V) × Opens nodes s x × StandsIn bits start x t
 
-  abbrev pub OpensFrom : List (Node V) → Sources V → ℕ → Loose V → Type 0
-  OpensFrom nodes (Constant v) passed x = x ≡ Same v
-  OpensFrom nodes (Stored number) passed x =
-      (node : Node V) × (slice_get nodes number.0 ≡ Some node) × (passed ≤ node.skip)
-      × (x ≡ Split (further passed node))
+  -- the block of the node lies in this one; where it is this one, nothing beside it is said
+  pub record IsNodeIn (bits start : ℕ) (node : Node V) : Type 0 where
+    pub bits_in : node.bits ≤ bits
+    pub from_start : start ≤ node.start
+    pub before_end : node.start + 2 ^ node.bits ≤ start + 2 ^ bits
+    pub nothing_beside : node.bits ≡ bits → node.outside ≡ nothing
 
-  -- a bit more fits on its path
-  abbrev pub FitsPath : Loose V → Type 0
-  FitsPath (Same v) = Unit {0}
-  FitsPath (Split node) = (node.skip < 127) × (node.path < 2 ^ node.skip)
+  abbrev pub IsLooseIn : ℕ → ℕ → Loose V → Type 0
+  IsLooseIn bits start (Same v) = Unit {0}
+  IsLooseIn bits start (Split node) = IsNodeIn bits start node
 
-  -- beside one value the other half has a path of its own, on which another value is beside it
-  abbrev pub IsNoLonger : List (Node V) → Sources V → Sources V → Type 0
-  IsNoLonger nodes s other =
+  -- they are one value, or a node in the block
+  abbrev pub IsIn : ℕ → ℕ → Sources V → Type 0
+  IsIn bits start (Constant v) = Unit {0}
+  IsIn bits start (Stored number) =
+      (node : Node V) × (slice_get nodes number.0 ≡ Some node) × IsNodeIn bits start node
+
+  -- beside one value the other half is a node of a smaller block, with another value beside it
+  abbrev pub IsNoLarger : ℕ → Sources V → Sources V → Type 0
+  IsNoLarger bits s other =
       (v : V) (number : NodeNumber) → s ≡ Constant v → other ≡ Stored number →
-      (node : Node V) × (slice_get nodes number.0 ≡ Some node) × (0 < node.skip)
-      × (node.outside ≡ Constant v → ⊥)
+      (node : Node V) × (slice_get nodes number.0 ≡ Some node) × (node.bits < bits)
+      × (node.outside ≡ v → ⊥)
 
-  -- the one form of a node: the path is as long as it can be, and says nothing twice
-  pub record IsNormal (nodes : List (Node V)) (node : Node V) : Type 0 where
-    pub path_in : node.path < 2 ^ node.skip
-    pub none_outside : node.skip ≡ 0 → node.outside ≡ node.low
-    pub one_outside : 0 < node.skip → (v : V) × (node.outside ≡ Constant v)
+  -- the one form of a node: its halves lie in those of its block, and there is no smaller block
+  -- beside which it says one value
+  pub record IsNormal (node : Node V) : Type 0 where
+    pub some : 0 < node.bits
+    pub place : IsPlace 128 node.bits node.start
+    pub low_in : IsIn (node.bits - 1) node.start node.low
+    pub high_in : IsIn (node.bits - 1) (middle_of node.bits node.start) node.high
     pub halves_differ : (v : V) → node.low ≡ Constant v → node.high ≡ Constant v → ⊥
-    pub low_no_longer : IsNoLonger nodes node.low node.high
-    pub high_no_longer : IsNoLonger nodes node.high node.low
+    pub low_no_larger : IsNoLarger (node.bits - 1) node.low node.high
+    pub high_no_larger : IsNoLarger (node.bits - 1) node.high node.low
 
-  abbrev pub IsNormalLoose : List (Node V) → Loose V → Type 0
-  IsNormalLoose nodes (Same v) = Unit {0}
-  IsNormalLoose nodes (Split node) = IsNormal nodes node
+  abbrev pub IsNormalLoose : Loose V → Type 0
+  IsNormalLoose (Same v) = Unit {0}
+  IsNormalLoose (Split node) = IsNormal node
 
   -- it has these halves and its one form, or is the one value that both are
-  abbrev pub AreUnited : List (Node V) → Loose V → Loose V → Loose V → Type 0
-  AreUnited nodes low high x =
+  abbrev pub AreUnited : ℕ → ℕ → Loose V → Loose V → Loose V → Type 0
+  AreUnited bits start low high x =
       ((v : V) × (low ≡ Same v) × (high ≡ Same v) × (x ≡ Same v))
-      ⊎ (HalvesAt nodes x low high × IsNormalLoose nodes x)
+      ⊎ (HalvesAt bits start x low high × IsLooseIn bits start x × IsNormalLoose x)
 
-  -- no value is beside a path that it would make longer, and not both are one value
-  abbrev pub IsBesidePath : Loose V → Loose V → Type 0
-  IsBesidePath x y = (v : V) (node : Node V) → x ≡ Same v → y ≡ Split node →
-      (0 < node.skip) × (node.outside ≡ Constant v → ⊥)
+  -- it stands for the trie that has these halves
+  pub record IsJoined (bits start : ℕ) (x : Loose V) (low high : Shape V) : Type 0 where
+    pub whole : Shape V
+    pub stands : StandsIn bits start x whole
+    pub halves : HasHalves whole low high
+    pub lower : height whole ≤ max (height low) (height high) + 1
+    pub reduced : IsReduced low → IsReduced high → IsReduced whole
 
-  abbrev pub AreApart : Loose V → Loose V → Type 0
-  AreApart low high =
-      ((v w : V) → low ≡ Same v → high ≡ Same w → ⊥) × IsBesidePath low high × IsBesidePath high low
+  -- it stands for a reduced trie that looks at no more than the bits of the block
+  pub record IsTrie (bits start : ℕ) (x : Loose V) : Type 0 where
+    pub trie : Shape V
+    pub stands : StandsIn bits start x trie
+    pub fits : height trie ≤ bits
+    pub reduced : IsReduced trie
+
+  -- they stand for a reduced trie that looks at no more than the bits of the block
+  pub record HasTrieIn (bits start : ℕ) (s : Sources V) : Type 0 where
+    pub trie : Shape V
+    pub stands : RepresentsIn bits start s trie
+    pub fits : height trie ≤ bits
+    pub reduced : IsReduced trie
+
+  -- the two stand for the halves of the trie
+  pub record IsHalved (bits start : ℕ) (t : Shape V) (low high : Loose V) : Type 0 where
+    pub low_half : Shape V
+    pub high_half : Shape V
+    pub low_stands : StandsIn (bits - 1) start low low_half
+    pub high_stands : StandsIn (bits - 1) (middle_of bits start) high high_half
+    pub halves : HasHalves t low_half high_half
+    pub low_lower : height low_half ≤ height t - 1
+    pub high_lower : height high_half ≤ height t - 1
+    pub reduced : IsReduced t → IsReduced low_half × IsReduced high_half
+
+module _ {V : Type 0} where
+  -- no value beside which it has no larger block is beside a node, and not both are one value
+  abbrev pub IsBesideNode : ℕ → Loose V → Loose V → Type 0
+  IsBesideNode bits x y = (v : V) (node : Node V) → x ≡ Same v → y ≡ Split node →
+      (node.bits ≡ bits → ⊥) × (node.outside ≡ v → ⊥)
+
+  abbrev pub AreApart : ℕ → Loose V → Loose V → Type 0
+  AreApart bits low high =
+      ((v w : V) → low ≡ Same v → high ≡ Same w → ⊥) × IsBesideNode bits low high
+      × IsBesideNode bits high low
 
   -- no node stands twice
   abbrev pub HasDistinctNodes : List (Node V) → Type 0
@@ -115,60 +163,20 @@ module _ {V : Type 0} where
       i ≡ j
 
   -- no node stands twice, and each has its one form
-  pub record HasOneForm (nodes : List (Node V)) : Type 0 where
+  pub record HasOneForm (nothing : V) (nodes : List (Node V)) : Type 0 where
     pub distinct : HasDistinctNodes nodes
-    pub normal : (i : ℕ) (node : Node V) → slice_get nodes i ≡ Some node → IsNormal nodes node
+    pub normal : (i : ℕ) (node : Node V) → slice_get nodes i ≡ Some node →
+        IsNormal nothing nodes node
 
-  -- equal tries have equal sources, and equal sources stand for equal tries
-  abbrev pub SourcesAreExact : List (Node V) → Type 0
-  SourcesAreExact nodes =
-      (r s : Sources V) (t u : Shape V) → Represents nodes r t → Represents nodes s u →
-      (r ≡ s) ↔ (t ≡ u)
-
-  -- it stands for the trie that has these halves
-  pub record IsJoined (nodes : List (Node V)) (x : Loose V) (low high : Shape V) : Type 0 where
-    pub whole : Shape V
-    pub stands : Stands nodes x whole
-    pub halves : HasHalves whole low high
-    pub lower : height whole ≤ max (height low) (height high) + 1
-    pub reduced : IsReduced low → IsReduced high → IsReduced whole
-
-  -- it stands for the joined trie, whatever tries the two stand for
-  abbrev pub Joins : List (Node V) → Loose V → Loose V → List (Node V) → Loose V → Type 0
-  Joins old low high new x =
-      (l h : Shape V) → Stands old low l → Stands old high h → IsJoined new x l h
-
-  -- the same, of one half inside, the lower or the upper, and the other beside it
-  abbrev pub JoinsBy : Bool → List (Node V) → Loose V → Loose V → List (Node V) → Loose V → Type 0
-  JoinsBy low old inside beside new x =
-      Joins old (cond low inside beside) (cond low beside inside) new x
-
-  -- it stands for a reduced trie that looks at no more than this many bits
-  pub record IsTrie (bits : ℕ) (nodes : List (Node V)) (x : Loose V) : Type 0 where
-    pub trie : Shape V
-    pub stands : Stands nodes x trie
-    pub fits : height trie ≤ bits
-    pub reduced : IsReduced trie
-
-  -- they stand for a reduced trie that looks at no more than this many bits
-  pub record HasTrie (bits : ℕ) (nodes : List (Node V)) (s : Sources V) : Type 0 where
-    pub trie : Shape V
-    pub stands : Represents nodes s trie
-    pub fits : height trie ≤ bits
-    pub reduced : IsReduced trie
-
-  -- the two stand for the halves of the trie
-  pub record IsHalved (nodes : List (Node V)) (t : Shape V) (low high : Loose V) : Type 0 where
-    pub low_half : Shape V
-    pub high_half : Shape V
-    pub low_stands : Stands nodes low low_half
-    pub high_stands : Stands nodes high high_half
-    pub halves : HasHalves t low_half high_half
-    pub low_lower : height low_half ≤ height t - 1
-    pub high_lower : height high_half ≤ height t - 1
-    pub reduced : IsReduced t → IsReduced low_half × IsReduced high_half
+  -- in each block, equal tries have equal sources, and equal sources stand for equal tries
+  abbrev pub SourcesAreExact : V → List (Node V) → Type 0
+  SourcesAreExact nothing nodes =
+      (bits start : ℕ) (r s : Sources V) (t u : Shape V) → IsIn nothing nodes bits start r →
+      IsIn nothing nodes bits start s → RepresentsIn nothing nodes bits start r t →
+      RepresentsIn nothing nodes bits start s u → (r ≡ s) ↔ (t ≡ u)
 
 -- in a table with one form of each node, equal tries have equal sources, and equal sources stand
 -- for equal tries
 abbrev pub EqualTriesHaveEqualSources : Type 0 → Type 0
-EqualTriesHaveEqualSources V = (nodes : List (Node V)) → HasOneForm nodes → SourcesAreExact nodes
+EqualTriesHaveEqualSources V =
+    (nothing : V) (nodes : List (Node V)) → HasOneForm nothing nodes → SourcesAreExact nothing nodes

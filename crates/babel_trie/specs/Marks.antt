@@ -25,11 +25,11 @@ module _ {V : Type 0} where
   sources_mark mark (Constant v) = mark v
   sources_mark mark (Stored number) = number.0
 
-  abbrev pub node_mark : (Sources V → ℕ) → Node V → ℕ
-  node_mark mark node =
+  abbrev pub node_mark : (V → ℕ) → (Sources V → ℕ) → Node V → ℕ
+  node_mark outside mark node =
       stirred (stirred (stirred
-      (stirred (stirred (stirred 0 node.skip) (node.path % 2 ^ 64)) (node.path / 2 ^ 64))
-      (mark node.outside)) (mark node.low)) (mark node.high)
+      (stirred (stirred (stirred 0 node.bits) (node.start % 2 ^ 64)) (node.start / 2 ^ 64))
+      (outside node.outside)) (mark node.low)) (mark node.high)
 
   abbrev pub loose_mark : (V → ℕ) → (Node V → ℕ) → Loose V → ℕ
   loose_mark mark of_node (Same v) = mark v

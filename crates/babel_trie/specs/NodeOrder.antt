@@ -46,18 +46,19 @@ pub greater_is_not_equal : let o : Ordering = Greater in o ≡ Equal → ⊥
 greater_is_not_equal e = cc
 
 -- nodes whose fields compare as equal are one
-pub nodes_exact : {V : Type 0} (cmp : Sources V → Sources V → Ordering) →
-    ((r s : Sources V) → cmp r s ≡ Equal → r ≡ s) →
-    (a b : Node V) → node_cmp cmp a b ≡ Equal → a ≡ b
-nodes_exact {V} cmp exact a b e =
+pub nodes_exact : {V : Type 0} (value_cmp : V → V → Ordering)
+    (cmp : Sources V → Sources V → Ordering) →
+    ((v w : V) → value_cmp v w ≡ Equal → v ≡ w) → ((r s : Sources V) → cmp r s ≡ Equal → r ≡ s) →
+    (a b : Node V) → node_cmp value_cmp cmp a b ≡ Equal → a ≡ b
+nodes_exact {V} value_cmp cmp value_exact exact a b e =
     let all = exact_pairs nat_cmp _ exact_unsigned (exact_pairs nat_cmp _ exact_unsigned
-    (exact_pairs cmp _ exact (exact_pairs cmp cmp exact exact)))
-    (a.skip, (a.path, (a.outside, (a.low, a.high))))
-    (b.skip, (b.path, (b.outside, (b.low, b.high)))) e in
-    ap (λ (p : ℕ × (ℕ × (Sources V × (Sources V × Sources V)))).
+    (exact_pairs value_cmp _ value_exact (exact_pairs cmp cmp exact exact)))
+    (a.bits, (a.start, (a.outside, (a.low, a.high))))
+    (b.bits, (b.start, (b.outside, (b.low, b.high)))) e in
+    ap (λ (p : ℕ × (ℕ × (V × (Sources V × Sources V)))).
     let n : Node V = record {
-      skip = p.0;
-      path = p.1.0;
+      bits = p.0;
+      start = p.1.0;
       outside = p.1.1.0;
       low = p.1.1.1.0;
       high = p.1.1.1.1;

@@ -6,8 +6,7 @@ use Rattle.babel_prefix.specs.Address.{block_of}
 use Rattle.babel_prefix.specs.BestRow.{IsTable}
 use Rattle.babel_prefix.specs.Entries.{Entry, row_of}
 use Rattle.babel_prefix.specs.Members.{Listed}
-use Rattle.babel_trie.specs.Held.{RowOrder}
-use Rattle.babel_trie.specs.Interned.{HasTrie}
+use Rattle.babel_trie.specs.Held.{RowOrder, HasTrie}
 use Rattle.babel_trie.specs.Rows.{InOrder, Overlays}
 use Rattle.babel_trie.specs.Runs.{said_at, AreRuns, StartBelow, StartBehind}
 use Rattle.babel_trie.specs.Shape.{value_at}

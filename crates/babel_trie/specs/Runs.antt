@@ -3,9 +3,8 @@
 use Rattle.std.specs.Prelude.{◌≡◌, ◌≢◌, ℕ, ◌^◌, ◌<◌, ◌≤◌, cond, nat_le, List, [], ◌∷◌, Option}
 use Rattle.babel_prefix.specs.Members.{Listed}
 use Rattle.babel_trie.specs.Boxes.{Answers, SameAnswers}
-use Rattle.babel_trie.specs.Held.{sources_at}
+use Rattle.babel_trie.specs.Held.{sources_at, HasTrie}
 use Rattle.babel_trie.specs.Shape.{value_at}
-use Rattle.babel_trie.specs.Interned.{HasTrie}
 use Rattle.babel_trie.specs.declared.runs.Change.{Change}
 use Rattle.babel_trie.specs.declared.table.Node.{Node}
 use Rattle.babel_trie.specs.declared.table.Sources.{Sources}

@@ -45,11 +45,12 @@ module _ {F X : Type 0} where
 
 module _ {V : Type 0} where
   -- how many rows the spans have, by the counts of the nodes
-  abbrev pub counted_rows : ℕ → List ℕ → List (Span (Sources (Option V))) → ℕ
-  counted_rows w counts [] = 0
-  counted_rows w counts (s ∷ ss) =
-      length (largest_in w s.from s.last) * sources_count counts s.sources
-      + counted_rows w counts ss
+  abbrev pub counted_rows : ℕ → List (Node (Option V)) → List ℕ →
+      List (Span (Sources (Option V))) → ℕ
+  counted_rows w nodes counts [] = 0
+  counted_rows w nodes counts (s ∷ ss) =
+      length (largest_in w s.from s.last) * sources_count nodes counts w s.sources
+      + counted_rows w nodes counts ss
 
   -- the rows of spans
   abbrev pub span_rows : ℕ → List (Node (Option V)) → List (Span (Sources (Option V))) →

@@ -1,16 +1,18 @@
 -- The trie of what two tries tell apart: this project's own.
-use Rattle.std.specs.Prelude.{ℕ, ◌≤◌, List, Option}
+use Rattle.std.specs.Prelude.{◌≡◌, ℕ, ◌≤◌, List, Option, None}
 use Rattle.std.specs.BTreeMap.{BTreeMap}
 use Rattle.babel_prefix.specs.Members.{Listed}
 use Rattle.babel_trie.specs.Boxes.{Answers}
 use Rattle.babel_trie.specs.Differences.{TellsApart, IsDifference}
-use Rattle.babel_trie.specs.Interned.{Stands, Represents, IsNormalLoose}
+use Rattle.babel_trie.specs.Held.{Represents}
+use Rattle.babel_trie.specs.Interned.{StandsIn, IsLooseIn, IsNormalLoose}
 use Rattle.babel_trie.specs.Runs.{HasRuns}
 use Rattle.babel_trie.specs.Shape.{Shape, value_at, height, IsReduced}
 use Rattle.babel_trie.specs.declared.differing.Differing.{Differing}
 use Rattle.babel_trie.specs.declared.known.Both.{Both}
 use Rattle.babel_trie.specs.declared.runs.Change.{Change}
 use Rattle.babel_trie.specs.declared.table.Loose.{Loose}
+use Rattle.babel_trie.specs.declared.table.Loose.TheVariants.{Same, Split}
 use Rattle.babel_trie.specs.declared.table.Node.{Node}
 use Rattle.babel_trie.specs.declared.table.Sources.{Sources}
 
@@ -23,28 +25,38 @@ module _ {V : Type 0} where
     pub fits : (bits : ℕ) → height t ≤ bits → height u ≤ bits → height told ≤ bits
     pub reduced : IsReduced told
 
-  -- it stands for such a trie of whatever tries the two stand for
-  abbrev pub IsTold : List (Node (Option V)) → Loose (Option V) → Loose (Option V) →
+  -- in the block it stands for such a trie of whatever tries the two stand for
+  abbrev pub IsTold : ℕ → ℕ → List (Node (Option V)) → Loose (Option V) → Loose (Option V) →
       List (Node (Option (Differing V))) → Loose (Option (Differing V)) → Type 0
-  IsTold nodes left right differing x =
-      (t u : Shape (Option V)) → Stands nodes left t → Stands nodes right u →
-      (told : Shape (Option (Differing V))) × Stands differing x told × TellsTriesApart t u told
+  IsTold bits start nodes left right differing x =
+      (t u : Shape (Option V)) → StandsIn None nodes bits start left t →
+      StandsIn None nodes bits start right u →
+      (told : Shape (Option (Differing V))) × StandsIn None differing bits start x told
+      × TellsTriesApart t u told
 
   -- they stand for such a trie of whatever tries the two stand for
-  abbrev pub AreTold : List (Node (Option V)) → Sources (Option V) → Sources (Option V) →
+  abbrev pub AreTold : ℕ → List (Node (Option V)) → Sources (Option V) → Sources (Option V) →
       List (Node (Option (Differing V))) → Sources (Option (Differing V)) → Type 0
-  AreTold nodes left right differing s =
-      (t u : Shape (Option V)) → Represents nodes left t → Represents nodes right u →
-      (told : Shape (Option (Differing V))) × Represents differing s told × TellsTriesApart t u told
+  AreTold w nodes left right differing s =
+      (t u : Shape (Option V)) → Represents w nodes left t → Represents w nodes right u →
+      (told : Shape (Option (Differing V))) × Represents w differing s told
+      × TellsTriesApart t u told
 
-  -- what is known of any two tries is what tells them apart, in its one form
+  -- it is one value, or a node of this block
+  abbrev pub IsAtBlock : ℕ → ℕ → Loose (Option V) → Type 0
+  IsAtBlock bits start (Same v) = Unit {0}
+  IsAtBlock bits start (Split node) = (node.bits ≡ bits) × (node.start ≡ start)
+
+  -- what is known of any two tries of a block is what tells them apart, in its one form
   abbrev pub KnowsTold : List (Node (Option V)) →
       List (Node (Option (Differing V))) →
       BTreeMap (Both (Loose (Option V))) (Loose (Option (Differing V))) → Type 0
   KnowsTold nodes differing known =
       (both : Both (Loose (Option V))) (x : Loose (Option (Differing V))) →
-      Listed known.entries (both, x) →
-      IsNormalLoose differing x × IsTold nodes both.left both.right differing x
+      Listed known.entries (both, x) → (bits start : ℕ) → IsAtBlock bits start both.left →
+      IsAtBlock bits start both.right →
+      IsLooseIn None differing bits start x × IsNormalLoose None differing x
+      × IsTold bits start nodes both.left both.right differing x
 
   -- the list has the difference of the two functions
   abbrev pub HasDifference : ℕ → Answers V → Answers V → List (Node (Option (Differing V))) →

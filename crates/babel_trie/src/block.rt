@@ -1,6 +1,7 @@
 //! Blocks of addresses: those that agree but for some of their last bits.
 ghost use Rattle.std.specs.Prelude.{◌≡◌, ◌+◌, ◌-◌, ◌*◌, ◌/◌, ◌^◌, ◌<◌, ◌≤◌, ◌==◌};
-ghost use Rattle.babel_trie.specs.Places.{IsSourceBlock, IsSmallestAround, cleared, lies_in};
+ghost use Rattle.babel_trie.specs.Places.{IsSmallestAround, cleared, lies_in};
+ghost use Rattle.babel_trie.specs.Rows.{IsPlace};
 
 use crate::cut::split;
 
@@ -49,7 +50,7 @@ impl SourceBlock {
     /// The address at which the upper half starts.
     pub fn middle(self) -> u128
         requires some { 0 < self.bits }
-        requires block { IsSourceBlock self.bits self.start }
+        requires block { IsPlace 128 self.bits self.start }
         ensures { result ≡ self.start + 2 ^ (self.bits - 1) }
     {
         self.start + (1 << (self.bits - 1))
@@ -69,7 +70,7 @@ impl SourceBlock {
     /// The upper half.
     pub fn high(self) -> SourceBlock
         requires some { 0 < self.bits }
-        requires block { IsSourceBlock self.bits self.start }
+        requires block { IsPlace 128 self.bits self.start }
         ensures { result ≡ record { bits = self.bits - 1; start = self.start + 2 ^ (self.bits - 1) } }
     {
         SourceBlock {
@@ -92,8 +93,8 @@ impl SourceBlock {
 
     /// The smallest block with all addresses of both.
     pub fn joined(self, other: SourceBlock) -> SourceBlock
-        requires block { IsSourceBlock self.bits self.start }
-        requires other { IsSourceBlock other.bits other.start }
+        requires block { IsPlace 128 self.bits self.start }
+        requires other { IsPlace 128 other.bits other.start }
         ensures { IsSmallestAround self other result }
     {
         let from = self.start.min(other.start);

@@ -1,7 +1,9 @@
 //! What two lists of changes answer differently, as a list of changes.
-ghost use Rattle.std.specs.Prelude.{◌≡◌, ℕ, ◌≤◌, List, Option, IfOk, OnOk};
+ghost use Rattle.std.specs.Prelude.{◌≡◌, ℕ, ◌≤◌, List, Option, None, IfOk, OnOk};
 ghost use Rattle.babel_trie.specs.Boxes.{Answers};
-ghost use Rattle.babel_trie.specs.Interned.{IsTrie, HasTrie, IsNormalLoose};
+ghost use Rattle.babel_trie.specs.Interned.{IsTrie, IsIn, IsLooseIn, IsNormalLoose, HasOneForm};
+ghost use Rattle.babel_trie.specs.Held.{HasTrie};
+ghost use Rattle.babel_trie.specs.Rows.{IsPlace};
 ghost use Rattle.babel_trie.specs.Runs.{HasRuns};
 ghost use Rattle.babel_trie.specs.Sound.{IsSound, KeepsNodes};
 ghost use Rattle.babel_trie.specs.declared.table.Node.{Node};
@@ -29,8 +31,8 @@ pub struct Comparison<V: Ord> {
 
 impl<V: LawfulOrd> Comparison<V> {
     pub fn new(alloc: Global) -> Comparison<V>
-        ensures sound { IsSound ⟦<Sources<Option<Differing<V>>> as Ord>⟧.cmp
-            ⟦<Sources<Option<Differing<V>>> as LawfulOrd>⟧.mark
+        ensures sound { IsSound None ⟦<Node<Option<Differing<V>>> as Ord>⟧.cmp
+            ⟦<Node<Option<Differing<V>>> as LawfulOrd>⟧.mark
             result.differences.nodes.items result.differences.numbers }
         ensures known { (nodes : List (Node (Option V)))
             → KnowsTold nodes result.differences.nodes.items result.known.found }
@@ -56,24 +58,30 @@ impl<V: LawfulOrd> Comparison<V> {
         both: Both<Loose<Option<V>>>,
         block: SourceBlock,
     ) -> Result<Loose<Option<Differing<V>>>, AllocError>
-        requires sound { IsSound ⟦<Sources<Option<Differing<V>>> as Ord>⟧.cmp
-            ⟦<Sources<Option<Differing<V>>> as LawfulOrd>⟧.mark
+        requires sound { IsSound None ⟦<Node<Option<Differing<V>>> as Ord>⟧.cmp
+            ⟦<Node<Option<Differing<V>>> as LawfulOrd>⟧.mark
             self.old.differences.nodes.items self.old.differences.numbers }
         requires known { KnowsTold table.now.nodes.items self.old.differences.nodes.items
             self.old.known.found }
-        requires left { IsTrie bits table.now.nodes.items both.left }
-        requires right { IsTrie bits table.now.nodes.items both.right }
-        requires width { bits ≤ 128 }
-        ensures sound { OnOk result (IsSound ⟦<Sources<Option<Differing<V>>> as Ord>⟧.cmp
-            ⟦<Sources<Option<Differing<V>>> as LawfulOrd>⟧.mark
+        requires form { HasOneForm None table.now.nodes.items }
+        requires left { IsTrie None table.now.nodes.items block.bits block.start both.left }
+        requires right { IsTrie None table.now.nodes.items block.bits block.start both.right }
+        requires left_in { IsLooseIn None table.now.nodes.items block.bits block.start both.left }
+        requires right_in { IsLooseIn None table.now.nodes.items block.bits block.start
+            both.right }
+        requires place { IsPlace 128 block.bits block.start }
+        ensures sound { OnOk result (IsSound None ⟦<Node<Option<Differing<V>>> as Ord>⟧.cmp
+            ⟦<Node<Option<Differing<V>>> as LawfulOrd>⟧.mark
             self.new.differences.nodes.items self.new.differences.numbers) }
         ensures known { OnOk result (KnowsTold table.now.nodes.items
             self.new.differences.nodes.items self.new.known.found) }
         ensures keeps { OnOk result (KeepsNodes self.old.differences.nodes.items
             self.new.differences.nodes.items) }
-        ensures normal { IfOk result (IsNormalLoose self.new.differences.nodes.items) }
-        ensures told { IfOk result (IsTold table.now.nodes.items both.left both.right
-            self.new.differences.nodes.items) }
+        ensures within { IfOk result (IsLooseIn None self.new.differences.nodes.items block.bits
+            block.start) }
+        ensures normal { IfOk result (IsNormalLoose None self.new.differences.nodes.items) }
+        ensures told { IfOk result (IsTold block.bits block.start table.now.nodes.items both.left
+            both.right self.new.differences.nodes.items) }
     {
         if are_one(both.left, both.right) {
             return Ok(Loose::Same(None));
@@ -111,22 +119,26 @@ impl<V: LawfulOrd> Comparison<V> {
         right: Sources<Option<V>>,
         bits: u8,
     ) -> Result<Sources<Option<Differing<V>>>, AllocError>
-        requires sound { IsSound ⟦<Sources<Option<Differing<V>>> as Ord>⟧.cmp
-            ⟦<Sources<Option<Differing<V>>> as LawfulOrd>⟧.mark
+        requires sound { IsSound None ⟦<Node<Option<Differing<V>>> as Ord>⟧.cmp
+            ⟦<Node<Option<Differing<V>>> as LawfulOrd>⟧.mark
             self.old.differences.nodes.items self.old.differences.numbers }
         requires known { KnowsTold table.now.nodes.items self.old.differences.nodes.items
             self.old.known.found }
+        requires form { HasOneForm None table.now.nodes.items }
         requires left { HasTrie bits table.now.nodes.items left }
         requires right { HasTrie bits table.now.nodes.items right }
+        requires left_in { IsIn None table.now.nodes.items bits 0 left }
+        requires right_in { IsIn None table.now.nodes.items bits 0 right }
         requires width { bits ≤ 128 }
-        ensures sound { OnOk result (IsSound ⟦<Sources<Option<Differing<V>>> as Ord>⟧.cmp
-            ⟦<Sources<Option<Differing<V>>> as LawfulOrd>⟧.mark
+        ensures sound { OnOk result (IsSound None ⟦<Node<Option<Differing<V>>> as Ord>⟧.cmp
+            ⟦<Node<Option<Differing<V>>> as LawfulOrd>⟧.mark
             self.new.differences.nodes.items self.new.differences.numbers) }
         ensures known { OnOk result (KnowsTold table.now.nodes.items
             self.new.differences.nodes.items self.new.known.found) }
         ensures keeps { OnOk result (KeepsNodes self.old.differences.nodes.items
             self.new.differences.nodes.items) }
-        ensures told { IfOk result (AreTold table.now.nodes.items left right
+        ensures within { IfOk result (IsIn None self.new.differences.nodes.items bits 0) }
+        ensures told { IfOk result (AreTold bits table.now.nodes.items left right
             self.new.differences.nodes.items) }
     {
         let both = Both {
@@ -147,16 +159,17 @@ impl<V: LawfulOrd> Comparison<V> {
         right: &[Change<Sources<Option<V>>>],
         width: u8,
     ) -> Result<Vec<Change<Sources<Option<Differing<V>>>>>, AllocError>
-        requires sound { IsSound ⟦<Sources<Option<Differing<V>>> as Ord>⟧.cmp
-            ⟦<Sources<Option<Differing<V>>> as LawfulOrd>⟧.mark
+        requires sound { IsSound None ⟦<Node<Option<Differing<V>>> as Ord>⟧.cmp
+            ⟦<Node<Option<Differing<V>>> as LawfulOrd>⟧.mark
             self.old.differences.nodes.items self.old.differences.numbers }
         requires known { KnowsTold table.now.nodes.items self.old.differences.nodes.items
             self.old.known.found }
+        requires form { HasOneForm None table.now.nodes.items }
         requires left { (f : Answers V) × HasRuns width table.now.nodes.items left.now f }
         requires right { (g : Answers V) × HasRuns width table.now.nodes.items right.now g }
         requires width { width ≤ 128 }
-        ensures sound { OnOk result (IsSound ⟦<Sources<Option<Differing<V>>> as Ord>⟧.cmp
-            ⟦<Sources<Option<Differing<V>>> as LawfulOrd>⟧.mark
+        ensures sound { OnOk result (IsSound None ⟦<Node<Option<Differing<V>>> as Ord>⟧.cmp
+            ⟦<Node<Option<Differing<V>>> as LawfulOrd>⟧.mark
             self.new.differences.nodes.items self.new.differences.numbers) }
         ensures difference { IfOk result (λ list. (f g : Answers V)
             → HasRuns width table.now.nodes.items left.now f

@@ -1,7 +1,9 @@
 //! Where two tries first differ.
-ghost use Rattle.std.specs.Prelude.{◌≡◌, ℕ, ◌+◌, ◌-◌, ◌^◌, ◌<◌, ◌≤◌, List, IsTrue, IfSome, IfNone};
-ghost use Rattle.babel_trie.specs.Differs.{IsFirstDifference};
-ghost use Rattle.babel_trie.specs.Interned.{Stands, IsTrie, Represents, HasTrie};
+ghost use Rattle.std.specs.Prelude.{◌≡◌, ℕ, ◌+◌, ◌-◌, ◌^◌, ◌<◌, ◌≤◌, List, Option, None, IsTrue, IfSome, IfNone};
+ghost use Rattle.babel_trie.specs.Differs.{IsFirstDifference, IsFirstFrom};
+ghost use Rattle.babel_trie.specs.Interned.{StandsIn, IsTrie, IsIn, IsLooseIn, HasOneForm};
+ghost use Rattle.babel_trie.specs.Held.{Represents, HasTrie};
+ghost use Rattle.babel_trie.specs.Rows.{IsPlace};
 ghost use Rattle.babel_trie.specs.Shape.{Shape, value_at};
 ghost use Rattle.babel_trie.specs.declared.difference.Tables.TheVariants.{One};
 ghost use Rattle.babel_trie.specs.declared.table.Node.{Node};
@@ -46,8 +48,9 @@ pub fn are_one<V: LawfulOrd>(whole: Loose<V>, other: Loose<V>) -> bool
 /// The two values, where both are one value for all sources.
 pub fn both_same<V: Copy>(whole: Loose<V>, other: Loose<V>) -> Option<(V, V)>
     ensures constants { IfSome result (λ p. (whole ≡ Same p.0) × (other ≡ Same p.1)) }
-    ensures fork { IfNone result ((bits : ℕ) (nodes others : List (Node V))
-        → IsTrie bits nodes whole → IsTrie bits others other → 0 < bits) }
+    ensures fork { IfNone result ((nothing : V) (bits start : ℕ) (nodes others : List (Node V))
+        → IsTrie nothing nodes bits start whole → IsTrie nothing others bits start other
+        → 0 < bits) }
 {
     match (whole, other) {
         (Loose::Same(left), Loose::Same(right)) => Some((left, right)),
@@ -64,7 +67,23 @@ impl<V: LawfulOrd> Table<Option<V>> {
         other_whole: Loose<Option<V>>,
         tables: Tables,
         block: SourceBlock,
-    ) -> Option<u128> {
+    ) -> Option<u128>
+        requires trie { IsTrie None self.now.nodes.items block.bits block.start whole }
+        requires other_trie { IsTrie None other.now.nodes.items block.bits block.start
+            other_whole }
+        requires inside { IsLooseIn None self.now.nodes.items block.bits block.start whole }
+        requires other_inside { IsLooseIn None other.now.nodes.items block.bits block.start
+            other_whole }
+        requires form { HasOneForm None self.now.nodes.items }
+        requires other_form { HasOneForm None other.now.nodes.items }
+        requires one { tables ≡ One → self.now.nodes.items ≡ other.now.nodes.items }
+        requires place { IsPlace 128 block.bits block.start }
+        ensures { (t u : Shape (Option V))
+            → StandsIn None self.now.nodes.items block.bits block.start whole t
+            → StandsIn None other.now.nodes.items block.bits block.start other_whole u
+            → IsFirstFrom block.start (2 ^ block.bits) (value_at t block.bits)
+            (value_at u block.bits) result }
+    {
         if tables.are_one_trie(whole, other_whole) {
             return None;
         }
@@ -91,7 +110,19 @@ impl<V: LawfulOrd> Table<Option<V>> {
         other_sources: Sources<Option<V>>,
         tables: Tables,
         width: u8,
-    ) -> Option<u128> {
+    ) -> Option<u128>
+        requires trie { HasTrie width self.now.nodes.items sources }
+        requires other_trie { HasTrie width other.now.nodes.items other_sources }
+        requires inside { IsIn None self.now.nodes.items width 0 sources }
+        requires other_inside { IsIn None other.now.nodes.items width 0 other_sources }
+        requires form { HasOneForm None self.now.nodes.items }
+        requires other_form { HasOneForm None other.now.nodes.items }
+        requires one { tables ≡ One → self.now.nodes.items ≡ other.now.nodes.items }
+        requires width { width ≤ 128 }
+        ensures { (t u : Shape (Option V)) → Represents width self.now.nodes.items sources t
+            → Represents width other.now.nodes.items other_sources u
+            → IsFirstDifference (2 ^ width) (value_at t width) (value_at u width) result }
+    {
         self.first_apart(
             self.opened(sources),
             other,

@@ -89,12 +89,7 @@ impl<V: LawfulOrd, R: Copy> Known<Loose<V>, R> {
     }
 
     /// Remembers what was found for two tries, where their nodes are of this block.
-    pub fn remember(
-        &mut self,
-        both: Both<Loose<V>>,
-        bits: u8,
-        found: R,
-    ) -> Result<(), AllocError>
+    pub fn remember(&mut self, both: Both<Loose<V>>, bits: u8, found: R) -> Result<(), AllocError>
         ensures { OnOk result ((k : Both (Loose V)) (r : R) → Listed self.new.found.entries (k, r)
             → ((k ≡ both) × (r ≡ found)) ⊎ Listed self.old.found.entries (k, r)) }
     {

@@ -1,5 +1,5 @@
 //! Where two lists of rows first answer differently.
-ghost use Rattle.std.specs.Prelude.{◌≡◌, ◌↔◌, ℕ, ◌^◌, ◌<◌, ◌≤◌, List, All, map, IfOk, IfSome, OnOk, MatchOption};
+ghost use Rattle.std.specs.Prelude.{◌≡◌, ◌↔◌, ℕ, ◌^◌, ◌<◌, ◌≤◌, List, All, map, IfOk, IfSome, OnOk, MatchOption, None};
 ghost use Rattle.babel_prefix.specs.Best.{answer};
 ghost use Rattle.babel_prefix.specs.Width.{width_of};
 ghost use Rattle.babel_prefix.specs.Entries.{Entry, answers_in, row_of};
@@ -17,7 +17,7 @@ use crate::lawful::LawfulOrd;
 use crate::ordered::{in_order, sorted_copy};
 use crate::pass::{Pass, nearer_start};
 use crate::rows::{Row, Rows};
-use crate::table::{Sources, Table};
+use crate::table::{Node, Sources, Table};
 use babel_prefix::{Addr, Family};
 use std::alloc::{AllocError, Global};
 
@@ -30,8 +30,8 @@ fn reach_both<V: LawfulOrd, L: Rows<V>, R: Rows<V>>(
     width: u8,
     at: u128,
 ) -> Result<Option<u128>, AllocError>
-    requires sound { IsSound ⟦<Sources<Option<V>> as Ord>⟧.cmp
-        ⟦<Sources<Option<V>> as LawfulOrd>⟧.mark table.old.nodes.items table.old.numbers }
+    requires sound { IsSound None ⟦<Node<Option<V>> as Ord>⟧.cmp
+        ⟦<Node<Option<V>> as LawfulOrd>⟧.mark table.old.nodes.items table.old.numbers }
     requires pass { (rows : List (Entry V))
         × IsPassOver width L.rows rows table.old.nodes.items pass.old }
     requires other { (rows : List (Entry V))
@@ -41,8 +41,8 @@ fn reach_both<V: LawfulOrd, L: Rows<V>, R: Rows<V>>(
     requires rows { StartRowsFrom at (rows_left L.rows pass.old) }
     requires other_rows { StartRowsFrom at (rows_left R.rows other.old) }
     requires width { width ≤ 128 }
-    ensures sound { OnOk result (IsSound ⟦<Sources<Option<V>> as Ord>⟧.cmp
-        ⟦<Sources<Option<V>> as LawfulOrd>⟧.mark table.new.nodes.items table.new.numbers) }
+    ensures sound { OnOk result (IsSound None ⟦<Node<Option<V>> as Ord>⟧.cmp
+        ⟦<Node<Option<V>> as LawfulOrd>⟧.mark table.new.nodes.items table.new.numbers) }
     ensures pass { OnOk result ((rows : List (Entry V))
         → IsPassOver width L.rows rows table.old.nodes.items pass.old
         → IsPassOver width L.rows rows table.new.nodes.items pass.new) }

@@ -1,14 +1,15 @@
 //! The rows of a list of changes.
-ghost use Rattle.std.specs.Prelude.{◌≡◌, ◌+◌, ◌-◌, ◌*◌, ◌^◌, ◌%◌, ◌<◌, ◌≤◌, ◌++◌, List, map, length, OnOk, OnErr, Option, None, true, false};
+ghost use Rattle.std.specs.Prelude.{◌≡◌, ◌+◌, ◌-◌, ◌*◌, ◌/◌, ◌^◌, ◌<◌, ◌≤◌, ◌++◌, List, map, length, OnOk, OnErr, Option, None, true, false};
 ghost use Rattle.babel_prefix.specs.Address.{block_of};
 ghost use Rattle.babel_prefix.specs.Covers.{IsAddressPrefix, IsBlock};
 ghost use Rattle.babel_prefix.specs.Entries.{Entry};
 ghost use Rattle.babel_prefix.specs.Members.{Listed};
 ghost use Rattle.babel_prefix.specs.Width.{width_of};
 ghost use Rattle.babel_trie.specs.Cut.{block_from, largest_in};
-ghost use Rattle.babel_trie.specs.Held.{sources_at};
-ghost use Rattle.babel_trie.specs.Interned.{Stands, Represents, IsTrie, HasTrie};
-ghost use Rattle.babel_trie.specs.Nested.{entry_at, node_block, leaves, rows_at, rows_of};
+ghost use Rattle.babel_trie.specs.Held.{sources_at, HasTrie};
+ghost use Rattle.babel_trie.specs.Interned.{StandsIn, RepresentsIn, IsTrie, HasTrieIn, IsIn, IsNodeIn, IsNormal, HasOneForm, inside_of};
+ghost use Rattle.babel_trie.specs.Nested.{entry_at, leaves, rows_at, rows_of};
+ghost use Rattle.babel_trie.specs.Rows.{IsPlace};
 ghost use Rattle.babel_trie.specs.Runs.{AreRuns, StartBelow};
 ghost use Rattle.babel_trie.specs.Shape.{Shape, leaf};
 ghost use Rattle.babel_trie.specs.Sinks.{StopsAmong};
@@ -59,7 +60,22 @@ fn push_constant<V: Copy, S: Sink<V>>(
     dst: Prefix,
     block: SourceBlock,
     out: &mut S,
-) -> Result<(), S::Error> {
+) -> Result<(), S::Error>
+    requires dst_family { dst.address.family ≡ family }
+    requires place { IsPlace (width_of family) block.bits block.start }
+    requires can { S.can_put out.old }
+    ensures can { OnOk result (S.can_put out.new) }
+    ensures ok { OnOk result ((t : Shape (Option V)) (start : S) (rows : List (Entry V))
+        → leaf constant ≡ t → S.has start out.old rows
+        → S.has start out.new (rows ++ map (entry_at family)
+        (rows_at (block_of dst) (leaves (width_of family) block.bits
+        (block.start / 2 ^ block.bits) t)))) }
+    ensures err { OnErr result ((t : Shape (Option V)) (start : S) (rows : List (Entry V))
+        → leaf constant ≡ t → S.has start out.old rows
+        → StopsAmong (S.stopped start out.new) rows (map (entry_at family)
+        (rows_at (block_of dst) (leaves (width_of family) block.bits
+        (block.start / 2 ^ block.bits) t)))) }
+{
     let Some(value) = constant else {
         return Ok(());
     };
@@ -77,7 +93,25 @@ impl<V: LawfulOrd> Table<Option<V>> {
         dst: Prefix,
         block: SourceBlock,
         out: &mut S,
-    ) -> Result<(), S::Error> {
+    ) -> Result<(), S::Error>
+        requires form { HasOneForm None self.now.nodes.items }
+        requires sources { HasTrieIn None self.now.nodes.items block.bits block.start sources }
+        requires inside { IsIn None self.now.nodes.items block.bits block.start sources }
+        requires dst_family { dst.address.family ≡ family }
+        requires place { IsPlace (width_of family) block.bits block.start }
+        requires can { S.can_put out.old }
+        ensures can { OnOk result (S.can_put out.new) }
+        ensures ok { OnOk result ((t : Shape (Option V)) (start : S) (rows : List (Entry V))
+            → RepresentsIn None self.now.nodes.items block.bits block.start sources t → S.has start out.old rows
+            → S.has start out.new (rows ++ map (entry_at family)
+            (rows_at (block_of dst) (leaves (width_of family) block.bits
+            (block.start / 2 ^ block.bits) t)))) }
+        ensures err { OnErr result ((t : Shape (Option V)) (start : S) (rows : List (Entry V))
+            → RepresentsIn None self.now.nodes.items block.bits block.start sources t → S.has start out.old rows
+            → StopsAmong (S.stopped start out.new) rows (map (entry_at family)
+            (rows_at (block_of dst) (leaves (width_of family) block.bits
+            (block.start / 2 ^ block.bits) t)))) }
+    {
         match sources {
             Sources::Constant(constant) => push_constant(constant, family, dst, block, out),
             Sources::Stored(number) => {
@@ -100,7 +134,30 @@ impl<V: LawfulOrd> Table<Option<V>> {
         dst: Prefix,
         block: SourceBlock,
         out: &mut S,
-    ) -> Result<(), S::Error> {
+    ) -> Result<(), S::Error>
+        requires form { HasOneForm None self.now.nodes.items }
+        requires node { IsTrie None self.now.nodes.items block.bits block.start
+            (Split (inside_of None block.bits node.now)) }
+        requires inside { IsNodeIn None self.now.nodes.items block.bits block.start
+            (inside_of None block.bits node.now) }
+        requires normal { IsNormal None self.now.nodes.items node.now }
+        requires dst_family { dst.address.family ≡ family }
+        requires place { IsPlace (width_of family) block.bits block.start }
+        requires can { S.can_put out.old }
+        ensures can { OnOk result (S.can_put out.new) }
+        ensures ok { OnOk result ((t : Shape (Option V)) (start : S) (rows : List (Entry V))
+            → StandsIn None self.now.nodes.items block.bits block.start
+            (Split (inside_of None block.bits node.now)) t → S.has start out.old rows
+            → S.has start out.new (rows ++ map (entry_at family)
+            (rows_at (block_of dst) (leaves (width_of family) block.bits
+            (block.start / 2 ^ block.bits) t)))) }
+        ensures err { OnErr result ((t : Shape (Option V)) (start : S) (rows : List (Entry V))
+            → StandsIn None self.now.nodes.items block.bits block.start
+            (Split (inside_of None block.bits node.now)) t → S.has start out.old rows
+            → StopsAmong (S.stopped start out.new) rows (map (entry_at family)
+            (rows_at (block_of dst) (leaves (width_of family) block.bits
+            (block.start / 2 ^ block.bits) t)))) }
+    {
         if node.bits == block.bits {
             self.push_sources(node.low, family, dst, block.low(), out)?;
             return self.push_sources(node.high, family, dst, block.high(), out);
@@ -123,7 +180,9 @@ impl<V: LawfulOrd> Table<Option<V>> {
         last: u128,
         out: &mut S,
     ) -> Result<(), S::Error>
+        requires form { HasOneForm None self.now.nodes.items }
         requires trie { HasTrie (width_of family) self.now.nodes.items sources }
+        requires inside { IsIn None self.now.nodes.items (width_of family) 0 sources }
         requires some { from ≤ last }
         requires fits { last < 2 ^ width_of family }
         requires can { S.can_put out.old }
@@ -159,6 +218,7 @@ impl<V: LawfulOrd> Table<Option<V>> {
         family: Family,
         out: &mut S,
     ) -> Result<(), S::Error>
+        requires form { HasOneForm None self.now.nodes.items }
         requires runs { AreRuns runs.now }
         requires below { StartBelow (2 ^ width_of family) runs.now }
         requires each { (x : Change (Sources (Option V))) → Listed runs.now x

@@ -1,18 +1,22 @@
 //! The rows of one destination, laid over a trie of sources.
-ghost use Rattle.std.specs.Prelude.{◌≡◌, ℕ, ◌+◌, ◌-◌, ◌^◌, ◌<◌, ◌≤◌, ◌∷◌, ◌++◌, List, [], map, length, IfOk, IfSome, OnOk, Option};
+ghost use Rattle.std.specs.Prelude.{◌≡◌, ℕ, ◌-◌, ◌<◌, ◌≤◌, ◌∷◌, List, map, IfOk, OnOk, Option, None};
+ghost use Rattle.babel_prefix.specs.Covers.{IsBlock};
+ghost use Rattle.babel_prefix.specs.Entries.{row_of};
+ghost use Rattle.babel_prefix.specs.Members.{Listed};
 ghost use Rattle.babel_trie.specs.Shape.{Shape};
-ghost use Rattle.babel_trie.specs.Interned.{Stands, IsNormalLoose, IsTrie, Represents, HasTrie};
-ghost use Rattle.babel_trie.specs.Laid.{HasOneDestination, IsSet, IsLaid, IsOverlaid};
-ghost use Rattle.babel_prefix.specs.Entries.{Entry, row_of};
-ghost use Rattle.babel_trie.specs.Inner.{IsInner, IsInside};
-ghost use Rattle.babel_trie.specs.Rows.{source_block, AreParted, InBlock, IsPlace};
-ghost use Rattle.babel_trie.specs.Sound.{IsSound, KeepsNodes};
+ghost use Rattle.babel_trie.specs.declared.block.SourceBlock.{SourceBlock};
 ghost use Rattle.babel_trie.specs.declared.table.Node.{Node};
+ghost use Rattle.babel_trie.specs.Interned.{StandsIn, IsIn, IsNormalLoose, IsLooseIn};
+ghost use Rattle.babel_trie.specs.Held.{Represents, HasTrie};
+ghost use Rattle.babel_trie.specs.Laid.{HasOneDestination, IsLaid, IsOverlaid};
+ghost use Rattle.babel_trie.specs.Places.{IsBlockAround, beside_of};
+ghost use Rattle.babel_trie.specs.Rows.{source_block, InBlock, IsPlace};
+ghost use Rattle.babel_trie.specs.Sound.{IsSound, KeepsNodes};
 
 use crate::block::SourceBlock;
 use crate::lawful::LawfulOrd;
 use crate::rows::{Row, low_and_high};
-use crate::table::{Loose, Sources, Table};
+use crate::table::{Loose, Node, Sources, Table};
 use std::alloc::AllocError;
 
 /// The block of a row's sources.
@@ -36,7 +40,15 @@ fn block_around<V: LawfulOrd>(
     last: &Row<V>,
     width: u8,
     trie: &Loose<Option<V>>,
-) -> SourceBlock {
+) -> SourceBlock
+    requires width { width ≤ 128 }
+    requires first { IsBlock width (source_block first.now) }
+    requires last { IsBlock width (source_block last.now) }
+    requires trie { (nodes : List (Node (Option V))) × (block : SourceBlock)
+        × IsLooseIn None nodes block.bits block.start trie.now
+        × IsNormalLoose None nodes trie.now }
+    ensures { IsBlockAround width (source_block first.now) (source_block last.now) trie.now result }
+{
     let rows = block_of(first, width).joined(block_of(last, width));
     match trie {
         Loose::Same(_) => rows,
@@ -45,7 +57,9 @@ fn block_around<V: LawfulOrd>(
 }
 
 /// The one value beside the block of a trie.
-fn beside<V: LawfulOrd>(trie: &Loose<Option<V>>) -> Option<V> {
+fn beside<V: LawfulOrd>(trie: &Loose<Option<V>>) -> Option<V>
+    ensures { result ≡ beside_of trie.now }
+{
     match trie {
         Loose::Same(value) => *value,
         Loose::Split(node) => node.outside,
@@ -61,7 +75,27 @@ impl<V: LawfulOrd> Table<Option<V>> {
         width: u8,
         block: SourceBlock,
         trie: &Loose<Option<V>>,
-    ) -> Result<Loose<Option<V>>, AllocError> {
+    ) -> Result<Loose<Option<V>>, AllocError>
+        requires sound { IsSound None ⟦<Node<Option<V>> as Ord>⟧.cmp
+            ⟦<Node<Option<V>> as LawfulOrd>⟧.mark self.old.nodes.items self.old.numbers }
+        requires trie { IsLooseIn None self.old.nodes.items block.bits block.start trie.now }
+        requires normal { IsNormalLoose None self.old.nodes.items trie.now }
+        requires place { IsPlace width block.bits block.start }
+        requires rows { InBlock source_block width block.bits block.start rows.now }
+        requires one { HasOneDestination rows.now }
+        requires width { width ≤ 128 }
+        requires longer { (row : _) → Listed rows.now row
+            → width - block.bits < (source_block row).len }
+        requires some { 0 < block.bits }
+        ensures sound { OnOk result (IsSound None ⟦<Node<Option<V>> as Ord>⟧.cmp
+            ⟦<Node<Option<V>> as LawfulOrd>⟧.mark self.new.nodes.items self.new.numbers) }
+        ensures keeps { OnOk result (KeepsNodes self.old.nodes.items self.new.nodes.items) }
+        ensures within { IfOk result (IsLooseIn None self.new.nodes.items block.bits block.start) }
+        ensures normal { IfOk result (IsNormalLoose None self.new.nodes.items) }
+        ensures laid { IfOk result (λ x. (t : Shape (Option V))
+            → StandsIn None self.old.nodes.items block.bits block.start trie.now t
+            → IsLaid width block.bits block.start (map row_of rows.now) self.new.nodes.items x t) }
+    {
         let (below, above) = low_and_high(rows, block.middle());
         let (low, high) = self.halves(block, trie);
         let low = self.lay(below, width, block.low(), low)?;
@@ -78,7 +112,24 @@ impl<V: LawfulOrd> Table<Option<V>> {
         width: u8,
         block: SourceBlock,
         trie: Loose<Option<V>>,
-    ) -> Result<Loose<Option<V>>, AllocError> {
+    ) -> Result<Loose<Option<V>>, AllocError>
+        requires sound { IsSound None ⟦<Node<Option<V>> as Ord>⟧.cmp
+            ⟦<Node<Option<V>> as LawfulOrd>⟧.mark self.old.nodes.items self.old.numbers }
+        requires trie { IsLooseIn None self.old.nodes.items block.bits block.start trie }
+        requires normal { IsNormalLoose None self.old.nodes.items trie }
+        requires place { IsPlace width block.bits block.start }
+        requires rows { InBlock source_block width block.bits block.start rows.now }
+        requires one { HasOneDestination rows.now }
+        requires width { width ≤ 128 }
+        ensures sound { OnOk result (IsSound None ⟦<Node<Option<V>> as Ord>⟧.cmp
+            ⟦<Node<Option<V>> as LawfulOrd>⟧.mark self.new.nodes.items self.new.numbers) }
+        ensures keeps { OnOk result (KeepsNodes self.old.nodes.items self.new.nodes.items) }
+        ensures within { IfOk result (IsLooseIn None self.new.nodes.items block.bits block.start) }
+        ensures normal { IfOk result (IsNormalLoose None self.new.nodes.items) }
+        ensures laid { IfOk result (λ x. (t : Shape (Option V))
+            → StandsIn None self.old.nodes.items block.bits block.start trie t
+            → IsLaid width block.bits block.start (map row_of rows.now) self.new.nodes.items x t) }
+    {
         let (Some(first), Some(last)) = (rows.first(), rows.last()) else {
             return Ok(trie);
         };
@@ -99,7 +150,22 @@ impl<V: LawfulOrd> Table<Option<V>> {
         rows: &[Row<V>],
         width: u8,
         old: Sources<Option<V>>,
-    ) -> Result<Sources<Option<V>>, AllocError> {
+    ) -> Result<Sources<Option<V>>, AllocError>
+        requires sound { IsSound None ⟦<Node<Option<V>> as Ord>⟧.cmp
+            ⟦<Node<Option<V>> as LawfulOrd>⟧.mark self.old.nodes.items self.old.numbers }
+        requires trie { HasTrie width self.old.nodes.items old }
+        requires inside { IsIn None self.old.nodes.items width 0 old }
+        requires rows { InBlock source_block width width 0 rows.now }
+        requires one { HasOneDestination rows.now }
+        requires width { width ≤ 128 }
+        ensures sound { OnOk result (IsSound None ⟦<Node<Option<V>> as Ord>⟧.cmp
+            ⟦<Node<Option<V>> as LawfulOrd>⟧.mark self.new.nodes.items self.new.numbers) }
+        ensures keeps { OnOk result (KeepsNodes self.old.nodes.items self.new.nodes.items) }
+        ensures inside { IfOk result (IsIn None self.new.nodes.items width 0) }
+        ensures overlaid { IfOk result (λ new. (t : Shape (Option V))
+            → Represents width self.old.nodes.items old t
+            → IsOverlaid width (map row_of rows.now) self.new.nodes.items new t) }
+    {
         let trie = self.opened(old);
         let new = self.lay(rows, width, SourceBlock::whole(width), trie)?;
         self.stored(&new)

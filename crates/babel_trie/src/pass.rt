@@ -1,6 +1,6 @@
 //! The addresses at which the answers change from one destination to the next, found in one pass
 //! over sorted rows.
-ghost use Rattle.std.specs.Prelude.{◌≡◌, ◌≢◌, ◌↔◌, ℕ, ◌+◌, ◌-◌, ◌*◌, ◌^◌, ◌<◌, ◌≤◌, ◌∷◌, ◌++◌, List, map, length, take, reverse, slice_get, Option, Some, true, false, IfOk, IfSome, IsSome, MatchOption, OnOk};
+ghost use Rattle.std.specs.Prelude.{◌≡◌, ◌≢◌, ◌↔◌, ℕ, ◌+◌, ◌-◌, ◌*◌, ◌^◌, ◌<◌, ◌≤◌, ◌∷◌, ◌++◌, List, map, length, take, reverse, slice_get, Option, Some, true, false, IfOk, IfSome, IsSome, MatchOption, OnOk, None};
 ghost use Rattle.babel_prefix.specs.Address.{block_of};
 ghost use Rattle.babel_prefix.specs.Best.{answer};
 ghost use Rattle.babel_prefix.specs.BestRow.{IsTable};
@@ -231,15 +231,15 @@ impl<V: LawfulOrd, R: Rows<V>> Pass<V, R> {
         first: Row<V>,
         behind: R,
     ) -> Result<(), AllocError>
-        requires sound { IsSound ⟦<Sources<Option<V>> as Ord>⟧.cmp
-            ⟦<Sources<Option<V>> as LawfulOrd>⟧.mark table.old.nodes.items table.old.numbers }
+        requires sound { IsSound None ⟦<Node<Option<V>> as Ord>⟧.cmp
+            ⟦<Node<Option<V>> as LawfulOrd>⟧.mark table.old.nodes.items table.old.numbers }
         requires pass { (rows : List (Entry V))
             × IsPassOver width R.rows rows table.old.nodes.items self.old }
         requires next { self.old.rest ≡ Some (first, behind) }
         requires reached { StartBehind (block_of first.0).start (ahead_of self.old) }
         requires width { width ≤ 128 }
-        ensures sound { OnOk result (IsSound ⟦<Sources<Option<V>> as Ord>⟧.cmp
-            ⟦<Sources<Option<V>> as LawfulOrd>⟧.mark table.new.nodes.items table.new.numbers) }
+        ensures sound { OnOk result (IsSound None ⟦<Node<Option<V>> as Ord>⟧.cmp
+            ⟦<Node<Option<V>> as LawfulOrd>⟧.mark table.new.nodes.items table.new.numbers) }
         ensures keeps { OnOk result (KeepsNodes table.old.nodes.items table.new.nodes.items) }
         ensures pass { OnOk result ((rows : List (Entry V))
             → IsPassOver width R.rows rows table.old.nodes.items self.old
@@ -275,14 +275,14 @@ impl<V: LawfulOrd, R: Rows<V>> Pass<V, R> {
         width: u8,
         at: u128,
     ) -> Result<Option<u128>, AllocError>
-        requires sound { IsSound ⟦<Sources<Option<V>> as Ord>⟧.cmp
-            ⟦<Sources<Option<V>> as LawfulOrd>⟧.mark table.old.nodes.items table.old.numbers }
+        requires sound { IsSound None ⟦<Node<Option<V>> as Ord>⟧.cmp
+            ⟦<Node<Option<V>> as LawfulOrd>⟧.mark table.old.nodes.items table.old.numbers }
         requires pass { (rows : List (Entry V))
             × IsPassOver width R.rows rows table.old.nodes.items self.old }
         requires order { self.old.now.start ≤ at }
         requires width { width ≤ 128 }
-        ensures sound { OnOk result (IsSound ⟦<Sources<Option<V>> as Ord>⟧.cmp
-            ⟦<Sources<Option<V>> as LawfulOrd>⟧.mark table.new.nodes.items table.new.numbers) }
+        ensures sound { OnOk result (IsSound None ⟦<Node<Option<V>> as Ord>⟧.cmp
+            ⟦<Node<Option<V>> as LawfulOrd>⟧.mark table.new.nodes.items table.new.numbers) }
         ensures keeps { OnOk result (KeepsNodes table.old.nodes.items table.new.nodes.items) }
         ensures pass { OnOk result ((rows : List (Entry V))
             → IsPassOver width R.rows rows table.old.nodes.items self.old
@@ -320,13 +320,13 @@ impl<V: LawfulOrd> Table<Option<V>> {
         rows: R,
         most: u64,
     ) -> Result<Option<Vec<Change<Sources<Option<V>>>>>, AllocError>
-        requires sound { IsSound ⟦<Sources<Option<V>> as Ord>⟧.cmp
-            ⟦<Sources<Option<V>> as LawfulOrd>⟧.mark self.old.nodes.items self.old.numbers }
+        requires sound { IsSound None ⟦<Node<Option<V>> as Ord>⟧.cmp
+            ⟦<Node<Option<V>> as LawfulOrd>⟧.mark self.old.nodes.items self.old.numbers }
         requires order { InOrder RowOrder (R.rows rows) }
         requires table { IsTable width (map row_of (R.rows rows)) }
         requires width { width ≤ 128 }
-        ensures sound { OnOk result (IsSound ⟦<Sources<Option<V>> as Ord>⟧.cmp
-            ⟦<Sources<Option<V>> as LawfulOrd>⟧.mark self.new.nodes.items self.new.numbers) }
+        ensures sound { OnOk result (IsSound None ⟦<Node<Option<V>> as Ord>⟧.cmp
+            ⟦<Node<Option<V>> as LawfulOrd>⟧.mark self.new.nodes.items self.new.numbers) }
         ensures keeps { OnOk result (KeepsNodes self.old.nodes.items self.new.nodes.items) }
         ensures runs { IfOk result (λ runs. MatchOption runs
             (HasMoreBoxes most width (answer width (map row_of (R.rows rows))))

@@ -5,8 +5,7 @@ ghost use Rattle.babel_prefix.specs.BestRow.{HasPrefixes};
 ghost use Rattle.babel_prefix.specs.Entries.{Entry};
 ghost use Rattle.babel_prefix.specs.Members.{Listed};
 ghost use Rattle.babel_trie.specs.Held.{RowOrder, row_place};
-ghost use Rattle.babel_trie.specs.Inner.{IsInner};
-ghost use Rattle.babel_trie.specs.Rows.{InOrder, InBlock, IsPlace, IsOnlyHalf, AreParted, source_block};
+ghost use Rattle.babel_trie.specs.Rows.{InOrder, source_block};
 
 use babel_prefix::Prefix;
 use std::alloc::{AllocError, Global};

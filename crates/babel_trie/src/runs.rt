@@ -1,5 +1,5 @@
 //! The addresses at which the answers change from one destination to the next.
-ghost use Rattle.std.specs.Prelude.{◌≡◌, ℕ, ◌+◌, ◌-◌, ◌*◌, ◌^◌, ◌≤◌, length, Option, All, IfOk, IfSome, IsSome, MatchOption, OnOk};
+ghost use Rattle.std.specs.Prelude.{◌≡◌, ℕ, ◌+◌, ◌-◌, ◌*◌, ◌^◌, ◌≤◌, length, Option, All, IfOk, IfSome, IsSome, MatchOption, OnOk, None};
 ghost use Rattle.babel_prefix.specs.BestRow.{AreOfFamily, HasDistinctPrefixes};
 ghost use Rattle.babel_prefix.specs.Entries.{answers_in};
 ghost use Rattle.babel_prefix.specs.Width.{width_of};
@@ -42,12 +42,12 @@ impl<V: LawfulOrd> Table<Option<V>> {
         rows: R,
         most: u64,
     ) -> Result<Option<Vec<Change<Sources<Option<V>>>>>, AllocError>
-        requires sound { IsSound ⟦<Sources<Option<V>> as Ord>⟧.cmp
-            ⟦<Sources<Option<V>> as LawfulOrd>⟧.mark self.old.nodes.items self.old.numbers }
+        requires sound { IsSound None ⟦<Node<Option<V>> as Ord>⟧.cmp
+            ⟦<Node<Option<V>> as LawfulOrd>⟧.mark self.old.nodes.items self.old.numbers }
         requires family { All (AreOfFamily family) (R.rows rows) }
         requires prefixes { HasDistinctPrefixes (R.rows rows) }
-        ensures sound { OnOk result (IsSound ⟦<Sources<Option<V>> as Ord>⟧.cmp
-            ⟦<Sources<Option<V>> as LawfulOrd>⟧.mark self.new.nodes.items self.new.numbers) }
+        ensures sound { OnOk result (IsSound None ⟦<Node<Option<V>> as Ord>⟧.cmp
+            ⟦<Node<Option<V>> as LawfulOrd>⟧.mark self.new.nodes.items self.new.numbers) }
         ensures keeps { OnOk result (KeepsNodes self.old.nodes.items self.new.nodes.items) }
         ensures runs { IfOk result (λ runs. MatchOption runs
             (HasMoreBoxes most (width_of family) (answers_in family (R.rows rows)))
@@ -73,12 +73,12 @@ impl<V: LawfulOrd> Table<Option<V>> {
         family: Family,
         rows: R,
     ) -> Result<Vec<Change<Sources<Option<V>>>>, AllocError>
-        requires sound { IsSound ⟦<Sources<Option<V>> as Ord>⟧.cmp
-            ⟦<Sources<Option<V>> as LawfulOrd>⟧.mark self.old.nodes.items self.old.numbers }
+        requires sound { IsSound None ⟦<Node<Option<V>> as Ord>⟧.cmp
+            ⟦<Node<Option<V>> as LawfulOrd>⟧.mark self.old.nodes.items self.old.numbers }
         requires family { All (AreOfFamily family) (R.rows rows) }
         requires prefixes { HasDistinctPrefixes (R.rows rows) }
-        ensures sound { OnOk result (IsSound ⟦<Sources<Option<V>> as Ord>⟧.cmp
-            ⟦<Sources<Option<V>> as LawfulOrd>⟧.mark self.new.nodes.items self.new.numbers) }
+        ensures sound { OnOk result (IsSound None ⟦<Node<Option<V>> as Ord>⟧.cmp
+            ⟦<Node<Option<V>> as LawfulOrd>⟧.mark self.new.nodes.items self.new.numbers) }
         ensures keeps { OnOk result (KeepsNodes self.old.nodes.items self.new.nodes.items) }
         ensures runs { IfOk result (λ list. HasRuns (width_of family) self.new.nodes.items
             list.items (answers_in family (R.rows rows))) }

@@ -1,5 +1,0 @@
--- Each call looks at one bit fewer.
-use Rattle.babel_trie.proofs.table.Table.+first_apart.Given as goal
-
-abbrev pub decreases-first_apart : goal.decreases-first_apart
-decreases-first_apart g l = l.bits

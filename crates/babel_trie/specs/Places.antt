@@ -1,0 +1,67 @@
+-- Blocks of addresses by the first of them and the bits in which they differ: this project's own.
+use Rattle.std.specs.Prelude.{◌≡◌, ℕ, ◌+◌, ◌-◌, ◌*◌, ◌/◌, ◌^◌, ◌<◌, ◌≤◌, ◌==◌, Bool}
+use Rattle.std.specs.Prelude.{cond, List, Option, None}
+use Rattle.babel_prefix.specs.Block.{Block}
+use Rattle.babel_trie.specs.Rows.{IsPlace}
+use Rattle.babel_trie.specs.Interned.{StandsIn}
+use Rattle.babel_trie.specs.Shape.{Shape, height, value_at, IsReduced}
+use Rattle.babel_trie.specs.declared.block.SourceBlock.{SourceBlock}
+use Rattle.babel_trie.specs.declared.table.Loose.{Loose}
+use Rattle.babel_trie.specs.declared.table.Loose.TheVariants.{Same, Split}
+use Rattle.babel_trie.specs.declared.table.Node.{Node}
+
+-- the address without so many of its last bits
+abbrev pub cleared : ℕ → ℕ → ℕ
+cleared a bits = a / 2 ^ bits * 2 ^ bits
+
+-- whether the address is in the block
+abbrev pub lies_in : ℕ → ℕ → ℕ → Bool
+lies_in bits start a = a / 2 ^ bits == start / 2 ^ bits
+
+-- each address of the first block is in the second
+pub record IsInside (inner block : SourceBlock) : Type 0 where
+  pub smaller : inner.bits ≤ block.bits
+  pub same : cleared inner.start block.bits ≡ block.start
+
+-- the smallest block with all addresses of both
+pub record IsSmallestAround (a b around : SourceBlock) : Type 0 where
+  pub block : IsPlace 128 around.bits around.start
+  pub first : IsInside a around
+  pub second : IsInside b around
+  pub smallest : (other : SourceBlock) → IsInside a other → IsInside b other →
+      around.bits ≤ other.bits
+
+-- in a block it stands for the trie inside a smaller one, with this value beside that
+pub record IsWidened {V : Type 0} (nodes : List (Node (Option V))) (block inner : SourceBlock)
+    (outside : Option V) (inside : Shape (Option V)) (x : Loose (Option V)) : Type 0 where
+  pub whole : Shape (Option V)
+  pub stands : StandsIn None nodes block.bits block.start x whole
+  pub fits : height inside ≤ inner.bits → height whole ≤ block.bits
+  pub reduced : IsReduced inside → IsReduced whole
+  pub values : (a : ℕ) → a < 2 ^ block.bits → value_at whole block.bits a
+      ≡ cond (lies_in inner.bits inner.start (block.start + a))
+      (value_at inside inner.bits (block.start + a - inner.start)) outside
+
+-- what a trie says beside its block
+abbrev pub beside_of : {V : Type 0} → Loose V → V
+beside_of (Same v) = v
+beside_of (Split node) = node.outside
+
+-- the block of a prefix of addresses of this width
+abbrev pub block_of_prefix : ℕ → Block → SourceBlock
+block_of_prefix w prefix = record { bits = w - prefix.len; start = prefix.start }
+
+-- the block of a trie, if it has one, lies in this one
+abbrev pub IsLooseInside : {V : Type 0} → Loose V → SourceBlock → Type 0
+IsLooseInside (Same v) block = Unit {0}
+IsLooseInside (Split node) block = IsInside (record { bits = node.bits; start = node.start }) block
+
+-- the smallest block with these two prefixes and the block of a trie
+pub record IsBlockAround {V : Type 0} (w : ℕ) (first last : Block) (x : Loose V)
+    (around : SourceBlock) : Type 0 where
+  pub block : IsPlace 128 around.bits around.start
+  pub first_in : IsInside (block_of_prefix w first) around
+  pub last_in : IsInside (block_of_prefix w last) around
+  pub trie_in : IsLooseInside x around
+  pub smallest : (other : SourceBlock) → IsInside (block_of_prefix w first) other →
+      IsInside (block_of_prefix w last) other → IsLooseInside x other → around.bits ≤ other.bits
