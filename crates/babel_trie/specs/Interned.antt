@@ -37,6 +37,10 @@ module _ {V : Type 0} where
   abbrev pub inside_of : V → ℕ → Node V → Node V
   inside_of nothing bits node = cond (node.bits == bits) (with_outside nothing node) node
 
+  abbrev pub loose_beside : V → Loose V → Loose V
+  loose_beside v (Same w) = Same w
+  loose_beside v (Split node) = Split (with_outside v node)
+
   abbrev pub loose_inside : V → ℕ → Loose V → Loose V
   loose_inside nothing bits (Same v) = Same v
   loose_inside nothing bits (Split node) = Split (inside_of nothing bits node)
@@ -171,7 +175,7 @@ module _ {V : Type 0} where
   -- in each block, equal tries have equal sources, and equal sources stand for equal tries
   abbrev pub SourcesAreExact : V → List (Node V) → Type 0
   SourcesAreExact nothing nodes =
-      (bits start : ℕ) (r s : Sources V) (t u : Shape V) → IsIn nothing nodes bits start r →
+      (w bits start : ℕ) → IsPlace w bits start → (r s : Sources V) (t u : Shape V) → IsIn nothing nodes bits start r →
       IsIn nothing nodes bits start s → RepresentsIn nothing nodes bits start r t →
       RepresentsIn nothing nodes bits start s u → (r ≡ s) ↔ (t ≡ u)
 

@@ -1,5 +1,5 @@
 //! Blocks of addresses: those that agree but for some of their last bits.
-ghost use Rattle.std.specs.Prelude.{◌≡◌, ◌+◌, ◌-◌, ◌*◌, ◌/◌, ◌^◌, ◌<◌, ◌≤◌, ◌==◌};
+ghost use Rattle.std.specs.Prelude.{◌≡◌, ℕ, ◌+◌, ◌-◌, ◌*◌, ◌/◌, ◌^◌, ◌<◌, ◌≤◌, ◌==◌};
 ghost use Rattle.babel_trie.specs.Places.{IsSmallestAround, cleared, lies_in};
 ghost use Rattle.babel_trie.specs.Rows.{IsPlace};
 
@@ -12,16 +12,20 @@ pub struct SourceBlock {
     pub start: u128,
 }
 
-/// In how many bits the addresses of the smallest block with both of these differ.
-fn common_bits(from: u128, last: u128) -> u8
-    requires { from ≤ last }
-    ensures same { from / 2 ^ result ≡ last / 2 ^ result }
+/// In how many last bits two addresses differ.
+#[tactic(auto, using(crate::proofs::BlockLaws::same_behind, crate::proofs::BlockLaws::least_split, crate::proofs::BlockLaws::same_behind_back, crate::proofs::BlockLaws::least_split_back))]
+fn differing_bits(address: u128, other: u128) -> u8
+    ensures same { address / 2 ^ result ≡ other / 2 ^ result }
+    ensures least { (n : ℕ) → address / 2 ^ n ≡ other / 2 ^ n → result ≤ n }
     ensures few { result ≤ 128 }
 {
-    if from == last {
-        return 0;
+    if address < other {
+        split(address, other) as u8 + 1
+    } else if other < address {
+        split(other, address) as u8 + 1
+    } else {
+        0
     }
-    split(from, last) as u8 + 1
 }
 
 /// The address without so many of its last bits.
@@ -97,12 +101,11 @@ impl SourceBlock {
         requires other { IsPlace 128 other.bits other.start }
         ensures { IsSmallestAround self other result }
     {
-        let from = self.start.min(other.start);
-        let last = self.start.max(other.start);
-        let bits = common_bits(from, last).max(self.bits).max(other.bits);
+        let differing = differing_bits(self.start, other.start);
+        let bits = differing.max(self.bits).max(other.bits);
         SourceBlock {
             bits,
-            start: cleared(from, bits),
+            start: cleared(self.start, bits),
         }
     }
 

@@ -1,4 +1,5 @@
 -- What the nodes name stands before them, and a search for one of them comes to its number.
+use Rattle.std.specs.Prelude.{None}
 use Rattle.std.proofs.Common.{max, length, sym, arith}
 use Rattle.std.proofs.lemmas.List.{take_all}
 use Rattle.babel_trie.proofs.IndexLaws.{index_take}
@@ -13,7 +14,7 @@ returns-then-more-max-clause-nodes g c =
 
 pub returns-clause-sound : goal.returns-clause-sound
 returns-clause-sound g c =
-    sound_after_take _ c.args.self.now.nodes.items c.args.self.now.numbers c.args.kept c.requires.sound
+    sound_after_take None _ c.args.self.now.nodes.items c.args.self.now.numbers c.args.kept c.requires.sound
     (index_take _ _ c.args.self.now.nodes.items c.args.kept c.args.self.now.numbers c.requires.sound.indexed)
     c.truncate.new.self.items c.truncate.ensures.items
 

@@ -1,4 +1,5 @@
 -- A node that was not found is the next one, and is found from then on.
+use Rattle.std.specs.Prelude.{None}
 use Rattle.std.proofs.Common.{◌≡◌, length, [], ◌∷◌, ◌++◌, sym, ◌∙◌, ap, subst, arith}
 use Rattle.std.specs.List.{slice_get}
 use Rattle.babel_trie.specs.Index.{HasDistinct}
@@ -26,7 +27,7 @@ returns-clause-found g c =
 
 pub returns-clause-sound : goal.returns-clause-sound
 returns-clause-sound g c =
-    sound_after_push _ c.args.self.now.nodes.items c.args.self.now.numbers c.add.new.self c.args.node.now c.requires.sound c.requires.halves c.requires.normal
+    sound_after_push None _ c.args.self.now.nodes.items c.args.self.now.numbers c.add.new.self c.args.node.now c.requires.sound c.requires.halves c.requires.normal
     (λ n e. c.in_default.ensures.none n (ap (λ xs. slice_get xs n.0) c.deref.ensures.value ∙ e))
     (indexed_as (c.deref-2.result.now ++ c.args.node.now ∷ []) (c.args.self.now.nodes.items ++ c.args.node.now ∷ []) c.add.new.self (ap (λ xs. xs ++ c.args.node.now ∷ []) c.deref-2.ensures.value) c.in_ok-add.ensures)
     c.push_with_room.new.list.items c.in_ok-push_with_room.ensures
