@@ -1,15 +1,16 @@
 -- What has two halves of a block without a node of its own.
-use Rattle.std.proofs.Common.{◌≡◌, ◌⊎◌, inl, inr, ℕ, ◌+◌, ◌-◌, ◌^◌, ◌<◌, ◌≤◌, ◌==◌, cond, Bool, true, false, List, refl, sym, ◌∙◌, ap, subst, arith}
-use Rattle.babel_trie.specs.Interned.{Opens, middle_of, with_outside, inside_of, HalvesAt, IsNodeIn, IsLooseIn, IsNormal, IsNormalLoose, AreUnited}
+use Rattle.std.proofs.Common.{◌≡◌, ◌⊎◌, inl, inr, ℕ, ◌+◌, ◌-◌, ◌^◌, ◌<◌, ◌≤◌, ◌==◌, cond, Bool, true, false, length, List, refl, sym, ◌∙◌, ap, subst, arith}
+use Rattle.babel_trie.specs.Interned.{Opens, middle_of, with_outside, inside_of, HalvesAt, IsNodeIn, IsLooseIn, IsNormal, IsNormalLoose, IsIn, IsNoLarger, IsBesideNode, AreApart, AreUnited}
 use Rattle.babel_trie.specs.Rows.{IsPlace}
+use Rattle.babel_trie.specs.Sound.{IsBelow, IsLooseBelow}
 use Rattle.babel_trie.specs.declared.table.Loose.{Loose}
 use Rattle.babel_trie.specs.declared.table.Loose.TheVariants.{Same, Split}
 use Rattle.babel_trie.specs.declared.table.Node.{Node}
 use Rattle.babel_trie.specs.declared.table.Sources.{Sources}
 use Rattle.babel_trie.specs.declared.table.Sources.TheVariants.{Constant, Stored}
 use Rattle.babel_trie.proofs.BitLaws.{pow_twice}
-use Rattle.babel_trie.proofs.NumberLaws.{node_is, inside_bits, inside_start, inside_low, inside_high, inside_own, inside_larger}
-use Rattle.std.proofs.lemmas.Bool.{eq-eqb, ne_eqb}
+use Rattle.babel_trie.proofs.NumberLaws.{node_is, inside_bits, inside_start, inside_low, inside_high, inside_own, inside_larger, slice_get_in}
+use Rattle.std.proofs.lemmas.Bool.{cases_lt, eq-eqb}
 
 module _ {V : Type 0} (nothing : V) (nodes : List (Node V)) where
   with_own : (v : V) (node : Node V) → node.outside ≡ v → with_outside v node ≡ node
@@ -17,14 +18,12 @@ module _ {V : Type 0} (nothing : V) (nodes : List (Node V)) where
 
   -- in a block a node in it is itself
   inside_same : (k at : ℕ) (node : Node V) → IsNodeIn nothing nodes k at node → inside_of nothing k node ≡ node
-  inside_same k at node p = by (node.bits == k) refl
-    where
-      by : (b : Bool) → (node.bits == k) ≡ b → cond b (with_outside nothing node) node ≡ node
-      by true e = with_own nothing node (p.nothing_beside (own e))
-        where
-          own : (node.bits == k) ≡ true → node.bits ≡ k
-          own e = omega (arith, e)
-      by false e = refl
+  inside_same k at node p = elim (cases_lt node.bits k) [
+    | inl smaller ↦ inside_larger nothing k node (λ e. omega arith)
+    | inr no_smaller ↦
+        let e : node.bits ≡ k = omega (arith, p.bits_in, no_smaller) in
+        ap (λ b. cond b (with_outside nothing node) node) (eq-eqb node.bits k e) ∙ with_own nothing node (p.nothing_beside e)
+  ]
 
   taken_back : (k at : ℕ) (v : V) (node : Node V) → IsNodeIn nothing nodes k at node → (node.bits ≡ k) ⊎ (node.outside ≡ v) → inside_of nothing k (with_outside v node) ≡ node
   taken_back k at v node p (inl all) =
@@ -86,3 +85,44 @@ module _ {V : Type 0} (nothing : V) (nodes : List (Node V)) where
       one u v w e f = cc
       no_number : (v : V) (n : _) → (let s : Sources V = Constant v in s) ≡ Stored n → ⊥
       no_number v n e = cc
+
+  -- what stands in its one form has its halves in the table
+  pub loose_below : (x : Loose V) → IsNormalLoose nothing nodes x → IsLooseBelow (length nodes) x
+  loose_below (Same v) n = tt
+  loose_below (Split node) n = (below (node.bits - 1) node.start node.low n.low_in, below (node.bits - 1) (middle_of node.bits node.start) node.high n.high_in)
+    where
+      below : (bits start : ℕ) (s : Sources V) → IsIn nothing nodes bits start s → IsBelow (length nodes) s
+      below bits start (Constant v) p = tt
+      below bits start (Stored n) p = slice_get_in nodes n.0 p.0 p.1
+
+  -- what is stored lies where it did
+  stored_in : (bits start : ℕ) (s : Sources V) (x : Loose V) → Opens nodes s x → IsLooseIn nothing nodes bits start x → IsIn nothing nodes bits start s
+  stored_in bits start (Constant v) x p i = tt
+  stored_in bits start (Stored n) x p i = (p.0, p.1, subst (IsLooseIn nothing nodes bits start) p.2 i)
+
+  constant_is : (s : Sources V) (x : Loose V) (v : V) → Opens nodes s x → s ≡ Constant v → x ≡ Same v
+  constant_is s x v p e = subst (λ (r : Sources V). Opens nodes r x) e p
+
+  no_larger : (bits start : ℕ) (s other : Sources V) (x y : Loose V) → Opens nodes s x → Opens nodes other y → IsLooseIn nothing nodes bits start y → IsBesideNode bits x y → IsNoLarger nothing nodes bits s other
+  no_larger bits start s other x y p q i apart v number e f =
+      let o : Opens nodes (Stored number) y = subst (λ (r : Sources V). Opens nodes r y) f q in
+      let both = apart v o.0 (constant_is s x v p e) o.2 in
+      let at = subst (IsLooseIn nothing nodes bits start) o.2 i in
+      (o.0, o.1, omega (arith, at.bits_in, both.0), both.1)
+
+  -- two that are stored
+  pub united_stored : (bits start : ℕ) (s r : Sources V) (x y : Loose V) → 0 < bits → IsPlace 128 bits start → Opens nodes s x → Opens nodes r y →
+      IsLooseIn nothing nodes (bits - 1) start x → IsLooseIn nothing nodes (bits - 1) (middle_of bits start) y → AreApart (bits - 1) x y →
+      AreUnited nothing nodes bits start x y (Split (fork_node bits start s r))
+  united_stored bits start s r x y some place p q i j apart =
+      inr ((some, inl (refl, p, q)),
+        record { bits_in = omega arith; from_start = omega arith; before_end = omega arith; nothing_beside = λ _. refl },
+        record {
+          some = some;
+          place = place;
+          low_in = stored_in (bits - 1) start s x p i;
+          high_in = stored_in (bits - 1) (middle_of bits start) r y q j;
+          halves_differ = λ v e f. apart.0 v v (constant_is s x v p e) (constant_is r y v q f);
+          low_no_larger = no_larger (bits - 1) (middle_of bits start) s r x y p q j apart.1;
+          high_no_larger = no_larger (bits - 1) start r s y x q p i apart.2;
+        })
