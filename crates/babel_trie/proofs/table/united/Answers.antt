@@ -1,6 +1,6 @@
 -- One value beside a node that takes it.
 use Rattle.std.proofs.Common.{◌-◌, ◌^◌, ◌+◌, sym, subst, arith}
-use Rattle.std.specs.Prelude.{None}
+use Rattle.std.specs.Prelude.{Option, None}
 use Rattle.std.proofs.lemmas.Nat.{pow_pos}
 use Rattle.babel_trie.specs.Interned.{IsNodeIn, IsNormal, IsNormalLoose, IsLooseIn, AreUnited, middle_of}
 use Rattle.babel_trie.specs.declared.table.Loose.{Loose}
@@ -18,9 +18,9 @@ returns-then-takes-clause-some g c nodes low_in high_in low_form high_form =
     let n = subst (IsNormalLoose None nodes) c.in-Same-Split.is-1 high_form in
     let p = subst (IsLooseIn None nodes (bits - 1) (middle_of bits start)) c.in-Same-Split.is-1 high_in in
     let here = united_high None nodes bits start v node c.requires.some p n (c.takes.ensures.0 c.if-takes.true) in
-    subst (λ x. AreUnited None nodes bits start x c.args.high.now (Split c.beside.result)) (sym c.in-Same-Split.is-0)
-    (subst (λ x. AreUnited None nodes bits start (Same v) x (Split c.beside.result)) (sym c.in-Same-Split.is-1)
-    (subst (λ m. AreUnited None nodes bits start (Same v) (Split node) (Split m)) (sym c.beside.ensures) here))
+    subst (λ (x : Loose (Option g.row.V.Denot)). AreUnited None nodes bits start x c.args.high.now (Split c.beside.result)) (sym c.in-Same-Split.is-0)
+    (subst (λ (x : Loose (Option g.row.V.Denot)). AreUnited None nodes bits start (Same v) x (Split c.beside.result)) (sym c.in-Same-Split.is-1)
+    (subst (λ (m : Node (Option g.row.V.Denot)). AreUnited None nodes bits start (Same v) (Split node) (Split m)) (sym c.beside.ensures) here))
 
 pub returns-then-takes-2-clause-some : goal.returns-then-takes-2-clause-some
 returns-then-takes-2-clause-some g c nodes low_in high_in low_form high_form =
@@ -31,6 +31,6 @@ returns-then-takes-2-clause-some g c nodes low_in high_in low_form high_form =
     let n = subst (IsNormalLoose None nodes) c.in-Split-Same.is-0 low_form in
     let p = subst (IsLooseIn None nodes (bits - 1) start) c.in-Split-Same.is-0 low_in in
     let here = united_low None nodes bits start v node c.requires.some p n (omega (arith, p.before_end, pow_pos node.bits)) (c.takes-in-Split-Same.ensures.0 c.if-takes-2.true) in
-    subst (λ x. AreUnited None nodes bits start x c.args.high.now (Split c.beside-then-takes-2.result)) (sym c.in-Split-Same.is-0)
-    (subst (λ x. AreUnited None nodes bits start (Split node) x (Split c.beside-then-takes-2.result)) (sym c.in-Split-Same.is-1)
-    (subst (λ m. AreUnited None nodes bits start (Split node) (Same v) (Split m)) (sym c.beside-then-takes-2.ensures) here))
+    subst (λ (x : Loose (Option g.row.V.Denot)). AreUnited None nodes bits start x c.args.high.now (Split c.beside-then-takes-2.result)) (sym c.in-Split-Same.is-0)
+    (subst (λ (x : Loose (Option g.row.V.Denot)). AreUnited None nodes bits start (Split node) x (Split c.beside-then-takes-2.result)) (sym c.in-Split-Same.is-1)
+    (subst (λ (m : Node (Option g.row.V.Denot)). AreUnited None nodes bits start (Split node) (Same v) (Split m)) (sym c.beside-then-takes-2.ensures) here))

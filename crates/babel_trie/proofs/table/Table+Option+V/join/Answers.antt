@@ -1,6 +1,7 @@
 -- What is united, or a node with the two halves stored.
 use Rattle.std.proofs.Common.{◌-◌, ◌+◌, sym, subst, arith}
-use Rattle.std.specs.Prelude.{None}
+use Rattle.std.specs.Prelude.{Option, None}
+use Rattle.babel_trie.specs.declared.table.Node.{Node}
 use Rattle.babel_trie.specs.Interned.{AreUnited, middle_of}
 use Rattle.babel_trie.specs.declared.table.Loose.TheVariants.{Split}
 use Rattle.babel_trie.specs.Sound.{KeepsNodes}
@@ -33,4 +34,4 @@ returns-clause-united g c =
     let made = united_stored None new bits start c.in_ok-low.low c.in_ok-high.high c.args.low.now c.args.high.now c.requires.some c.requires.block low c.in_ok-high.ensures.opens
     (LooseIn-grows None old new keeps (bits - 1) start c.args.low.now c.requires.low)
     (LooseIn-grows None old new keeps (bits - 1) (middle_of bits start) c.args.high.now c.requires.high) c.in_default.ensures.none in
-    subst (λ m. AreUnited None new bits start c.args.low.now c.args.high.now (Split m)) (sym c.fork.ensures) made
+    subst (λ (m : Node (Option g.row.V.Denot)). AreUnited None new bits start c.args.low.now c.args.high.now (Split m)) (sym c.fork.ensures) made
