@@ -90,7 +90,8 @@ fn outcome(
         failures: 0,
         flushes: 0,
     };
-    match run_job(alloc, job, &mut reader, &mut other, &mut writer) {
+    let outcome = run_job(alloc, job, &mut reader, &mut other, &mut writer);
+    match &outcome {
         Ok(given) if given.status == status && writer.rest.is_empty() && writer.flushes == 1 => Ok(
             (),
         ),
