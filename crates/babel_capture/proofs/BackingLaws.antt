@@ -1,20 +1,24 @@
 -- What is seen of a frame is in the frame, layer by layer.
-use Rattle.std.proofs.Common.{◌≡◌, ℕ, zero, suc, ◌+◌, ◌-◌, ◌<◌, ◌≤◌, Bool, true, false, List, [], ◌∷◌, ◌++◌, length, take, drop, Option, Some, None, refl, sym, ap, ◌∙◌, append_assoc, arith, nat_lt, nat_le, slice_index, not, ◌&&◌, ◌||◌, ◌==◌, if◌then◌else◌}
+use Rattle.std.proofs.Common.{◌≡◌, ℕ, zero, suc, ◌+◌, ◌-◌, ◌<◌, ◌≤◌, Bool, true, false, List, [], ◌∷◌, ◌++◌, length, take, drop, refl, sym, ap, ◌∙◌, append_assoc, arith, nat_lt, nat_le, slice_index, not, ◌&&◌, ◌||◌, ◌==◌, if◌then◌else◌}
 use Rattle.std.proofs.lemmas.List.{length-drop, length-take, take-append-drop}
 use Rattle.std.proofs.lemmas.Bool.{cond_both}
 use Rattle.std.proofs.lemmas.Bool.Decides.{nat_tests}
 use Rattle.babel_prefix.specs.Address.{Address}
-use Rattle.babel_capture.specs.Backing.{StandIn, Backs}
+use Rattle.babel_capture.specs.Backing.{StandIn, Backs, BacksCarried, BacksLack}
+use Rattle.babel_capture.specs.declared.lack.Lack.{Lack}
+use Rattle.babel_capture.specs.declared.lack.Lack.TheVariants as lacks
 use Rattle.babel_capture.specs.declared.link.Link.{Link}
 use Rattle.babel_capture.specs.declared.link.Link.TheVariants as links
-use Rattle.babel_capture.specs.Ethernet.{Payload, is_tag, past_tag, past_tags, ip_sight, typed_sight}
-use Rattle.babel_capture.specs.Frame.{header_sight, raw_sight, family_sight, protocol_family, is_ipv6_family, frame_sight}
-use Rattle.babel_capture.specs.Headers.{NextHeader, has_len, header_len, is_first_fragment, has_more_fragments as more, past_header, past_headers}
-use Rattle.babel_capture.specs.Ipv4.{ipv4_sight, ipv4_header_len, total_len, ipv4_sender, has_more_fragments, carries_udp, is_later_fragment}
-use Rattle.babel_capture.specs.Ipv6.{ipv6_sight, ipv6_sender, payload_len, first_header, upper_sight}
+use Rattle.babel_capture.specs.declared.place.Place.{Place}
+use Rattle.babel_capture.specs.Ethernet.{Payload, in_vlans, is_tag, past_tag, past_tags, ip_sight, tag_number, typed_sight}
+use Rattle.babel_capture.specs.Frame.{cooked2_sight, header_sight, leads_to_ip, on_link, raw_sight, family_sight, protocol_family, is_ipv6_family, frame_sight}
+use Rattle.babel_capture.specs.Headers.{NextHeader, has_len, header_len, is_first_fragment, is_unkept, has_more_fragments as more, past_header, past_headers, telling_len}
+use Rattle.babel_capture.specs.Ipv4.{ipv4_sight, ipv4_carried_sight, ipv4_header_sight, ipv4_header_len, total_len, ipv4_sender, has_more_fragments, carries_udp, is_later_fragment}
+use Rattle.babel_capture.specs.Ipv6.{ipv6_sight, ipv6_carried_sight, ipv6_sender, payload_len, first_header, upper_sight}
 use Rattle.babel_capture.specs.Octets.{network_number, ip_version}
-use Rattle.babel_capture.specs.Sight.{Sight, other, fragment, cut, datagram}
-use Rattle.babel_capture.specs.Udp.{udp_sight, udp_len, is_babel}
+use Rattle.babel_capture.specs.Place.{no_vlans, place_on, with_vlan}
+use Rattle.babel_capture.specs.Sight.{Sight, Carried, other, too_short, datagram, other_port, not_link_local, lacking, carries}
+use Rattle.babel_capture.specs.Udp.{udp_sight, babel_sight, len_sight, unkept_sight, udp_len, is_babel, is_of_routers, may_send}
 
 -- ---- octets that stand in others
 
@@ -71,32 +75,41 @@ IsPart-first n octets whole fits = record {
 }
 
 -- what a part backs, the whole backs
-pub Backs-part : (octets : List ℕ) (whole : ℕ) (of : List ℕ) (of_whole : ℕ) → IsPart octets whole of of_whole → (sight : Sight) → Backs octets whole sight
-    → Backs of of_whole sight
-Backs-part octets whole of of_whole part other backs = tt
-Backs-part octets whole of of_whole part (fragment sender interface) backs = tt
-Backs-part octets whole of of_whole part (cut sender interface) backs = part.kept backs
-Backs-part octets whole of of_whole part (datagram sender interface payload) backs =
-    StandIn-in payload octets of backs part.inside
+module _ (octets : List ℕ) (all : ℕ) (of : List ℕ) (of_all : ℕ) (part : IsPart octets all of of_all) where
+  lack-part : (lack : Lack) → BacksLack octets all lack → BacksLack of of_all lack
+  lack-part lacks.Fragment backs = tt
+  lack-part lacks.CutShort backs = tt
+  lack-part lacks.Snapped backs = part.kept backs
+
+  carried-part : (carried : Carried) → BacksCarried octets all carried → BacksCarried of of_all carried
+  carried-part other_port backs = tt
+  carried-part not_link_local backs = tt
+  carried-part (lacking lack) backs = lack-part lack backs
+  carried-part (carries payload) backs = StandIn-in payload octets of backs part.inside
+
+  pub Backs-part : (sight : Sight) → Backs octets all sight → Backs of of_all sight
+  Backs-part other backs = tt
+  Backs-part too_short backs = tt
+  Backs-part (datagram place sender carried) backs = carried-part carried backs
 
 -- ---- choices
 
 -- whichever of the two is seen, it is backed
-either : (octets : List ℕ) (whole : ℕ) (b : Bool) (x y : Sight) → Backs octets whole x → Backs octets whole y → Backs octets whole (if b then x else y)
-either octets whole true x y here there = here
-either octets whole false x y here there = there
+either : (octets : List ℕ) (all : ℕ) (b : Bool) (x y : Sight) → Backs octets all x → Backs octets all y → Backs octets all (if b then x else y)
+either octets all true x y here there = here
+either octets all false x y here there = there
 
--- nothing of Babel is backed by any octets, so what is left is what is seen where the test fails
-unless : (octets : List ℕ) (whole : ℕ) (b : Bool) (y : Sight) → (b ≡ false → Backs octets whole y) → Backs octets whole (if b then other else y)
-unless octets whole true y backed = tt
-unless octets whole false y backed = backed refl
+-- what is left is seen where the test fails
+unless : (octets : List ℕ) (all : ℕ) (b : Bool) (x y : Sight) → Backs octets all x → (b ≡ false → Backs octets all y) → Backs octets all (if b then x else y)
+unless octets all true x y here backed = here
+unless octets all false x y here backed = backed refl
 
--- cut, where less was kept than there was
-unless_cut : (octets : List ℕ) (whole needed : ℕ) (sender : Address) (interface : Option ℕ) (y : Sight) → needed ≤ whole → Backs octets whole y
-    → Backs octets whole (if nat_lt (length octets) needed then cut sender interface else y)
-unless_cut octets whole needed sender interface y fits backed =
-    let P : Sight → Type 0 = λ sight. Backs octets whole sight in
-    cond_both (nat_lt (length octets) needed) (cut sender interface) y P (λ (few : nat_lt (length octets) needed ≡ true). grind (arith, nat_tests)) (λ _. backed)
+-- snapped, where less was kept than there was
+unless_snapped : (octets : List ℕ) (all needed : ℕ) (place : Place) (sender : Address) (y : Sight) → needed ≤ all → Backs octets all y
+    → Backs octets all (if nat_lt (length octets) needed then datagram place sender (lacking lacks.Snapped) else y)
+unless_snapped octets all needed place sender y fits backed =
+    let P : Sight → Type 0 = λ sight. Backs octets all sight in
+    cond_both (nat_lt (length octets) needed) (datagram place sender (lacking lacks.Snapped)) y P (λ (few : nat_lt (length octets) needed ≡ true). grind (arith, nat_tests)) (λ _. backed)
 
 room : (whole needed : ℕ) → nat_lt whole needed ≡ false → needed ≤ whole
 room whole needed enough = grind (arith, nat_tests)
@@ -107,39 +120,106 @@ or_right false b neither = neither
 
 -- ---- UDP
 
-pub udp_backed : (sender : Address) (interface : Option ℕ) (is_fragment : Bool) (octets : List ℕ) (whole : ℕ)
-    → Backs octets whole (udp_sight sender interface is_fragment octets whole)
-unfolding udp_sight
-udp_backed sender interface is_fragment octets whole =
+len_backed : (place : Place) (sender : Address) (octets : List ℕ) (all : ℕ) → Backs octets all (len_sight place sender octets all)
+len_backed place sender octets all =
     let len = udp_len octets in
-    let all : Sight = datagram sender interface (take (len - 8) (drop 8 octets)) in
-    let kept : Sight = if nat_lt (length octets) len then cut sender interface else all in
-    let fitting : Sight = if nat_lt len 8 || nat_lt whole len then other else kept in
-    let long : Sight = if nat_lt (length octets) 8 then cut sender interface else fitting in
-    let only : Sight = if nat_lt whole 8 then other else long in
-    let babel : Sight = if is_fragment then fragment sender interface else only in
-    let all_backed : Backs octets whole all = StandIn-in (take (len - 8) (drop 8 octets)) (drop 8 octets) octets (StandIn-take (len - 8) (drop 8 octets)) (StandIn-drop 8 octets) in
-    let fitting_backed : Backs octets whole fitting = unless octets whole (nat_lt len 8 || nat_lt whole len) kept (λ fits. unless_cut octets whole len sender interface all (room whole len (or_right (nat_lt len 8) (nat_lt whole len) fits)) all_backed) in
-    let only_backed : Backs octets whole only = unless octets whole (nat_lt whole 8) long (λ fits. unless_cut octets whole 8 sender interface fitting (room whole 8 fits) fitting_backed) in
-    unless octets whole (nat_lt (length octets) 4 || not (is_babel octets)) babel (λ _. either octets whole is_fragment (fragment sender interface) only tt only_backed)
+    let snapped : Sight = datagram place sender (lacking lacks.Snapped) in
+    let payload : Sight = datagram place sender (carries (take (len - 8) (drop 8 octets))) in
+    let kept : Sight = if nat_lt (length octets) len then snapped else payload in
+    let long : Sight = if nat_lt len 8 then other else kept in
+    let fitting : Sight = if nat_lt all len then datagram place sender (lacking lacks.CutShort) else long in
+    let told : Sight = if nat_lt (length octets) 6 then snapped else fitting in
+    let payload_backed : Backs octets all payload = StandIn-in (take (len - 8) (drop 8 octets)) (drop 8 octets) octets (StandIn-take (len - 8) (drop 8 octets)) (StandIn-drop 8 octets) in
+    let fitting_backed : Backs octets all fitting = unless octets all (nat_lt all len) (datagram place sender (lacking lacks.CutShort)) long tt (λ fits.
+    either octets all (nat_lt len 8) other kept tt (unless_snapped octets all len place sender payload (room all len fits) payload_backed)) in
+    unless octets all (nat_lt all 6) other told tt (λ fits. unless_snapped octets all 6 place sender fitting (room all 6 fits) fitting_backed)
+
+module _ (place : Place) (sender : Address) (is_fragment : Bool) (octets : List ℕ) (all : ℕ) where
+  abbrev Port : Sight
+  Port = datagram place sender other_port
+
+  abbrev NotLocal : Sight
+  NotLocal = datagram place sender not_link_local
+
+  abbrev Part : Sight
+  Part = datagram place sender (lacking lacks.Fragment)
+
+  -- if IP says no more than its frame had
+  babel_backed : Backs octets all (babel_sight place sender is_fragment false octets all)
+  babel_backed =
+      let len : Sight = len_sight place sender octets all in
+      let joined : Sight = if is_fragment then Part else len in
+      let local : Sight = if not (may_send sender) then NotLocal else joined in
+      either octets all (not (is_of_routers octets)) Port local tt
+      (either octets all (not (may_send sender)) NotLocal joined tt
+      (either octets all is_fragment Part len tt (len_backed place sender octets all)))
+
+  pub udp_backed : Backs octets all (udp_sight place sender is_fragment false octets all)
+  unfolding udp_sight
+  udp_backed =
+      let babel : Sight = babel_sight place sender is_fragment false octets all in
+      let ports : Sight = if not (is_babel octets) then other else babel in
+      let kept : Sight = if nat_lt (length octets) 4 then too_short else ports in
+      either octets all (nat_lt all 4) other kept tt
+      (either octets all (nat_lt (length octets) 4) too_short ports tt
+      (either octets all (not (is_babel octets)) other babel tt babel_backed))
+
+  -- and if it says more, in any octets
+  pub udp_cut_backed : (of : List ℕ) (of_all : ℕ) → Backs of of_all (udp_sight place sender is_fragment true octets all)
+  unfolding udp_sight
+  udp_cut_backed of of_all =
+      let cut : Sight = datagram place sender (lacking lacks.CutShort) in
+      let joined : Sight = if is_fragment then Part else cut in
+      let local : Sight = if not (may_send sender) then NotLocal else joined in
+      let babel : Sight = if not (is_of_routers octets) then Port else local in
+      let ports : Sight = if not (is_babel octets) then other else babel in
+      let kept : Sight = if nat_lt (length octets) 4 then too_short else ports in
+      either of of_all (nat_lt all 4) other kept tt
+      (either of of_all (nat_lt (length octets) 4) too_short ports tt
+      (either of of_all (not (is_babel octets)) other babel tt
+      (either of of_all (not (is_of_routers octets)) Port local tt
+      (either of of_all (not (may_send sender)) NotLocal joined tt
+      (either of of_all is_fragment Part cut tt tt)))))
 
 -- ---- IPv4
 
-pub ipv4_backed : (interface : Option ℕ) (octets : List ℕ) (whole : ℕ) → Backs octets whole (ipv4_sight interface octets whole)
+ipv4_by_cut : (place : Place) (octets : List ℕ) (all total header : ℕ) (is_fragment b : Bool) → nat_lt all total ≡ b
+    → Backs octets all (udp_sight place (ipv4_sender octets) is_fragment b (drop header (take total octets)) (total - header))
+ipv4_by_cut place octets all total header is_fragment true cut = udp_cut_backed place (ipv4_sender octets) is_fragment (drop header (take total octets)) (total - header) octets all
+ipv4_by_cut place octets all total header is_fragment false fits =
+    Backs-part (drop header (take total octets)) (total - header) octets all
+    (IsPart-in (drop header (take total octets)) (take total octets) octets (total - header) total all (IsPart-after header (take total octets) total)
+    (IsPart-first total octets all (room all total fits)))
+    (udp_sight place (ipv4_sender octets) is_fragment false (drop header (take total octets)) (total - header))
+    (udp_backed place (ipv4_sender octets) is_fragment (drop header (take total octets)) (total - header))
+
+ipv4_carried_backed : (place : Place) (octets : List ℕ) (all : ℕ) → Backs octets all (ipv4_carried_sight place octets all)
+ipv4_carried_backed place octets all = ipv4_by_cut place octets all (total_len octets) (ipv4_header_len octets) (has_more_fragments octets) (nat_lt all (total_len octets)) refl
+
+ipv4_header_backed : (place : Place) (octets : List ℕ) (all : ℕ) → Backs octets all (ipv4_header_sight place octets all)
+ipv4_header_backed place octets all =
+    let carried : Sight = ipv4_carried_sight place octets all in
+    let whole_header : Sight = if nat_lt (length octets) 20 then too_short else carried in
+    let of_udp : Sight = if not (carries_udp octets) then other else whole_header in
+    let protocol : Sight = if nat_lt (length octets) 10 then too_short else of_udp in
+    let first : Sight = if is_later_fragment octets then other else protocol in
+    either octets all (nat_lt (length octets) 8) too_short first tt
+    (either octets all (is_later_fragment octets) other protocol tt
+    (either octets all (nat_lt (length octets) 10) too_short of_udp tt
+    (either octets all (not (carries_udp octets)) other whole_header tt
+    (either octets all (nat_lt (length octets) 20) too_short carried tt (ipv4_carried_backed place octets all)))))
+
+pub ipv4_backed : (place : Place) (octets : List ℕ) (all : ℕ) → Backs octets all (ipv4_sight place octets all)
 unfolding ipv4_sight
-ipv4_backed interface octets whole =
-    let total = total_len octets in
-    let header = ipv4_header_len octets in
-    let carried : Sight = udp_sight (ipv4_sender octets) interface (has_more_fragments octets) (drop header (take total octets)) (total - header) in
-    let of_udp : Sight = if not (carries_udp octets) || is_later_fragment octets then other else carried in
-    let fitting : Sight = if nat_lt header 20 || nat_lt whole total then other else of_udp in
-    unless octets whole (nat_lt (length octets) 20 || not (ip_version octets == 4)) fitting (λ _.
-    unless octets whole (nat_lt header 20 || nat_lt whole total) of_udp (λ fits.
-    unless octets whole (not (carries_udp octets) || is_later_fragment octets) carried (λ _.
-    Backs-part (drop header (take total octets)) (total - header) octets whole
-    (IsPart-in (drop header (take total octets)) (take total octets) octets (total - header) total whole (IsPart-after header (take total octets) total)
-    (IsPart-first total octets whole (room whole total (or_right (nat_lt header 20) (nat_lt whole total) fits))))
-    carried (udp_backed (ipv4_sender octets) interface (has_more_fragments octets) (drop header (take total octets)) (total - header)))))
+ipv4_backed place octets all =
+    let header : Sight = ipv4_header_sight place octets all in
+    let fitting : Sight = if nat_lt (total_len octets) (ipv4_header_len octets + 4) then other else header in
+    let told : Sight = if nat_lt (length octets) 4 then too_short else fitting in
+    let ip : Sight = if not (ip_version octets == 4) || nat_lt (ipv4_header_len octets) 20 then other else told in
+    either octets all (nat_lt (length octets) 1) too_short ip tt
+    (either octets all (not (ip_version octets == 4) || nat_lt (ipv4_header_len octets) 20) other told tt
+    (either octets all (nat_lt (length octets) 4) too_short fitting tt
+    (either octets all (nat_lt (total_len octets) (ipv4_header_len octets + 4)) other header tt (ipv4_header_backed place octets all))))
 
 -- ---- IPv6
 
@@ -155,25 +235,25 @@ past_header-part : (header : NextHeader) → IsPast (past_header header) header
 unfolding past_header
 past_header-part header =
     let octets = header.octets in
-    let whole = header.whole in
-    let same : IsPast header header = record { part = IsPart-self octets whole } in
+    let all = header.whole in
+    let same : IsPast header header = record { part = IsPart-self octets all } in
     let options : NextHeader = record {
       number = slice_index octets 0;
       is_fragment = header.is_fragment;
       octets = drop (header_len octets) octets;
-      whole = whole - header_len octets;
+      whole = all - header_len octets;
     } in
     let first : NextHeader = record {
       number = slice_index octets 0;
       is_fragment = header.is_fragment || more octets;
       octets = drop 8 octets;
-      whole = whole - 8;
+      whole = all - 8;
     } in
     let is_first = is_first_fragment header.number octets in
     let long : NextHeader = if has_len header.number then options else (if is_first then first else header) in
-    past_either (nat_lt (length octets) 8) header long header same
-    (past_either (has_len header.number) options (if is_first then first else header) header (record { part = IsPart-after (header_len octets) octets whole })
-    (past_either is_first first header header (record { part = IsPart-after 8 octets whole }) same))
+    past_either (nat_lt (length octets) (telling_len header.number)) header long header same
+    (past_either (has_len header.number) options (if is_first then first else header) header (record { part = IsPart-after (header_len octets) octets all })
+    (past_either is_first first header header (record { part = IsPart-after 8 octets all }) same))
 
 past_headers-part : (n : ℕ) (header : NextHeader)
     → IsPart (past_headers n header).octets (past_headers n header).whole header.octets header.whole
@@ -184,23 +264,43 @@ past_headers-part (suc n) header =
     IsPart-in (past_header before).octets before.octets header.octets (past_header before).whole before.whole header.whole
     (past_header-part before).part (past_headers-part n header)
 
-pub ipv6_backed : (interface : Option ℕ) (octets : List ℕ) (whole : ℕ) → Backs octets whole (ipv6_sight interface octets whole)
-unfolding ipv6_sight
-ipv6_backed interface octets whole =
+unkept_backed : (octets : List ℕ) (all carried : ℕ) → Backs octets all (unkept_sight carried)
+unkept_backed octets all carried = either octets all (nat_lt carried 4) other too_short tt tt
+
+ipv6_by_cut : (place : Place) (octets : List ℕ) (all len : ℕ) (upper : NextHeader) (b : Bool) → IsPart upper.octets upper.whole (take len (drop 40 octets)) len → nat_lt all (40 + len) ≡ b
+    → Backs octets all (udp_sight place (ipv6_sender octets) upper.is_fragment b upper.octets upper.whole)
+ipv6_by_cut place octets all len upper true part cut = udp_cut_backed place (ipv6_sender octets) upper.is_fragment upper.octets upper.whole octets all
+ipv6_by_cut place octets all len upper false part fits =
+    let enough : 40 + len ≤ all = room all (40 + len) fits in
+    Backs-part upper.octets upper.whole octets all
+    (IsPart-in upper.octets (take len (drop 40 octets)) octets upper.whole len all part
+    (IsPart-in (take len (drop 40 octets)) (drop 40 octets) octets len (all - 40) all
+    (IsPart-first len (drop 40 octets) (all - 40) (omega arith)) (IsPart-after 40 octets all)))
+    (udp_sight place (ipv6_sender octets) upper.is_fragment false upper.octets upper.whole)
+    (udp_backed place (ipv6_sender octets) upper.is_fragment upper.octets upper.whole)
+
+ipv6_carried_backed : (place : Place) (octets : List ℕ) (all : ℕ) → Backs octets all (ipv6_carried_sight place octets all (past_headers 8 (first_header octets)))
+ipv6_carried_backed place octets all =
     let len = payload_len octets in
     let upper = past_headers 8 (first_header octets) in
-    let carried : Sight = udp_sight (ipv6_sender octets) interface upper.is_fragment upper.octets upper.whole in
-    let of_udp : Sight = upper_sight (ipv6_sender octets) interface upper in
-    let fitting : Sight = if nat_lt whole (40 + len) then other else of_udp in
-    unless octets whole (nat_lt (length octets) 40 || not (ip_version octets == 6)) fitting (λ _.
-    unless octets whole (nat_lt whole (40 + len)) of_udp (λ fits.
-    unless octets whole (not (upper.number == 17)) carried (λ _.
-    let enough : 40 + len ≤ whole = room whole (40 + len) fits in
-    Backs-part upper.octets upper.whole octets whole
-    (IsPart-in upper.octets (take len (drop 40 octets)) octets upper.whole len whole (past_headers-part 8 (first_header octets))
-    (IsPart-in (take len (drop 40 octets)) (drop 40 octets) octets len (whole - 40) whole
-    (IsPart-first len (drop 40 octets) (whole - 40) (omega arith)) (IsPart-after 40 octets whole)))
-    carried (udp_backed (ipv6_sender octets) interface upper.is_fragment upper.octets upper.whole))))
+    either octets all (nat_lt (length octets) 40) (unkept_sight upper.whole) (udp_sight place (ipv6_sender octets) upper.is_fragment (nat_lt all (40 + len)) upper.octets upper.whole)
+    (unkept_backed octets all upper.whole)
+    (ipv6_by_cut place octets all len upper (nat_lt all (40 + len)) (past_headers-part 8 (first_header octets)) refl)
+
+pub ipv6_backed : (place : Place) (octets : List ℕ) (all : ℕ) → Backs octets all (ipv6_sight place octets all)
+unfolding ipv6_sight
+ipv6_backed place octets all =
+    let upper = past_headers 8 (first_header octets) in
+    let carried : Sight = ipv6_carried_sight place octets all upper in
+    let unkept : Sight = if is_unkept upper then too_short else other in
+    let of_upper : Sight = upper_sight place octets all upper in
+    let told : Sight = if nat_lt (length octets) 7 then too_short else of_upper in
+    let ip : Sight = if not (ip_version octets == 6) then other else told in
+    either octets all (nat_lt (length octets) 1) too_short ip tt
+    (either octets all (not (ip_version octets == 6)) other told tt
+    (either octets all (nat_lt (length octets) 7) too_short of_upper tt
+    (either octets all (upper.number == 17) carried unkept (ipv6_carried_backed place octets all)
+    (either octets all (is_unkept upper) too_short other tt tt))))
 
 -- ---- EtherTypes
 
@@ -216,6 +316,7 @@ unfolding past_tag
 past_tag-part payload =
     let untagged : Payload = record {
       ether_type = network_number 2 2 payload.octets;
+      vlans = with_vlan payload.vlans (tag_number payload.octets);
       octets = drop 4 payload.octets;
       whole = payload.whole - 4;
     } in
@@ -230,48 +331,61 @@ past_tags-part (suc n) payload =
     IsPart-in (past_tag before).octets before.octets payload.octets (past_tag before).whole before.whole payload.whole
     (past_tag-part before).part (past_tags-part n payload)
 
--- IPv4 by one test, IPv6 by another, and else nothing
-ip_either : (octets : List ℕ) (whole : ℕ) (a b : Bool) (interface : Option ℕ)
-    → Backs octets whole (if a then ipv4_sight interface octets whole else (if b then ipv6_sight interface octets whole else other))
-ip_either octets whole true b interface = ipv4_backed interface octets whole
-ip_either octets whole false true interface = ipv6_backed interface octets whole
-ip_either octets whole false false interface = tt
+-- IPv4 by one test, IPv6 by another, and else what is not read
+ip_either : (octets : List ℕ) (all : ℕ) (a b : Bool) (place : Place) (y : Sight) → Backs octets all y
+    → Backs octets all (if a then ipv4_sight place octets all else (if b then ipv6_sight place octets all else y))
+ip_either octets all true b place y backed = ipv4_backed place octets all
+ip_either octets all false true place y backed = ipv6_backed place octets all
+ip_either octets all false false place y backed = backed
 
-typed_backed : (interface : Option ℕ) (payload : Payload) → Backs payload.octets payload.whole (typed_sight interface payload)
+typed_backed : (place : Place) (payload : Payload) → Backs payload.octets payload.whole (typed_sight place payload)
 unfolding typed_sight
-typed_backed interface payload =
+typed_backed place payload =
     let untagged = past_tags 4 payload in
-    Backs-part untagged.octets untagged.whole payload.octets payload.whole (past_tags-part 4 payload) (ip_sight interface untagged)
-    (ip_either untagged.octets untagged.whole (untagged.ether_type == 0x0800) (untagged.ether_type == 0x86dd) interface)
+    let there : Place = in_vlans place untagged.vlans in
+    let unkept : Sight = if is_tag untagged.ether_type && nat_lt (length untagged.octets) 4 then too_short else other in
+    Backs-part untagged.octets untagged.whole payload.octets payload.whole (past_tags-part 4 payload) (ip_sight there untagged)
+    (ip_either untagged.octets untagged.whole (untagged.ether_type == 0x0800) (untagged.ether_type == 0x86dd) there unkept
+    (either untagged.octets untagged.whole (is_tag untagged.ether_type && nat_lt (length untagged.octets) 4) too_short other tt tt))
 
 -- ---- frames
 
-header_backed : (place len : ℕ) (interface : Option ℕ) (octets : List ℕ) (whole : ℕ)
-    → Backs octets whole (header_sight place len interface octets whole)
-header_backed place len interface octets whole =
-    let payload : Payload = record { ether_type = network_number place 2 octets; octets = drop len octets; whole = whole - len } in
-    unless octets whole (nat_lt (length octets) len) (typed_sight interface payload) (λ _.
-    Backs-part (drop len octets) (whole - len) octets whole (IsPart-after len octets whole) (typed_sight interface payload) (typed_backed interface payload))
+header_backed : (field len : ℕ) (place : Place) (octets : List ℕ) (all : ℕ)
+    → Backs octets all (header_sight field len place octets all)
+header_backed field len place octets all =
+    let payload : Payload = record { ether_type = network_number field 2 octets; vlans = no_vlans; octets = drop len octets; whole = all - len } in
+    either octets all (nat_lt (length octets) len) too_short (typed_sight place payload) tt
+    (Backs-part (drop len octets) (all - len) octets all (IsPart-after len octets all) (typed_sight place payload) (typed_backed place payload))
 
-raw_backed : (octets : List ℕ) (whole : ℕ) → Backs octets whole (raw_sight octets whole)
-raw_backed octets whole = ip_either octets whole (ip_version octets == 4) (ip_version octets == 6) None
+cooked2_backed : (interface : ℕ) (octets : List ℕ) (all : ℕ) → Backs octets all (cooked2_sight interface octets all)
+cooked2_backed interface octets all =
+    let header : Sight = header_sight 0 20 (on_link interface octets) octets all in
+    let ip : Sight = if not (leads_to_ip (network_number 0 2 octets)) then other else header in
+    either octets all (nat_lt (length octets) 2) too_short ip tt
+    (either octets all (not (leads_to_ip (network_number 0 2 octets))) other header tt (header_backed 0 20 (on_link interface octets) octets all))
 
-family_backed : (octets : List ℕ) (whole : ℕ) → Backs octets whole (family_sight octets whole)
-family_backed octets whole =
+raw_backed : (place : Place) (octets : List ℕ) (all : ℕ) → Backs octets all (raw_sight place octets all)
+raw_backed place octets all =
+    let ip : Sight = if ip_version octets == 4 then ipv4_sight place octets all else (if ip_version octets == 6 then ipv6_sight place octets all else other) in
+    either octets all (nat_lt (length octets) 1) too_short ip tt
+    (ip_either octets all (ip_version octets == 4) (ip_version octets == 6) place other tt)
+
+family_backed : (place : Place) (octets : List ℕ) (all : ℕ) → Backs octets all (family_sight place octets all)
+family_backed place octets all =
     let packet = drop 4 octets in
-    let ip : Sight = if protocol_family octets == 2 then ipv4_sight None packet (whole - 4)
-    else (if is_ipv6_family (protocol_family octets) then ipv6_sight None packet (whole - 4) else other) in
-    unless octets whole (nat_lt (length octets) 4) ip (λ _.
-    Backs-part packet (whole - 4) octets whole (IsPart-after 4 octets whole) ip
-    (ip_either packet (whole - 4) (protocol_family octets == 2) (is_ipv6_family (protocol_family octets)) None))
+    let ip : Sight = if protocol_family octets == 2 then ipv4_sight place packet (all - 4)
+    else (if is_ipv6_family (protocol_family octets) then ipv6_sight place packet (all - 4) else other) in
+    either octets all (nat_lt (length octets) 4) too_short ip tt
+    (Backs-part packet (all - 4) octets all (IsPart-after 4 octets all) ip
+    (ip_either packet (all - 4) (protocol_family octets == 2) (is_ipv6_family (protocol_family octets)) place other tt))
 
-pub frame_backed : (link : Link) (octets : List ℕ) (whole : ℕ) → Backs octets whole (frame_sight link octets whole)
+pub frame_backed : (interface : ℕ) (link : Link) (octets : List ℕ) (all : ℕ) → Backs octets all (frame_sight interface link octets all)
 unfolding frame_sight
-frame_backed links.Null octets whole = family_backed octets whole
-frame_backed links.Ethernet octets whole = header_backed 12 14 None octets whole
-frame_backed links.RawIp octets whole = raw_backed octets whole
-frame_backed links.Loop octets whole = family_backed octets whole
-frame_backed links.Cooked octets whole = header_backed 14 16 None octets whole
-frame_backed links.RawIpv4 octets whole = ipv4_backed None octets whole
-frame_backed links.RawIpv6 octets whole = ipv6_backed None octets whole
-frame_backed links.Cooked2 octets whole = header_backed 0 20 (Some (network_number 4 4 octets)) octets whole
+frame_backed interface links.Null octets all = family_backed (place_on interface) octets all
+frame_backed interface links.Ethernet octets all = header_backed 12 14 (place_on interface) octets all
+frame_backed interface links.RawIp octets all = raw_backed (place_on interface) octets all
+frame_backed interface links.Loop octets all = family_backed (place_on interface) octets all
+frame_backed interface links.Cooked octets all = header_backed 14 16 (place_on interface) octets all
+frame_backed interface links.RawIpv4 octets all = ipv4_backed (place_on interface) octets all
+frame_backed interface links.RawIpv6 octets all = ipv6_backed (place_on interface) octets all
+frame_backed interface links.Cooked2 octets all = cooked2_backed interface octets all

@@ -4,9 +4,10 @@ use Rattle.std.proofs.lemmas.List.{take_at}
 use Rattle.babel_prefix.specs.Address.{Address}
 use Rattle.babel_tlv.specs.Framing.{framed}
 use Rattle.babel_tlv.specs.FrameFaults.{BeginsPacket}
+use Rattle.babel_capture.specs.declared.place.Place.{Place}
 use Rattle.babel_capture.specs.Findings.{found, PayloadIs}
 
-pub packet_found : (interface : ℕ) (sender : Address) (payload body : List ℕ) (used : ℕ) → BeginsPacket payload body → used ≡ 4 + length body
-    → PayloadIs interface sender payload (found interface sender (take used payload))
-packet_found interface sender payload body used (fits, rest, is) is_used =
-    inl (body, (fits, rest, is), ap (found interface sender) (ap (take used) is ∙ take_at (framed body) rest used (omega (arith, is_used))))
+pub packet_found : (place : Place) (sender : Address) (payload body : List ℕ) (used : ℕ) → BeginsPacket payload body → used ≡ 4 + length body
+    → PayloadIs place sender payload (found place sender (take used payload))
+packet_found place sender payload body used (fits, rest, is) is_used =
+    inl (body, (fits, rest, is), ap (found place sender) (ap (take used) is ∙ take_at (framed body) rest used (omega (arith, is_used))))

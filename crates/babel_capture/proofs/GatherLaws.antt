@@ -1,5 +1,5 @@
 -- What packets give, taken one by one.
-use Rattle.std.proofs.Common.{◌≡◌, ◌≢◌, ◌≤◌, ℕ, List, [], ◌∷◌, ◌++◌, ◌+◌, length, refl, sym, ap, subst, ◌∙◌, inl, inr}
+use Rattle.std.proofs.Common.{◌≡◌, ◌≤◌, ℕ, List, [], ◌∷◌, ◌++◌, ◌+◌, length, refl, sym, ap, subst, ◌∙◌, inl, inr}
 use Rattle.std.specs.Prelude.{Some, None, Result, Ok, Err, OnOk, IfErr, fold, ◌⊎◌}
 use Rattle.std.specs.List.{flat_map}
 use Rattle.babel_prefix.specs.Address.{Address}
@@ -10,30 +10,33 @@ use Rattle.babel_capture.specs.declared.wanted.Wanted.{Wanted}
 use Rattle.babel_capture.specs.declared.wanted.Wanted.TheVariants as wanteds
 use Rattle.babel_capture.specs.declared.fault.Fault.{Fault}
 use Rattle.babel_capture.specs.declared.fault.Fault.TheVariants as faults
+use Rattle.babel_capture.specs.declared.lack.Lack.{Lack}
+use Rattle.babel_capture.specs.declared.place.Place.{Place}
 use Rattle.babel_capture.specs.declared.tallies.Origin.{Origin}
 use Rattle.babel_capture.specs.Blocks.{Sighting, sight_in}
 use Rattle.babel_capture.specs.Contents.{Captured}
-use Rattle.babel_capture.specs.Counts.{Made}
-use Rattle.babel_capture.specs.Counting.{counted_with, reason_of}
-use Rattle.babel_capture.specs.Findings.{Found, passed, left, snapped, found, Finds}
+use Rattle.babel_capture.specs.Counts.{Counts, Made}
+use Rattle.babel_capture.specs.Counting.{counted, counted_with, short_counted, packet_counted}
+use Rattle.babel_capture.specs.Findings.{Found, passed, untold, left, refused, found, Finds}
+use Rattle.babel_capture.specs.Lack.{lack_fault}
 use Rattle.babel_capture.specs.Sight.{Sight}
-use Rattle.babel_capture.specs.Gathering.{AreMade, Gathering, IsGathered, IsRefusedPacket, octets_found, dump_of, dump_with}
+use Rattle.babel_capture.specs.Gathering.{AreMade, IsTaken, Gathering, IsGathered, IsRefusedPacket, octets_found, dump_of, dump_with}
 use Rattle.babel_capture.specs.Tallies.{Senders, IsOneTooMany, senders_with, senders_of, tallied}
 use Rattle.babel_capture.proofs.CountLaws.{counts-push}
 
 abbrev pub made_of : Sighting → Found → Made
-made_of sighting what = record { number = sighting.number; what = what }
+made_of sighting what = record { number = sighting.number; link = sighting.link; what = what }
 
 made-push : (wanted : Wanted) (before : List Sighting) (next : Sighting) (made : List Made) (what : Found) → AreMade wanted before made
-    → Finds wanted next.interface next.what what → what ≢ snapped → AreMade wanted (before ++ next ∷ []) (made ++ made_of next what ∷ [])
-made-push wanted [] next made what are finds whole =
-    (made_of next what, [], ap (λ (m : List Made). m ++ made_of next what ∷ []) are, refl, finds, whole, refl)
-made-push wanted (first ∷ before) next made what (one, others, is, number, made_so, kept, are) finds whole =
-    (one, others ++ made_of next what ∷ [], ap (λ (m : List Made). m ++ made_of next what ∷ []) is, number, made_so, kept, made-push wanted before next others what are finds whole)
+    → Finds wanted next.what what → IsTaken what → AreMade wanted (before ++ next ∷ []) (made ++ made_of next what ∷ [])
+made-push wanted [] next made what are finds taken =
+    (made_of next what, [], ap (λ (m : List Made). m ++ made_of next what ∷ []) are, refl, refl, finds, taken, refl)
+made-push wanted (first ∷ before) next made what (one, others, is, number, link, made_so, kept, are) finds taken =
+    (one, others ++ made_of next what ∷ [], ap (λ (m : List Made). m ++ made_of next what ∷ []) is, number, link, made_so, kept, made-push wanted before next others what are finds taken)
 
 dump-push : (wanted : Wanted) (made : List Made) (dump : List ℕ) (one : Made) → dump ≡ dump_of wanted made → dump_with wanted dump (octets_found one.what) ≡ dump_of wanted (made ++ one ∷ [])
 dump-push wanteds.Everyone made dump one is = is
-dump-push (wanteds.Sender sender interface) made dump one is =
+dump-push (wanteds.Sender sender place) made dump one is =
     ap (λ (d : List ℕ). d ++ octets_found one.what) is
     ∙ ap (λ (d : List ℕ). flat_map (λ (m : Made). octets_found m.what) made ++ d) (sym (append-nil (octets_found one.what)))
     ∙ sym (flat_map-append (λ (m : Made). octets_found m.what) made (one ∷ []))
@@ -46,10 +49,10 @@ senders-push made one = from [] made
     from senders (first ∷ made) = from (senders_with senders first.what) made
 
 pub gathered-push : (before : List Sighting) (next : Sighting) (old new : Gathering) (what : Found) → new.wanted ≡ old.wanted
-    → new.dump ≡ dump_with old.wanted old.dump (octets_found what) → new.report ≡ counted_with old.report (reason_of what)
-    → new.senders ≡ senders_with old.senders what → length new.senders ≤ 65536 → what ≢ snapped
-    → IsGathered before old → next.number ≡ old.report.packets + 1 → Finds old.wanted next.interface next.what what → IsGathered (before ++ next ∷ []) new
-gathered-push before next old new what same dump report senders few whole gathered number finds =
+    → new.dump ≡ dump_with old.wanted old.dump (octets_found what) → new.report ≡ counted old.report next.link what
+    → new.senders ≡ senders_with old.senders what → length new.senders ≤ 65536 → IsTaken what
+    → IsGathered before old → next.number ≡ old.report.packets + 1 → Finds old.wanted next.what what → IsGathered (before ++ next ∷ []) new
+gathered-push before next old new what same dump report senders few takes gathered number finds =
     let one : Made = made_of next what in
     let is_senders : new.senders ≡ senders_of (gathered.made ++ one ∷ []) =
     senders ∙ ap (λ (t : Senders). senders_with t what) gathered.senders ∙ sym (senders-push gathered.made one) in
@@ -58,19 +61,19 @@ gathered-push before next old new what same dump report senders few whole gather
       made = gathered.made ++ one ∷ [];
       taken = record {
         are_made = subst (λ (w : Wanted). AreMade w (before ++ next ∷ []) (gathered.made ++ one ∷ [])) (sym same)
-            (made-push old.wanted before next gathered.made what gathered.taken.are_made finds whole);
+            (made-push old.wanted before next gathered.made what gathered.taken.are_made finds takes);
         few = subst (λ (s : Senders). length s ≤ 65536) is_senders few;
       };
       dump = subst (λ (w : Wanted). new.dump ≡ dump_of w (gathered.made ++ one ∷ [])) (sym same)
           (dump ∙ dump-push old.wanted gathered.made old.dump one gathered.dump);
-      report = report ∙ ap (λ c. counted_with c (reason_of what)) gathered.report ∙ sym (counts-push gathered.made one is_number);
+      report = report ∙ ap (λ (c : Counts). counted c next.link what) gathered.report ∙ sym (counts-push gathered.made one is_number);
       senders = is_senders;
     }
 
 -- what is no packet leaves the dump
 pub dump-stays : (wanted : Wanted) (dump : List ℕ) → dump ≡ dump_with wanted dump []
 dump-stays wanteds.Everyone dump = refl
-dump-stays (wanteds.Sender sender interface) dump = sym (append-nil dump)
+dump-stays (wanteds.Sender sender place) dump = sym (append-nil dump)
 
 pub on-ok3 : {T E : Type 0} {P Q R S : Type 0} (r : Result T E) → (P → Q → R → S) → OnOk r P → OnOk r Q → OnOk r R → OnOk r S
 on-ok3 (Ok x) goes one two three = goes one two three
@@ -83,34 +86,43 @@ few_kept before old new same gathered = subst (λ (s : Senders). length s ≤ 65
 -- the same as the code meets them
 module _ (before : List Sighting) (next : Sighting) (old new : Gathering) (finding : Found) where
   abbrev Goes : Type 0
-  Goes = IsGathered before old → next.number ≡ old.report.packets + 1 → Finds old.wanted next.interface next.what finding → IsGathered (before ++ next ∷ []) new
+  Goes = IsGathered before old → next.number ≡ old.report.packets + 1 → Finds old.wanted next.what finding → IsGathered (before ++ next ∷ []) new
 
   pub passed-push : finding ≡ passed → new.wanted ≡ old.wanted → new.dump ≡ old.dump → new.report ≡ counted_with old.report None → new.senders ≡ old.senders → Goes
   passed-push is same dump report senders gathered number finds =
-      gathered-push before next old new passed same (dump ∙ dump-stays old.wanted old.dump) report senders (few_kept before old new senders gathered) (λ e. cc) gathered number
-      (subst (Finds old.wanted next.interface next.what) is finds)
+      gathered-push before next old new passed same (dump ∙ dump-stays old.wanted old.dump) report senders (few_kept before old new senders gathered) tt gathered number
+      (subst (Finds old.wanted next.what) is finds)
+
+  pub short-push : finding ≡ untold → new.wanted ≡ old.wanted → new.dump ≡ old.dump → new.report ≡ short_counted old.report → new.senders ≡ old.senders → Goes
+  short-push is same dump report senders gathered number finds =
+      gathered-push before next old new untold same (dump ∙ dump-stays old.wanted old.dump) report senders (few_kept before old new senders gathered) tt gathered number
+      (subst (Finds old.wanted next.what) is finds)
 
   pub left-push : (reason : Reason) → finding ≡ left reason → new.wanted ≡ old.wanted → new.dump ≡ old.dump → new.report ≡ counted_with old.report (Some reason) → new.senders ≡ old.senders → Goes
   left-push reason is same dump report senders gathered number finds =
-      gathered-push before next old new (left reason) same (dump ∙ dump-stays old.wanted old.dump) report senders (few_kept before old new senders gathered) (λ e. cc) gathered number
-      (subst (Finds old.wanted next.interface next.what) is finds)
+      gathered-push before next old new (left reason) same (dump ∙ dump-stays old.wanted old.dump) report senders (few_kept before old new senders gathered) tt gathered number
+      (subst (Finds old.wanted next.what) is finds)
 
-  pub found-push : (interface : ℕ) (sender : Address) (packet : List ℕ) → finding ≡ found interface sender packet → new.wanted ≡ old.wanted → new.dump ≡ dump_with old.wanted old.dump packet
-      → new.report ≡ counted_with old.report None → new.senders ≡ tallied old.senders (record { interface = interface; sender = sender }) packet → length new.senders ≤ 65536 → Goes
-  found-push interface sender packet is same dump report senders few gathered number finds =
-      gathered-push before next old new (found interface sender packet) same dump report senders few (λ e. cc) gathered number
-      (subst (Finds old.wanted next.interface next.what) is finds)
+  pub found-push : (place : Place) (sender : Address) (packet : List ℕ) → finding ≡ found place sender packet → new.wanted ≡ old.wanted → new.dump ≡ dump_with old.wanted old.dump packet
+      → new.report ≡ packet_counted old.report next.link → new.senders ≡ tallied old.senders (record { place = place; sender = sender }) packet → length new.senders ≤ 65536 → Goes
+  found-push place sender packet is same dump report senders few gathered number finds =
+      gathered-push before next old new (found place sender packet) same dump report senders few tt gathered number
+      (subst (Finds old.wanted next.what) is finds)
 
-pub finds-at : (wanted here : Wanted) (interface : ℕ) (sight seen : Sight) (finding : Found) → wanted ≡ here → sight ≡ seen → Finds wanted interface sight finding → Finds here interface seen finding
-finds-at wanted here interface sight seen finding is_wanted is_seen finds =
-    subst (λ (w : Wanted). Finds w interface seen finding) is_wanted (subst (λ (s : Sight). Finds wanted interface s finding) is_seen finds)
+pub finds-at : (wanted here : Wanted) (sight : Sight) (finding : Found) → wanted ≡ here → Finds wanted sight finding → Finds here sight finding
+finds-at wanted here sight finding is_wanted finds = subst (λ (w : Wanted). Finds w sight finding) is_wanted finds
+
+-- the datagram that was found lacks something
+pub lack-refused : (wanted : Wanted) (senders : Senders) (at : ℕ) (packet : Captured) (lack : Lack) (fault : Fault) (finding : Found)
+    → finding ≡ refused lack → fault ≡ lack_fault at lack → Finds wanted (sight_in packet) finding → (fault ≡ faults.Memory) ⊎ IsRefusedPacket wanted senders at packet fault
+lack-refused wanted senders at packet lack fault finding is told finds = inr (inl (lack, told, subst (Finds wanted (sight_in packet)) is finds))
 
 -- the sender of a packet that was found is one too many
 pub too-many-refused : {T : Type 0} (r : Result T Fault) (wanted : Wanted) (here senders : Senders) (at : ℕ) (packet : Captured) (origin : Origin) (octets : List ℕ) (finding : Found)
-    → here ≡ senders → finding ≡ found origin.interface origin.sender octets → Finds wanted packet.interface (sight_in packet) finding
+    → here ≡ senders → finding ≡ found origin.place origin.sender octets → Finds wanted (sight_in packet) finding
     → IfErr r (λ fault. (fault ≡ faults.Memory) ⊎ ((fault ≡ faults.TooManySenders at) × IsOneTooMany here origin))
     → IfErr r (λ fault. (fault ≡ faults.Memory) ⊎ IsRefusedPacket wanted senders at packet fault)
 too-many-refused (Ok x) wanted here senders at packet origin octets finding same is finds err = tt
 too-many-refused (Err fault) wanted here senders at packet origin octets finding same is finds (inl memory) = inl memory
 too-many-refused (Err fault) wanted here senders at packet origin octets finding same is finds (inr (told, many)) =
-    inr (inr (told, (origin, octets, subst (Finds wanted packet.interface (sight_in packet)) is finds, subst (λ (s : Senders). IsOneTooMany s origin) same many)))
+    inr (inr (told, (origin, octets, subst (Finds wanted (sight_in packet)) is finds, subst (λ (s : Senders). IsOneTooMany s origin) same many)))

@@ -1,22 +1,33 @@
 -- What is laid out as the headers say is seen as what it carries.
-use Rattle.std.proofs.Common.{◌≡◌, ℕ, zero, suc, ◌+◌, ◌-◌, ◌*◌, ◌^◌, ◌<◌, ◌≤◌, ◌⊎◌, inl, inr, true, false, List, [], ◌∷◌, ◌++◌, length, take, drop, Option, None, refl, sym, ap, ◌∙◌, length-append, arith, nat_lt, slice_index, bit_and, not, ◌||◌, ◌==◌}
-use Rattle.std.proofs.Math.Seq.{drop-append_seam, drop-append-add, take-append_seam, take-length}
+use Rattle.std.proofs.Common.{◌≡◌, ℕ, zero, suc, ◌+◌, ◌-◌, ◌*◌, ◌/◌, ◌^◌, ◌<◌, ◌≤◌, ◌⊎◌, inl, inr, Bool, true, false, List, [], ◌∷◌, ◌++◌, length, take, drop, refl, sym, ap, subst, ◌∙◌, length-append, append_assoc, arith, nat_lt, slice_index, bit_and, not, ◌==◌, ◌||◌}
+use Rattle.std.proofs.Math.Seq.{drop-append_seam, drop-append-add, take-append_seam, take-append-add, take-length}
+use Rattle.std.proofs.lemmas.List.{drop_at, length-take-le, take_all}
 use Rattle.std.proofs.lemmas.Bool.Decides.{nat_tests}
 use Rattle.std.proofs.lemmas.Nat.{and_mask}
-use Rattle.byteorder.specs.Endian.{big_bytes, big_from}
-use Rattle.byteorder.specs.Numbers.{big_number-reads_back}
+use Rattle.byteorder.specs.Endian.{big_bytes, big_from, little_bytes}
+use Rattle.byteorder.specs.Numbers.{big_from-take, big_number-reads_back}
 use Rattle.babel_prefix.specs.Address.{Address}
 use Rattle.babel_prefix.specs.declared.family.Family.TheVariants.{V4, V6}
+use Rattle.babel_capture.specs.declared.lack.Lack.TheVariants as lacks
+use Rattle.babel_capture.specs.declared.link.Link.{Link}
 use Rattle.babel_capture.specs.declared.link.Link.TheVariants as links
-use Rattle.babel_capture.specs.Ethernet.{Payload, is_tag, past_tag, past_tags, ip_sight, typed_sight}
-use Rattle.babel_capture.specs.Frame.{frame_sight}
-use Rattle.babel_capture.specs.Headers.{NextHeader, past_header, past_headers}
+use Rattle.babel_capture.specs.declared.place.Place.{Place}
+use Rattle.babel_capture.specs.declared.place.Vlans.{Vlans}
+use Rattle.std.specs.Prelude.{fold, Contains, nat_le, Some}
+use Rattle.std.specs.List.{All}
+use Rattle.std.proofs.lemmas.List.Elements.{All-head, All-tail}
+use Rattle.babel_capture.specs.Ethernet.{Payload, in_vlans, is_tag, past_tag, past_tags, ip_sight, typed_sight}
+use Rattle.babel_capture.specs.Frame.{family_sight, frame_sight, header_sight, is_ipv6_family, leads_to_ip, protocol_family, raw_sight}
+use Rattle.babel_capture.specs.Headers.{NextHeader, has_len, past_header, past_headers}
 use Rattle.babel_capture.specs.Ipv4.{ipv4_sight, ipv4_header_len, total_len, carries_udp, is_later_fragment, has_more_fragments}
 use Rattle.babel_capture.specs.Ipv6.{ipv6_sight, payload_len, first_header}
-use Rattle.babel_capture.specs.LaidOut.{UdpDatagram, udp_octets, IsBabel, Ipv4Header, ipv4_octets, IsIpv4, Ipv6Header, ipv6_octets, IsIpv6, ethernet_octets, ipv4_frame, ipv6_frame}
+use Rattle.babel_capture.specs.LaidOut.{UdpDatagram, udp_octets, udp_size, IsBabel, Ipv4Header, ipv4_header, ipv4_octets, IsIpv4, Ipv6Header, ipv6_header, ipv6_octets, IsIpv6}
+use Rattle.babel_capture.specs.LaidOut.{Extension, IsFragment, IsExtension, extensions, first_number, after_ports, IsFirstFragment, IsOverIp, HasBabel}
+use Rattle.babel_capture.specs.LinkHeaders.{Tag, IsTag, first_type, after_type, vlans_of, IsTyped, IsCooked2, IsFamily, IsHeader}
 use Rattle.babel_capture.specs.Octets.{network_number, ip_version}
-use Rattle.babel_capture.specs.Sight.{datagram}
-use Rattle.babel_capture.specs.Udp.{udp_sight, udp_len, is_babel}
+use Rattle.babel_capture.specs.Place.{no_vlans, place_on, with_vlan}
+use Rattle.babel_capture.specs.Sight.{Carried, Sight, datagram, carries, lacking}
+use Rattle.babel_capture.specs.Udp.{udp_sight, udp_len, source_port, destination_port, may_send}
 use Rattle.babel_capture.proofs.OctetLaws.{big_from-drop}
 
 -- a number reads back from where it was written
@@ -28,97 +39,266 @@ number-back before n x after fits =
     ap (λ (i : ℕ). big_from i n octets) (sym start) ∙ sym (big_from-drop 0 n (length before) octets)
     ∙ ap (big_from 0 n) (drop-append_seam before (big_bytes n x ++ after)) ∙ big_number-reads_back n x after fits
 
-port_tests : (a b : ℕ) → (a ≡ 6696) ⊎ (b ≡ 6696) → (a == 6696 || b == 6696) ≡ true
-port_tests a b (inl here) = rw here refl
-port_tests a b (inr there) = grind (arith, nat_tests)
+-- and is there if its octets were kept
+number-kept : (at n kept : ℕ) (octets : List ℕ) → at + n ≤ kept → network_number at n (take kept octets) ≡ network_number at n octets
+unfolding network_number
+number-kept at n kept octets within = big_from-take at n kept octets within
 
-udp_seen : (sender : Address) (interface : Option ℕ) (octets payload : List ℕ) (whole : ℕ) → is_babel octets ≡ true → udp_len octets ≡ 8 + length payload
-    → 8 + length payload ≤ length octets → 8 + length payload ≤ whole → take (length payload) (drop 8 octets) ≡ payload
-    → udp_sight sender interface false octets whole ≡ datagram sender interface payload
+-- ---- UDP
+
+udp_seen : (place : Place) (sender : Address) (octets payload : List ℕ) (all : ℕ) → source_port octets ≡ 6696 → destination_port octets ≡ 6696 → may_send sender ≡ true
+    → udp_len octets ≡ 8 + length payload
+    → 8 + length payload ≤ length octets → 8 + length payload ≤ all → take (length payload) (drop 8 octets) ≡ payload
+    → udp_sight place sender false false octets all ≡ datagram place sender (carries payload)
 unfolding udp_sight
-udp_seen sender interface octets payload whole babel len kept there carried =
+udp_seen place sender octets payload all source destination may len kept there carried =
     let count : udp_len octets - 8 ≡ length payload = omega arith in
-    let is_payload : take (udp_len octets - 8) (drop 8 octets) ≡ payload = rw count carried in
-    grind (arith, nat_tests, is_payload)
+    let ports : nat_lt all 4 ≡ false = grind (arith, nat_tests) in
+    let ports_kept : nat_lt (length octets) 4 ≡ false = grind (arith, nat_tests) in
+    let field : nat_lt all 6 ≡ false = grind (arith, nat_tests) in
+    let field_kept : nat_lt (length octets) 6 ≡ false = grind (arith, nat_tests) in
+    let fits : nat_lt all (8 + length payload) ≡ false = grind (arith, nat_tests) in
+    let header : nat_lt (8 + length payload) 8 ≡ false = grind (arith, nat_tests) in
+    let all_kept : nat_lt (length octets) (8 + length payload) ≡ false = grind (arith, nat_tests) in
+    let same : 8 + length payload - 8 ≡ length payload = omega arith in
+    rw (ports, ports_kept, source, destination, may, field, field_kept, len, fits, header, all_kept, same, carried) refl
 
-udp_laid_out : (sender : Address) (interface : Option ℕ) (udp : UdpDatagram) (whole : ℕ) → IsBabel udp → 8 + length udp.payload ≤ whole
-    → udp_sight sender interface false (udp_octets udp) whole ≡ datagram sender interface udp.payload
-udp_laid_out sender interface udp whole fits there =
+at_source : (udp : UdpDatagram) → IsBabel udp → source_port (udp_octets udp) ≡ 6696
+at_source udp is =
+    let fits : udp.source < 2 ^ 16 = omega (arith, is.source) in
+    number-back [] 2 udp.source (big_bytes 2 udp.destination ++ (big_bytes 2 (udp_size udp) ++ (big_bytes 2 udp.checksum ++ udp.payload))) fits ∙ is.source
+
+at_destination : (udp : UdpDatagram) → IsBabel udp → destination_port (udp_octets udp) ≡ 6696
+at_destination udp is =
+    let fits : udp.destination < 2 ^ 16 = omega (arith, is.destination) in
+    number-back (big_bytes 2 udp.source) 2 udp.destination (big_bytes 2 (udp_size udp) ++ (big_bytes 2 udp.checksum ++ udp.payload)) fits ∙ is.destination
+
+at_len : (udp : UdpDatagram) → IsBabel udp → udp_len (udp_octets udp) ≡ udp_size udp
+at_len udp is = number-back (big_bytes 2 udp.source ++ big_bytes 2 udp.destination) 2 (udp_size udp) (big_bytes 2 udp.checksum ++ udp.payload) is.len_fits
+
+udp_laid_out : (place : Place) (sender : Address) (udp : UdpDatagram) (all : ℕ) → IsBabel udp → may_send sender ≡ true → udp_size udp ≤ all
+    → udp_sight place sender false false (udp_octets udp) all ≡ datagram place sender (carries udp.payload)
+udp_laid_out place sender udp all is may there =
+    udp_seen place sender (udp_octets udp) udp.payload all (at_source udp is) (at_destination udp is) may (at_len udp is) (omega arith) there (take-length udp.payload)
+
+-- a part of it, ports within
+udp_snapped : (place : Place) (sender : Address) (octets : List ℕ) (size all : ℕ) → source_port octets ≡ 6696 → destination_port octets ≡ 6696 → may_send sender ≡ true → 4 ≤ length octets
+    → 8 ≤ size
+    → length octets < size → size ≤ all → (6 ≤ length octets → udp_len octets ≡ size) → udp_sight place sender false false octets all ≡ datagram place sender (lacking lacks.Snapped)
+unfolding udp_sight
+udp_snapped place sender octets size all source destination may some header less there len =
+    let ports : nat_lt all 4 ≡ false = grind (arith, nat_tests) in
+    let ports_kept : nat_lt (length octets) 4 ≡ false = grind (arith, nat_tests) in
+    let field : nat_lt all 6 ≡ false = grind (arith, nat_tests) in
+    let fits : nat_lt all size ≡ false = grind (arith, nat_tests) in
+    let long : nat_lt size 8 ≡ false = grind (arith, nat_tests) in
+    let cut : nat_lt (length octets) size ≡ true = grind (arith, nat_tests) in
+    by_field (nat_lt (length octets) 6) refl ports ports_kept field fits long cut
+  where
+    by_field : (short : Bool) → nat_lt (length octets) 6 ≡ short → nat_lt all 4 ≡ false → nat_lt (length octets) 4 ≡ false → nat_lt all 6 ≡ false → nat_lt all size ≡ false → nat_lt size 8 ≡ false
+        → nat_lt (length octets) size ≡ true → udp_sight place sender false false octets all ≡ datagram place sender (lacking lacks.Snapped)
+    by_field true kept ports ports_kept field fits long cut = rw (ports, ports_kept, source, destination, may, field, kept) refl
+    by_field false kept ports ports_kept field fits long cut =
+        (let said : udp_len octets ≡ size = len (grind (arith, nat_tests)) in
+        rw (ports, ports_kept, source, destination, may, field, kept, said, fits, long, cut) refl)
+
+udp_cut : (place : Place) (sender : Address) (udp : UdpDatagram) (n all : ℕ) → IsBabel udp → may_send sender ≡ true → 4 ≤ n → n < udp_size udp → udp_size udp ≤ all
+    → udp_sight place sender false false (take n (udp_octets udp)) all ≡ datagram place sender (lacking lacks.Snapped)
+udp_cut place sender udp n all is may some less there =
     let octets = udp_octets udp in
-    let len = 8 + length udp.payload in
-    let at_source : network_number 0 2 octets ≡ udp.source =
-    number-back [] 2 udp.source (big_bytes 2 udp.destination ++ big_bytes 2 len ++ big_bytes 2 udp.checksum ++ udp.payload) fits.source_fits in
-    let at_destination : network_number 2 2 octets ≡ udp.destination =
-    number-back (big_bytes 2 udp.source) 2 udp.destination (big_bytes 2 len ++ big_bytes 2 udp.checksum ++ udp.payload) fits.destination_fits in
-    let at_len : udp_len octets ≡ len =
-    number-back (big_bytes 2 udp.source ++ big_bytes 2 udp.destination) 2 len (big_bytes 2 udp.checksum ++ udp.payload) fits.len_fits in
-    let babel : is_babel octets ≡ true = rw (at_source, at_destination) (port_tests udp.source udp.destination fits.port) in
-    udp_seen sender interface octets udp.payload whole babel at_len (omega arith) there (take-length udp.payload)
+    let count : length (take n octets) ≡ n = length-take-le n octets (omega arith) in
+    udp_snapped place sender (take n octets) (udp_size udp) all (number-kept 0 2 n octets (omega arith) ∙ at_source udp is) (number-kept 2 2 n octets (omega arith) ∙ at_destination udp is) may
+    (omega arith) (omega arith) (omega arith) there (λ (long : 6 ≤ length (take n octets)). number-kept 4 2 n octets (omega arith) ∙ at_len udp is)
 
--- ---- IPv6
+-- a first fragment
+udp_fragment : (place : Place) (sender : Address) (more : List ℕ) (all : ℕ) → may_send sender ≡ true → 4 ≤ all
+    → udp_sight place sender true false (after_ports more) all ≡ datagram place sender (lacking lacks.Fragment)
+unfolding udp_sight
+udp_fragment place sender more all may there =
+    let octets = after_ports more in
+    let source : source_port octets ≡ 6696 = number-back [] 2 6696 (big_bytes 2 6696 ++ more) (omega arith) in
+    let destination : destination_port octets ≡ 6696 = number-back (big_bytes 2 6696) 2 6696 more (omega arith) in
+    let ports : nat_lt all 4 ≡ false = grind (arith, nat_tests) in
+    let kept : nat_lt (length octets) 4 ≡ false = grind (arith, nat_tests) in
+    rw (ports, kept, source, destination, may) refl
+
+-- ---- extension headers
 
 past_udp : (header : NextHeader) → header.number ≡ 17 → past_header header ≡ header
 unfolding past_header
-past_udp header udp = grind (arith, nat_tests)
+past_udp header udp =
+    let long : nat_lt (length header.octets) 0 ≡ false = grind (arith, nat_tests) in
+    rw (udp, long) refl
 
 past-udp : (n : ℕ) (header : NextHeader) → header.number ≡ 17 → past_headers n header ≡ header
 unfolding past_headers
 past-udp zero header udp = refl
 past-udp (suc n) header udp = ap past_header (past-udp n header udp) ∙ past_udp header udp
 
-ipv6_seen : (interface : Option ℕ) (octets carried : List ℕ) (sender whole : ℕ) → 40 ≤ length octets → ip_version octets ≡ 6 → payload_len octets ≡ length carried
-    → slice_index octets 6 ≡ 17 → network_number 8 16 octets ≡ sender → 40 + length carried ≤ whole → take (length carried) (drop 40 octets) ≡ carried
-    → ipv6_sight interface octets whole ≡ udp_sight (record { family = V6; bits = sender }) interface false carried (length carried)
+-- the first of them first
+past-first_header : (n : ℕ) (header : NextHeader) → past_headers (suc n) header ≡ past_headers n (past_header header)
+unfolding past_headers
+past-first_header zero header = refl
+past-first_header (suc n) header = ap past_header (past-first_header n header)
+
+abbrev header_of : ℕ → Bool → List ℕ → ℕ → NextHeader
+header_of number flag octets all = record { number = number; is_fragment = flag; octets = octets; whole = all }
+
+has_len_of : (number : ℕ) → Contains (0 ∷ 43 ∷ 60 ∷ []) number → has_len number ≡ true
+has_len_of number one = grind (arith, nat_tests, one)
+
+past_options : (flag : Bool) (number units next : ℕ) (more rest : List ℕ) (all : ℕ) → Contains (0 ∷ 43 ∷ 60 ∷ []) number → length more ≡ 6 + 8 * units
+    → past_header (header_of number flag (next ∷ units ∷ (more ++ rest)) all) ≡ header_of next flag rest (all - (2 + length more))
+unfolding past_header
+past_options flag number units next more rest all one sized =
+    let octets = next ∷ units ∷ (more ++ rest) in
+    let has = has_len_of number one in
+    let long : nat_lt (length octets) 2 ≡ false = grind (arith, nat_tests) in
+    let front : 8 * (units + 1) ≡ 2 + length more = omega (arith, sized) in
+    let at_rest : drop (2 + length more) octets ≡ rest = drop_at (next ∷ units ∷ more) rest (2 + length more) (omega arith) in
+    rw (has, long, front, at_rest) refl
+
+past_fragment : (flag more : Bool) (bits reserved next : ℕ) (id rest : List ℕ) (all : ℕ) → bits < 2 ^ 16 → (bit_and bits 0xfff8 == 0) ≡ true → not (bit_and bits 0x0001 == 0) ≡ more → length id ≡ 4
+    → past_header (header_of 44 flag (next ∷ reserved ∷ (big_bytes 2 bits ++ (id ++ rest))) all) ≡ header_of next (flag || more) rest (all - 8)
+unfolding past_header
+past_fragment flag more bits reserved next id rest all fits offset flags sized =
+    let front = next ∷ reserved ∷ (big_bytes 2 bits ++ id) in
+    let octets = next ∷ reserved ∷ (big_bytes 2 bits ++ (id ++ rest)) in
+    let long : nat_lt (length octets) 4 ≡ false = grind (arith, nat_tests) in
+    let at_bits : network_number 2 2 octets ≡ bits = number-back (next ∷ reserved ∷ []) 2 bits (id ++ rest) fits in
+    let eight : length front ≡ 8 = omega (arith, sized) in
+    let at_rest : drop 8 octets ≡ rest = drop_at front rest 8 eight in
+    rw (long, at_bits, offset, flags, at_rest) refl
+
+or_false : (flag : Bool) → (flag || false) ≡ flag
+or_false true = refl
+or_false false = refl
+
+past_extension : (flag : Bool) (header : Extension) (next : ℕ) (rest : List ℕ) (all : ℕ) → IsExtension header
+    → past_header (header_of header.number flag (next ∷ (header.holds ++ rest)) all) ≡ header_of next flag rest (all - (1 + length header.holds))
+past_extension flag header next rest all (inl is) =
+    let count : length header.holds ≡ 1 + length is.more = ap length is.is_held ∙ omega arith in
+    let same : all - (2 + length is.more) ≡ all - (1 + length header.holds) = omega arith in
+    ap (λ (holds : List ℕ). past_header (header_of header.number flag (next ∷ (holds ++ rest)) all)) is.is_held
+    ∙ past_options flag header.number is.units next is.more rest all is.is_number is.sized ∙ ap (header_of next flag rest) same
+past_extension flag header next rest all (inr is) =
+    let count : length header.holds ≡ 7 = ap length is.is_held ∙ omega (arith, is.sized) in
+    let same : all - 8 ≡ all - (1 + length header.holds) = omega arith in
+    ap (λ (number : ℕ). past_header (header_of number flag (next ∷ (header.holds ++ rest)) all)) is.is_number
+    ∙ ap (λ (holds : List ℕ). past_header (header_of 44 flag (next ∷ (holds ++ rest)) all)) is.is_held
+    ∙ past_fragment flag false 0 is.reserved next is.id rest all (omega arith) refl refl is.sized
+    ∙ ap (λ (f : Bool). header_of next f rest (all - 8)) (or_false flag) ∙ ap (header_of next flag rest) same
+
+past_first : (header : Extension) (next : ℕ) (rest : List ℕ) (all : ℕ) → IsFragment 1 header
+    → past_header (header_of header.number false (next ∷ (header.holds ++ rest)) all) ≡ header_of next true rest (all - (1 + length header.holds))
+past_first header next rest all is =
+    let count : length header.holds ≡ 7 = ap length is.is_held ∙ omega (arith, is.sized) in
+    let same : all - 8 ≡ all - (1 + length header.holds) = omega arith in
+    ap (λ (number : ℕ). past_header (header_of number false (next ∷ (header.holds ++ rest)) all)) is.is_number
+    ∙ ap (λ (holds : List ℕ). past_header (header_of 44 false (next ∷ (holds ++ rest)) all)) is.is_held
+    ∙ past_fragment false true 1 is.reserved next is.id rest all (omega arith) refl refl is.sized
+    ∙ ap (header_of next true rest) same
+
+-- headers before what comes after them
+abbrev headers_of : Bool → List Extension → List ℕ → ℕ → NextHeader
+headers_of flag headers rest all = header_of (first_number headers) flag (extensions headers ++ rest) all
+
+extensions_first : (header : Extension) (headers : List Extension) (rest : List ℕ) → extensions (header ∷ headers) ++ rest ≡ first_number headers ∷ (header.holds ++ (extensions headers ++ rest))
+extensions_first header headers rest = ap (λ (more : List ℕ). first_number headers ∷ more) (append_assoc header.holds (extensions headers) rest)
+
+long_first : (header : Extension) (headers : List Extension) → length (extensions (header ∷ headers)) ≡ 1 + length header.holds + length (extensions headers)
+long_first header headers = omega (arith, length-append header.holds (extensions headers))
+
+past-extensions : (flag : Bool) (headers : List Extension) (n : ℕ) (rest : List ℕ) (all : ℕ) → length headers ≤ n → All IsExtension headers
+    → past_headers n (headers_of flag headers rest all) ≡ header_of 17 flag rest (all - length (extensions headers))
+past-extensions flag [] n rest all few are = past-udp n (header_of 17 flag rest all) refl ∙ ap (header_of 17 flag rest) (omega arith)
+past-extensions flag (header ∷ headers) zero rest all few are = absurd (omega arith)
+past-extensions flag (header ∷ headers) (suc n) rest all few are =
+    past-first_header n (headers_of flag (header ∷ headers) rest all)
+    ∙ ap (λ (octets : List ℕ). past_headers n (past_header (header_of header.number flag octets all))) (extensions_first header headers rest)
+    ∙ ap (past_headers n) (past_extension flag header (first_number headers) (extensions headers ++ rest) all (All-head IsExtension header headers are))
+    ∙ past-extensions flag headers n rest (all - (1 + length header.holds)) (omega arith) (All-tail IsExtension header headers are)
+    ∙ ap (header_of 17 flag rest) (omega (arith, long_first header headers))
+
+past-fragment : (front back : List Extension) (fragment : Extension) (n : ℕ) (rest : List ℕ) (all : ℕ) → length front + length back < n → All IsExtension front → IsFragment 1 fragment
+    → All IsExtension back
+    → past_headers n (headers_of false (front ++ fragment ∷ back) rest all) ≡ header_of 17 true rest (all - length (extensions (front ++ fragment ∷ back)))
+past-fragment front back fragment zero rest all few are is are_back = absurd (omega arith)
+past-fragment [] back fragment (suc n) rest all few are is are_back =
+    past-first_header n (headers_of false (fragment ∷ back) rest all)
+    ∙ ap (λ (octets : List ℕ). past_headers n (past_header (header_of fragment.number false octets all))) (extensions_first fragment back rest)
+    ∙ ap (past_headers n) (past_first fragment (first_number back) (extensions back ++ rest) all is)
+    ∙ past-extensions true back n rest (all - (1 + length fragment.holds)) (omega arith) are_back
+    ∙ ap (header_of 17 true rest) (omega (arith, long_first fragment back))
+past-fragment (header ∷ front) back fragment (suc n) rest all few are is are_back =
+    let headers = front ++ fragment ∷ back in
+    past-first_header n (headers_of false (header ∷ headers) rest all)
+    ∙ ap (λ (octets : List ℕ). past_headers n (past_header (header_of header.number false octets all))) (extensions_first header headers rest)
+    ∙ ap (past_headers n) (past_extension false header (first_number headers) (extensions headers ++ rest) all (All-head IsExtension header front are))
+    ∙ past-fragment front back fragment n rest (all - (1 + length header.holds)) (omega arith) (All-tail IsExtension header front are) is are_back
+    ∙ ap (header_of 17 true rest) (omega (arith, long_first header headers))
+
+-- ---- IPv6
+
+ipv6_seen : (place : Place) (octets inner carried : List ℕ) (number sender total len all : ℕ) (flag : Bool) → 40 ≤ length octets → ip_version octets ≡ 6 → payload_len octets ≡ total
+    → slice_index octets 6 ≡ number → network_number 8 16 octets ≡ sender → 40 + total ≤ all → take total (drop 40 octets) ≡ inner
+    → past_headers 8 (header_of number false inner total) ≡ header_of 17 flag carried len
+    → ipv6_sight place octets all ≡ udp_sight place (record { family = V6; bits = sender }) flag false carried len
 unfolding ipv6_sight
-ipv6_seen interface octets carried sender whole long version len number from there kept =
-    let header = first_header octets in
-    let upper : past_headers 8 header ≡ header = past-udp 8 header number in
-    let fits : nat_lt whole (40 + payload_len octets) ≡ false = rw len (grind (arith, nat_tests)) in
-    let begins : (nat_lt (length octets) 40 || not (ip_version octets == 6)) ≡ false = grind (arith, nat_tests) in
-    let udp : not (slice_index octets 6 == 17) ≡ false = rw number refl in
-    rw (begins, fits, upper, udp, len, kept, from) refl
+ipv6_seen place octets inner carried number sender total len all flag long version said first from there kept past =
+    let upper : past_headers 8 (first_header octets) ≡ header_of 17 flag carried len = rw (said, kept, first) past in
+    let some : nat_lt (length octets) 1 ≡ false = grind (arith, nat_tests) in
+    let is_ip : not (ip_version octets == 6) ≡ false = rw version refl in
+    let next : nat_lt (length octets) 7 ≡ false = grind (arith, nat_tests) in
+    let header_kept : nat_lt (length octets) 40 ≡ false = grind (arith, nat_tests) in
+    let fits : nat_lt all (40 + total) ≡ false = grind (arith, nat_tests) in
+    rw (some, is_ip, next, upper, header_kept, said, fits, from) refl
 
-ipv6_laid_out : (interface : Option ℕ) (ip : Ipv6Header) (carried padding : List ℕ) (whole : ℕ) → IsIpv6 ip carried → 40 + length carried ≤ whole
-    → ipv6_sight interface (ipv6_octets ip carried ++ padding) whole
-    ≡ udp_sight (record { family = V6; bits = ip.sender }) interface false carried (length carried)
-ipv6_laid_out interface ip carried padding whole fits there =
-    let octets = ipv6_octets ip carried ++ padding in
+ipv6_version : (ip : Ipv6Header) (len number : ℕ) (tail : List ℕ) → ip.class < 2 ^ 4 → ip_version (ipv6_header ip len number ++ tail) ≡ 6
+ipv6_version ip len number tail fits = let class = ip.class in omega arith
+
+-- a packet that says `len` octets after these headers
+ipv6_laid_out : (place : Place) (ip : Ipv6Header) (headers : List Extension) (tail : List ℕ) (len all : ℕ) (flag : Bool) → IsIpv6 ip (length (extensions headers) + len)
+    → past_headers 8 (headers_of false headers (take len tail) (length (extensions headers) + len)) ≡ header_of 17 flag (take len tail) len → 40 + (length (extensions headers) + len) ≤ all
+    → ipv6_sight place (ipv6_header ip (length (extensions headers) + len) (first_number headers) ++ (extensions headers ++ tail)) all
+    ≡ udp_sight place (record { family = V6; bits = ip.sender }) flag false (take len tail) len
+ipv6_laid_out place ip headers tail len all flag fits past there =
+    let inner = extensions headers in
+    let total = length inner + len in
+    let number = first_number headers in
+    let octets = ipv6_header ip total number ++ (inner ++ tail) in
     let class = ip.class in
-    let len = length carried in
     let front = (6 * 2 ^ 4 + class) ∷ big_bytes 3 ip.flow in
-    let class_fits = fits.class_fits in
-    let version : ip_version octets ≡ 6 = omega arith in
-    let behind = big_bytes 16 ip.destination ++ carried ++ padding in
-    let at_len : payload_len octets ≡ len = number-back front 2 len (17 ∷ ip.hop_limit ∷ big_bytes 16 ip.sender ++ behind) fits.len_fits in
-    let at_sender : network_number 8 16 octets ≡ ip.sender = number-back (front ++ big_bytes 2 len ++ 17 ∷ ip.hop_limit ∷ []) 16 ip.sender behind fits.sender_fits in
-    ipv6_seen interface octets carried ip.sender whole (omega arith) version at_len refl at_sender there (take-append_seam carried padding)
-
-babel_over_ipv6 : (interface : Option ℕ) (ip : Ipv6Header) (udp : UdpDatagram) (padding : List ℕ) (whole : ℕ) → IsBabel udp → IsIpv6 ip (udp_octets udp)
-    → 48 + length udp.payload ≤ whole
-    → ipv6_sight interface (ipv6_octets ip (udp_octets udp) ++ padding) whole ≡ datagram (record { family = V6; bits = ip.sender }) interface udp.payload
-babel_over_ipv6 interface ip udp padding whole babel fits there =
-    let carried = udp_octets udp in
-    let address : Address = record { family = V6; bits = ip.sender } in
-    ipv6_laid_out interface ip carried padding whole fits (omega arith)
-    ∙ udp_laid_out address interface udp (length carried) babel (omega arith)
+    let behind = big_bytes 16 ip.destination ++ (inner ++ tail) in
+    let at_total : payload_len octets ≡ total = number-back front 2 total (number ∷ ip.hop_limit ∷ (big_bytes 16 ip.sender ++ behind)) fits.len_fits in
+    let at_sender : network_number 8 16 octets ≡ ip.sender = number-back (front ++ big_bytes 2 total ++ number ∷ ip.hop_limit ∷ []) 16 ip.sender behind fits.sender_fits in
+    ipv6_seen place octets (inner ++ take len tail) (take len tail) number ip.sender total len all flag (omega arith)
+    (ipv6_version ip total number (inner ++ tail) fits.class_fits) at_total refl at_sender there
+    (take-append-add inner tail len) past
 
 -- ---- IPv4
 
-ipv4_seen : (interface : Option ℕ) (octets carried : List ℕ) (header sender whole : ℕ) → 20 ≤ length octets → ip_version octets ≡ 4
-    → ipv4_header_len octets ≡ header → 20 ≤ header → total_len octets ≡ header + length carried → header + length carried ≤ whole
-    → (carries_udp octets ≡ true) × (is_later_fragment octets ≡ false) → has_more_fragments octets ≡ false → network_number 12 4 octets ≡ sender
-    → drop header (take (header + length carried) octets) ≡ carried
-    → ipv4_sight interface octets whole ≡ udp_sight (record { family = V4; bits = sender }) interface false carried (length carried)
+ipv4_seen : (place : Place) (octets carried : List ℕ) (header sender len all : ℕ) (more : Bool) → 20 ≤ length octets → ip_version octets ≡ 4
+    → ipv4_header_len octets ≡ header → 20 ≤ header → 4 ≤ len → total_len octets ≡ header + len → header + len ≤ all
+    → (carries_udp octets ≡ true) × (is_later_fragment octets ≡ false) → has_more_fragments octets ≡ more → network_number 12 4 octets ≡ sender
+    → drop header (take (header + len) octets) ≡ carried
+    → ipv4_sight place octets all ≡ udp_sight place (record { family = V4; bits = sender }) more false carried len
 unfolding ipv4_sight
-ipv4_seen interface octets carried header sender whole long version at_header some at_total there first last from kept =
-    let total = header + length carried in
-    let begins : (nat_lt (length octets) 20 || not (ip_version octets == 4)) ≡ false = grind (arith, nat_tests) in
-    let fits : (nat_lt header 20 || nat_lt whole total) ≡ false = grind (arith, nat_tests) in
-    let is_udp = first.0 in
+ipv4_seen place octets carried header sender len all more long version at_header some_header some_carried at_total there first last from kept =
+    let total = header + len in
+    let some : nat_lt (length octets) 1 ≡ false = grind (arith, nat_tests) in
+    let is_ip : not (ip_version octets == 4) ≡ false = rw version refl in
+    let header_fits : nat_lt header 20 ≡ false = grind (arith, nat_tests) in
+    let told : nat_lt (length octets) 4 ≡ false = grind (arith, nat_tests) in
+    let ports : nat_lt total (header + 4) ≡ false = grind (arith, nat_tests) in
+    let flags_kept : nat_lt (length octets) 8 ≡ false = grind (arith, nat_tests) in
+    let protocol_kept : nat_lt (length octets) 10 ≡ false = grind (arith, nat_tests) in
+    let header_kept : nat_lt (length octets) 20 ≡ false = grind (arith, nat_tests) in
+    let fits : nat_lt all total ≡ false = grind (arith, nat_tests) in
     let is_first = first.1 in
-    let udp : (not (carries_udp octets) || is_later_fragment octets) ≡ false = rw (is_udp, is_first) refl in
-    let count : total - header ≡ length carried = omega arith in
-    rw (begins, at_header, at_total, fits, udp, last, from, kept, count) refl
+    let udp : not (carries_udp octets) ≡ false = rw first.0 refl in
+    let count : total - header ≡ len = omega arith in
+    rw (some, is_ip, at_header, header_fits, told, at_total, ports, flags_kept, is_first, protocol_kept, udp, header_kept, fits, last, from, kept, count) refl
 
 -- no flag but "don't fragment"
 offset_of : (flags : ℕ) → (flags ≡ 0) ⊎ (flags ≡ 0x4000) → not (bit_and flags 0x1fff == 0) ≡ false
@@ -136,41 +316,225 @@ flags_fit flags (inr one) = omega arith
 words_of : (words : ℕ) → words ≤ 10 → bit_and (4 * 2 ^ 4 + (5 + words)) 15 ≡ 5 + words
 words_of words few = and_mask (4 * 2 ^ 4 + (5 + words)) 4 ∙ omega arith
 
-babel_over_ipv4 : (interface : Option ℕ) (ip : Ipv4Header) (udp : UdpDatagram) (padding : List ℕ) (whole : ℕ) → IsBabel udp → IsIpv4 ip (udp_octets udp)
-    → 28 + 4 * ip.words + length udp.payload ≤ whole
-    → ipv4_sight interface (ipv4_octets ip (udp_octets udp) ++ padding) whole ≡ datagram (record { family = V4; bits = ip.sender }) interface udp.payload
-babel_over_ipv4 interface ip udp padding whole babel fits there =
-    let carried = udp_octets udp in
-    let octets = ipv4_octets ip carried ++ padding in
+ipv4_version : (ip : Ipv4Header) (len : ℕ) (tail : List ℕ) → ip.words ≤ 10 → ip_version (ipv4_header ip len ++ tail) ≡ 4
+ipv4_version ip len tail few = let words = ip.words in omega arith
+
+-- a packet that says `len` octets after its header
+ipv4_laid_out : (place : Place) (ip : Ipv4Header) (tail : List ℕ) (len all : ℕ) (more : Bool) → IsIpv4 ip len → 4 ≤ len → 20 + 4 * ip.words + len ≤ all → ip.flags < 2 ^ 16
+    → not (bit_and ip.flags 0x1fff == 0) ≡ false → not (bit_and ip.flags 0x2000 == 0) ≡ more
+    → ipv4_sight place (ipv4_header ip len ++ tail) all ≡ udp_sight place (record { family = V4; bits = ip.sender }) more false (take len tail) len
+ipv4_laid_out place ip tail len all more fits some there flags offset flag =
+    let front = ipv4_header ip len in
+    let octets = front ++ tail in
     let words = ip.words in
     let header = 20 + 4 * words in
-    let total = header + length carried in
+    let total = header + len in
     let few = fits.words_fit in
-    let address : Address = record { family = V4; bits = ip.sender } in
     let start = (4 * 2 ^ 4 + (5 + words)) ∷ ip.service ∷ [] in
     let to_flags = start ++ big_bytes 2 total ++ big_bytes 2 ip.id in
     let to_sender = to_flags ++ big_bytes 2 ip.flags ++ ip.ttl ∷ 17 ∷ big_bytes 2 ip.checksum in
-    let front = to_sender ++ big_bytes 4 ip.sender ++ big_bytes 4 ip.destination ++ ip.options in
-    let behind = ip.options ++ carried ++ padding in
-    let version : ip_version octets ≡ 4 = omega arith in
+    let behind = ip.options ++ tail in
     let at_header : ipv4_header_len octets ≡ header = ap (λ (n : ℕ). 4 * n) (words_of words few) ∙ omega arith in
     let at_total : total_len octets ≡ total = number-back start 2 total (big_bytes 2 ip.id ++ big_bytes 2 ip.flags ++ ip.ttl ∷ 17 ∷ big_bytes 2 ip.checksum
     ++ big_bytes 4 ip.sender ++ big_bytes 4 ip.destination ++ behind) fits.len_fits in
     let at_flags : network_number 6 2 octets ≡ ip.flags = number-back to_flags 2 ip.flags (ip.ttl ∷ 17 ∷ big_bytes 2 ip.checksum
-    ++ big_bytes 4 ip.sender ++ big_bytes 4 ip.destination ++ behind) (flags_fit ip.flags fits.no_fragment) in
+    ++ big_bytes 4 ip.sender ++ big_bytes 4 ip.destination ++ behind) flags in
     let at_sender : network_number 12 4 octets ≡ ip.sender = number-back to_sender 4 ip.sender (big_bytes 4 ip.destination ++ behind) fits.sender_fits in
-    let is_first : is_later_fragment octets ≡ false = rw at_flags (offset_of ip.flags fits.no_fragment) in
-    let is_last : has_more_fragments octets ≡ false = rw at_flags (more_of ip.flags fits.no_fragment) in
+    let is_first : is_later_fragment octets ≡ false = rw at_flags offset in
+    let is_last : has_more_fragments octets ≡ more = rw at_flags flag in
     let front_len : length front ≡ header = omega (arith, fits.options_len) in
-    let total_is : length (front ++ carried) ≡ total = length-append front carried ∙ ap (λ (n : ℕ). n + length carried) front_len in
-    let taken : take total octets ≡ front ++ carried =
-    ap (λ (n : ℕ). take n octets) (sym total_is) ∙ take-append_seam (front ++ carried) padding in
-    let kept : drop header (take total octets) ≡ carried =
-    ap (drop header) taken ∙ ap (λ (n : ℕ). drop n (front ++ carried)) (sym front_len) ∙ drop-append_seam front carried in
-    ipv4_seen interface octets carried header ip.sender whole (omega arith) version at_header (omega arith) at_total (omega arith) (refl, is_first) is_last at_sender kept
-    ∙ udp_laid_out address interface udp (length carried) babel (omega arith)
+    let taken : take total octets ≡ front ++ take len tail = ap (λ (n : ℕ). take (n + len) octets) (sym front_len) ∙ take-append-add front tail len in
+    let kept : drop header (take total octets) ≡ take len tail =
+    ap (drop header) taken ∙ ap (λ (n : ℕ). drop n (front ++ take len tail)) (sym front_len) ∙ drop-append_seam front (take len tail) in
+    ipv4_seen place octets (take len tail) header ip.sender len all more (omega arith) (ipv4_version ip len tail few) at_header (omega arith) some at_total there
+    (refl, is_first) is_last at_sender kept
 
--- ---- Ethernet
+-- ---- IP packets
+
+-- the octets begin a packet of the version that the EtherType says
+abbrev BeginsIp : ℕ → List ℕ → Type 0
+BeginsIp ether_type octets = ((ether_type ≡ 0x0800) × (ip_version octets ≡ 4)) ⊎ ((ether_type ≡ 0x86dd) × (ip_version octets ≡ 6))
+
+abbrev ip_at : Place → ℕ → List ℕ → ℕ → Sight
+ip_at place ether_type octets all = ip_sight place (record { ether_type = ether_type; vlans = no_vlans; octets = octets; whole = all })
+
+-- after an EtherType these octets are seen so
+abbrev SeenIn : Place → ℕ → List ℕ → ℕ → Sight → Type 0
+SeenIn place ether_type octets all sight = (1 ≤ length octets) × BeginsIp ether_type octets × (ip_at place ether_type octets all ≡ sight)
+
+over_ipv4 : (place : Place) (ether_type : ℕ) (ip : Ipv4Header) (len all : ℕ) (tail octets : List ℕ) (sight : Sight) → ether_type ≡ 0x0800 → ip.words ≤ 10 → octets ≡ ipv4_header ip len ++ tail
+    → ipv4_sight place (ipv4_header ip len ++ tail) all ≡ sight → SeenIn place ether_type octets all sight
+over_ipv4 place ether_type ip len all tail octets sight type few laid seen =
+    let long : 1 ≤ length octets = rw laid (omega arith) in
+    let same : ip_at place ether_type octets all ≡ sight = rw (type, laid) seen in
+    (long, inl (type, ap ip_version laid ∙ ipv4_version ip len tail few), same)
+
+over_ipv6 : (place : Place) (ether_type : ℕ) (ip : Ipv6Header) (len number all : ℕ) (tail octets : List ℕ) (sight : Sight) → ether_type ≡ 0x86dd → ip.class < 2 ^ 4
+    → octets ≡ ipv6_header ip len number ++ tail
+    → ipv6_sight place (ipv6_header ip len number ++ tail) all ≡ sight → SeenIn place ether_type octets all sight
+over_ipv6 place ether_type ip len number all tail octets sight type few laid seen =
+    let long : 1 ≤ length octets = rw laid (omega arith) in
+    let same : ip_at place ether_type octets all ≡ sight = rw (type, laid) seen in
+    (long, inr (type, ap ip_version laid ∙ ipv6_version ip len number tail few), same)
+
+-- what is carried, whole and with padding after it, or its first octets
+ipv4_long : (ip : Ipv4Header) (carried : List ℕ) → length ip.options ≡ 4 * ip.words → length (ipv4_octets ip carried) ≡ 20 + 4 * ip.words + length carried
+ipv4_long ip carried sized = omega (arith, length-append ip.options carried, sized)
+
+whole_over_ipv4 : (place : Place) (ether_type : ℕ) (ip : Ipv4Header) (carried padding : List ℕ) (all : ℕ) (more : Bool) (sight : Sight) → ether_type ≡ 0x0800 → IsIpv4 ip (length carried)
+    → 4 ≤ length carried
+    → length (ipv4_octets ip carried) ≤ all → ip.flags < 2 ^ 16 → not (bit_and ip.flags 0x1fff == 0) ≡ false → not (bit_and ip.flags 0x2000 == 0) ≡ more
+    → udp_sight place (record { family = V4; bits = ip.sender }) more false carried (length carried) ≡ sight → SeenIn place ether_type (ipv4_octets ip carried ++ padding) all sight
+whole_over_ipv4 place ether_type ip carried padding all more sight type fits some there flags offset flag seen =
+    let len = length carried in
+    let kept : take len (carried ++ padding) ≡ carried = take-append_seam carried padding in
+    let laid = ipv4_laid_out place ip (carried ++ padding) len all more fits some (omega (arith, ipv4_long ip carried fits.options_len)) flags offset flag in
+    over_ipv4 place ether_type ip len all (carried ++ padding) (ipv4_octets ip carried ++ padding) sight type fits.words_fit (append_assoc (ipv4_header ip len) carried padding)
+    (laid ∙ ap (λ (c : List ℕ). udp_sight place (record { family = V4; bits = ip.sender }) more false c len) kept ∙ seen)
+
+cut_over_ipv4 : (place : Place) (ether_type : ℕ) (ip : Ipv4Header) (carried : List ℕ) (n all : ℕ) (sight : Sight) → ether_type ≡ 0x0800 → IsIpv4 ip (length carried) → 4 ≤ length carried
+    → length (ipv4_octets ip carried) ≤ all → (ip.flags ≡ 0) ⊎ (ip.flags ≡ 0x4000) → n ≤ length carried
+    → udp_sight place (record { family = V4; bits = ip.sender }) false false (take n carried) (length carried) ≡ sight
+    → SeenIn place ether_type (take (20 + 4 * ip.words + n) (ipv4_octets ip carried)) all sight
+cut_over_ipv4 place ether_type ip carried n all sight type fits some there no_fragment less seen =
+    let len = length carried in
+    let front = ipv4_header ip len in
+    let front_len : length front ≡ 20 + 4 * ip.words = omega (arith, fits.options_len) in
+    let part : take (20 + 4 * ip.words + n) (ipv4_octets ip carried) ≡ front ++ take n carried = ap (λ (h : ℕ). take (h + n) (front ++ carried)) (sym front_len)
+    ∙ take-append-add front carried n in
+    let kept : take len (take n carried) ≡ take n carried = take_all len (take n carried) (omega (arith, length-take-le n carried less)) in
+    let laid = ipv4_laid_out place ip (take n carried) len all false fits some (omega (arith, ipv4_long ip carried fits.options_len)) (flags_fit ip.flags no_fragment)
+    (offset_of ip.flags no_fragment) (more_of ip.flags no_fragment) in
+    over_ipv4 place ether_type ip len all (take n carried) (take (20 + 4 * ip.words + n) (ipv4_octets ip carried)) sight type fits.words_fit part
+    (laid ∙ ap (λ (c : List ℕ). udp_sight place (record { family = V4; bits = ip.sender }) false false c len) kept ∙ seen)
+
+ipv6_long : (ip : Ipv6Header) (headers : List Extension) (carried : List ℕ) → length (ipv6_octets ip headers carried) ≡ 40 + (length (extensions headers) + length carried)
+ipv6_long ip headers carried = omega (arith, length-append (extensions headers) carried)
+
+whole_over_ipv6 : (place : Place) (ether_type : ℕ) (ip : Ipv6Header) (headers : List Extension) (carried padding : List ℕ) (all : ℕ) (flag : Bool) (sight : Sight) → ether_type ≡ 0x86dd
+    → IsIpv6 ip (length (extensions headers) + length carried) → length (ipv6_octets ip headers carried) ≤ all
+    → ((rest : List ℕ) (whole : ℕ) → past_headers 8 (headers_of false headers rest whole) ≡ header_of 17 flag rest (whole - length (extensions headers)))
+    → udp_sight place (record { family = V6; bits = ip.sender }) flag false carried (length carried) ≡ sight → SeenIn place ether_type (ipv6_octets ip headers carried ++ padding) all sight
+whole_over_ipv6 place ether_type ip headers carried padding all flag sight type fits there past seen =
+    let len = length carried in
+    let inner = extensions headers in
+    let total = length inner + len in
+    let front = ipv6_header ip total (first_number headers) in
+    let tail = carried ++ padding in
+    let kept : take len tail ≡ carried = take-append_seam carried padding in
+    let left : total - length inner ≡ len = omega arith in
+    let passed : past_headers 8 (headers_of false headers (take len tail) total) ≡ header_of 17 flag (take len tail) len = past (take len tail) total ∙ ap
+    (header_of 17 flag (take len tail)) left in
+    let laid = ipv6_laid_out place ip headers tail len all flag fits passed (omega (arith, ipv6_long ip headers carried)) in
+    let octets_are : ipv6_octets ip headers carried ++ padding ≡ front ++ (inner ++ tail) = append_assoc front (inner ++ carried) padding ∙ ap (λ (o : List ℕ). front ++ o)
+    (append_assoc inner carried padding) in
+    over_ipv6 place ether_type ip total (first_number headers) all (inner ++ tail) (ipv6_octets ip headers carried ++ padding) sight type fits.class_fits octets_are
+    (laid ∙ ap (λ (c : List ℕ). udp_sight place (record { family = V6; bits = ip.sender }) flag false c len) kept ∙ seen)
+
+cut_over_ipv6 : (place : Place) (ether_type : ℕ) (ip : Ipv6Header) (headers : List Extension) (carried : List ℕ) (n all : ℕ) (sight : Sight) → ether_type ≡ 0x86dd
+    → IsIpv6 ip (length (extensions headers) + length carried) → length (ipv6_octets ip headers carried) ≤ all → length headers ≤ 8 → All IsExtension headers → n ≤ length carried
+    → udp_sight place (record { family = V6; bits = ip.sender }) false false (take n carried) (length carried) ≡ sight
+    → SeenIn place ether_type (take (40 + (length (extensions headers) + n)) (ipv6_octets ip headers carried)) all sight
+cut_over_ipv6 place ether_type ip headers carried n all sight type fits there few are less seen =
+    let len = length carried in
+    let inner = extensions headers in
+    let total = length inner + len in
+    let front = ipv6_header ip total (first_number headers) in
+    let tail = take n carried in
+    let kept : take len tail ≡ tail = take_all len tail (omega (arith, length-take-le n carried less)) in
+    let left : total - length inner ≡ len = omega arith in
+    let passed : past_headers 8 (headers_of false headers (take len tail) total) ≡ header_of 17 false (take len tail) len = past-extensions false headers 8 (take len tail) total few are ∙ ap
+    (header_of 17 false (take len tail)) left in
+    let laid = ipv6_laid_out place ip headers tail len all false fits passed (omega (arith, ipv6_long ip headers carried)) in
+    let part : take (40 + (length inner + n)) (ipv6_octets ip headers carried) ≡ front ++ (inner ++ tail) = take-append-add front (inner ++ carried) (length inner + n) ∙ ap
+    (λ (o : List ℕ). front ++ o) (take-append-add inner carried n) in
+    over_ipv6 place ether_type ip total (first_number headers) all (inner ++ tail) (take (40 + (length inner + n)) (ipv6_octets ip headers carried)) sight type fits.class_fits part
+    (laid ∙ ap (λ (c : List ℕ). udp_sight place (record { family = V6; bits = ip.sender }) false false c len) kept ∙ seen)
+
+-- ---- datagrams over either
+
+local_may : (bits : ℕ) → bits / 2 ^ 118 ≡ 0x3fa → may_send (record { family = V6; bits = bits }) ≡ true
+local_may bits local = rw local refl
+
+whole_seen : (place : Place) (ether_type : ℕ) (sender : Address) (udp : UdpDatagram) (packet padding : List ℕ) (all : ℕ) → IsBabel udp → IsOverIp ether_type sender udp packet → length packet ≤ all
+    → SeenIn place ether_type (packet ++ padding) all (datagram place sender (carries udp.payload))
+whole_seen place ether_type sender udp packet padding all babel (inl over) there =
+    let ip = over.ip in
+    let address : Address = record { family = V4; bits = ip.sender } in
+    let none = over.no_fragment in
+    rw (over.is_packet, over.is_sender)
+    (whole_over_ipv4 place ether_type ip (udp_octets udp) padding all false (datagram place address (carries udp.payload)) over.is_type over.fits (omega arith)
+    (omega (arith, ap length over.is_packet)) (flags_fit ip.flags none)
+    (offset_of ip.flags none) (more_of ip.flags none) (udp_laid_out place address udp (length (udp_octets udp)) babel refl (omega arith)))
+whole_seen place ether_type sender udp packet padding all babel (inr over) there =
+    let ip = over.ip in
+    let address : Address = record { family = V6; bits = ip.sender } in
+    rw (over.is_packet, over.is_sender)
+    (whole_over_ipv6 place ether_type ip over.headers (udp_octets udp) padding all false (datagram place address (carries udp.payload)) over.is_type over.fits (omega (arith, ap length over.is_packet))
+    (λ (rest : List ℕ) (whole : ℕ). past-extensions false over.headers 8 rest whole over.few over.are_headers)
+    (udp_laid_out place address udp (length (udp_octets udp)) babel (local_may ip.sender over.fits.link_local) (omega arith)))
+
+cut_seen : (place : Place) (ether_type : ℕ) (sender : Address) (udp : UdpDatagram) (packet : List ℕ) (n all : ℕ) → IsBabel udp → IsOverIp ether_type sender udp packet
+    → length packet ≤ n + (4 + length udp.payload) → n < length packet
+    → length packet ≤ all → SeenIn place ether_type (take n packet) all (datagram place sender (lacking lacks.Snapped))
+cut_seen place ether_type sender udp packet n all babel (inl over) ports less there =
+    let ip = over.ip in
+    let address : Address = record { family = V4; bits = ip.sender } in
+    let carried = udp_octets udp in
+    let count = ap length over.is_packet ∙ ipv4_long ip carried over.fits.options_len in
+    let m = n - (20 + 4 * ip.words) in
+    let whole : n ≡ 20 + 4 * ip.words + m = omega arith in
+    let seen = cut_over_ipv4 place ether_type ip carried m all (datagram place address (lacking lacks.Snapped)) over.is_type over.fits (omega arith)
+    (omega (arith, ap length over.is_packet)) over.no_fragment (omega arith)
+    (udp_cut place address udp m (length carried) babel refl (omega arith) (omega arith) (omega arith)) in
+    rw (over.is_packet, over.is_sender, whole) seen
+cut_seen place ether_type sender udp packet n all babel (inr over) ports less there =
+    let ip = over.ip in
+    let address : Address = record { family = V6; bits = ip.sender } in
+    let carried = udp_octets udp in
+    let inner = length (extensions over.headers) in
+    let count = ap length over.is_packet ∙ ipv6_long ip over.headers carried in
+    let m = n - (40 + inner) in
+    let whole : n ≡ 40 + (inner + m) = omega arith in
+    let seen = cut_over_ipv6 place ether_type ip over.headers carried m all (datagram place address (lacking lacks.Snapped)) over.is_type over.fits
+    (omega (arith, ap length over.is_packet)) over.few over.are_headers (omega arith)
+    (udp_cut place address udp m (length carried) babel (local_may ip.sender over.fits.link_local) (omega arith) (omega arith) (omega arith)) in
+    rw (over.is_packet, over.is_sender, whole) seen
+
+first_seen : (place : Place) (ether_type : ℕ) (sender : Address) (packet padding : List ℕ) (all : ℕ) → IsFirstFragment ether_type sender packet → length packet ≤ all
+    → SeenIn place ether_type (packet ++ padding) all (datagram place sender (lacking lacks.Fragment))
+first_seen place ether_type sender packet padding all (inl is) there =
+    let ip = is.ip in
+    let address : Address = record { family = V4; bits = ip.sender } in
+    let carried = after_ports is.more in
+    let flags : ip.flags < 2 ^ 16 = omega (arith, is.flag) in
+    let offset : not (bit_and ip.flags 0x1fff == 0) ≡ false = rw is.flag refl in
+    let flag : not (bit_and ip.flags 0x2000 == 0) ≡ true = rw is.flag refl in
+    rw (is.is_packet, is.is_sender)
+    (whole_over_ipv4 place ether_type ip carried padding all true (datagram place address (lacking lacks.Fragment)) is.is_type is.fits (omega arith)
+    (omega (arith, ap length is.is_packet)) flags offset flag
+    (udp_fragment place address is.more (length carried) refl (omega arith)))
+first_seen place ether_type sender packet padding all (inr is) there =
+    let ip = is.ip in
+    let address : Address = record { family = V6; bits = ip.sender } in
+    let carried = after_ports is.more in
+    let few = is.few in
+    rw (is.is_packet, is.is_sender)
+    (whole_over_ipv6 place ether_type ip (is.front ++ is.fragment ∷ is.back) carried padding all true (datagram place address (lacking lacks.Fragment)) is.is_type is.fits
+    (omega (arith, ap length is.is_packet))
+    (λ (rest : List ℕ) (whole : ℕ). past-fragment is.front is.back is.fragment 8 rest whole (omega arith) is.are_front is.is_fragment is.are_back)
+    (udp_fragment place address is.more (length carried) (local_may ip.sender is.fits.link_local) (omega arith)))
+
+babel_seen : (place : Place) (ether_type : ℕ) (sender : Address) (packet padding : List ℕ) (carried : Carried) (all : ℕ) → HasBabel ether_type sender packet carried → length packet ≤ all
+    → SeenIn place ether_type (packet ++ padding) all (datagram place sender carried)
+babel_seen place ether_type sender packet padding carried all (inl (udp, babel, over, is)) there = rw is (whole_seen place ether_type sender udp packet padding all babel over there)
+babel_seen place ether_type sender packet padding carried all (inr (first, is)) there = rw is (first_seen place ether_type sender packet padding all first there)
+
+-- ---- VLAN tags
+
+ip_plain : (ether_type : ℕ) (octets : List ℕ) → BeginsIp ether_type octets → (is_tag ether_type ≡ false) × (leads_to_ip ether_type ≡ true) × (ether_type < 2 ^ 16)
+ip_plain ether_type octets (inl (type, version)) = ((rw type refl), (rw type refl), (omega (arith, type)))
+ip_plain ether_type octets (inr (type, version)) = ((rw type refl), (rw type refl), (omega (arith, type)))
 
 past_no_tag : (payload : Payload) → is_tag payload.ether_type ≡ false → past_tag payload ≡ payload
 unfolding past_tag
@@ -181,36 +545,233 @@ unfolding past_tags
 past-no_tag zero payload plain = refl
 past-no_tag (suc n) payload plain = ap past_tag (past-no_tag n payload plain) ∙ past_no_tag payload plain
 
-ethernet_laid_out : (addresses : List ℕ) (ether_type : ℕ) (packet padding : List ℕ) (whole : ℕ) → length addresses ≡ 12 → ether_type < 2 ^ 16
-    → is_tag ether_type ≡ false
-    → frame_sight links.Ethernet (ethernet_octets addresses ether_type packet padding) whole
-    ≡ ip_sight None (record { ether_type = ether_type; octets = packet ++ padding; whole = whole - 14 })
-unfolding frame_sight typed_sight
-ethernet_laid_out addresses ether_type packet padding whole sized fits plain =
-    let rest = packet ++ padding in
-    let octets = addresses ++ (big_bytes 2 ether_type ++ rest) in
-    let payload : Payload = record { ether_type = ether_type; octets = rest; whole = whole - 14 } in
-    let at_type : network_number 12 2 octets ≡ ether_type =
-    ap (λ (place : ℕ). network_number place 2 octets) (sym sized) ∙ number-back addresses 2 ether_type rest fits in
-    let header : 14 ≡ length addresses + 2 = omega arith in
-    let at_rest : drop 14 octets ≡ rest = ap (λ (n : ℕ). drop n octets) header ∙ drop-append-add addresses (big_bytes 2 ether_type ++ rest) 2 in
-    let long : nat_lt (length octets) 14 ≡ false =
-    let count = length-append addresses (big_bytes 2 ether_type ++ rest) in grind (arith, nat_tests) in
-    rw (long, at_type, at_rest, past-no_tag 4 payload plain) refl
+-- the first of them first
+past-first : (n : ℕ) (payload : Payload) → past_tags (suc n) payload ≡ past_tags n (past_tag payload)
+unfolding past_tags
+past-first zero payload = refl
+past-first (suc n) payload = ap past_tag (past-first n payload)
 
-pub ipv6_in_ethernet : (addresses padding : List ℕ) (ip : Ipv6Header) (udp : UdpDatagram) (whole : ℕ) → length addresses ≡ 12
-    → IsBabel udp → IsIpv6 ip (udp_octets udp) → 14 + length (ipv6_octets ip (udp_octets udp)) ≤ whole
-    → frame_sight links.Ethernet (ipv6_frame addresses ip udp padding) whole
-    ≡ datagram (record { family = V6; bits = ip.sender }) None udp.payload
-ipv6_in_ethernet addresses padding ip udp whole sized babel fits there =
-    ethernet_laid_out addresses 0x86dd (ipv6_octets ip (udp_octets udp)) padding whole sized (omega arith) refl
-    ∙ babel_over_ipv6 None ip udp padding (whole - 14) babel fits (omega arith)
+kind_of : (kind : ℕ) → Contains (0x8100 ∷ 0x88a8 ∷ 0x9100 ∷ 0x9200 ∷ []) kind → (is_tag kind ≡ true) × (kind < 2 ^ 16)
+kind_of kind one = grind (arith, nat_tests, one)
 
-pub ipv4_in_ethernet : (addresses padding : List ℕ) (ip : Ipv4Header) (udp : UdpDatagram) (whole : ℕ) → length addresses ≡ 12
-    → IsBabel udp → IsIpv4 ip (udp_octets udp) → 14 + length (ipv4_octets ip (udp_octets udp)) ≤ whole
-    → frame_sight links.Ethernet (ipv4_frame addresses ip udp padding) whole
-    ≡ datagram (record { family = V4; bits = ip.sender }) None udp.payload
-ipv4_in_ethernet addresses padding ip udp whole sized babel fits there =
-    let options = length-append ip.options (udp_octets udp) in
-    ethernet_laid_out addresses 0x0800 (ipv4_octets ip (udp_octets udp)) padding whole sized (omega arith) refl
-    ∙ babel_over_ipv4 None ip udp padding (whole - 14) babel fits (omega (arith, options, fits.options_len))
+tag_leads : (kind : ℕ) → Contains (0x8100 ∷ 0x88a8 ∷ 0x9100 ∷ 0x9200 ∷ []) kind → leads_to_ip kind ≡ true
+tag_leads kind one = grind (arith, nat_tests, one)
+
+first_fits : (tags : List Tag) (ether_type : ℕ) → All IsTag tags → ether_type < 2 ^ 16 → first_type tags ether_type < 2 ^ 16
+first_fits [] ether_type are fits = fits
+first_fits (tag ∷ tags) ether_type are fits = (kind_of tag.kind (All-head IsTag tag tags are).is_kind).1
+
+first_leads : (tags : List Tag) (ether_type : ℕ) → All IsTag tags → leads_to_ip ether_type ≡ true → leads_to_ip (first_type tags ether_type) ≡ true
+first_leads [] ether_type are leads = leads
+first_leads (tag ∷ tags) ether_type are leads = tag_leads tag.kind (All-head IsTag tag tags are).is_kind
+
+abbrev payload_of : List Tag → ℕ → List ℕ → Vlans → ℕ → Payload
+payload_of tags ether_type octets vlans all = record { ether_type = first_type tags ether_type; vlans = vlans; octets = after_type tags ether_type ++ octets; whole = all }
+
+-- past one tag
+past_one : (tag : Tag) (tags : List Tag) (ether_type : ℕ) (octets : List ℕ) (vlans : Vlans) (all : ℕ) → IsTag tag → first_type tags ether_type < 2 ^ 16
+    → past_tag (payload_of (tag ∷ tags) ether_type octets vlans all) ≡ payload_of tags ether_type octets (with_vlan vlans tag.number) (all - 4)
+unfolding past_tag
+past_one tag tags ether_type octets vlans all is fits =
+    let rest = after_type tags ether_type ++ octets in
+    let next = big_bytes 2 (first_type tags ether_type) in
+    let control = tag.priority * 2 ^ 12 + tag.number in
+    let after = big_bytes 2 control ++ (next ++ rest) in
+    let priority = is.priority_fits in
+    let number = is.number_fits in
+    let kind = (kind_of tag.kind is.is_kind).0 in
+    let long : nat_le 4 (length after) ≡ true = grind (arith, nat_tests) in
+    let at_control : network_number 0 2 after ≡ control = number-back [] 2 control (next ++ rest) (omega arith) in
+    let at_type : network_number 2 2 after ≡ first_type tags ether_type = number-back (big_bytes 2 control) 2 (first_type tags ether_type) rest fits in
+    let at_number : bit_and control 0x0fff ≡ tag.number = and_mask control 12 ∙ omega arith in
+    rw (kind, long, at_type, at_control, at_number) refl
+
+past-tags : (tags : List Tag) (n : ℕ) (ether_type : ℕ) (octets : List ℕ) (vlans : Vlans) (all : ℕ) → length tags ≤ n → All IsTag tags → ether_type < 2 ^ 16 → is_tag ether_type ≡ false
+    → past_tags n (payload_of tags ether_type octets vlans all)
+    ≡ payload_of [] ether_type octets (fold (λ (v : Vlans) (t : Tag). with_vlan v t.number) vlans tags) (all - 4 * length tags)
+past-tags [] n ether_type octets vlans all few are fits plain =
+    past-no_tag n (payload_of [] ether_type octets vlans all) plain ∙ ap (payload_of [] ether_type octets vlans) (omega arith)
+past-tags (tag ∷ tags) zero ether_type octets vlans all few are fits plain = absurd (omega arith)
+past-tags (tag ∷ tags) (suc n) ether_type octets vlans all few are fits plain =
+    let later = All-tail IsTag tag tags are in
+    past-first n (payload_of (tag ∷ tags) ether_type octets vlans all)
+    ∙ ap (past_tags n) (past_one tag tags ether_type octets vlans all (All-head IsTag tag tags are) (first_fits tags ether_type later fits))
+    ∙ past-tags tags n ether_type octets (with_vlan vlans tag.number) (all - 4) (omega arith) later fits plain
+    ∙ ap (payload_of [] ether_type octets (fold (λ (v : Vlans) (t : Tag). with_vlan v t.number) (with_vlan vlans tag.number) tags)) (omega arith)
+
+after-long : (tags : List Tag) (ether_type : ℕ) → length (after_type tags ether_type) ≡ 4 * length tags
+after-long [] ether_type = omega arith
+after-long (tag ∷ tags) ether_type = (let later = after-long tags ether_type in omega (arith, length-append (big_bytes 2 (first_type tags ether_type)) (after_type tags ether_type)))
+
+-- ---- link headers
+
+-- what follows an EtherType and up to four tags
+typed_seen : (place : Place) (tags : List Tag) (ether_type : ℕ) (octets : List ℕ) (all : ℕ) (sight : Sight) → length tags ≤ 4 → All IsTag tags
+    → SeenIn (in_vlans place (vlans_of tags)) ether_type octets (all - 4 * length tags) sight
+    → typed_sight place (payload_of tags ether_type octets no_vlans all) ≡ sight
+unfolding typed_sight
+typed_seen place tags ether_type octets all sight few are (long, begins, seen) =
+    let plain = ip_plain ether_type octets begins in
+    let past = past-tags tags 4 ether_type octets no_vlans all few are plain.2 plain.0 in
+    ap (λ (p : Payload). ip_sight (in_vlans place p.vlans) p) past ∙ seen
+
+-- a header that ends with an EtherType and tags
+typed_in : (front interface ether_type : ℕ) (place : Place) (header octets : List ℕ) (all : ℕ) (sight : Sight) → (is : IsTyped front interface ether_type place header)
+    → SeenIn place ether_type octets (all - length header) sight
+    → header_sight front (front + 2) (place_on interface) (header ++ octets) all ≡ sight
+typed_in front interface ether_type place header octets all sight is (long, begins, seen) =
+    let tags = is.tags in
+    let plain = ip_plain ether_type octets begins in
+    let next = big_bytes 2 (first_type tags ether_type) in
+    let after = after_type tags ether_type in
+    let rest = after ++ octets in
+    let frame = is.addresses ++ (next ++ rest) in
+    let frame_is : header ++ octets ≡ frame = ap (λ (h : List ℕ). h ++ octets) is.is_header ∙ append_assoc is.addresses (next ++ after) octets in
+    let header_long : length header ≡ front + 2 + 4 * length tags = ap length is.is_header ∙ omega (arith, length-append is.addresses (next ++ after), is.sized, after-long tags ether_type) in
+    let at_type : network_number front 2 frame ≡ first_type tags ether_type =
+    ap (λ (field : ℕ). network_number field 2 frame) (sym is.sized) ∙ number-back is.addresses 2 (first_type tags ether_type) rest (first_fits tags ether_type is.are_tags plain.2) in
+    let at_rest : drop (front + 2) frame ≡ rest = ap (λ (n : ℕ). drop (n + 2) frame) (sym is.sized) ∙ drop-append-add is.addresses (next ++ rest) 2 in
+    let kept : nat_lt (length frame) (front + 2) ≡ false =
+    let count = length-append is.addresses (next ++ rest) in
+    let sized = is.sized in grind (arith, nat_tests) in
+    let same : header_sight front (front + 2) (place_on interface) frame all ≡ typed_sight (place_on interface) (payload_of tags ether_type octets no_vlans (all - (front + 2))) = rw
+    (kept, at_type, at_rest) refl in
+    let left : all - length header ≡ all - (front + 2) - 4 * length tags = omega arith in
+    let there : SeenIn (in_vlans (place_on interface) (vlans_of tags)) ether_type octets (all - (front + 2) - 4 * length tags) sight =
+    (long, begins, ap (λ (p : Place). ip_at p ether_type octets (all - (front + 2) - 4 * length tags)) (sym is.is_place) ∙ ap (ip_at place ether_type octets) (sym left) ∙ seen) in
+    ap (λ (o : List ℕ). header_sight front (front + 2) (place_on interface) o all) frame_is ∙ same
+    ∙ typed_seen (place_on interface) tags ether_type octets (all - (front + 2)) sight is.few is.are_tags there
+
+cooked2_in : (interface ether_type : ℕ) (place : Place) (header octets : List ℕ) (all : ℕ) (sight : Sight) → (is : IsCooked2 interface ether_type place header)
+    → SeenIn place ether_type octets (all - length header) sight
+    → frame_sight interface links.Cooked2 (header ++ octets) all ≡ sight
+unfolding frame_sight
+cooked2_in interface ether_type place header octets all sight is (long, begins, seen) =
+    let tags = is.tags in
+    let plain = ip_plain ether_type octets begins in
+    let next = big_bytes 2 (first_type tags ether_type) in
+    let number = big_bytes 4 is.link in
+    let after = after_type tags ether_type in
+    let rest = after ++ octets in
+    let to_link = next ++ is.reserved in
+    let front = (to_link ++ number) ++ is.more in
+    let frame = next ++ (is.reserved ++ (number ++ (is.more ++ rest))) in
+    let header_is : header ≡ front ++ after = is.is_header ∙ sym (append_assoc to_link number (is.more ++ after)) ∙ sym (append_assoc (to_link ++ number) is.more after) in
+    let frame_is : header ++ octets ≡ front ++ rest = ap (λ (h : List ℕ). h ++ octets) header_is ∙ append_assoc front after octets in
+    let to_frame : front ++ rest ≡ to_link ++ (number ++ (is.more ++ rest)) = append_assoc (to_link ++ number) is.more rest ∙ append_assoc to_link number (is.more ++ rest) in
+    let four : length to_link ≡ 4 = omega (arith, is.reserved_len) in
+    let front_long : length front ≡ 20 = omega (arith, length-append (to_link ++ number) is.more, length-append to_link number, four, is.more_len) in
+    let header_long : length header ≡ 20 + 4 * length tags = ap length header_is ∙ omega (arith, length-append front after, front_long, after-long tags ether_type) in
+    let octets_are = front ++ rest in
+    let at_type : network_number 0 2 octets_are ≡ first_type tags ether_type =
+    ap (network_number 0 2) to_frame ∙ number-back [] 2 (first_type tags ether_type) (is.reserved ++ (number ++ (is.more ++ rest))) (first_fits tags ether_type is.are_tags plain.2) in
+    let at_link : network_number 4 4 octets_are ≡ is.link =
+    ap (network_number 4 4) to_frame ∙ ap (λ (field : ℕ). network_number field 4 (to_link ++ (number ++ (is.more ++ rest)))) (sym four) ∙ number-back to_link 4 is.link
+    (is.more ++ rest) is.link_fits in
+    let at_rest : drop 20 octets_are ≡ rest = ap (λ (n : ℕ). drop n octets_are) (sym front_long) ∙ drop-append_seam front rest in
+    let count : length octets_are ≡ 20 + length rest = length-append front rest ∙ ap (λ (n : ℕ). n + length rest) front_long in
+    let some : nat_lt (length octets_are) 2 ≡ false = grind (arith, nat_tests) in
+    let kept : nat_lt (length octets_are) 20 ≡ false = grind (arith, nat_tests) in
+    let leads : leads_to_ip (first_type tags ether_type) ≡ true = first_leads tags ether_type is.are_tags plain.1 in
+    let linked : Place = record (place_on interface) { link = Some is.link } in
+    let left : all - length header ≡ all - 20 - 4 * length tags = omega arith in
+    let there : SeenIn (in_vlans linked (vlans_of tags)) ether_type octets (all - 20 - 4 * length tags) sight =
+    (long, begins, ap (λ (p : Place). ip_at p ether_type octets (all - 20 - 4 * length tags)) (sym is.is_place) ∙ ap (ip_at place ether_type octets) (sym left) ∙ seen) in
+    let same : frame_sight interface links.Cooked2 octets_are all ≡ typed_sight linked (payload_of tags ether_type octets no_vlans (all - 20)) = rw
+    (some, at_type, leads, kept, at_link, at_rest) refl in
+    ap (λ (o : List ℕ). frame_sight interface links.Cooked2 o all) frame_is ∙ same ∙ typed_seen linked tags ether_type octets (all - 20) sight is.few is.are_tags there
+
+-- the family is the lower one of its two numbers
+family_of : (family : ℕ) → Contains (10 ∷ 24 ∷ 28 ∷ 30 ∷ []) family → (family ≡ 10) ⊎ ((family ≡ 24) ⊎ ((family ≡ 28) ⊎ (family ≡ 30)))
+family_of family one = grind (arith, one)
+
+reads_family : (family : ℕ) (header rest : List ℕ) → (family ≡ 2) ⊎ ((family ≡ 10) ⊎ ((family ≡ 24) ⊎ ((family ≡ 28) ⊎ (family ≡ 30))))
+    → (header ≡ big_bytes 4 family) ⊎ (header ≡ little_bytes 4 family)
+    → (protocol_family (header ++ rest) ≡ family) × (length header ≡ 4) × (drop 4 (header ++ rest) ≡ rest)
+reads_family family header rest (inl two) (inl is) = rw (is, two) (refl, refl, refl)
+reads_family family header rest (inl two) (inr is) = rw (is, two) (refl, refl, refl)
+reads_family family header rest (inr (inl ten)) (inl is) = rw (is, ten) (refl, refl, refl)
+reads_family family header rest (inr (inl ten)) (inr is) = rw (is, ten) (refl, refl, refl)
+reads_family family header rest (inr (inr (inl netbsd))) (inl is) = rw (is, netbsd) (refl, refl, refl)
+reads_family family header rest (inr (inr (inl netbsd))) (inr is) = rw (is, netbsd) (refl, refl, refl)
+reads_family family header rest (inr (inr (inr (inl freebsd)))) (inl is) = rw (is, freebsd) (refl, refl, refl)
+reads_family family header rest (inr (inr (inr (inl freebsd)))) (inr is) = rw (is, freebsd) (refl, refl, refl)
+reads_family family header rest (inr (inr (inr (inr macos)))) (inl is) = rw (is, macos) (refl, refl, refl)
+reads_family family header rest (inr (inr (inr (inr macos)))) (inr is) = rw (is, macos) (refl, refl, refl)
+
+is_ipv6 : (family : ℕ) → Contains (10 ∷ 24 ∷ 28 ∷ 30 ∷ []) family → ((family == 2) ≡ false) × (is_ipv6_family family ≡ true)
+is_ipv6 family one = grind (arith, nat_tests, one)
+
+-- the same at the interface's own place, and for the EtherType that it is
+at_own : (interface ether_type number : ℕ) (place : Place) (octets : List ℕ) (all : ℕ) (sight : Sight) → ether_type ≡ number → place ≡ place_on interface → ip_at place ether_type octets all ≡ sight
+    → ip_at (place_on interface) number octets all ≡ sight
+at_own interface ether_type number place octets all sight type is_place seen =
+    ap (λ (e : ℕ). ip_at (place_on interface) e octets all) (sym type) ∙ ap (λ (p : Place). ip_at p ether_type octets all) (sym is_place) ∙ seen
+
+family_in : (interface ether_type : ℕ) (place : Place) (header octets : List ℕ) (all : ℕ) (sight : Sight) → (is : IsFamily interface ether_type place header)
+    → SeenIn place ether_type octets (all - length header) sight
+    → family_sight (place_on interface) (header ++ octets) all ≡ sight
+family_in interface ether_type place header octets all sight is (long, begins, seen) = by_type is.is_family
+  where
+    four : (length header ≡ 4) → nat_lt (length (header ++ octets)) 4 ≡ false
+    four sized = let count = length-append header octets in grind (arith, nat_tests)
+
+    by_type : ((ether_type ≡ 0x0800) × (is.family ≡ 2)) ⊎ ((ether_type ≡ 0x86dd) × Contains (10 ∷ 24 ∷ 28 ∷ 30 ∷ []) is.family) → family_sight (place_on interface) (header ++ octets) all ≡ sight
+    by_type (inl (type, two)) =
+        (let reads = reads_family is.family header octets (inl two) is.is_header in
+        let told : ipv4_sight (place_on interface) octets (all - 4) ≡ sight =
+        at_own interface ether_type 0x0800 place octets (all - 4) sight type is.is_place (ap (λ (n : ℕ). ip_at place ether_type octets (all - n)) (sym reads.1) ∙ seen) in
+        let kept = four reads.1 in
+        rw (kept, reads.0, two, reads.2) told)
+    by_type (inr (type, one)) =
+        (let reads = reads_family is.family header octets (inr (family_of is.family one)) is.is_header in
+        let v6 = is_ipv6 is.family one in
+        let told : ipv6_sight (place_on interface) octets (all - 4) ≡ sight =
+        at_own interface ether_type 0x86dd place octets (all - 4) sight type is.is_place (ap (λ (n : ℕ). ip_at place ether_type octets (all - n)) (sym reads.1) ∙ seen) in
+        let kept = four reads.1 in
+        rw (kept, reads.0, v6.0, v6.1, reads.2) told)
+
+raw_in : (interface ether_type : ℕ) (place : Place) (octets : List ℕ) (all : ℕ) (sight : Sight) → place ≡ place_on interface → SeenIn place ether_type octets all sight
+    → raw_sight (place_on interface) octets all ≡ sight
+raw_in interface ether_type place octets all sight is_place (long, inl (type, version), seen) =
+    let kept : nat_lt (length octets) 1 ≡ false = grind (arith, nat_tests) in
+    let told : ipv4_sight (place_on interface) octets all ≡ sight = at_own interface ether_type 0x0800 place octets all sight type is_place seen in
+    rw (kept, version) told
+raw_in interface ether_type place octets all sight is_place (long, inr (type, version), seen) =
+    let kept : nat_lt (length octets) 1 ≡ false = grind (arith, nat_tests) in
+    let told : ipv6_sight (place_on interface) octets all ≡ sight = at_own interface ether_type 0x86dd place octets all sight type is_place seen in
+    rw (kept, version) told
+
+-- an IP packet in a frame of each link type
+in_frame : (link : Link) (interface ether_type : ℕ) (place : Place) (header octets : List ℕ) (all : ℕ) (sight : Sight) → IsHeader link interface ether_type place header
+    → SeenIn place ether_type octets (all - length header) sight
+    → frame_sight interface link (header ++ octets) all ≡ sight
+unfolding frame_sight
+in_frame links.Null interface ether_type place header octets all sight is seen = family_in interface ether_type place header octets all sight is seen
+in_frame links.Loop interface ether_type place header octets all sight is seen = family_in interface ether_type place header octets all sight is seen
+in_frame links.Ethernet interface ether_type place header octets all sight is seen = typed_in 12 interface ether_type place header octets all sight is seen
+in_frame links.Cooked interface ether_type place header octets all sight is seen = typed_in 14 interface ether_type place header octets all sight is seen
+in_frame links.Cooked2 interface ether_type place header octets all sight is seen = cooked2_in interface ether_type place header octets all sight is seen
+in_frame links.RawIp interface ether_type place header octets all sight (is_place, none) seen =
+    let left : all - length header ≡ all = omega (arith, ap length none) in
+    let bare : SeenIn place ether_type octets all sight = subst (λ (n : ℕ). SeenIn place ether_type octets n sight) left seen in
+    rw none (raw_in interface ether_type place octets all sight is_place bare)
+in_frame links.RawIpv4 interface ether_type place header octets all sight (type, is_place, none) (long, begins, seen) =
+    rw none (at_own interface ether_type 0x0800 place octets all sight type is_place (ap (ip_at place ether_type octets) (omega (arith, ap length none)) ∙ seen))
+in_frame links.RawIpv6 interface ether_type place header octets all sight (type, is_place, none) (long, begins, seen) =
+    rw none (at_own interface ether_type 0x86dd place octets all sight type is_place (ap (ip_at place ether_type octets) (omega (arith, ap length none)) ∙ seen))
+
+pub seen_in_frame : (link : Link) (interface ether_type : ℕ) (place : Place) (sender : Address) (carried : Carried) (header packet padding : List ℕ) (all : ℕ)
+    → IsHeader link interface ether_type place header
+    → HasBabel ether_type sender packet carried → length header + length packet ≤ all → frame_sight interface link (header ++ (packet ++ padding)) all ≡ datagram place sender carried
+seen_in_frame link interface ether_type place sender carried header packet padding all is babel there =
+    in_frame link interface ether_type place header (packet ++ padding) all (datagram place sender carried) is
+    (babel_seen place ether_type sender packet padding carried (all - length header) babel (omega arith))
+
+pub cut_in_frame : (link : Link) (interface ether_type : ℕ) (place : Place) (sender : Address) (udp : UdpDatagram) (header packet : List ℕ) (n all : ℕ)
+    → IsHeader link interface ether_type place header
+    → IsBabel udp → IsOverIp ether_type sender udp packet → length packet ≤ n + (4 + length udp.payload) → n < length packet → length header + length packet ≤ all
+    → frame_sight interface link (header ++ take n packet) all ≡ datagram place sender (lacking lacks.Snapped)
+cut_in_frame link interface ether_type place sender udp header packet n all is babel over ports less there =
+    in_frame link interface ether_type place header (take n packet) all (datagram place sender (lacking lacks.Snapped)) is
+    (cut_seen place ether_type sender udp packet n (all - length header) babel over ports less (omega arith))

@@ -11,7 +11,10 @@ pub mod OneCapture
 pub mod OneFault
 pub mod OneOrigin
 pub mod PacketLaws
+pub mod PcapLaws
+pub mod PcapngLaws
 pub mod ReadingLaws
 pub mod SenderLaws
 pub mod StreamLaws
 pub mod TallyLaws
+pub mod UpdateLaws

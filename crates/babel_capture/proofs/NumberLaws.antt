@@ -1,4 +1,5 @@
 -- Numbers in octets.
+use Rattle.std.specs.Prelude.{Result, Ok, Err, IfErr, if◌then◌else◌, Bool, true, false}
 use Rattle.std.proofs.Common.{◌≡◌, ℕ, ◌-◌, List, length, take, drop, length-drop, arith, sym, ap, ◌∙◌}
 use Rattle.std.proofs.lemmas.List.{take_all}
 use Rattle.byteorder.specs.Endian.{big_number, little_number}
@@ -20,3 +21,9 @@ module _ (order : Order) (count place : ℕ) (octets : List ℕ) (number : ℕ) 
   unfolding number_at
   read_little is read =
       read ∙ ap (little_number count) (rest_is place octets) ∙ ap (λ (o : Order). number_at o count octets place) (sym is)
+
+-- what is answered where a test fails, if the other answer is this
+pub err_where : {A B E : Type 0} (r : Result A E) (b : Bool) (x y : Result B E) → b ≡ false → IfErr r (λ fault. y ≡ Err fault) → IfErr r (λ fault. (if b then x else y) ≡ Err fault)
+err_where (Ok value) b x y fails holds = tt
+err_where (Err fault) true x y fails holds = absurd cc
+err_where (Err fault) false x y fails holds = holds

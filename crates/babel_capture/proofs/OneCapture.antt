@@ -10,19 +10,21 @@ use Rattle.babel_tlv.proofs.OneReading.{framed_one}
 use Rattle.babel_capture.specs.declared.fault.Fault.{Fault}
 use Rattle.babel_capture.specs.declared.layout.Layout.{Layout}
 use Rattle.babel_capture.specs.declared.layout.Layout.TheVariants as layouts
-use Rattle.babel_capture.specs.declared.reason.Reason.TheVariants as reasons
+use Rattle.babel_capture.specs.declared.link.Link.{Link}
+use Rattle.babel_capture.specs.declared.lack.Lack.{Lack}
+use Rattle.babel_capture.specs.declared.place.Place.{Place}
 use Rattle.babel_capture.specs.declared.wanted.Wanted.{Wanted}
 use Rattle.babel_capture.specs.declared.wanted.Wanted.TheVariants as wanteds
-use Rattle.babel_capture.specs.Blocks.{AreBlocks, BlockAt, IsBlock, IsPartial, Sighting, context_behind, header_of, octets_of, sightings_of, start}
+use Rattle.babel_capture.specs.Blocks.{names_of, AreBlocks, BlockAt, IsBlock, IsPartial, Sighting, context_behind, header_of, octets_of, sightings_of, start}
 use Rattle.babel_capture.specs.Capture.{IsRead, IsReadToCut}
 use Rattle.babel_capture.specs.Contents.{Content, block_said, context_after, nothing}
 use Rattle.babel_capture.specs.Context.{Before}
 use Rattle.babel_capture.specs.Counts.{Counts, Made, counts_of}
-use Rattle.babel_capture.specs.Findings.{CutIs, Either, Finds, Found, IsWanted, PayloadIs, found, interface_in, left, passed}
+use Rattle.babel_capture.specs.Findings.{CarriedIs, Either, Finds, Found, IsWanted, LackIs, PayloadIs, found, passed}
 use Rattle.babel_capture.specs.Gathering.{AreMade, Gathering, IsGathered, dump_of}
 use Rattle.babel_capture.specs.Lengths.{block_len, header_len}
 use Rattle.babel_capture.specs.OneCapture.{CaptureIsOne, CutCaptureIsOne}
-use Rattle.babel_capture.specs.Sight.{Sight, cut, datagram, fragment, other}
+use Rattle.babel_capture.specs.Sight.{Carried, Sight, datagram, lacking, not_link_local, other, other_port, too_short, carries}
 use Rattle.babel_capture.specs.Tallies.{Senders, senders_of}
 
 -- ---- what is made of a packet
@@ -63,49 +65,53 @@ short_version : (payload : List ℕ) → (length payload < 4) ⊎ LacksBody payl
 short_version payload (inl short) long = absurd (omega (arith, short, long))
 short_version payload (inr lacks) long = lacks.2
 
-payload_one : (interface : ℕ) (sender : Address) (payload : List ℕ) (what again : Found) → PayloadIs interface sender payload what → PayloadIs interface sender payload again → what ≡ again
-payload_one interface sender payload what again (inl (body, begins, is)) (inl (other_body, begins_again, is_again)) =
+payload_one : (place : Place) (sender : Address) (payload : List ℕ) (what again : Found) → PayloadIs place sender payload what → PayloadIs place sender payload again → what ≡ again
+payload_one place sender payload what again (inl (body, begins, is)) (inl (other_body, begins_again, is_again)) =
     let same : body ≡ other_body = (framed_one body other_body begins.1 begins_again.1 begins.0 begins_again.0 (sym begins.2 ∙ begins_again.2)).0 in
-    is ∙ ap (λ (b : List ℕ). found interface sender (framed b)) same ∙ sym is_again
-payload_one interface sender payload what again (inl (body, begins, is)) (inr (inl (short, is_again))) = absurd (begins_whole payload body begins short)
-payload_one interface sender payload what again (inl (body, begins, is)) (inr (inr (inl (long, magic, is_again)))) = absurd (magic (begins_magic payload body begins))
-payload_one interface sender payload what again (inl (body, begins, is)) (inr (inr (inr (long, magic, version, is_again)))) = absurd (version (begins_version payload body begins))
-payload_one interface sender payload what again (inr (inl (short, is))) (inl (body, begins, is_again)) = absurd (begins_whole payload body begins short)
-payload_one interface sender payload what again (inr (inl (short, is))) (inr (inl (short_too, is_again))) = is ∙ sym is_again
-payload_one interface sender payload what again (inr (inl (short, is))) (inr (inr (inl (long, magic, is_again)))) = absurd (magic (short_magic payload short long))
-payload_one interface sender payload what again (inr (inl (short, is))) (inr (inr (inr (long, magic, version, is_again)))) = absurd (version (short_version payload short long))
-payload_one interface sender payload what again (inr (inr (inl (long, magic, is)))) (inl (body, begins, is_again)) = absurd (magic (begins_magic payload body begins))
-payload_one interface sender payload what again (inr (inr (inl (long, magic, is)))) (inr (inl (short, is_again))) = absurd (magic (short_magic payload short long))
-payload_one interface sender payload what again (inr (inr (inl (long, magic, is)))) (inr (inr (inl (long_too, magic_too, is_again)))) = is ∙ sym is_again
-payload_one interface sender payload what again (inr (inr (inl (long, magic, is)))) (inr (inr (inr (long_too, magic_too, version, is_again)))) = absurd (magic magic_too)
-payload_one interface sender payload what again (inr (inr (inr (long, magic, version, is)))) (inl (body, begins, is_again)) = absurd (version (begins_version payload body begins))
-payload_one interface sender payload what again (inr (inr (inr (long, magic, version, is)))) (inr (inl (short, is_again))) = absurd (version (short_version payload short long))
-payload_one interface sender payload what again (inr (inr (inr (long, magic, version, is)))) (inr (inr (inl (long_too, magic_too, is_again)))) = absurd (magic_too magic)
-payload_one interface sender payload what again (inr (inr (inr (long, magic, version, is)))) (inr (inr (inr (long_too, magic_too, version_too, is_again)))) = is ∙ sym is_again
+    is ∙ ap (λ (b : List ℕ). found place sender (framed b)) same ∙ sym is_again
+payload_one place sender payload what again (inl (body, begins, is)) (inr (inl (short, is_again))) = absurd (begins_whole payload body begins short)
+payload_one place sender payload what again (inl (body, begins, is)) (inr (inr (inl (long, magic, is_again)))) = absurd (magic (begins_magic payload body begins))
+payload_one place sender payload what again (inl (body, begins, is)) (inr (inr (inr (long, magic, version, is_again)))) = absurd (version (begins_version payload body begins))
+payload_one place sender payload what again (inr (inl (short, is))) (inl (body, begins, is_again)) = absurd (begins_whole payload body begins short)
+payload_one place sender payload what again (inr (inl (short, is))) (inr (inl (short_too, is_again))) = is ∙ sym is_again
+payload_one place sender payload what again (inr (inl (short, is))) (inr (inr (inl (long, magic, is_again)))) = absurd (magic (short_magic payload short long))
+payload_one place sender payload what again (inr (inl (short, is))) (inr (inr (inr (long, magic, version, is_again)))) = absurd (version (short_version payload short long))
+payload_one place sender payload what again (inr (inr (inl (long, magic, is)))) (inl (body, begins, is_again)) = absurd (magic (begins_magic payload body begins))
+payload_one place sender payload what again (inr (inr (inl (long, magic, is)))) (inr (inl (short, is_again))) = absurd (magic (short_magic payload short long))
+payload_one place sender payload what again (inr (inr (inl (long, magic, is)))) (inr (inr (inl (long_too, magic_too, is_again)))) = is ∙ sym is_again
+payload_one place sender payload what again (inr (inr (inl (long, magic, is)))) (inr (inr (inr (long_too, magic_too, version, is_again)))) = absurd (magic magic_too)
+payload_one place sender payload what again (inr (inr (inr (long, magic, version, is)))) (inl (body, begins, is_again)) = absurd (version (begins_version payload body begins))
+payload_one place sender payload what again (inr (inr (inr (long, magic, version, is)))) (inr (inl (short, is_again))) = absurd (version (short_version payload short long))
+payload_one place sender payload what again (inr (inr (inr (long, magic, version, is)))) (inr (inr (inl (long_too, magic_too, is_again)))) = absurd (magic_too magic)
+payload_one place sender payload what again (inr (inr (inr (long, magic, version, is)))) (inr (inr (inr (long_too, magic_too, version_too, is_again)))) = is ∙ sym is_again
 
-cut_one : (wanted : Wanted) (what again : Found) → CutIs wanted what → CutIs wanted again → what ≡ again
-cut_one wanteds.Everyone what again is is_again = is ∙ sym is_again
-cut_one (wanteds.Sender sender interface) what again is is_again = is ∙ sym is_again
+lack_one : (wanted : Wanted) (lack : Lack) (what again : Found) → LackIs wanted lack what → LackIs wanted lack again → what ≡ again
+lack_one wanteds.Everyone lack what again is is_again = is ∙ sym is_again
+lack_one (wanteds.Sender sender place) lack what again is is_again = is ∙ sym is_again
 
-pub finds_one : (wanted : Wanted) (interface : ℕ) (sight : Sight) (what again : Found) → Finds wanted interface sight what → Finds wanted interface sight again → what ≡ again
-finds_one wanted interface other what again is is_again = is ∙ sym is_again
-finds_one wanted interface (fragment sender number) what again is is_again =
-    either_one what again (IsWanted wanted sender (interface_in interface number)) _ _ _ _ (same_of what again (left reasons.Fragment)) (same_of what again passed) is is_again
-finds_one wanted interface (cut sender number) what again is is_again =
-    either_one what again (IsWanted wanted sender (interface_in interface number)) _ _ _ _ (cut_one wanted what again) (same_of what again passed) is is_again
-finds_one wanted interface (datagram sender number payload) what again is is_again =
-    either_one what again (IsWanted wanted sender (interface_in interface number)) _ _ _ _ (payload_one (interface_in interface number) sender payload what again) (same_of what again passed) is is_again
+carried_one : (wanted : Wanted) (place : Place) (sender : Address) (carried : Carried) (what again : Found) → CarriedIs wanted place sender carried what → CarriedIs wanted place sender carried again
+    → what ≡ again
+carried_one wanted place sender other_port what again is is_again = is ∙ sym is_again
+carried_one wanted place sender not_link_local what again is is_again = is ∙ sym is_again
+carried_one wanted place sender (lacking lack) what again is is_again = lack_one wanted lack what again is is_again
+carried_one wanted place sender (carries payload) what again is is_again = payload_one place sender payload what again is is_again
 
-one_made : (made others : Made) → made.number ≡ others.number → made.what ≡ others.what → made ≡ others
-one_made made others number what =
-    let made_of : ℕ → Found → Made = λ n w. record { number = n; what = w } in
-    ap (λ (n : ℕ). made_of n made.what) number ∙ ap (λ (w : Found). made_of others.number w) what
+pub finds_one : (wanted : Wanted) (sight : Sight) (what again : Found) → Finds wanted sight what → Finds wanted sight again → what ≡ again
+finds_one wanted other what again is is_again = is ∙ sym is_again
+finds_one wanted too_short what again is is_again = is ∙ sym is_again
+finds_one wanted (datagram place sender carried) what again is is_again =
+    either_one what again (IsWanted wanted sender place) _ _ _ _ (carried_one wanted place sender carried what again) (same_of what again passed) is is_again
+
+one_made : (made others : Made) → made.number ≡ others.number → made.link ≡ others.link → made.what ≡ others.what → made ≡ others
+one_made made others number link what =
+    let made_of : ℕ → Link → Found → Made = λ n l w. record { number = n; link = l; what = w } in
+    ap (λ (n : ℕ). made_of n made.link made.what) number ∙ ap (λ (l : Link). made_of others.number l made.what) link ∙ ap (λ (w : Found). made_of others.number others.link w) what
 
 pub made_one : (wanted : Wanted) (sightings : List Sighting) (made others : List Made) → AreMade wanted sightings made → AreMade wanted sightings others → made ≡ others
 made_one wanted [] made others are are_too = are ∙ sym are_too
-made_one wanted (sighting ∷ later) made others (one, rest, is, number, finds, whole, are) (again, rest_again, is_again, number_again, finds_again, whole_again, are_again) =
-    let what : one.what ≡ again.what = finds_one wanted sighting.interface sighting.what one.what again.what finds finds_again in
-    let same : one ≡ again = one_made one again (number ∙ sym number_again) what in
+made_one wanted (sighting ∷ later) made others (one, rest, is, number, link, finds, takes, are) (again, rest_again, is_again, number_again, link_again, finds_again, takes_again, are_again) =
+    let what : one.what ≡ again.what = finds_one wanted sighting.what one.what again.what finds finds_again in
+    let same : one ≡ again = one_made one again (number ∙ sym number_again) (link ∙ sym link_again) what in
     let behind : rest ≡ rest_again = made_one wanted later rest rest_again are are_again in
     is ∙ ap (λ (m : Made). m ∷ rest) same ∙ ap (λ (ms : List Made). again ∷ ms) behind ∙ sym is_again
 
@@ -181,17 +187,18 @@ some_header layouts.Start = omega arith
 some_header (layouts.Pcap order) = omega arith
 some_header (layouts.Section order) = omega arith
 
-one_gathering : (one another : Gathering) → one.wanted ≡ another.wanted → one.dump ≡ another.dump → one.report ≡ another.report → one.senders ≡ another.senders → one ≡ another
-one_gathering one another wanted dump report senders =
-    let of : Wanted → List ℕ → Counts → Senders → Gathering = λ w d r s. record { wanted = w; dump = d; report = r; senders = s } in
-    ap (λ (w : Wanted). of w one.dump one.report one.senders) wanted ∙ ap (λ (d : List ℕ). of another.wanted d one.report one.senders) dump
-    ∙ ap (λ (r : Counts). of another.wanted another.dump r one.senders) report ∙ ap (λ (s : Senders). of another.wanted another.dump another.report s) senders
+one_gathering : (one another : Gathering) → one.wanted ≡ another.wanted → one.names ≡ another.names → one.dump ≡ another.dump → one.report ≡ another.report → one.senders ≡ another.senders → one ≡ another
+one_gathering one another wanted names dump report senders =
+    let of : Wanted → List (List ℕ) → List ℕ → Counts → Senders → Gathering = λ w n d r s. record { wanted = w; names = n; dump = d; report = r; senders = s } in
+    ap (λ (w : Wanted). of w one.names one.dump one.report one.senders) wanted ∙ ap (λ (n : List (List ℕ)). of another.wanted n one.dump one.report one.senders) names
+    ∙ ap (λ (d : List ℕ). of another.wanted another.names d one.report one.senders) dump
+    ∙ ap (λ (r : Counts). of another.wanted another.names another.dump r one.senders) report ∙ ap (λ (s : Senders). of another.wanted another.names another.dump another.report s) senders
 
-gathered_one : (sightings : List Sighting) (one another : Gathering) → IsGathered sightings one → IsGathered sightings another → one.wanted ≡ another.wanted → one ≡ another
-gathered_one sightings one another is is_too wanted =
+gathered_one : (sightings : List Sighting) (one another : Gathering) → IsGathered sightings one → IsGathered sightings another → one.wanted ≡ another.wanted → one.names ≡ another.names → one ≡ another
+gathered_one sightings one another is is_too wanted names =
     let made : is.made ≡ is_too.made =
     made_one one.wanted sightings is.made is_too.made is.taken.are_made (subst (λ (w : Wanted). AreMade w sightings is_too.made) (sym wanted) is_too.taken.are_made) in
-    one_gathering one another wanted
+    one_gathering one another wanted names
     (is.dump ∙ ap (dump_of one.wanted) made ∙ ap (λ (w : Wanted). dump_of w is_too.made) wanted ∙ sym is_too.dump)
     (is.report ∙ ap counts_of made ∙ sym is_too.report)
     (is.senders ∙ ap senders_of made ∙ sym is_too.senders)
@@ -212,7 +219,8 @@ cut_capture_is_one limit octets one another place other_place is is_too wanted =
     by : (is.is_read.blocks ≡ is_too.is_read.blocks) × (is.rest ≡ is_too.rest) → (one ≡ another) × (place ≡ other_place)
     by (blocks, rest) = (
       gathered_one (sightings_of is.is_read.blocks) one another is.is_read.gathered
-          (subst (λ (bs : List BlockAt). IsGathered (sightings_of bs) another) (sym blocks) is_too.is_read.gathered) wanted,
+          (subst (λ (bs : List BlockAt). IsGathered (sightings_of bs) another) (sym blocks) is_too.is_read.gathered) wanted
+          (is.is_read.names ∙ ap names_of blocks ∙ sym is_too.is_read.names),
       places (is.is_read.whole ∙ ap octets_of blocks ∙ sym is_too.is_read.whole) rest is.where_cut is_too.where_cut,
     )
 

@@ -12,8 +12,9 @@ use Rattle.babel_capture.specs.Capture.{CaptureFault, EndsShort, IsShortBy}
 use Rattle.babel_capture.specs.Contents.{Content, block_said, context_after, describes, file, holds, nothing, section}
 use Rattle.babel_capture.specs.Context.{Before}
 use Rattle.babel_capture.specs.Counts.{Made}
-use Rattle.babel_capture.specs.Findings.{Found, found, left, passed, snapped}
-use Rattle.babel_capture.specs.Gathering.{AreMade, AreTaken, IsRefused}
+use Rattle.babel_capture.specs.Findings.{Found, found, left, passed, refused, untold}
+use Rattle.babel_capture.specs.Lack.{lack_fault}
+use Rattle.babel_capture.specs.Gathering.{AreMade, AreTaken, IsRefused, IsTaken}
 use Rattle.babel_capture.specs.Lengths.{block_len, header_len}
 use Rattle.babel_capture.specs.OneFault.{CutIsTheFault, FaultIsOne, ReadHasNoFault}
 use Rattle.babel_capture.specs.Reading.{BlockFails, Stops, StopsAt}
@@ -29,9 +30,10 @@ more senders made = fold (λ (s : Senders) (one : Made). senders_with s one.what
 
 with-longer : (senders : Senders) (what : Found) → length senders ≤ length (senders_with senders what)
 with-longer senders passed = omega arith
+with-longer senders untold = omega arith
 with-longer senders (left reason) = omega arith
-with-longer senders snapped = omega arith
-with-longer senders (found interface sender packet) = insert-longer origin_cmp (record { interface = interface; sender = sender }) _ senders
+with-longer senders (refused lack) = omega arith
+with-longer senders (found place sender packet) = insert-longer origin_cmp (record { place = place; sender = sender }) _ senders
 
 more-longer : (senders : Senders) (made : List Made) → length senders ≤ length (more senders made)
 more-longer senders [] = omega arith
@@ -53,13 +55,13 @@ record InTwo (wanted : Wanted) (front back : List Sighting) (made : List Made) :
 
 in_two : (wanted : Wanted) (front back : List Sighting) (made : List Made) → AreMade wanted (front ++ back) made → InTwo wanted front back made
 in_two wanted [] back made are = record { first = []; later = made; whole = refl; are_first = refl; are_later = are }
-in_two wanted (sighting ∷ front) back made (one, others, is, number, finds, whole, are) =
+in_two wanted (sighting ∷ front) back made (one, others, is, number, link, finds, takes, are) =
     let parts = in_two wanted front back others are in
     record {
       first = one ∷ parts.first;
       later = parts.later;
       whole = is ∙ ap (λ (ms : List Made). one ∷ ms) parts.whole;
-      are_first = (one, parts.first, refl, number, finds, whole, parts.are_first);
+      are_first = (one, parts.first, refl, number, link, finds, takes, parts.are_first);
       are_later = parts.are_later;
     }
 
@@ -89,17 +91,17 @@ module _ (wanted : Wanted) (senders : Senders) (count : ℕ) (before : Before) (
     few = subst (λ (s : Senders). length s ≤ 65536) (ap (more senders) parts.whole ∙ more-append senders parts.first parts.later) are.few;
   }
 
--- a packet that is refused is not taken
+-- a packet that is refuses is not taken
 refused_none : (wanted : Wanted) (senders : Senders) (number at : ℕ) (content : Content) (fault : Fault) (later : List Sighting) (made : List Made) → IsRefused wanted senders at content fault
     → AreMade wanted (sightings_in number at content ++ later) made → length (more senders made) ≤ 65536 → ⊥
-refused_none wanted senders number at (file order interface) fault later made refused are few = refused
-refused_none wanted senders number at (section order) fault later made refused are few = refused
-refused_none wanted senders number at (describes interface) fault later made refused are few = refused
-refused_none wanted senders number at nothing fault later made refused are few = refused
-refused_none wanted senders number at (holds packet) fault later made (inl (told, finds)) (one, others, is, numbered, finds_too, whole, are) few =
-    whole (finds_one wanted packet.interface (sight_in packet) one.what snapped finds_too finds)
-refused_none wanted senders number at (holds packet) fault later made (inr (told, (origin, octets, finds, many))) (one, others, is, numbered, finds_too, whole, are) few =
-    let what : one.what ≡ found origin.interface origin.sender octets = finds_one wanted packet.interface (sight_in packet) one.what (found origin.interface origin.sender octets) finds_too finds in
+refused_none wanted senders number at (file order interface) fault later made refuses are few = refuses
+refused_none wanted senders number at (section order) fault later made refuses are few = refuses
+refused_none wanted senders number at (describes interface name) fault later made refuses are few = refuses
+refused_none wanted senders number at nothing fault later made refuses are few = refuses
+refused_none wanted senders number at (holds packet) fault later made (inl (lack, told, finds)) (one, others, is, numbered, link, finds_too, takes, are) few =
+    subst IsTaken (finds_one wanted (sight_in packet) one.what (refused lack) finds_too finds) takes
+refused_none wanted senders number at (holds packet) fault later made (inr (told, (origin, octets, finds, many))) (one, others, is, numbered, link, finds_too, takes, are) few =
+    let what : one.what ≡ found origin.place origin.sender octets = finds_one wanted (sight_in packet) one.what (found origin.place origin.sender octets) finds_too finds in
     let all : more senders made ≡ more (tallied senders origin octets) others =
     ap (more senders) is ∙ ap (λ (w : Found). more (senders_with senders w) others) what in
     let new : length (tallied senders origin octets) ≡ length senders + 1 = insert-new origin_cmp origin _ senders many.1 in
@@ -130,44 +132,47 @@ module _ (wanted : Wanted) (senders : Senders) (before : Before) (at : ℕ) wher
           (ap (λ (t : List ℕ). t ++ drop (length other) octets) begins.front ∙ take-append-drop (length other) octets ∙ whole)).0
 
       by : StopsAt wanted senders before at octets fault → ⊥
-      by (inl (header, refused)) = (let both : Err fault ≡ Ok (length block.octets) = sym refused ∙ ap (block_len before at) front ∙ is_block.len in absurd cc)
+      by (inl (header, refuses)) = (let both : Err fault ≡ Ok (length block.octets) = sym refuses ∙ ap (block_len before at) front ∙ is_block.len in absurd cc)
       by (inr (other, begins, inl failed)) =
           (let both : Err fault ≡ Ok block.content = sym failed ∙ ap (block_said before at) (same_block other begins) ∙ are.are_blocks.2 in absurd cc)
-      by (inr (other, begins, inr (content, said, refused))) =
+      by (inr (other, begins, inr (content, said, refuses))) =
           let content_is : content ≡ block.content = ap content_or_none (sym said ∙ ap (block_said before at) (same_block other begins) ∙ are.are_blocks.2) in
           let here : at ≡ block.at = sym are.are_blocks.0 in
           refused_none wanted senders (count + 1) block.at block.content fault (sightings_behind (count + length (sightings_in (count + 1) block.at block.content)) blocks) made
-          (subst (λ (n : ℕ). IsRefused wanted senders n block.content fault) here (subst (λ (c : Content). IsRefused wanted senders at c fault) content_is refused))
+          (subst (λ (n : ℕ). IsRefused wanted senders n block.content fault) here (subst (λ (c : Content). IsRefused wanted senders at c fault) content_is refuses))
           are.are_made are.few
 
   -- they stop by one fault
   refused_one : (content : Content) (one other : Fault) → IsRefused wanted senders at content one → IsRefused wanted senders at content other → one ≡ other
-  refused_one (file order interface) one other refused again = absurd refused
-  refused_one (section order) one other refused again = absurd refused
-  refused_one (describes interface) one other refused again = absurd refused
-  refused_one nothing one other refused again = absurd refused
-  refused_one (holds packet) one other (inl (told, finds)) (inl (told_too, finds_too)) = told ∙ sym told_too
-  refused_one (holds packet) one other (inl (told, finds)) (inr (told_too, (origin, octets, finds_too, many))) =
-      (let both : snapped ≡ found origin.interface origin.sender octets = finds_one wanted packet.interface (sight_in packet) snapped (found origin.interface origin.sender octets) finds finds_too in absurd cc)
-  refused_one (holds packet) one other (inr (told, (origin, octets, finds, many))) (inl (told_too, finds_too)) =
-      (let both : snapped ≡ found origin.interface origin.sender octets = finds_one wanted packet.interface (sight_in packet) snapped (found origin.interface origin.sender octets) finds_too finds in absurd cc)
+  refused_one (file order interface) one other refuses again = absurd refuses
+  refused_one (section order) one other refuses again = absurd refuses
+  refused_one (describes interface name) one other refuses again = absurd refuses
+  refused_one nothing one other refuses again = absurd refuses
+  refused_one (holds packet) one other (inl (lack, told, finds)) (inl (lack_too, told_too, finds_too)) =
+      let both : refused lack ≡ refused lack_too = finds_one wanted (sight_in packet) (refused lack) (refused lack_too) finds finds_too in
+      let same : lack ≡ lack_too = cc in
+      told ∙ ap (lack_fault at) same ∙ sym told_too
+  refused_one (holds packet) one other (inl (lack, told, finds)) (inr (told_too, (origin, octets, finds_too, many))) =
+      (let both : refused lack ≡ found origin.place origin.sender octets = finds_one wanted (sight_in packet) (refused lack) (found origin.place origin.sender octets) finds finds_too in absurd cc)
+  refused_one (holds packet) one other (inr (told, (origin, octets, finds, many))) (inl (lack, told_too, finds_too)) =
+      (let both : refused lack ≡ found origin.place origin.sender octets = finds_one wanted (sight_in packet) (refused lack) (found origin.place origin.sender octets) finds_too finds in absurd cc)
   refused_one (holds packet) one other (inr (told, many)) (inr (told_too, many_too)) = told ∙ sym told_too
 
   fails_one : (block : List ℕ) (one other : Fault) → BlockFails wanted senders before at block one → BlockFails wanted senders before at block other → one ≡ other
   fails_one block one other (inl failed) (inl failed_too) = (let both : Err one ≡ Err other = sym failed ∙ failed_too in cc)
-  fails_one block one other (inl failed) (inr (content, said, refused)) = (let both : Err one ≡ Ok content = sym failed ∙ said in absurd cc)
-  fails_one block one other (inr (content, said, refused)) (inl failed) = (let both : Err other ≡ Ok content = sym failed ∙ said in absurd cc)
-  fails_one block one other (inr (content, said, refused)) (inr (again, said_too, refused_too)) =
+  fails_one block one other (inl failed) (inr (content, said, refuses)) = (let both : Err one ≡ Ok content = sym failed ∙ said in absurd cc)
+  fails_one block one other (inr (content, said, refuses)) (inl failed) = (let both : Err other ≡ Ok content = sym failed ∙ said in absurd cc)
+  fails_one block one other (inr (content, said, refuses)) (inr (again, said_too, refused_too)) =
       let same : again ≡ content = ap content_or_none (sym said_too ∙ said) in
-      refused_one content one other refused (subst (λ (c : Content). IsRefused wanted senders at c other) same refused_too)
+      refused_one content one other refuses (subst (λ (c : Content). IsRefused wanted senders at c other) same refused_too)
 
   header_begins : (octets block : List ℕ) (fault : Fault) → BeginsBlock before at octets block → block_len before at (header_of before octets) ≡ Err fault → ⊥
-  header_begins octets block fault begins refused =
+  header_begins octets block fault begins refuses =
       let rest = drop (length block) octets in
       let whole : block ++ rest ≡ octets = ap (λ (t : List ℕ). t ++ rest) begins.front ∙ take-append-drop (length block) octets in
       let front : header_of before octets ≡ header_of before block =
       ap (header_of before) (sym whole) ∙ take-append-le (header_len before.layout) block rest begins.is_block.header in
-      let both : Err fault ≡ Ok (length block) = sym refused ∙ ap (block_len before at) front ∙ begins.is_block.len in
+      let both : Err fault ≡ Ok (length block) = sym refuses ∙ ap (block_len before at) front ∙ begins.is_block.len in
       absurd cc
 
   begin_one : (octets block other : List ℕ) → BeginsBlock before at octets block → BeginsBlock before at octets other → other ≡ block
@@ -177,17 +182,17 @@ module _ (wanted : Wanted) (senders : Senders) (before : Before) (at : ℕ) wher
       ∙ sym (ap (λ (t : List ℕ). t ++ drop (length block) octets) begins.front ∙ take-append-drop (length block) octets))).0
 
   stop_one : (octets : List ℕ) (one other : Fault) → StopsAt wanted senders before at octets one → StopsAt wanted senders before at octets other → one ≡ other
-  stop_one octets one other (inl (header, refused)) (inl (header_too, refused_too)) = (let both : Err one ≡ Err other = sym refused ∙ refused_too in cc)
-  stop_one octets one other (inl (header, refused)) (inr (block, begins, fails)) = absurd (header_begins octets block one begins refused)
-  stop_one octets one other (inr (block, begins, fails)) (inl (header, refused)) = absurd (header_begins octets block other begins refused)
+  stop_one octets one other (inl (header, refuses)) (inl (header_too, refused_too)) = (let both : Err one ≡ Err other = sym refuses ∙ refused_too in cc)
+  stop_one octets one other (inl (header, refuses)) (inr (block, begins, fails)) = absurd (header_begins octets block one begins refuses)
+  stop_one octets one other (inr (block, begins, fails)) (inl (header, refuses)) = absurd (header_begins octets block other begins refuses)
   stop_one octets one other (inr (block, begins, fails)) (inr (again, begins_too, fails_too)) =
       fails_one block one other fails (subst (λ (t : List ℕ). BlockFails wanted senders before at t other) (begin_one octets block again begins begins_too) fails_too)
 
   -- octets that stop are not less than a block
   stop_partial : (octets : List ℕ) (fault : Fault) → StopsAt wanted senders before at octets fault → IsPartial before at octets → ⊥
-  stop_partial octets fault (inl (header, refused)) (inl short) = omega (arith, header, short)
-  stop_partial octets fault (inl (header, refused)) (inr (header_too, less)) =
-      subst (λ (r : Result ℕ Fault). IsOkAnd r (λ len. length octets < len)) refused less
+  stop_partial octets fault (inl (header, refuses)) (inl short) = omega (arith, header, short)
+  stop_partial octets fault (inl (header, refuses)) (inr (header_too, less)) =
+      subst (λ (r : Result ℕ Fault). IsOkAnd r (λ len. length octets < len)) refuses less
   stop_partial octets fault (inr (block, begins, fails)) partial =
       let rest = drop (length block) octets in
       let whole : octets ≡ block ++ rest = sym (ap (λ (t : List ℕ). t ++ rest) begins.front ∙ take-append-drop (length block) octets) in

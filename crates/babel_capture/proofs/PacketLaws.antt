@@ -6,15 +6,17 @@ use Rattle.std.proofs.lemmas.List.Concat.{flat_map-append}
 use Rattle.std.proofs.lemmas.List.Elements.{All-nil, All-append, All-push}
 use Rattle.babel_prefix.specs.Address.{Address}
 use Rattle.babel_tlv.specs.Framing.{IsBody, framed}
+use Rattle.babel_capture.specs.declared.lack.Lack.{Lack}
+use Rattle.babel_capture.specs.declared.place.Place.{Place}
 use Rattle.babel_capture.specs.declared.wanted.Wanted.{Wanted}
 use Rattle.babel_capture.specs.declared.wanted.Wanted.TheVariants as wanteds
 use Rattle.babel_capture.specs.Blocks.{Sighting, sightings_of}
 use Rattle.babel_capture.specs.Capture.{IsRead}
 use Rattle.babel_capture.specs.Counts.{Made}
-use Rattle.babel_capture.specs.Findings.{Found, Finds, PayloadIs, CutIs, interface_in}
+use Rattle.babel_capture.specs.Findings.{Found, Finds, PayloadIs, CarriedIs, LackIs}
 use Rattle.babel_capture.specs.Gathering.{AreMade, Gathering, octets_found, dump_of}
 use Rattle.babel_capture.specs.Packets.{ArePackets}
-use Rattle.babel_capture.specs.Sight.{Sight, other, fragment, cut, datagram}
+use Rattle.babel_capture.specs.Sight.{Sight, Carried, other, too_short, datagram, other_port, not_link_local, lacking, carries}
 
 nothing_found : (octets : List ℕ) → octets ≡ [] → ArePackets octets
 nothing_found octets is = record { bodies = []; fit = All-nil IsBody; whole = is }
@@ -33,37 +35,40 @@ one_packet octets body fits is = record {
   whole = is ∙ sym (append-nil (framed body));
 }
 
-in_payload : (interface : ℕ) (sender : Address) (payload : List ℕ) (what : Found) → PayloadIs interface sender payload what → ArePackets (octets_found what)
-in_payload interface sender payload what (inl (body, begins, is)) = one_packet (octets_found what) body begins.0 (ap octets_found is)
-in_payload interface sender payload what (inr (inl (short, is))) = nothing_found (octets_found what) (ap octets_found is)
-in_payload interface sender payload what (inr (inr (inl (header, magic, is)))) = nothing_found (octets_found what) (ap octets_found is)
-in_payload interface sender payload what (inr (inr (inr (header, magic, version, is)))) = nothing_found (octets_found what) (ap octets_found is)
+in_payload : (place : Place) (sender : Address) (payload : List ℕ) (what : Found) → PayloadIs place sender payload what → ArePackets (octets_found what)
+in_payload place sender payload what (inl (body, begins, is)) = one_packet (octets_found what) body begins.0 (ap octets_found is)
+in_payload place sender payload what (inr (inl (short, is))) = nothing_found (octets_found what) (ap octets_found is)
+in_payload place sender payload what (inr (inr (inl (header, magic, is)))) = nothing_found (octets_found what) (ap octets_found is)
+in_payload place sender payload what (inr (inr (inr (header, magic, version, is)))) = nothing_found (octets_found what) (ap octets_found is)
 
-in_cut : (wanted : Wanted) (what : Found) → CutIs wanted what → ArePackets (octets_found what)
-in_cut wanteds.Everyone what is = nothing_found (octets_found what) (ap octets_found is)
-in_cut (wanteds.Sender sender interface) what is = nothing_found (octets_found what) (ap octets_found is)
+in_lack : (wanted : Wanted) (lack : Lack) (what : Found) → LackIs wanted lack what → ArePackets (octets_found what)
+in_lack wanteds.Everyone lack what is = nothing_found (octets_found what) (ap octets_found is)
+in_lack (wanteds.Sender sender place) lack what is = nothing_found (octets_found what) (ap octets_found is)
 
-in_sight : (wanted : Wanted) (interface : ℕ) (sight : Sight) (what : Found) → Finds wanted interface sight what → ArePackets (octets_found what)
-in_sight wanted interface other what is = nothing_found (octets_found what) (ap octets_found is)
-in_sight wanted interface (fragment sender number) what (inl (is_wanted, is)) = nothing_found (octets_found what) (ap octets_found is)
-in_sight wanted interface (fragment sender number) what (inr (not, is)) = nothing_found (octets_found what) (ap octets_found is)
-in_sight wanted interface (cut sender number) what (inl (is_wanted, is)) = in_cut wanted what is
-in_sight wanted interface (cut sender number) what (inr (not, is)) = nothing_found (octets_found what) (ap octets_found is)
-in_sight wanted interface (datagram sender number payload) what (inl (is_wanted, is)) = in_payload (interface_in interface number) sender payload what is
-in_sight wanted interface (datagram sender number payload) what (inr (not, is)) = nothing_found (octets_found what) (ap octets_found is)
+in_carried : (wanted : Wanted) (place : Place) (sender : Address) (carried : Carried) (what : Found) → CarriedIs wanted place sender carried what → ArePackets (octets_found what)
+in_carried wanted place sender other_port what is = nothing_found (octets_found what) (ap octets_found is)
+in_carried wanted place sender not_link_local what is = nothing_found (octets_found what) (ap octets_found is)
+in_carried wanted place sender (lacking lack) what is = in_lack wanted lack what is
+in_carried wanted place sender (carries payload) what is = in_payload place sender payload what is
+
+in_sight : (wanted : Wanted) (sight : Sight) (what : Found) → Finds wanted sight what → ArePackets (octets_found what)
+in_sight wanted other what is = nothing_found (octets_found what) (ap octets_found is)
+in_sight wanted too_short what is = nothing_found (octets_found what) (ap octets_found is)
+in_sight wanted (datagram place sender carried) what (inl (is_wanted, is)) = in_carried wanted place sender carried what is
+in_sight wanted (datagram place sender carried) what (inr (not, is)) = nothing_found (octets_found what) (ap octets_found is)
 
 abbrev octets_made : List Made → List ℕ
 octets_made made = flat_map (λ one. octets_found one.what) made
 
 in_made : (wanted : Wanted) (sightings : List Sighting) (made : List Made) → AreMade wanted sightings made → ArePackets (octets_made made)
 in_made wanted [] made is = nothing_found (octets_made made) (ap octets_made is)
-in_made wanted (sighting ∷ later) made (one, others, is, number, finds, whole, are) =
+in_made wanted (sighting ∷ later) made (one, others, is, number, link, finds, takes, are) =
     subst ArePackets (ap octets_made (sym is))
-    (joined (octets_found one.what) (octets_made others) (in_sight wanted sighting.interface sighting.what one.what finds) (in_made wanted later others are))
+    (joined (octets_found one.what) (octets_made others) (in_sight wanted sighting.what one.what finds) (in_made wanted later others are))
 
 in_dump : (wanted : Wanted) (sightings : List Sighting) (made : List Made) → AreMade wanted sightings made → ArePackets (dump_of wanted made)
 in_dump wanteds.Everyone sightings made are = nothing_found [] refl
-in_dump (wanteds.Sender sender interface) sightings made are = in_made (wanteds.Sender sender interface) sightings made are
+in_dump (wanteds.Sender sender place) sightings made are = in_made (wanteds.Sender sender place) sightings made are
 
 pub dump_packets : (limit : ℕ) (octets : List ℕ) (gathering : Gathering) → IsRead limit octets gathering → ArePackets gathering.dump
 dump_packets limit octets gathering read =

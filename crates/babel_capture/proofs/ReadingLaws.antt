@@ -6,8 +6,8 @@ use Rattle.std.proofs.Math.Seq.{take-add}
 use Rattle.std.proofs.lemmas.List.Concat.{flat_map-append}
 use Rattle.babel_capture.specs.declared.fault.Fault.{Fault}
 use Rattle.babel_capture.specs.declared.wanted.Wanted.{Wanted}
-use Rattle.babel_capture.specs.Blocks.{BlockAt, BeginsBlock, HasHeader, header_of, IsBlock, AreBlocks, Sighting, start, context_behind, octets_of, sightings_in, sightings_behind, sightings_of}
-use Rattle.babel_capture.specs.Contents.{Content, block_said, context_after}
+use Rattle.babel_capture.specs.Blocks.{names_of, BlockAt, BeginsBlock, HasHeader, header_of, IsBlock, AreBlocks, Sighting, start, context_behind, octets_of, sightings_in, sightings_behind, sightings_of}
+use Rattle.babel_capture.specs.Contents.{Content, block_said, context_after, names_in}
 use Rattle.babel_capture.specs.Context.{Before}
 use Rattle.babel_capture.specs.Counts.{Made, Counts}
 use Rattle.babel_capture.specs.Gathering.{AreMade, AreTaken, Gathering, IsGathered}
@@ -37,6 +37,10 @@ octets-push : (blocks : List BlockAt) (b : BlockAt) → octets_of (blocks ++ b �
 octets-push blocks b =
     flat_map-append (λ (x : BlockAt). x.octets) blocks (b ∷ []) ∙ ap (λ (t : List ℕ). octets_of blocks ++ t) (append-nil b.octets)
 
+names-push : (blocks : List BlockAt) (b : BlockAt) → names_of (blocks ++ b ∷ []) ≡ names_of blocks ++ names_in b.content
+names-push blocks b =
+    flat_map-append (λ (x : BlockAt). names_in x.content) blocks (b ∷ []) ∙ ap (λ (t : List (List ℕ)). names_of blocks ++ t) (append-nil (names_in b.content))
+
 blocks-push : (before : Before) (at : ℕ) (blocks : List BlockAt) (b : BlockAt) → AreBlocks before at blocks → b.at ≡ at + length (octets_of blocks)
     → IsBlock (context_behind before blocks) b.at b.octets → block_said (context_behind before blocks) b.at b.octets ≡ Ok b.content → AreBlocks before at (blocks ++ b ∷ [])
 blocks-push before at [] b are is block said =
@@ -51,7 +55,7 @@ blocks-push before at (first ∷ blocks) b (here, one, first_said, are) is block
 
 length-made : (wanted : Wanted) (sightings : List Sighting) (made : List Made) → AreMade wanted sightings made → length made ≡ length sightings
 length-made wanted [] made are = ap length are
-length-made wanted (first ∷ sightings) made (one, others, is, number, finds, whole, are) =
+length-made wanted (first ∷ sightings) made (one, others, is, number, link, finds, takes, are) =
     (let rest : length others ≡ length sightings = length-made wanted sightings others are in omega (arith, ap length is, rest))
 
 packets-are : (sightings : List Sighting) (gathering : Gathering) → IsGathered sightings gathering → gathering.report.packets ≡ length sightings
@@ -61,8 +65,9 @@ packets-are sightings gathering gathered =
 pub lead-push : (limit : ℕ) (read block : List ℕ) (old new : Progress) (content : Content) → IsBlock old.context old.at block → block_said old.context old.at block ≡ Ok content
     → new.context ≡ context_after old.context content → new.at ≡ old.at + length block
     → ((before : List Sighting) → IsGathered before old.gathering → IsGathered (before ++ sightings_in (old.gathering.report.packets + 1) old.at content) new.gathering)
+    → new.gathering.names ≡ old.gathering.names ++ names_in content
     → LeadTo limit read old → LeadTo limit (read ++ block) new
-lead-push limit read block old new content is_block said context place gathers lead =
+lead-push limit read block old new content is_block said context place gathers names lead =
     let b : BlockAt = record { at = old.at; octets = block; content = content } in
     let count : old.gathering.report.packets ≡ length (sightings_of lead.blocks) = packets-are (sightings_of lead.blocks) old.gathering lead.gathered in
     let number : old.gathering.report.packets + 1 ≡ 0 + length (sightings_of lead.blocks) + 1 = omega (arith, count) in
@@ -77,6 +82,7 @@ lead-push limit read block old new content is_block said context place gathers l
       gathered = subst (λ (s : List Sighting). IsGathered s new.gathering)
           (ap (λ (n : ℕ). sightings_of lead.blocks ++ sightings_in n old.at content) number ∙ sym (sightings-push 0 lead.blocks b))
           (gathers (sightings_of lead.blocks) lead.gathered);
+      names = names ∙ ap (λ (ns : List (List ℕ)). ns ++ names_in content) lead.names ∙ sym (names-push lead.blocks b);
     }
 
 -- ---- what stops

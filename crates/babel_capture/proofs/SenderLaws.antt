@@ -16,8 +16,9 @@ use Rattle.babel_capture.specs.declared.tallies.Origin.{Origin}
 use Rattle.babel_capture.specs.declared.tallies.Tally.{Tally}
 use Rattle.babel_capture.specs.Capture.{IsRead}
 use Rattle.babel_capture.specs.Counts.{Made}
-use Rattle.babel_capture.specs.Findings.{Found, passed, left, snapped, found}
+use Rattle.babel_capture.specs.Findings.{Found, passed, untold, left, refused, found}
 use Rattle.babel_capture.specs.Gathering.{Gathering, octets_found}
+use Rattle.babel_capture.specs.Updates.{updates_in}
 use Rattle.babel_capture.specs.Senders.{AreSenders, is_from, packets_from, tally_for}
 use Rattle.babel_capture.specs.Tallies.{Senders, no_packets, one_more, origin_cmp, senders_of, senders_with, tallied, tally_of}
 use Rattle.babel_capture.proofs.TallyLaws.{origin_total}
@@ -43,10 +44,18 @@ packets-push origin before one =
     ∙ ap (λ (l : List (List ℕ)). packets_from origin before ++ l) (packets-here origin one)
 
 tally-push : (packets : List (List ℕ)) (packet : List ℕ) → tally_for (packets ++ packet ∷ []) ≡ Some (one_more (unwrap_or (tally_for packets) no_packets) packet)
-tally-push [] packet = ap (λ (n : ℕ). Some (record { packets = 1; octets = n })) (omega arith)
+tally-push [] packet =
+    let of : ℕ → ℕ → Option Tally = λ n m. Some (record { packets = 1; octets = n; updates = m }) in
+    let octets : sum_by length (packet ∷ []) ≡ 0 + length packet = omega arith in
+    let updates : sum_by updates_in (packet ∷ []) ≡ 0 + updates_in packet = omega arith in
+    ap (λ (n : ℕ). of n (sum_by updates_in (packet ∷ []))) octets ∙ ap (of (0 + length packet)) updates
 tally-push (first ∷ packets) packet =
-    ap (λ (n : ℕ). Some (record { packets = n; octets = sum_by length ((first ∷ packets) ++ packet ∷ []) })) (length-append (first ∷ packets) (packet ∷ []))
-    ∙ ap (λ (n : ℕ). Some (record { packets = length (first ∷ packets) + 1; octets = n })) (sum_by-append length (first ∷ packets) (packet ∷ []) ∙ ap (λ (n : ℕ). sum_by length (first ∷ packets) + n) (omega arith))
+    let before = first ∷ packets in
+    let all = before ++ packet ∷ [] in
+    ap (λ (n : ℕ). Some (record { packets = n; octets = sum_by length all; updates = sum_by updates_in all })) (length-append before (packet ∷ []))
+    ∙ ap (λ (n : ℕ). Some (record { packets = length before + 1; octets = n; updates = sum_by updates_in all })) (sum_by-append length before (packet ∷ []) ∙ ap (λ (n : ℕ). sum_by length before + n) (omega arith))
+    ∙ ap (λ (n : ℕ). Some (record { packets = length before + 1; octets = sum_by length before + length packet; updates = n }))
+    (sum_by-append updates_in before (packet ∷ []) ∙ ap (λ (n : ℕ). sum_by updates_in before + n) (omega arith))
 
 -- the same sender has one tally
 same-tally : (senders : Senders) (k q : Origin) → is_at (origin_cmp k) q ≡ true → tally_of senders k ≡ tally_of senders q
@@ -83,10 +92,11 @@ with_packet before senders one k packet is are = record {
 
 with_one : (before : List Made) (senders : Senders) (one : Made) (what : Found) → one.what ≡ what → AreSenders before senders → AreSenders (before ++ one ∷ []) (senders_with senders what)
 with_one before senders one passed is are = unchanged before senders one (λ origin. ap (here origin) is) are
+with_one before senders one untold is are = unchanged before senders one (λ origin. ap (here origin) is) are
 with_one before senders one (left reason) is are = unchanged before senders one (λ origin. ap (here origin) is) are
-with_one before senders one snapped is are = unchanged before senders one (λ origin. ap (here origin) is) are
-with_one before senders one (found interface sender packet) is are =
-    with_packet before senders one (record { interface = interface; sender = sender }) packet (λ origin. ap (here origin) is) are
+with_one before senders one (refused lack) is are = unchanged before senders one (λ origin. ap (here origin) is) are
+with_one before senders one (found place sender packet) is are =
+    with_packet before senders one (record { place = place; sender = sender }) packet (λ origin. ap (here origin) is) are
 
 -- ---- and so with all of them
 

@@ -124,6 +124,7 @@ module _ (limit : ℕ) (progress : Progress) (pending fed : List ℕ) (taken : H
     are_blocks = taken.leads.are_blocks;
     started = context_started started;
     gathered = taken.leads.gathered;
+    names = taken.leads.names;
   }
 
 pub not-started : (limit : ℕ) (progress : Progress) (pending fed : List ℕ) → ¬ HasStarted progress.context → HasTaken limit progress pending fed
@@ -151,6 +152,7 @@ read-to-cut limit progress pending fed cut started which taken = record {
     are_blocks = taken.leads.are_blocks;
     started = subst HasStarted taken.leads.context started;
     gathered = taken.leads.gathered;
+    names = taken.leads.names;
   };
   partial = subst (λ (n : ℕ). IsPartial (context_behind (start limit) taken.leads.blocks) n pending) taken.leads.place
       (subst (λ (c : Before). IsPartial c progress.at pending) taken.leads.context taken.partial);

@@ -1,5 +1,5 @@
 -- Tallies with one packet more are the stated ones, of a new sender and of one that is there.
-use Rattle.std.proofs.Common.{◌≡◌, ℕ, List, Option, Some, sym, ap, subst, ◌∙◌, rules}
+use Rattle.std.proofs.Common.{◌+◌, ◌≡◌, ℕ, List, length, arith, Option, None, Some, sym, ap, subst, ◌∙◌, rules}
 use Rattle.std.specs.Cmp.{IsTotalOrder}
 use Rattle.std.specs.declared.cmp.Ordering.{Ordering}
 use Rattle.std.proofs.Math.Path.{fun_ext}
@@ -7,12 +7,16 @@ use Rattle.std.specs.BTreeMap.{insert_entry, is_at}
 use Rattle.std.specs.List.Sorted.{IsStrictlySortedBy}
 use Rattle.std.specs.Map.{keys_of, lookup, set_value}
 use Rattle.std.proofs.lemmas.Cmp.{nat_cmp_total, on_total, then_total}
+use Rattle.std.specs.Cmp.Lexicographic.{options_total}
 use Rattle.babel_prefix.specs.TotalOrder.{address_total}
 use Rattle.std.specs.Option.{unwrap_or}
 use Rattle.babel_capture.specs.contracts.tallies.OriginOrd.TheImpl.{ghosts}
+use Rattle.babel_capture.specs.declared.place.Place.{Place}
+use Rattle.babel_capture.specs.declared.place.Vlans.{Vlans}
 use Rattle.babel_capture.specs.declared.tallies.Origin.{Origin}
 use Rattle.babel_capture.specs.declared.tallies.Tally.{Tally}
-use Rattle.babel_capture.specs.Tallies.{Senders, no_packets, one_more, origin_cmp, tallied, tally_of}
+use Rattle.babel_capture.specs.Updates.{updates_in}
+use Rattle.babel_capture.specs.Tallies.{Senders, no_packets, one_more, origin_cmp, place_cmp, vlans_cmp, tallied, tally_of}
 use Rattle.babel_capture.proofs.Entries.{set_value-insert}
 
 -- the order of the type is the stated one
@@ -33,8 +37,30 @@ tallied-by senders after origin packet tally is entries =
 pub unknown-by : (senders : Senders) (origin : Origin) → lookup (is_at (ghosts.cmp origin)) senders ≡ tally_of senders origin
 unknown-by senders origin = ap (λ (k : Origin → Origin → Ordering). lookup (is_at (k origin)) senders) origin_order
 
+-- the first packet of a sender
+pub first_by : (senders after : Senders) (origin : Origin) (packet : List ℕ) → tally_of senders origin ≡ None
+    → after ≡ insert_entry ghosts.cmp senders origin (record { packets = 1; octets = length packet; updates = updates_in packet }) → after ≡ tallied senders origin packet
+first_by senders after origin packet none entries =
+    let one : Tally = record { packets = 1; octets = length packet; updates = updates_in packet } in
+    let is : one ≡ one_more (unwrap_or (lookup (is_at (ghosts.cmp origin)) senders) no_packets) packet =
+    ap (λ (n : ℕ). let t : Tally = record { packets = 1; octets = n; updates = updates_in packet } in t) (omega arith)
+    ∙ ap (λ (n : ℕ). let t : Tally = record { packets = 1; octets = 0 + length packet; updates = n } in t) (omega arith)
+    ∙ ap (λ (t : Option Tally). one_more (unwrap_or t no_packets) packet) (sym (unknown-by senders origin ∙ none)) in
+    tallied-by senders after origin packet one is entries
+
+vlans_total : IsTotalOrder vlans_cmp
+vlans_total =
+    then_total (on_total (λ (v : Vlans). v.first) nat_cmp_total)
+    (then_total (on_total (λ (v : Vlans). v.second) nat_cmp_total)
+    (then_total (on_total (λ (v : Vlans). v.third) nat_cmp_total) (on_total (λ (v : Vlans). v.fourth) nat_cmp_total)))
+
+place_total : IsTotalOrder place_cmp
+place_total =
+    then_total (on_total (λ (p : Place). p.interface) nat_cmp_total)
+    (then_total (on_total (λ (p : Place). p.link) (options_total nat_cmp_total)) (on_total (λ (p : Place). p.vlans) vlans_total))
+
 pub origin_total : IsTotalOrder origin_cmp
-origin_total = then_total (on_total (λ (o : Origin). o.interface) nat_cmp_total) (on_total (λ (o : Origin). o.sender) address_total)
+origin_total = then_total (on_total (λ (o : Origin). o.place) place_total) (on_total (λ (o : Origin). o.sender) address_total)
 
 -- a tally that is there already is written in its place
 pub updated-by : (senders after : Senders) (origin : Origin) (packet : List ℕ) (before tally : Tally)

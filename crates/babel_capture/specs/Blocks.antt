@@ -5,7 +5,8 @@ use Rattle.std.specs.Prelude.{◌⊎◌}
 use Rattle.std.specs.List.{flat_map}
 use Rattle.std.specs.Result.{IsOkAnd}
 use Rattle.babel_capture.specs.declared.layout.Layout.TheVariants as layouts
-use Rattle.babel_capture.specs.Contents.{Captured, Content, file, section, describes, holds}
+use Rattle.babel_capture.specs.declared.link.Link.{Link}
+use Rattle.babel_capture.specs.Contents.{Captured, Content, file, section, describes, holds, names_in}
 use Rattle.babel_capture.specs.Contents.{nothing, block_said, context_after}
 use Rattle.babel_capture.specs.Context.{Before}
 use Rattle.babel_capture.specs.Frame.{frame_sight}
@@ -67,32 +68,38 @@ context_behind before (block ∷ blocks) = context_behind (context_after before 
 abbrev pub octets_of : List BlockAt → List ℕ
 octets_of blocks = flat_map (λ block. block.octets) blocks
 
+-- the names of the interfaces that they describe, in order
+abbrev pub names_of : List BlockAt → List (List ℕ)
+names_of blocks = flat_map (λ block. names_in block.content) blocks
+
 -- ---- packets
 
--- a packet of a capture: its number among the packets, from 1, the offset of its block, its
--- interface, and what its frame is
+-- a packet of a capture: its number among the packets, from 1, the offset of its block, its link
+-- type, and what its frame is
 pub record Sighting : Type 0 where
   pub number : ℕ
   pub at : ℕ
-  pub interface : ℕ
+  pub link : Link
   pub what : Sight
 
 -- what the frame of a packet is, which had at least the octets that were kept
 abbrev pub sight_in : Captured → Sight
-sight_in packet = frame_sight packet.link packet.frame (max packet.whole_len (length packet.frame))
+sight_in packet =
+    frame_sight packet.interface packet.link packet.frame (max packet.whole_len (length
+    packet.frame))
 
 abbrev pub sighting_of : ℕ → ℕ → Captured → Sighting
 sighting_of number at packet = record {
   number = number;
   at = at;
-  interface = packet.interface;
+  link = packet.link;
   what = sight_in packet;
 }
 
 abbrev pub sightings_in : ℕ → ℕ → Content → List Sighting
 sightings_in number at (file order interface) = []
 sightings_in number at (section order) = []
-sightings_in number at (describes interface) = []
+sightings_in number at (describes interface name) = []
 sightings_in number at (holds packet) = sighting_of number at packet ∷ []
 sightings_in number at nothing = []
 

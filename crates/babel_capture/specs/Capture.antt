@@ -5,7 +5,7 @@ use Rattle.babel_capture.specs.declared.fault.Fault.{Fault}
 use Rattle.babel_capture.specs.declared.fault.Fault.TheVariants as faults
 use Rattle.babel_capture.specs.declared.wanted.Wanted.{Wanted}
 use Rattle.babel_capture.specs.Blocks.{BlockAt, IsPartial, AreBlocks, start, context_behind}
-use Rattle.babel_capture.specs.Blocks.{octets_of, sightings_of}
+use Rattle.babel_capture.specs.Blocks.{names_of, octets_of, sightings_of}
 use Rattle.babel_capture.specs.Context.{Before}
 use Rattle.babel_capture.specs.Counts.{Made}
 use Rattle.babel_capture.specs.Gathering.{Gathering, IsGathered, AreTaken}
@@ -19,6 +19,7 @@ pub record IsRead (limit : ℕ) (octets : List ℕ) (gathering : Gathering) : Ty
   pub are_blocks : AreBlocks (start limit) 0 blocks
   pub started : HasStarted (context_behind (start limit) blocks)
   pub gathered : IsGathered (sightings_of blocks) gathering
+  pub names : gathering.names ≡ names_of blocks
 
 -- the octets are a capture, and then less than a block: its last one is cut short, at this offset
 -- if there are any

@@ -1,6 +1,6 @@
 -- What the blocks of a capture say: draft-ietf-opsawg-pcap, 4 and 5; draft-ietf-opsawg-pcapng, 4.1
 -- to 4.4.
-use Rattle.std.specs.Prelude.{ℕ, ◌+◌, ◌-◌, ◌%◌, min, ◌==◌, nat_lt, nat_le, if◌then◌else◌, List, []}
+use Rattle.std.specs.Prelude.{ℕ, ◌+◌, ◌-◌, ◌%◌, min, Bool, ◌==◌, ◌&&◌, ◌||◌, nat_lt, nat_le, if◌then◌else◌, List, []}
 use Rattle.std.specs.Prelude.{◌∷◌, ◌++◌, length, slice_get, slice_range, Option, Some, None, Result}
 use Rattle.std.specs.Prelude.{Ok, Err}
 use Rattle.babel_capture.specs.declared.block.Block.{Block}
@@ -17,6 +17,7 @@ use Rattle.babel_capture.specs.Context.{Before}
 use Rattle.babel_capture.specs.Lengths.{pcap_order, section_order}
 use Rattle.babel_capture.specs.Link.{link_of}
 use Rattle.babel_capture.specs.Numbers.{number_at}
+use Rattle.babel_capture.specs.Options.{Options, all_options}
 
 -- a captured packet: the number of its interface, the interface's link type, the octets kept, and
 -- how many it had
@@ -26,12 +27,12 @@ pub record Captured : Type 0 where
   pub frame : List ℕ
   pub whole_len : ℕ
 
--- the header of a pcap file, the header of a section, an interface, a packet, or what is passed
--- over
+-- the header of a pcap file, the header of a section, an interface with its name, which is empty
+-- where it has none, a packet, or what is passed over
 pub data Content : Type 0 where
   file : (order : Order) (interface : Interface) → Content
   section : (order : Order) → Content
-  describes : (interface : Interface) → Content
+  describes : (interface : Interface) (name : List ℕ) → Content
   holds : (packet : Captured) → Content
   nothing : Content
 
@@ -43,7 +44,7 @@ context_after before (section order) = record before {
   layout = layouts.Section order;
   first = length before.interfaces;
 }
-context_after before (describes interface) = record before {
+context_after before (describes interface name) = record before {
   interfaces = before.interfaces ++ interface ∷ [];
 }
 context_after before (holds packet) = before
@@ -64,50 +65,86 @@ abbrev pub packet_said : Before → ℕ → ℕ → List ℕ → ℕ → Result 
 packet_said before at interface frame whole =
     packet_of at interface frame whole (slice_get before.interfaces interface)
 
+-- draft-ietf-opsawg-pcap, 4: the version is at 4 and 6, and it is 2.4
+abbrev pub is_file_version : Order → List ℕ → Bool
+is_file_version order block = number_at order 2 block 4 == 2 && number_at order 2 block 6 == 4
+
 -- draft-ietf-opsawg-pcap, 4: the link type is the lower half of the number at 20
 abbrev pub file_said : Before → ℕ → Order → List ℕ → Result Content Fault
 file_said before at order block =
     if nat_le 65536 (length before.interfaces) then Err (faults.TooManyInterfaces at)
-    else Ok (file order (record {
+    else if is_file_version order block then Ok (file order (record {
       link = number_at order 4 block 20 % 65536;
       snap_len = number_at order 4 block 16;
     }))
+    else Err (faults.Version at (number_at order 2 block 4) (number_at order 2 block 6))
 
 -- draft-ietf-opsawg-pcap, 5: the packet's length is at 12, and its octets begin at 16
 abbrev pub record_said : Before → ℕ → Order → List ℕ → Result Content Fault
 record_said before at order block =
     packet_said before at 0 (slice_range block 16 (length block)) (number_at order 4 block 12)
 
+-- draft-ietf-opsawg-pcapng, 4.1: at least 28 octets; the version of a section is at 12 and 14; it is
+-- 1.0, or 1.2, which readers are to take for the same
+abbrev pub is_section_version : Order → List ℕ → Bool
+is_section_version order block =
+    number_at order 2 block 12 == 1
+    && (number_at order 2 block 14 == 0 || number_at order 2 block 14 == 2)
+
+abbrev pub versioned_said : ℕ → Order → List ℕ → Result Content Fault
+versioned_said at order block =
+    if nat_lt (length block) 28 then Err (faults.BadLength at)
+    else if is_section_version order block then Ok (section order)
+    else Err (faults.Version at (number_at order 2 block 12) (number_at order 2 block 14))
+
 -- draft-ietf-opsawg-pcapng, 3.1, 4.1: the total length stands at the end of the block again
 abbrev pub section_of : ℕ → List ℕ → Result Order Fault → Result Content Fault
 section_of at block (Err fault) = Err fault
 section_of at block (Ok order) =
-    if number_at order 4 block (length block - 4) == length block then Ok (section order)
+    if number_at order 4 block (length block - 4) == length block
+    then versioned_said at order block
     else Err (faults.BadLength at)
 
 abbrev pub section_said : ℕ → List ℕ → Result Content Fault
 section_said at block = section_of at block (section_order at block)
 
+-- the names of the interfaces that a block describes; a pcap file has one, without a name
+abbrev pub names_in : Content → List (List ℕ)
+names_in (file order interface) = [] ∷ []
+names_in (section order) = []
+names_in (describes interface name) = name ∷ []
+names_in (holds packet) = []
+names_in nothing = []
+
 -- draft-ietf-opsawg-pcapng, 4.2: at least 20 octets, the link type at 8, the most that is kept of a
--- packet at 12
+-- packet at 12, and options from 16 on, none of which runs past the block
+abbrev pub described_said : ℕ → Order → List ℕ → Options → Result Content Fault
+described_said at order block options =
+    if options.is_cut then Err (faults.BadLength at)
+    else Ok (describes (record {
+      link = number_at order 2 block 8;
+      snap_len = number_at order 4 block 12;
+    }) options.name)
+
 abbrev pub interface_said : Before → ℕ → Order → List ℕ → Result Content Fault
 interface_said before at order block =
     if nat_lt (length block) 20 then Err (faults.BadLength at)
     else if nat_le 65536 (length before.interfaces) then Err (faults.TooManyInterfaces at)
-    else Ok (describes (record {
-      link = number_at order 2 block 8;
-      snap_len = number_at order 4 block 12;
-    }))
+    else described_said at order block (all_options order (slice_range block 16 (length block - 4)))
 
--- draft-ietf-opsawg-pcapng, 4.3: at least 32 octets, the interface's number in the section at 8,
--- the captured length at 20, the packet's at 24, and its octets from 28 on
-abbrev pub enhanced_said : Before → ℕ → Order → List ℕ → Result Content Fault
-enhanced_said before at order block =
-    let captured : ℕ = number_at order 4 block 20 in
+-- draft-ietf-opsawg-pcapng, 4.3, and the block that it replaced: at least 32 octets, the captured
+-- length at 20, the packet's at 24, and its octets from 28 on; of an interface with this number in
+-- the section
+abbrev pub kept_said : Before → ℕ → Order → List ℕ → ℕ → ℕ → Result Content Fault
+kept_said before at order block number captured =
+    if nat_lt (length block) (32 + captured) then Err (faults.BadLength at)
+    else packet_said before at (before.first + number) (slice_range block 28 (28 + captured))
+    (number_at order 4 block 24)
+
+abbrev pub numbered_said : Before → ℕ → Order → List ℕ → ℕ → Result Content Fault
+numbered_said before at order block number =
     if nat_lt (length block) 32 then Err (faults.BadLength at)
-    else if nat_lt (length block) (32 + captured) then Err (faults.BadLength at)
-    else packet_said before at (before.first + number_at order 4 block 8)
-    (slice_range block 28 (28 + captured)) (number_at order 4 block 24)
+    else kept_said before at order block number (number_at order 4 block 20)
 
 -- draft-ietf-opsawg-pcapng, 4.2, 4.4: so many octets of a packet are kept, where 0 sets no limit
 abbrev pub kept_len : ℕ → ℕ → ℕ
@@ -129,12 +166,14 @@ simple_said before at order block =
     else simple_of before at order block (slice_get before.interfaces before.first)
 
 -- draft-ietf-opsawg-pcapng, 4: a block by its type, with its total length at its end again; others
--- are passed over
+-- are passed over. The number of an interface has 32 bits at 8, and 16 bits there in the old packet
+-- block.
 abbrev pub typed_said : Before → ℕ → Order → List ℕ → ℕ → Result Content Fault
 typed_said before at order block kind =
     if kind == 1 then interface_said before at order block
     else if kind == 3 then simple_said before at order block
-    else if kind == 6 then enhanced_said before at order block
+    else if kind == 2 then numbered_said before at order block (number_at order 2 block 8)
+    else if kind == 6 then numbered_said before at order block (number_at order 4 block 8)
     else Ok nothing
 
 abbrev pub pcapng_said : Before → ℕ → Order → List ℕ → Result Content Fault
@@ -169,6 +208,6 @@ captured_of packet = record {
 abbrev pub content_of : Block → Content
 content_of (blocks.File order interface) = file order interface
 content_of (blocks.Section order) = section order
-content_of (blocks.Interface interface) = describes interface
+content_of (blocks.Interface interface name) = describes interface name.now
 content_of (blocks.Packet packet) = holds (captured_of packet)
 content_of blocks.Other = nothing

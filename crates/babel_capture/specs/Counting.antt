@@ -1,20 +1,14 @@
 -- The counts of packets, one more at a time.
-use Rattle.std.specs.Prelude.{ℕ, ◌+◌, List, slice_set, Option, None, Some}
+use Rattle.std.specs.Prelude.{ℕ, ◌+◌, if◌then◌else◌, List, slice_set, Option, None, Some}
+use Rattle.babel_capture.specs.declared.link.Link.{Link}
 use Rattle.babel_capture.specs.declared.reason.Reason.{Reason}
-use Rattle.babel_capture.specs.Findings.{Found, passed, left, snapped, found}
-use Rattle.babel_capture.specs.Counts.{Counts, reason_place, count_at}
+use Rattle.babel_capture.specs.Findings.{Found, passed, untold, left, refused, found}
+use Rattle.babel_capture.specs.Counts.{Counts, reason_place, count_at, is_cooked_link}
 
 -- one more datagram left out, with this number
 abbrev pub one_more : ℕ → Option (ℕ × ℕ) → Option (ℕ × ℕ)
 one_more number None = Some (1, number)
 one_more number (Some counted) = Some (counted.0 + 1, counted.1)
-
--- why a datagram is left out, if it is
-abbrev pub reason_of : Found → Option Reason
-reason_of passed = None
-reason_of (left reason) = Some reason
-reason_of snapped = None
-reason_of (found interface sender packet) = None
 
 -- the counts of packets, and of one more, which is left out for this reason, if for any
 abbrev pub left_with : List (Option (ℕ × ℕ)) → Option Reason → ℕ → List (Option (ℕ × ℕ))
@@ -27,4 +21,25 @@ counted_with counts reason =
     record {
       packets = counts.packets + 1;
       left_out = left_with counts.left_out reason (counts.packets + 1);
+      short = counts.short;
+      cooked = counts.cooked;
     }
+
+-- the counts with a frame more that is too short to tell
+abbrev pub short_counted : Counts → Counts
+short_counted counts = record (counted_with counts None) { short = counts.short + 1 }
+
+-- the counts with a Babel packet more, in a frame of this link type
+abbrev pub packet_counted : Counts → Link → Counts
+packet_counted counts link =
+    record (counted_with counts None) {
+      cooked = counts.cooked + (if is_cooked_link link then 1 else 0);
+    }
+
+-- the counts with what is made of one packet more, of this link type
+abbrev pub counted : Counts → Link → Found → Counts
+counted counts link passed = counted_with counts None
+counted counts link untold = short_counted counts
+counted counts link (left reason) = counted_with counts (Some reason)
+counted counts link (refused lack) = counted_with counts None
+counted counts link (found place sender packet) = packet_counted counts link

@@ -1,22 +1,28 @@
 -- What a report says of the packets of a capture. It is this project's own.
-use Rattle.std.specs.Prelude.{ℕ, Bool, false, ◌==◌, List, [], ◌∷◌, length, map, slice_get, Option}
+use Rattle.std.specs.Prelude.{ℕ, Bool, true, false, ◌==◌, List, [], ◌∷◌, length, map, slice_get, Option}
 use Rattle.std.specs.Prelude.{count_by}
 use Rattle.std.specs.List.{find}
 use Rattle.std.specs.Option.{option_map, option_flatten}
+use Rattle.babel_capture.specs.declared.link.Link.{Link}
+use Rattle.babel_capture.specs.declared.link.Link.TheVariants as links
 use Rattle.babel_capture.specs.declared.reason.Reason.{Reason}
 use Rattle.babel_capture.specs.declared.reason.Reason.TheVariants as reasons
-use Rattle.babel_capture.specs.Findings.{Found, left}
+use Rattle.babel_capture.specs.Findings.{Found, untold, left, found}
 
--- what is made of a packet, and its number among the packets, from 1
+-- what is made of a packet, its number among the packets, from 1, and its link type
 pub record Made : Type 0 where
   pub number : ℕ
+  pub link : Link
   pub what : Found
 
 -- how many packets there are, and for each reason, in the order of the reasons, how many datagrams
--- were left out for it and the number of the first
+-- were left out for it and the number of the first; how many frames were too short to tell; and how
+-- many Babel packets came in frames of Linux cooked, version 1, which name no interface
 pub record Counts : Type 0 where
   pub packets : ℕ
   pub left_out : List (Option (ℕ × ℕ))
+  pub short : ℕ
+  pub cooked : ℕ
 
 -- the place of a reason in their order
 abbrev pub reason_place : Reason → ℕ
@@ -25,10 +31,13 @@ reason_place reasons.BadMagic = 1
 reason_place reasons.BadVersion = 2
 reason_place reasons.Fragment = 3
 reason_place reasons.Snapped = 4
+reason_place reasons.CutShort = 5
+reason_place reasons.OtherPort = 6
+reason_place reasons.NotLinkLocal = 7
 
 abbrev pub all_reasons : List Reason
 all_reasons = reasons.Truncated ∷ reasons.BadMagic ∷ reasons.BadVersion ∷ reasons.Fragment
-    ∷ reasons.Snapped ∷ []
+    ∷ reasons.Snapped ∷ reasons.CutShort ∷ reasons.OtherPort ∷ reasons.NotLinkLocal ∷ []
 
 abbrev pub count_at : List (Option (ℕ × ℕ)) → ℕ → Option (ℕ × ℕ)
 count_at counts place = option_flatten (slice_get counts place)
@@ -44,5 +53,24 @@ left_for made reason =
     let is_one : Made → Bool = λ one. is_left_for reason one.what in
     option_map (λ one. (count_by is_one made, one.number)) (find is_one made)
 
+-- its frame was too short to tell
+abbrev pub is_short : Found → Bool
+is_short untold = true
+is_short what = false
+
+-- a Babel packet was found, in a frame of Linux cooked, version 1
+abbrev pub is_cooked_link : Link → Bool
+is_cooked_link links.Cooked = true
+is_cooked_link link = false
+
+abbrev pub is_cooked : Link → Found → Bool
+is_cooked link (found place sender packet) = is_cooked_link link
+is_cooked link what = false
+
 abbrev pub counts_of : List Made → Counts
-counts_of made = record { packets = length made; left_out = map (left_for made) all_reasons }
+counts_of made = record {
+  packets = length made;
+  left_out = map (left_for made) all_reasons;
+  short = count_by (λ one. is_short one.what) made;
+  cooked = count_by (λ one. is_cooked one.link one.what) made;
+}

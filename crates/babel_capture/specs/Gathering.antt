@@ -1,28 +1,38 @@
 -- What is gathered of the packets of a capture.
-use Rattle.std.specs.Prelude.{◌≡◌, ◌≢◌, ◌≤◌, ℕ, List, [], ◌∷◌, ◌++◌, ◌⊎◌, length}
+use Rattle.std.specs.Prelude.{◌≡◌, ◌≤◌, ℕ, List, [], ◌∷◌, ◌++◌, ◌⊎◌, length, slice_get}
 use Rattle.std.specs.List.{flat_map}
+use Rattle.std.specs.Option.{unwrap_or}
 use Rattle.babel_capture.specs.declared.fault.Fault.{Fault}
 use Rattle.babel_capture.specs.declared.fault.Fault.TheVariants as faults
+use Rattle.babel_capture.specs.declared.lack.Lack.{Lack}
 use Rattle.babel_capture.specs.declared.tallies.Origin.{Origin}
 use Rattle.babel_capture.specs.declared.wanted.Wanted.{Wanted}
 use Rattle.babel_capture.specs.declared.wanted.Wanted.TheVariants as wanteds
 use Rattle.babel_capture.specs.Blocks.{Sighting, sight_in}
 use Rattle.babel_capture.specs.Contents.{Captured, Content, holds}
 use Rattle.babel_capture.specs.Counts.{Counts, Made, counts_of}
-use Rattle.babel_capture.specs.Findings.{Found, passed, left, snapped, found, Finds}
+use Rattle.babel_capture.specs.Findings.{Found, passed, untold, left, refused, found, Finds}
+use Rattle.babel_capture.specs.Lack.{lack_fault}
 use Rattle.babel_capture.specs.Tallies.{Senders, IsOneTooMany, senders_of}
 
--- What is made of each packet. No datagram of a sender whose dump is wanted was cut by the
--- recorder.
+-- a packet that is not refused
+abbrev pub IsTaken : Found → Type 0
+IsTaken passed = Unit {0}
+IsTaken untold = Unit {0}
+IsTaken (left reason) = Unit {0}
+IsTaken (refused lack) = ⊥
+IsTaken (found place sender packet) = Unit {0}
+
+-- What is made of each packet. No datagram of a sender whose dump is wanted lacks something.
 abbrev pub AreMade : Wanted → List Sighting → List Made → Type 0
 AreMade wanted [] made = made ≡ []
 AreMade wanted (sighting ∷ later) made =
     (one : Made) × (others : List Made) × (made ≡ one ∷ others) × (one.number ≡ sighting.number)
-    × Finds wanted sighting.interface sighting.what one.what × (one.what ≢ snapped)
+    × (one.link ≡ sighting.link) × Finds wanted sighting.what one.what × IsTaken one.what
     × AreMade wanted later others
 
 -- What is made of packets that are taken, each of them: at most 65,536 senders are kept, each counted
--- on each interface where it occurs.
+-- at each place where it occurs.
 pub record AreTaken (wanted : Wanted) (sightings : List Sighting) (made : List Made) : Type 0 where
   pub are_made : AreMade wanted sightings made
   pub few : length (senders_of made) ≤ 65536
@@ -30,26 +40,32 @@ pub record AreTaken (wanted : Wanted) (sightings : List Sighting) (made : List M
 -- the octets of the packet, if one was found
 abbrev pub octets_found : Found → List ℕ
 octets_found passed = []
+octets_found untold = []
 octets_found (left reason) = []
-octets_found snapped = []
-octets_found (found interface sender packet) = packet
+octets_found (refused lack) = []
+octets_found (found place sender packet) = packet
 
 -- the dump of the wanted sender: its packets, end to end
 abbrev pub dump_of : Wanted → List Made → List ℕ
 dump_of wanteds.Everyone made = []
-dump_of (wanteds.Sender sender interface) made = flat_map (λ one. octets_found one.what) made
+dump_of (wanteds.Sender sender place) made = flat_map (λ one. octets_found one.what) made
 
 -- the dump with these octets, if one is wanted
 abbrev pub dump_with : Wanted → List ℕ → List ℕ → List ℕ
 dump_with wanteds.Everyone dump octets = dump
-dump_with (wanteds.Sender sender interface) dump octets = dump ++ octets
+dump_with (wanteds.Sender sender place) dump octets = dump ++ octets
 
--- what was gathered so far
+-- what was gathered so far, and the names of the interfaces, which are empty where they have none
 pub record Gathering : Type 0 where
   pub wanted : Wanted
+  pub names : List (List ℕ)
   pub dump : List ℕ
   pub report : Counts
   pub senders : Senders
+
+-- the name of the interface with this number
+abbrev pub name_of : Gathering → ℕ → List ℕ
+name_of gathering interface = unwrap_or (slice_get gathering.names interface) []
 
 -- what these packets give
 pub record IsGathered (sightings : List Sighting) (gathering : Gathering) : Type 0 where
@@ -60,12 +76,12 @@ pub record IsGathered (sightings : List Sighting) (gathering : Gathering) : Type
   pub senders : gathering.senders ≡ senders_of made
 
 -- The packet in the block at this offset is refused: the datagram of a sender whose dump is wanted
--- was cut by the recorder, or its sender is one more than are kept.
+-- lacks something, or its sender is one more than are kept.
 abbrev pub IsRefusedPacket : Wanted → Senders → ℕ → Captured → Fault → Type 0
 IsRefusedPacket wanted senders at packet fault =
-    ((fault ≡ faults.Snapped at) × Finds wanted packet.interface (sight_in packet) snapped)
+    ((lack : Lack) × (fault ≡ lack_fault at lack) × Finds wanted (sight_in packet) (refused lack))
     ⊎ ((fault ≡ faults.TooManySenders at) × ((origin : Origin) × (octets : List ℕ)
-    × Finds wanted packet.interface (sight_in packet) (found origin.interface origin.sender octets)
+    × Finds wanted (sight_in packet) (found origin.place origin.sender octets)
     × IsOneTooMany senders origin))
 
 -- the block at this offset holds a packet that is refused

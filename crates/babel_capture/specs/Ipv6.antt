@@ -1,12 +1,13 @@
 -- IPv6 packets: RFC 8200.
-use Rattle.std.specs.Prelude.{ℕ, ◌+◌, false, not, ◌==◌, ◌||◌, nat_lt, if◌then◌else◌, List}
-use Rattle.std.specs.Prelude.{length, drop, take, slice_index, Option}
+use Rattle.std.specs.Prelude.{ℕ, ◌+◌, false, not, ◌==◌, nat_lt, if◌then◌else◌, List}
+use Rattle.std.specs.Prelude.{length, drop, take, slice_index}
 use Rattle.babel_prefix.specs.Address.{Address}
 use Rattle.babel_prefix.specs.declared.family.Family.TheVariants.{V6}
-use Rattle.babel_capture.specs.Headers.{NextHeader, past_headers}
+use Rattle.babel_capture.specs.declared.place.Place.{Place}
+use Rattle.babel_capture.specs.Headers.{NextHeader, past_headers, is_unkept}
 use Rattle.babel_capture.specs.Octets.{network_number, ip_version}
-use Rattle.babel_capture.specs.Sight.{Sight, other}
-use Rattle.babel_capture.specs.Udp.{udp_sight}
+use Rattle.babel_capture.specs.Sight.{Sight, other, too_short}
+use Rattle.babel_capture.specs.Udp.{udp_sight, unkept_sight}
 
 -- RFC 8200, 3: the octets after the fixed header of 40
 abbrev pub payload_len : List ℕ → ℕ
@@ -25,16 +26,26 @@ first_header octets = record {
   whole = payload_len octets;
 }
 
--- RFC 768: UDP has the number 17
-abbrev pub upper_sight : Address → Option ℕ → NextHeader → Sight
-upper_sight sender interface upper =
-    if not (upper.number == 17) then other
-    else udp_sight sender interface upper.is_fragment upper.octets upper.whole
+-- UDP after the other headers of a packet, of which the recorder kept the fixed header or not
+abbrev pub ipv6_carried_sight : Place → List ℕ → ℕ → NextHeader → Sight
+ipv6_carried_sight place octets all upper =
+    if nat_lt (length octets) 40 then unkept_sight upper.whole
+    else udp_sight place (ipv6_sender octets) upper.is_fragment
+    (nat_lt all (40 + payload_len octets)) upper.octets upper.whole
 
--- A packet of which there were `whole` octets and the recorder kept these: UDP after at most 8
--- extension headers, if the packet had as many octets as its header says.
-unfoldable pub ipv6_sight : Option ℕ → List ℕ → ℕ → Sight
-ipv6_sight interface octets whole =
-    if nat_lt (length octets) 40 || not (ip_version octets == 6) then other
-    else if nat_lt whole (40 + payload_len octets) then other
-    else upper_sight (ipv6_sender octets) interface (past_headers 8 (first_header octets))
+-- RFC 768: UDP has the number 17; before another extension header whose octets the recorder did not
+-- keep, nobody can tell
+abbrev pub upper_sight : Place → List ℕ → ℕ → NextHeader → Sight
+upper_sight place octets all upper =
+    if upper.number == 17 then ipv6_carried_sight place octets all upper
+    else if is_unkept upper then too_short
+    else other
+
+-- A packet, of which the recorder kept these octets, in a frame that had `all` octets from the
+-- packet's first one on: what comes after at most 8 extension headers.
+unfoldable pub ipv6_sight : Place → List ℕ → ℕ → Sight
+ipv6_sight place octets all =
+    if nat_lt (length octets) 1 then too_short
+    else if not (ip_version octets == 6) then other
+    else if nat_lt (length octets) 7 then too_short
+    else upper_sight place octets all (past_headers 8 (first_header octets))

@@ -1,6 +1,14 @@
--- Frames of Ethernet as their headers lay them out, whole: RFC 768; RFC 791, 3.1; RFC 8200, 3.
-use Rattle.std.specs.Prelude.{◌≡◌, ℕ, ◌+◌, ◌*◌, ◌^◌, ◌<◌, ◌≤◌, ◌⊎◌, List, ◌∷◌, ◌++◌, length}
+-- Babel datagrams in IP packets, as their headers lay them out: RFC 768; RFC 791, 3.1; RFC 8200, 3.
+use Rattle.std.specs.Prelude.{◌≡◌, ℕ, ◌+◌, ◌*◌, ◌/◌, ◌^◌, ◌<◌, ◌≤◌, ◌⊎◌, List, [], ◌∷◌, ◌++◌}
+use Rattle.std.specs.Prelude.{length, Contains}
+use Rattle.std.specs.List.{All}
 use Rattle.byteorder.specs.Endian.{big_bytes}
+use Rattle.babel_prefix.specs.Address.{Address}
+use Rattle.babel_prefix.specs.declared.family.Family.TheVariants.{V4, V6}
+use Rattle.babel_capture.specs.declared.lack.Lack.TheVariants.{Fragment}
+use Rattle.babel_capture.specs.Sight.{Carried, carries, lacking}
+
+-- ---- UDP
 
 -- RFC 768: source port, destination port, length of header and payload, checksum, and the payload
 pub record UdpDatagram : Type 0 where
@@ -9,17 +17,21 @@ pub record UdpDatagram : Type 0 where
   pub checksum : ℕ
   pub payload : List ℕ
 
+abbrev pub udp_size : UdpDatagram → ℕ
+udp_size udp = 8 + length udp.payload
+
 abbrev pub udp_octets : UdpDatagram → List ℕ
 udp_octets udp =
-    big_bytes 2 udp.source ++ big_bytes 2 udp.destination ++ big_bytes 2 (8 + length udp.payload)
-    ++ big_bytes 2 udp.checksum ++ udp.payload
+    big_bytes 2 udp.source ++ (big_bytes 2 udp.destination ++ (big_bytes 2 (udp_size udp)
+    ++ (big_bytes 2 udp.checksum ++ udp.payload)))
 
--- ports and length fit their fields, and a port is that of Babel
+-- RFC 8966, 4: both ports are that of Babel; the length fits its field
 pub record IsBabel (udp : UdpDatagram) : Type 0 where
-  pub source_fits : udp.source < 2 ^ 16
-  pub destination_fits : udp.destination < 2 ^ 16
-  pub len_fits : 8 + length udp.payload < 2 ^ 16
-  pub port : (udp.source ≡ 6696) ⊎ (udp.destination ≡ 6696)
+  pub source : udp.source ≡ 6696
+  pub destination : udp.destination ≡ 6696
+  pub len_fits : udp_size udp < 2 ^ 16
+
+-- ---- IPv6
 
 -- RFC 8200, 3: the high half of the traffic class; its low half and the flow label; hop limit,
 -- source and destination
@@ -30,17 +42,64 @@ pub record Ipv6Header : Type 0 where
   pub sender : ℕ
   pub destination : ℕ
 
-abbrev pub ipv6_octets : Ipv6Header → List ℕ → List ℕ
-ipv6_octets ip carried =
-    (6 * 2 ^ 4 + ip.class) ∷ big_bytes 3 ip.flow ++ big_bytes 2 (length carried)
-    ++ 17 ∷ ip.hop_limit
-    ∷ big_bytes 16 ip.sender ++ big_bytes 16 ip.destination ++ carried
+-- RFC 8200, 4: an extension header: its number, and what it holds after the number of the next one
+pub record Extension : Type 0 where
+  pub number : ℕ
+  pub holds : List ℕ
 
--- class, length and sender fit their fields
-pub record IsIpv6 (ip : Ipv6Header) (carried : List ℕ) : Type 0 where
+-- RFC 8200, 4.3, 4.4, 4.6: hop-by-hop options, routing or destination options: how many octets it
+-- has, in units of 8 without the first, and these octets
+pub record IsOptions (header : Extension) : Type 0 where
+  pub is_number : Contains (0 ∷ 43 ∷ 60 ∷ []) header.number
+  pub units : ℕ
+  pub more : List ℕ
+  pub is_held : header.holds ≡ units ∷ more
+  pub sized : length more ≡ 6 + 8 * units
+
+-- RFC 8200, 4.5: the header of the first fragment: a reserved octet, the offset 0 with this flag of
+-- more fragments, and an identification
+pub record IsFragment (flag : ℕ) (header : Extension) : Type 0 where
+  pub is_number : header.number ≡ 44
+  pub reserved : ℕ
+  pub id : List ℕ
+  pub is_held : header.holds ≡ reserved ∷ (big_bytes 2 flag ++ id)
+  pub sized : length id ≡ 4
+
+-- what a whole packet may have: an atomic fragment, RFC 6946, is all that there is
+abbrev pub IsExtension : Extension → Type 0
+IsExtension header = IsOptions header ⊎ IsFragment 0 header
+
+-- the number of what comes first, an extension header if there are any, and else UDP; and the
+-- octets of these headers, each of which begins with the number of what comes after it
+abbrev pub first_number : List Extension → ℕ
+first_number [] = 17
+first_number (header ∷ headers) = header.number
+
+abbrev pub extensions : List Extension → List ℕ
+extensions [] = []
+extensions (header ∷ headers) = first_number headers ∷ (header.holds ++ extensions headers)
+
+-- RFC 8200, 3: the fixed header, before so many octets, which begin with the header of this number
+abbrev pub ipv6_header : Ipv6Header → ℕ → ℕ → List ℕ
+ipv6_header ip len number =
+    (6 * 2 ^ 4 + ip.class) ∷ (big_bytes 3 ip.flow ++ (big_bytes 2 len ++ number ∷ ip.hop_limit
+    ∷ (big_bytes 16 ip.sender ++ big_bytes 16 ip.destination)))
+
+-- RFC 8200, 3: a packet of UDP, after these extension headers
+abbrev pub ipv6_octets : Ipv6Header → List Extension → List ℕ → List ℕ
+ipv6_octets ip headers carried =
+    ipv6_header ip (length (extensions headers) + length carried) (first_number headers)
+    ++ (extensions headers ++ carried)
+
+-- class, length and sender fit their fields, and the sender begins with the ten bits of fe80::/10:
+-- RFC 4291, 2.5.6; RFC 8966, 4
+pub record IsIpv6 (ip : Ipv6Header) (len : ℕ) : Type 0 where
   pub class_fits : ip.class < 2 ^ 4
   pub sender_fits : ip.sender < 2 ^ 128
-  pub len_fits : length carried < 2 ^ 16
+  pub link_local : ip.sender / 2 ^ 118 ≡ 0x3fa
+  pub len_fits : len < 2 ^ 16
+
+-- ---- IPv4
 
 -- RFC 791, 3.1: the words of the options; type of service, identification, flags and fragment
 -- offset, time to live, checksum, source, destination and options
@@ -55,30 +114,91 @@ pub record Ipv4Header : Type 0 where
   pub destination : ℕ
   pub options : List ℕ
 
-abbrev pub ipv4_octets : Ipv4Header → List ℕ → List ℕ
-ipv4_octets ip carried =
-    (4 * 2 ^ 4 + (5 + ip.words)) ∷ ip.service ∷ big_bytes 2 (20 + 4 * ip.words + length carried)
-    ++ big_bytes 2 ip.id ++ big_bytes 2 ip.flags ++ ip.ttl ∷ 17 ∷ big_bytes 2 ip.checksum
-    ++ big_bytes 4 ip.sender ++ big_bytes 4 ip.destination ++ ip.options ++ carried
+-- the header of a packet of UDP, which carries so many octets
+abbrev pub ipv4_header : Ipv4Header → ℕ → List ℕ
+ipv4_header ip len =
+    (4 * 2 ^ 4 + (5 + ip.words)) ∷ ip.service ∷ (big_bytes 2 (20 + 4 * ip.words + len)
+    ++ (big_bytes 2 ip.id ++ (big_bytes 2 ip.flags ++ ip.ttl ∷ 17 ∷ (big_bytes 2 ip.checksum
+    ++ (big_bytes 4 ip.sender ++ (big_bytes 4 ip.destination ++ ip.options))))))
 
--- options, length and sender fit their fields, and it is no fragment: no flag but "don't fragment"
-pub record IsIpv4 (ip : Ipv4Header) (carried : List ℕ) : Type 0 where
+abbrev pub ipv4_octets : Ipv4Header → List ℕ → List ℕ
+ipv4_octets ip carried = ipv4_header ip (length carried) ++ carried
+
+-- options, length and sender fit their fields
+pub record IsIpv4 (ip : Ipv4Header) (len : ℕ) : Type 0 where
   pub words_fit : ip.words ≤ 10
   pub options_len : length ip.options ≡ 4 * ip.words
-  pub no_fragment : (ip.flags ≡ 0) ⊎ (ip.flags ≡ 0x4000)
   pub sender_fits : ip.sender < 2 ^ 32
-  pub len_fits : 20 + 4 * ip.words + length carried < 2 ^ 16
+  pub len_fits : 20 + 4 * ip.words + len < 2 ^ 16
 
--- IEEE 802.3, 3.2: two addresses of six octets, an EtherType, a packet, and padding
-abbrev pub ethernet_octets : List ℕ → ℕ → List ℕ → List ℕ → List ℕ
-ethernet_octets addresses ether_type packet padding =
-    addresses ++ (big_bytes 2 ether_type ++ (packet ++ padding))
+-- ---- IP packets of Babel datagrams, with their EtherType: RFC 894; RFC 2464, 3
 
--- RFC 894; RFC 2464, 3: a datagram over IPv4, and over IPv6
-abbrev pub ipv4_frame : List ℕ → Ipv4Header → UdpDatagram → List ℕ → List ℕ
-ipv4_frame addresses ip udp padding =
-    ethernet_octets addresses 0x0800 (ipv4_octets ip (udp_octets udp)) padding
+-- a whole one from this sender. Over IPv4 it is no fragment: no flag but "don't fragment".
+pub record OverIpv4 (ether_type : ℕ) (sender : Address) (udp : UdpDatagram)
+    (packet : List ℕ) : Type 0 where
+  pub is_type : ether_type ≡ 0x0800
+  pub ip : Ipv4Header
+  pub fits : IsIpv4 ip (length (udp_octets udp))
+  pub no_fragment : (ip.flags ≡ 0) ⊎ (ip.flags ≡ 0x4000)
+  pub is_sender : sender ≡ record { family = V4; bits = ip.sender }
+  pub is_packet : packet ≡ ipv4_octets ip (udp_octets udp)
 
-abbrev pub ipv6_frame : List ℕ → Ipv6Header → UdpDatagram → List ℕ → List ℕ
-ipv6_frame addresses ip udp padding =
-    ethernet_octets addresses 0x86dd (ipv6_octets ip (udp_octets udp)) padding
+pub record OverIpv6 (ether_type : ℕ) (sender : Address) (udp : UdpDatagram)
+    (packet : List ℕ) : Type 0 where
+  pub is_type : ether_type ≡ 0x86dd
+  pub ip : Ipv6Header
+  pub is_sender : sender ≡ record { family = V6; bits = ip.sender }
+  pub headers : List Extension
+  pub few : length headers ≤ 8
+  pub are_headers : All IsExtension headers
+  pub fits : IsIpv6 ip (length (extensions headers) + length (udp_octets udp))
+  pub is_packet : packet ≡ ipv6_octets ip headers (udp_octets udp)
+
+abbrev pub IsOverIp : ℕ → Address → UdpDatagram → List ℕ → Type 0
+IsOverIp ether_type sender udp packet =
+    OverIpv4 ether_type sender udp packet ⊎ OverIpv6 ether_type sender udp packet
+
+-- the first of several fragments, which has the ports, and whatever comes after them. Over IPv4
+-- (RFC 791, 3.1) it has the flag "more fragments", and the offset 0.
+abbrev pub after_ports : List ℕ → List ℕ
+after_ports more = big_bytes 2 6696 ++ (big_bytes 2 6696 ++ more)
+
+pub record FirstOverIpv4 (ether_type : ℕ) (sender : Address) (packet : List ℕ) : Type 0 where
+  pub is_type : ether_type ≡ 0x0800
+  pub ip : Ipv4Header
+  pub more : List ℕ
+  pub fits : IsIpv4 ip (length (after_ports more))
+  pub flag : ip.flags ≡ 0x2000
+  pub is_sender : sender ≡ record { family = V4; bits = ip.sender }
+  pub is_packet : packet ≡ ipv4_octets ip (after_ports more)
+
+-- RFC 8200, 4.5: the fragment header stands among the others
+pub record FirstOverIpv6 (ether_type : ℕ) (sender : Address) (packet : List ℕ) : Type 0 where
+  pub is_type : ether_type ≡ 0x86dd
+  pub ip : Ipv6Header
+  pub is_sender : sender ≡ record { family = V6; bits = ip.sender }
+  pub front : List Extension
+  pub fragment : Extension
+  pub back : List Extension
+  pub few : length front + length back ≤ 7
+  pub are_front : All IsExtension front
+  pub is_fragment : IsFragment 1 fragment
+  pub are_back : All IsExtension back
+  pub more : List ℕ
+  pub fits : IsIpv6 ip (length (extensions (front ++ fragment ∷ back)) + length (after_ports more))
+  pub is_packet : packet ≡ ipv6_octets ip (front ++ fragment ∷ back) (after_ports more)
+
+abbrev pub IsFirstFragment : ℕ → Address → List ℕ → Type 0
+IsFirstFragment ether_type sender packet =
+    FirstOverIpv4 ether_type sender packet ⊎ FirstOverIpv6 ether_type sender packet
+
+-- what such a packet is seen as
+abbrev pub IsWhole : ℕ → Address → List ℕ → Carried → Type 0
+IsWhole ether_type sender packet carried =
+    (udp : UdpDatagram) × IsBabel udp × IsOverIp ether_type sender udp packet
+    × (carried ≡ carries udp.payload)
+
+abbrev pub HasBabel : ℕ → Address → List ℕ → Carried → Type 0
+HasBabel ether_type sender packet carried =
+    IsWhole ether_type sender packet carried
+    ⊎ (IsFirstFragment ether_type sender packet × (carried ≡ lacking Fragment))

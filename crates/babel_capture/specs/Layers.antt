@@ -1,12 +1,15 @@
 -- Headers and payloads as the code holds them, without where their octets lie in memory.
 use Rattle.babel_capture.specs.declared.ethernet.Payload.{Payload as HeldPayload}
 use Rattle.babel_capture.specs.declared.headers.NextHeader.{NextHeader as HeldHeader}
+use Rattle.babel_capture.specs.declared.options.Options.{Options as HeldOptions}
 use Rattle.babel_capture.specs.Ethernet.{Payload}
 use Rattle.babel_capture.specs.Headers.{NextHeader}
+use Rattle.babel_capture.specs.Options.{Options}
 
 abbrev pub payload : HeldPayload → Payload
 payload held = record {
   ether_type = held.ether_type;
+  vlans = held.vlans;
   octets = held.part.octets.now;
   whole = held.part.whole;
 }
@@ -17,4 +20,11 @@ next_header held = record {
   is_fragment = held.is_fragment;
   octets = held.part.octets.now;
   whole = held.part.whole;
+}
+
+abbrev pub options : HeldOptions → Options
+options held = record {
+  name = held.name.now;
+  octets = held.octets.now;
+  is_cut = held.is_cut;
 }

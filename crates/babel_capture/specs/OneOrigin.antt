@@ -1,14 +1,15 @@
--- A law of the definitions: one sender on one interface has one tally at most. It is this project's
+-- A law of the definitions: one sender at one place has one tally at most. It is this project's
 -- own.
 use Rattle.std.specs.Prelude.{◌≡◌, ◌≤◌, ℕ, List, length, Option, Some}
 use Rattle.babel_prefix.specs.Address.{Address}
 use Rattle.babel_capture.specs.Capture.{IsReadToCut}
 use Rattle.babel_capture.specs.Gathering.{Gathering}
+use Rattle.babel_capture.specs.declared.place.Place.{Place}
 use Rattle.babel_capture.specs.declared.wanted.Wanted.TheVariants as wanteds
 
--- where the datagrams of one sender are wanted, on one interface, no more than this is found
+-- where the datagrams of one sender are wanted, at one place, no more than this is found
 abbrev pub NamedIsOne : Type 0
 NamedIsOne =
     (limit : ℕ) (octets : List ℕ) (gathering : Gathering) (cut : Option ℕ) (sender : Address)
-    (interface : ℕ) → IsReadToCut limit octets gathering cut
-    → gathering.wanted ≡ wanteds.Sender sender (Some interface) → length gathering.senders ≤ 1
+    (place : Place) → IsReadToCut limit octets gathering cut
+    → gathering.wanted ≡ wanteds.Sender sender (Some place) → length gathering.senders ≤ 1

@@ -5,7 +5,7 @@ use Rattle.babel_capture.specs.declared.layout.Layout.{Layout}
 use Rattle.babel_capture.specs.declared.layout.Layout.TheVariants as layouts
 use Rattle.babel_capture.specs.declared.wanted.Wanted.{Wanted}
 use Rattle.babel_capture.specs.Blocks.{BlockAt, HasHeader, IsPartial, header_of, BeginsBlock}
-use Rattle.babel_capture.specs.Blocks.{AreBlocks, start, context_behind, octets_of, sightings_of}
+use Rattle.babel_capture.specs.Blocks.{AreBlocks, start, context_behind, names_of, octets_of, sightings_of}
 use Rattle.babel_capture.specs.Contents.{Content, block_said}
 use Rattle.babel_capture.specs.Context.{Before}
 use Rattle.babel_capture.specs.Counts.{Made}
@@ -28,6 +28,7 @@ pub record LeadTo (limit : ℕ) (octets : List ℕ) (progress : Progress) : Type
   pub place : progress.at ≡ length octets
   pub context : progress.context ≡ context_behind (start limit) blocks
   pub gathered : IsGathered (sightings_of blocks) progress.gathering
+  pub names : progress.gathering.names ≡ names_of blocks
 
 -- a whole block that can't be read, or whose packet is refused
 abbrev pub BlockFails : Wanted → Senders → Before → ℕ → List ℕ → Fault → Type 0

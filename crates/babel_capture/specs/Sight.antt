@@ -1,21 +1,36 @@
 -- What a captured frame is to us.
-use Rattle.std.specs.Prelude.{ℕ, List, Option}
+use Rattle.std.specs.Prelude.{List, ℕ}
 use Rattle.babel_prefix.specs.Address.{Address}
+use Rattle.babel_capture.specs.declared.flaw.Flaw.{Flaw}
+use Rattle.babel_capture.specs.declared.flaw.Flaw.TheVariants as flaws
+use Rattle.babel_capture.specs.declared.lack.Lack.{Lack}
+use Rattle.babel_capture.specs.declared.place.Place.{Place}
 use Rattle.babel_capture.specs.declared.seen.Seen.{Seen}
 use Rattle.babel_capture.specs.declared.seen.Seen.TheVariants as seens
 
--- nothing of Babel; a Babel datagram's first fragment, one that was cut by the
--- recorder, or a whole one with its payload, each with its sender and the
--- interface that the frame names, if it names one
+-- what there is of a datagram from or to the port of Babel: it is none that a router reads, for its
+-- ports or its sender; or it lacks something; or it is whole, with its payload
+pub data Carried : Type 0 where
+  other_port : Carried
+  not_link_local : Carried
+  lacking : (lack : Lack) → Carried
+  carries : (payload : List ℕ) → Carried
+
+-- nothing of Babel; too short to tell; or a datagram from or to the port of Babel, captured at this
+-- place and from this sender
 pub data Sight : Type 0 where
   other : Sight
-  fragment : (sender : Address) (interface : Option ℕ) → Sight
-  cut : (sender : Address) (interface : Option ℕ) → Sight
-  datagram : (sender : Address) (interface : Option ℕ) (payload : List ℕ) → Sight
+  too_short : Sight
+  datagram : (place : Place) (sender : Address) (carried : Carried) → Sight
 
 -- what `look` answers, without where the payload lies in memory
+abbrev pub flaw_of : Flaw → Carried
+flaw_of flaws.OtherPort = other_port
+flaw_of flaws.NotLinkLocal = not_link_local
+flaw_of (flaws.Lacking lack) = lacking lack
+
 abbrev pub sight_of : Seen → Sight
 sight_of seens.Other = other
-sight_of (seens.Fragment sender interface) = fragment sender interface
-sight_of (seens.Cut sender interface) = cut sender interface
-sight_of (seens.Datagram sender interface payload) = datagram sender interface payload.now
+sight_of seens.Short = too_short
+sight_of (seens.Flawed place sender flaw) = datagram place sender (flaw_of flaw)
+sight_of (seens.Datagram place sender payload) = datagram place sender (carries payload.now)

@@ -1,21 +1,37 @@
--- How many packets of Babel each sender sent, and of how many octets. It is this project's own.
+-- How many packets of Babel each sender sent, of how many octets, and with how many Updates. It is this project's own.
 use Rattle.std.specs.Prelude.{◌≡◌, ◌≤◌, ◌+◌, ℕ, List, [], length, fold, Option, None}
 use Rattle.std.specs.declared.cmp.Ordering.{Ordering}
 use Rattle.std.specs.Ordering.{on, then_cmp, nat_cmp}
 use Rattle.std.specs.BTreeMap.{insert_entry, is_at}
 use Rattle.std.specs.Map.{lookup}
-use Rattle.std.specs.Option.{unwrap_or}
+use Rattle.std.specs.Option.{unwrap_or, option_cmp}
 use Rattle.babel_prefix.specs.Order.{address_cmp}
+use Rattle.babel_capture.specs.declared.place.Place.{Place}
+use Rattle.babel_capture.specs.declared.place.Vlans.{Vlans}
 use Rattle.babel_capture.specs.declared.tallies.Origin.{Origin}
 use Rattle.babel_capture.specs.declared.tallies.Tally.{Tally}
 use Rattle.babel_capture.specs.Counts.{Made}
-use Rattle.babel_capture.specs.Findings.{Found, passed, left, snapped, found}
+use Rattle.babel_capture.specs.Updates.{updates_in}
+use Rattle.babel_capture.specs.Findings.{Found, passed, untold, left, refused, found}
 
--- by interface, then by address
+-- by the outer number, none first, then by the others
+abbrev pub vlans_cmp : Vlans → Vlans → Ordering
+vlans_cmp =
+    then_cmp (on (λ v. v.first) nat_cmp)
+    (then_cmp (on (λ v. v.second) nat_cmp)
+    (then_cmp (on (λ v. v.third) nat_cmp) (on (λ v. v.fourth) nat_cmp)))
+
+-- by interface, then by link, none first, then by VLANs
+abbrev pub place_cmp : Place → Place → Ordering
+place_cmp =
+    then_cmp (on (λ p. p.interface) nat_cmp)
+    (then_cmp (on (λ p. p.link) (option_cmp nat_cmp)) (on (λ p. p.vlans) vlans_cmp))
+
+-- by place, then by address
 abbrev pub origin_cmp : Origin → Origin → Ordering
-origin_cmp = then_cmp (on (λ o. o.interface) nat_cmp) (on (λ o. o.sender) address_cmp)
+origin_cmp = then_cmp (on (λ o. o.place) place_cmp) (on (λ o. o.sender) address_cmp)
 
--- the tally of each sender on each interface
+-- the tally of each sender at each place
 abbrev pub Senders : Type 0
 Senders = List (Origin × Tally)
 
@@ -23,12 +39,15 @@ abbrev pub tally_of : Senders → Origin → Option Tally
 tally_of senders origin = lookup (is_at (origin_cmp origin)) senders
 
 abbrev pub no_packets : Tally
-no_packets = record { packets = 0; octets = 0 }
+no_packets = record { packets = 0; octets = 0; updates = 0 }
 
 -- one packet more
 abbrev pub one_more : Tally → List ℕ → Tally
-one_more tally packet =
-    record { packets = tally.packets + 1; octets = tally.octets + length packet }
+one_more tally packet = record {
+  packets = tally.packets + 1;
+  octets = tally.octets + length packet;
+  updates = tally.updates + updates_in packet;
+}
 
 -- with a packet of this sender
 abbrev pub tallied : Senders → Origin → List ℕ → Senders
@@ -39,12 +58,13 @@ tallied senders origin packet =
 -- with what was made of one packet of the capture
 abbrev pub senders_with : Senders → Found → Senders
 senders_with senders passed = senders
+senders_with senders untold = senders
 senders_with senders (left reason) = senders
-senders_with senders snapped = senders
-senders_with senders (found interface sender packet) =
-    tallied senders (record { interface = interface; sender = sender }) packet
+senders_with senders (refused lack) = senders
+senders_with senders (found place sender packet) =
+    tallied senders (record { place = place; sender = sender }) packet
 
--- each sender on each interface of which a packet was found, by interface, then by address
+-- each sender at each place of which a packet was found, by place, then by address
 abbrev pub senders_of : List Made → Senders
 senders_of made = fold (λ senders one. senders_with senders one.what) [] made
 

@@ -1,21 +1,35 @@
 ghost use Rattle.std.specs.Prelude.{◌≡◌, ◌≤◌, ◌<◌, ◌+◌, ◌^◌, length, ◌-◌, ◌==◌, IfOk, IfErr, Ok, Err};
 ghost use Rattle.babel_capture.specs.Numbers.{number_at};
 ghost use Rattle.babel_capture.specs.Lengths.{header_len};
-ghost use Rattle.babel_capture.specs.Contents.{block_said, content_of, enhanced_said, file_said, interface_said, kept_len, packet_said, pcapng_said, section_said, simple_said, typed_said};
+ghost use Rattle.babel_capture.specs.Contents.{block_said, content_of, file_said, interface_said, kept_len, kept_said, numbered_said, packet_said, pcapng_said, section_said, simple_said, typed_said, versioned_said};
 
 use crate::context::Context;
 use crate::fault::Fault;
 use crate::layout::{Interface, Layout};
 use crate::length::{SECTION, pcap_order, section_order};
 use crate::link::Link;
+use crate::options::read_options;
 use crate::order::Order;
 
-/// Types of blocks: draft-ietf-opsawg-pcapng, 4.2, 4.3, 4.4.
+/// Types of blocks: draft-ietf-opsawg-pcapng, 4.2, 4.3, 4.4. The packet block is an old one, which
+/// the enhanced packet block replaced.
 const INTERFACE_DESCRIPTION: u32 = 1;
+
+const PACKET: u32 = 2;
 
 const SIMPLE_PACKET: u32 = 3;
 
 const ENHANCED_PACKET: u32 = 6;
+
+/// The version of pcap files, and those of sections of pcapng: draft-ietf-opsawg-pcap, 4;
+/// draft-ietf-opsawg-pcapng, 4.1.
+const FILE_MAJOR: u16 = 2;
+
+const FILE_MINOR: u16 = 4;
+
+const SECTION_MAJOR: u16 = 1;
+
+const OTHER_MINOR: u16 = 2;
 
 /// A captured packet.
 #[derive(Clone, Copy)]
@@ -34,11 +48,17 @@ pub struct Packet<'a> {
 #[derive(Clone, Copy)]
 pub enum Block<'a> {
     /// The header of a pcap file, which describes its one interface.
-    File { order: Order, interface: Interface },
+    File {
+        order: Order,
+        interface: Interface,
+    },
     /// The header of a section of a pcapng file.
     Section(Order),
-    /// A description of an interface.
-    Interface(Interface),
+    /// A description of an interface, and its name, which is empty where it has none.
+    Interface {
+        interface: Interface,
+        name: &'a [u8],
+    },
     /// A captured packet.
     Packet(Packet<'a>),
     /// What is passed over.
@@ -98,11 +118,34 @@ fn read_file<'a>(
     if before.is_full() {
         return Err(Fault::TooManyInterfaces { at });
     }
+    let major = order.u16_at(block, 4);
+    let minor = order.u16_at(block, 6);
+    if major != FILE_MAJOR || minor != FILE_MINOR {
+        return Err(Fault::Version { at, major, minor });
+    }
     let interface = Interface {
         link: order.u32_at(block, 20) % 65_536,
         snap_len: order.u32_at(block, 16),
     };
     Ok(Block::File { order, interface })
+}
+
+/// The header of a section in this byte order.
+fn read_version<'a>(at: u64, order: Order, block: &'a [u8]) -> Result<Block<'a>, Fault>
+    ensures ok { IfOk result (λ said. versioned_said at order block.now
+        ≡ Ok (content_of said)) }
+    ensures err { IfErr result (λ fault. versioned_said at order block.now ≡ Err fault) }
+{
+    if block.len() < 28 {
+        return Err(Fault::BadLength { at });
+    }
+    let major = order.u16_at(block, 12);
+    let minor = order.u16_at(block, 14);
+    if major == SECTION_MAJOR && (minor == 0 || minor == OTHER_MINOR) {
+        Ok(Block::Section(order))
+    } else {
+        Err(Fault::Version { at, major, minor })
+    }
 }
 
 /// The header of a section.
@@ -114,7 +157,7 @@ fn read_section<'a>(at: u64, block: &'a [u8]) -> Result<Block<'a>, Fault>
     match section_order(block, at) {
         Ok(order) => {
             if ends_well(order, block) {
-                Ok(Block::Section(order))
+                read_version(at, order, block)
             } else {
                 Err(Fault::BadLength { at })
             }
@@ -140,31 +183,62 @@ fn read_interface<'a>(
     if before.is_full() {
         return Err(Fault::TooManyInterfaces { at });
     }
-    Ok(Block::Interface(Interface {
+    let options = read_options(order, &block[16..block.len() - 4]);
+    if options.is_cut {
+        return Err(Fault::BadLength { at });
+    }
+    let interface = Interface {
         link: order.u16_at(block, 8) as u32,
         snap_len: order.u32_at(block, 12),
-    }))
+    };
+    Ok(Block::Interface {
+        interface,
+        name: options.name,
+    })
 }
 
-/// An enhanced packet block.
-fn read_enhanced<'a>(
+/// A block with a packet of the interface that has this number in the section: an enhanced packet
+/// block, or the block that it replaced.
+fn read_numbered<'a>(
     before: &Context,
     at: u64,
     order: Order,
     block: &'a [u8],
+    number: usize,
 ) -> Result<Block<'a>, Fault>
-    ensures ok { IfOk result (λ said. enhanced_said before.now at order block.now
+    requires { number < 2 ^ 32 }
+    ensures ok { IfOk result (λ said. numbered_said before.now at order block.now number
         ≡ Ok (content_of said)) }
-    ensures err { IfErr result (λ fault. enhanced_said before.now at order block.now ≡ Err fault) }
+    ensures err { IfErr result (λ fault. numbered_said before.now at order block.now number
+        ≡ Err fault) }
 {
     if block.len() < 32 {
         return Err(Fault::BadLength { at });
     }
     let captured = order.u32_at(block, 20) as usize;
+    read_kept(before, at, order, block, number, captured)
+}
+
+/// Such a block, of which so many octets are the packet's.
+fn read_kept<'a>(
+    before: &Context,
+    at: u64,
+    order: Order,
+    block: &'a [u8],
+    number: usize,
+    captured: usize,
+) -> Result<Block<'a>, Fault>
+    requires numbers { (number < 2 ^ 32) × (captured < 2 ^ 32) }
+    requires long { 32 ≤ length block.now }
+    ensures ok { IfOk result (λ said. kept_said before.now at order block.now number captured
+        ≡ Ok (content_of said)) }
+    ensures err { IfErr result (λ fault. kept_said before.now at order block.now number captured
+        ≡ Err fault) }
+{
     if block.len() < 32 + captured {
         return Err(Fault::BadLength { at });
     }
-    let interface = before.first() + order.u32_at(block, 8) as usize;
+    let interface = before.first() + number;
     read_packet(
         before,
         at,
@@ -218,6 +292,7 @@ fn read_typed<'a>(
     block: &'a [u8],
     kind: u32,
 ) -> Result<Block<'a>, Fault>
+    requires { 12 ≤ length block.now }
     ensures ok { IfOk result (λ said. typed_said before.now at order block.now kind
         ≡ Ok (content_of said)) }
     ensures err { IfErr result (λ fault. typed_said before.now at order block.now kind
@@ -226,7 +301,10 @@ fn read_typed<'a>(
     match kind {
         INTERFACE_DESCRIPTION => read_interface(before, at, order, block),
         SIMPLE_PACKET => read_simple(before, at, order, block),
-        ENHANCED_PACKET => read_enhanced(before, at, order, block),
+        PACKET => read_numbered(before, at, order, block, order.u16_at(block, 8) as usize),
+        ENHANCED_PACKET => {
+            read_numbered(before, at, order, block, order.u32_at(block, 8) as usize)
+        }
         _ => Ok(Block::Other),
     }
 }

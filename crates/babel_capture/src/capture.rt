@@ -78,6 +78,13 @@ impl Capture {
         }
     }
 
+    /// What the packets give that were read so far.
+    pub fn into_gathered(self) -> Gathered
+        ensures { result ≡ self.progress.gathering }
+    {
+        self.stream.reader.into_gathered()
+    }
+
     /// What the packets of all octets that were fed give; the fault that was answered before if
     /// there was one, `NotCapture` if the octets end before their first block is whole, `CutShort`
     /// if they end within a later one.

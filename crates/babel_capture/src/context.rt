@@ -147,7 +147,7 @@ impl Context {
                 self.layout = Layout::Section(*order);
                 self.first = self.interfaces.len();
             }
-            Block::Interface(interface) => self.interfaces.push(*interface)?,
+            Block::Interface { interface, .. } => self.interfaces.push(*interface)?,
             Block::Packet(_) | Block::Other => (),
         }
         Ok(())

@@ -17,6 +17,10 @@ pub enum Fault {
     /// The section that begins here says neither byte order: draft-ietf-opsawg-pcapng, 4.1.
     #[error("bad byte order at {at}")]
     BadOrder { at: u64 },
+    /// The pcap file, or the section, that begins here is of another version than those that are
+    /// read: draft-ietf-opsawg-pcap, 4; draft-ietf-opsawg-pcapng, 4.1.
+    #[error("version {major}.{minor} not read at {at}")]
+    Version { at: u64, major: u16, minor: u16 },
     /// The packet in the block that begins here is of an interface that was not described.
     #[error("no such interface at {at}")]
     NoInterface { at: u64 },
@@ -29,8 +33,14 @@ pub enum Fault {
     /// The recorder kept only a part of the sender's datagram in the block that begins here.
     #[error("datagram cut by the recorder at {at}")]
     Snapped { at: u64 },
-    /// The packet in the block that begins here is of one sender more than 65,536, each counted on
-    /// each interface where it occurs.
+    /// The sender's datagram in the block that begins here came in fragments.
+    #[error("datagram in fragments at {at}")]
+    Fragment { at: u64 },
+    /// The sender's datagram in the block that begins here says more octets than there were.
+    #[error("datagram cut short at {at}")]
+    DatagramCutShort { at: u64 },
+    /// The packet in the block that begins here is of one sender more than 65,536, each counted at
+    /// each place where it occurs.
     #[error("too many senders at {at}")]
     TooManySenders { at: u64 },
     /// The block that begins here ends past the limit on octets.

@@ -1,7 +1,16 @@
 ghost use Rattle.std.specs.Prelude.{◌≡◌};
-ghost use Rattle.babel_capture.specs.Findings.{CutIs, Finds, PayloadIs, finding_of, interface_in};
-ghost use Rattle.babel_capture.specs.Sight.{sight_of};
+ghost use Rattle.babel_capture.specs.Blocks.{sight_in};
+ghost use Rattle.babel_capture.specs.Contents.{captured_of};
+ghost use Rattle.babel_capture.specs.Findings.{CarriedIs, Finds, LackIs, PayloadIs, finding_of};
+ghost use Rattle.babel_capture.specs.declared.place.Place.{Place as PlaceSaid};
+ghost use Rattle.babel_prefix.specs.Address.{Address};
+ghost use Rattle.babel_capture.specs.Sight.{flaw_of};
 
+use crate::block::Packet;
+use crate::flaw::Flaw;
+use crate::frame::look;
+use crate::lack::Lack;
+use crate::place::Place;
 use crate::reason::Reason;
 use crate::seen::Seen;
 use crate::wanted::Wanted;
@@ -13,35 +22,27 @@ use babel_tlv::{Fault, Frame, frame};
 pub enum Finding<'a> {
     /// It is no datagram of Babel, or its sender is not wanted.
     Passed,
+    /// It is too short to tell.
+    Short,
     /// It is left out.
     Left(Reason),
-    /// The recorder kept only a part of it, and the dump of its sender is wanted.
-    Snapped,
+    /// It lacks something, and the dump of its sender is wanted.
+    Refused(Lack),
     /// A Babel packet: RFC 8966, 4.2.
     Packet {
-        interface: u64,
+        place: Place,
         sender: Addr,
         packet: &'a [u8],
     },
 }
 
-/// The interface that a frame names, or else that of its packet.
-fn interface_of(interface: u64, named: Option<u32>) -> u64
-    ensures { result ≡ interface_in interface named }
-{
-    match named {
-        Some(number) => number as u64,
-        None => interface,
-    }
-}
-
 /// What is made of a datagram's payload: the packet without what comes after its body.
-fn payload_finding<'a>(interface: u64, sender: Addr, payload: &'a [u8]) -> Finding<'a>
-    ensures { PayloadIs interface sender payload.now (finding_of result) }
+fn payload_finding<'a>(place: Place, sender: Addr, payload: &'a [u8]) -> Finding<'a>
+    ensures { PayloadIs place sender payload.now (finding_of result) }
 {
     match frame(payload, 0) {
         Frame::Whole { used, .. } => Finding::Packet {
-            interface,
+            place,
             sender,
             packet: &payload[..used],
         },
@@ -52,40 +53,36 @@ fn payload_finding<'a>(interface: u64, sender: Addr, payload: &'a [u8]) -> Findi
 }
 
 impl Wanted {
-    /// What is made of a packet that was captured on this interface.
-    pub fn finding<'a>(&self, interface: u64, seen: Seen<'a>) -> Finding<'a>
-        ensures { Finds self.now interface (sight_of seen.entry) (finding_of result) }
+    /// What is made of a captured packet.
+    pub fn finding<'a>(&self, packet: &Packet<'a>) -> Finding<'a>
+        ensures { Finds self.now (sight_in (captured_of packet.now)) (finding_of result) }
     {
-        match seen {
+        match look(
+            packet.interface,
+            packet.link,
+            packet.frame,
+            packet.whole_len,
+        ) {
             Seen::Other => Finding::Passed,
-            Seen::Fragment {
+            Seen::Short => Finding::Short,
+            Seen::Flawed {
+                place,
                 sender,
-                interface: named,
+                flaw,
             } => {
-                if self.takes(sender, interface_of(interface, named)) {
-                    Finding::Left(Reason::Fragment)
-                } else {
-                    Finding::Passed
-                }
-            }
-            Seen::Cut {
-                sender,
-                interface: named,
-            } => {
-                if self.takes(sender, interface_of(interface, named)) {
-                    self.cut_finding()
+                if self.takes(sender, place) {
+                    self.flaw_finding(flaw)
                 } else {
                     Finding::Passed
                 }
             }
             Seen::Datagram {
+                place,
                 sender,
-                interface: named,
                 payload,
             } => {
-                let on = interface_of(interface, named);
-                if self.takes(sender, on) {
-                    payload_finding(on, sender, payload)
+                if self.takes(sender, place) {
+                    payload_finding(place, sender, payload)
                 } else {
                     Finding::Passed
                 }
@@ -93,13 +90,25 @@ impl Wanted {
         }
     }
 
-    /// What is made of a wanted datagram of which a part was kept.
-    fn cut_finding(&self) -> Finding<'static>
-        ensures { CutIs self.now (finding_of result) }
+    /// What is made of a wanted datagram that can't be read.
+    fn flaw_finding(&self, flaw: Flaw) -> Finding<'static>
+        ensures { (place : PlaceSaid) (sender : Address)
+            → CarriedIs self.now place sender (flaw_of flaw) (finding_of result) }
+    {
+        match flaw {
+            Flaw::OtherPort => Finding::Left(Reason::OtherPort),
+            Flaw::NotLinkLocal => Finding::Left(Reason::NotLinkLocal),
+            Flaw::Lacking(lack) => self.lack_finding(lack),
+        }
+    }
+
+    /// What is made of a wanted datagram that lacks something.
+    fn lack_finding(&self, lack: Lack) -> Finding<'static>
+        ensures { LackIs self.now lack (finding_of result) }
     {
         match self {
-            Wanted::Everyone => Finding::Left(Reason::Snapped),
-            Wanted::Sender { .. } => Finding::Snapped,
+            Wanted::Everyone => Finding::Left(lack.reason()),
+            Wanted::Sender { .. } => Finding::Refused(lack),
         }
     }
 }

@@ -1,13 +1,12 @@
 ghost use Rattle.std.specs.Prelude.{◌≡◌, ◌+◌, ◌^◌, ◌<◌, ◌≤◌, ◌++◌, ◌∷◌, [], ◌⊎◌, List, length, OnOk, IfErr};
 ghost use Rattle.babel_capture.specs.Blocks.{Sighting, sighting_of, sightings_in};
-ghost use Rattle.babel_capture.specs.Contents.{captured_of, content_of, holds};
-ghost use Rattle.babel_capture.specs.Gathering.{IsGathered, IsRefused, dump_with};
+ghost use Rattle.babel_capture.specs.Contents.{captured_of, content_of, holds, names_in};
+ghost use Rattle.babel_capture.specs.Gathering.{IsGathered, IsRefused, dump_with, name_of};
 ghost use Rattle.babel_capture.specs.Tallies.{IsOneTooMany, tallied};
 
 use crate::block::{Block, Packet};
 use crate::fault::Fault;
 use crate::finding::Finding;
-use crate::frame::look;
 use crate::report::Report;
 use crate::tallies::{Origin, Tallies, Tally};
 use crate::wanted::Wanted;
@@ -18,19 +17,23 @@ use std::marker::Model;
 /// What is gathered of the packets of a capture.
 #[derive(Drop)]
 pub struct Gathered {
+    alloc: Global,
     wanted: Wanted,
+    names: Vec<Vec<u8>>,
     dump: Vec<u8>,
     report: Report,
     senders: Tallies,
 }
 
 impl Model for Gathered {
+    ghost use Rattle.std.specs.Prelude.{map};
     ghost use Rattle.babel_capture.specs.Gathering.{Gathering};
 
     ghost Value = { Gathering };
 
     ghost view = { λ g. record {
       wanted = g.wanted;
+      names = map (λ name. name.items) g.names.items;
       dump = g.dump.items;
       report = g.report;
       senders = g.senders;
@@ -40,11 +43,13 @@ impl Model for Gathered {
 impl Gathered {
     /// What no packets give.
     pub fn new(alloc: Global, wanted: Wanted) -> Gathered
-        ensures none { IsGathered [] result }
+        ensures none { (IsGathered [] result) × (result.names ≡ []) }
         ensures wanted { result.wanted ≡ wanted }
     {
         Gathered {
+            alloc,
             wanted,
+            names: Vec::new(alloc),
             dump: Vec::new(alloc),
             report: Report::new(),
             senders: Tallies::new(alloc),
@@ -56,6 +61,16 @@ impl Gathered {
         ensures { result ≡ self.now.wanted }
     {
         self.wanted
+    }
+
+    /// The name of the interface with this number, as the capture has it; empty where it has none.
+    pub fn name(&self, interface: u64) -> &[u8]
+        ensures { result.now ≡ name_of self.now interface }
+    {
+        match self.names.get(interface as usize) {
+            Some(name) => name,
+            None => &[],
+        }
     }
 
     /// The dump of the sender that is wanted: the packets of its datagrams, end to end.
@@ -79,8 +94,8 @@ impl Gathered {
         self.report
     }
 
-    /// How many packets each wanted sender sent on each interface, and of how many octets, by
-    /// interface, then by address. Datagrams that were left out are not counted.
+    /// How many packets each wanted sender sent at each place, and of how many octets, by place,
+    /// then by address. Datagrams that were left out are not counted.
     pub fn senders(&self) -> &BTreeMap<Origin, Tally>
         ensures { result.now.entries ≡ self.now.senders }
     {
@@ -91,6 +106,7 @@ impl Gathered {
     fn take_packet(&mut self, at: u64, packet: &Packet<'_>) -> Result<(), Fault>
         requires { self.old.report.packets + 1 < 2 ^ 64 }
         ensures wanted { self.new.wanted ≡ self.old.wanted }
+        ensures names { self.new.names ≡ self.old.names }
         ensures report { self.new.report.packets ≤ self.old.report.packets + 1 }
         ensures ok { OnOk result ((before : List Sighting) → IsGathered before self.old
             → IsGathered (before ++ sighting_of (self.old.report.packets + 1) at
@@ -99,24 +115,28 @@ impl Gathered {
             ⊎ IsRefused self.old.wanted self.old.senders at
             (holds (captured_of packet.now)) fault) }
     {
-        let seen = look(packet.link, packet.frame, packet.whole_len);
-        match self.wanted.finding(packet.interface, seen) {
+        let link = packet.link;
+        match self.wanted.finding(packet) {
             Finding::Passed => {
                 self.report.count(None);
+                Ok(())
+            }
+            Finding::Short => {
+                self.report.count_short();
                 Ok(())
             }
             Finding::Left(reason) => {
                 self.report.count(Some(reason));
                 Ok(())
             }
-            Finding::Snapped => Err(Fault::Snapped { at }),
+            Finding::Refused(lack) => Err(lack.fault(at)),
             Finding::Packet {
-                interface,
+                place,
                 sender,
                 packet,
             } => {
-                self.report.count(None);
-                self.add(at, Origin { interface, sender }, packet)
+                self.report.count_packet(link);
+                self.add(at, Origin { place, sender }, packet)
             }
         }
     }
@@ -125,6 +145,8 @@ impl Gathered {
     pub fn take_said(&mut self, at: u64, said: &Block<'_>) -> Result<(), Fault>
         requires { self.old.report.packets + 1 < 2 ^ 64 }
         ensures wanted { self.new.wanted ≡ self.old.wanted }
+        ensures names { OnOk result (self.new.names
+            ≡ self.old.names ++ names_in (content_of said.now)) }
         ensures report { self.new.report.packets ≤ self.old.report.packets + 1 }
         ensures ok { OnOk result ((before : List Sighting) → IsGathered before self.old
             → IsGathered (before ++ sightings_in (self.old.report.packets + 1) at
@@ -134,13 +156,33 @@ impl Gathered {
     {
         match said {
             Block::Packet(packet) => self.take_packet(at, packet),
-            Block::File { .. } | Block::Section(_) | Block::Interface(_) | Block::Other => Ok(()),
+            Block::File { .. } => self.add_name(&[]),
+            Block::Interface { name, .. } => self.add_name(name),
+            Block::Section(_) | Block::Other => Ok(()),
+        }
+    }
+
+    /// Keeps the name of an interface.
+    fn add_name(&mut self, name: &[u8]) -> Result<(), Fault>
+        ensures wanted { self.new.wanted ≡ self.old.wanted }
+        ensures names { OnOk result (self.new.names ≡ self.old.names ++ name.now ∷ []) }
+        ensures dump { self.new.dump ≡ self.old.dump }
+        ensures report { self.new.report ≡ self.old.report }
+        ensures senders { self.new.senders ≡ self.old.senders }
+        ensures err { IfErr result (λ fault. fault ≡ Fault.Memory) }
+    {
+        let mut kept = Vec::new(self.alloc);
+        kept.extend_from_slice(name)?;
+        match self.names.push(kept) {
+            Ok(()) => Ok(()),
+            Err(_) => Err(Fault::Memory),
         }
     }
 
     /// Counts a packet for its sender, and adds it to the dump, if one is wanted.
     fn add(&mut self, at: u64, origin: Origin, packet: &[u8]) -> Result<(), Fault>
         ensures wanted { self.new.wanted ≡ self.old.wanted }
+        ensures names { self.new.names ≡ self.old.names }
         ensures report { self.new.report ≡ self.old.report }
         ensures dump { OnOk result (self.new.dump
             ≡ dump_with self.old.wanted self.old.dump packet.now) }

@@ -1,4 +1,5 @@
 ghost use Rattle.std.specs.Prelude.{◌≡◌};
+ghost use Rattle.babel_capture.specs.Headers.{telling_len};
 
 use crate::field::number16;
 use crate::part::Part;
@@ -22,6 +23,18 @@ const FRAGMENT_OFFSET: u16 = 0xfff8;
 
 const MORE_FRAGMENTS: u16 = 0x0001;
 
+/// How many octets of an extension header tell what comes after it: number and length; or, of the
+/// fragment header, number and offset.
+fn telling_len(number: u8) -> usize
+    ensures { result ≡ telling_len number }
+{
+    match number {
+        HOP_BY_HOP_OPTIONS | ROUTING | DESTINATION_OPTIONS => 2,
+        FRAGMENT => 4,
+        _ => 0,
+    }
+}
+
 /// A header of an IPv6 packet after the fixed one, and what comes after it: RFC 8200, 4.
 #[derive(Clone, Copy)]
 pub(crate) struct NextHeader<'a> {
@@ -34,7 +47,7 @@ pub(crate) struct NextHeader<'a> {
 }
 
 impl<'a> NextHeader<'a> {
-    ghost use Rattle.babel_capture.specs.Headers.{past_header, past_headers};
+    ghost use Rattle.babel_capture.specs.Headers.{is_unkept, past_header, past_headers};
     ghost use Rattle.babel_capture.specs.Layers.{next_header};
 
     /// The header after the extension headers, of which at most `MAX_EXTENSION_HEADERS` are passed
@@ -49,6 +62,14 @@ impl<'a> NextHeader<'a> {
         header
     }
 
+    /// Whether the recorder did not keep what tells what comes after this extension header.
+    pub fn is_unkept(self) -> bool
+        ensures { result ≡ is_unkept (next_header self.entry) }
+    {
+        let len = telling_len(self.number);
+        len <= self.part.whole && self.part.octets.len() < len
+    }
+
     /// The header after this extension header; the same header where it is another or stands in a
     /// later fragment.
     #[tactic(auto, unfolding(crate::specs::Headers::past_header))]
@@ -56,7 +77,7 @@ impl<'a> NextHeader<'a> {
         ensures { next_header result ≡ past_header (next_header self.entry) }
     {
         let octets = self.part.octets;
-        if octets.len() < UNIT {
+        if octets.len() < telling_len(self.number) {
             return self;
         }
         match self.number {

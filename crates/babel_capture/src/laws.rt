@@ -1,11 +1,17 @@
 //! What follows from the definitions alone.
-ghost use Rattle.std.specs.Prelude.{◌≡◌, ℕ, ◌+◌, ◌≤◌, ◌++◌, List, length, None};
+ghost use Rattle.std.specs.Prelude.{◌≡◌, ℕ, ◌+◌, ◌<◌, ◌≤◌, ◌++◌, List, [], length, take};
 ghost use Rattle.babel_capture.specs.Capture.{IsRead};
 ghost use Rattle.babel_capture.specs.Gathering.{Gathering};
 ghost use Rattle.babel_capture.specs.OneCapture.{CaptureIsOne, CutCaptureIsOne};
 ghost use Rattle.babel_capture.specs.OneFault.{CutIsTheFault, FaultIsOne, ReadHasNoFault};
 ghost use Rattle.babel_capture.specs.OneOrigin.{NamedIsOne};
 ghost use Rattle.babel_capture.specs.Packets.{ArePackets, IsPastEnd};
+ghost use Rattle.babel_capture.specs.PcapFiles.{IsPcap, IsReadAs, PcapFile};
+ghost use Rattle.babel_capture.specs.PcapFiles.{packets_in, packets_of, pcap_octets};
+ghost use Rattle.babel_capture.specs.PcapngFiles.{Hold, IsSection, PcapngBlock, SectionHeader};
+ghost use Rattle.babel_capture.specs.PcapngFiles.{section_octets};
+ghost use Rattle.babel_capture.specs.Contents.{Captured};
+ghost use Rattle.babel_capture.specs.declared.order.Order.{Order};
 ghost use Rattle.babel_capture.specs.Reading.{Stops};
 ghost use Rattle.babel_capture.specs.Senders.{AreSenders};
 ghost use Rattle.babel_tlv.specs.FrameFaults.{FrameFault};
@@ -14,35 +20,71 @@ ghost use Rattle.babel_capture.specs.declared.fault.Fault.{Fault};
 ghost use Rattle.babel_capture.specs.declared.wanted.Wanted.{Wanted};
 ghost use Rattle.babel_capture.specs.Backing.{Backs};
 ghost use Rattle.babel_capture.specs.Frame.{frame_sight};
-ghost use Rattle.babel_capture.specs.LaidOut.{UdpDatagram, udp_octets, IsBabel};
-ghost use Rattle.babel_capture.specs.LaidOut.{Ipv4Header, ipv4_octets, IsIpv4, ipv4_frame};
-ghost use Rattle.babel_capture.specs.LaidOut.{Ipv6Header, ipv6_octets, IsIpv6, ipv6_frame};
-ghost use Rattle.babel_capture.specs.Sight.{datagram};
+ghost use Rattle.babel_capture.specs.LaidOut.{HasBabel, IsBabel, IsOverIp, UdpDatagram};
+ghost use Rattle.babel_capture.specs.LinkHeaders.{IsHeader};
+ghost use Rattle.babel_prefix.specs.Address.{Address};
+ghost use Rattle.babel_capture.specs.Sight.{Carried, datagram, lacking};
 ghost use Rattle.babel_capture.specs.declared.link.Link.{Link as LinkType};
-ghost use Rattle.babel_capture.specs.declared.link.Link.TheVariants.{Ethernet};
-ghost use Rattle.babel_prefix.specs.declared.family.Family.TheVariants.{V4, V6};
+ghost use Rattle.babel_capture.specs.declared.lack.Lack.TheVariants.{Snapped};
+ghost use Rattle.babel_capture.specs.declared.place.Place.{Place};
 
-/// What is seen of a frame is in the frame: a datagram was cut only if the recorder left octets
+/// What is seen of a frame is in the frame: a datagram was snapped only if the recorder left octets
 /// out, and a payload is some of the octets that it kept, one after the other.
 #[tactic(auto, using(crate::proofs::BackingLaws::frame_backed))]
 pub fn sight_is_backed()
-    ensures { (link : LinkType) (octets : List ℕ) (whole : ℕ)
-        → Backs octets whole (frame_sight link octets whole) }
+    ensures { (interface : ℕ) (link : LinkType) (octets : List ℕ) (all : ℕ)
+        → Backs octets all (frame_sight interface link octets all) }
 {}
 
-/// A Babel datagram in an Ethernet frame that is laid out as the RFCs say, with any options of IPv4
-/// and any padding, is seen as what it carries.
+/// A Babel datagram that is laid out as the RFCs say, over IPv4 with any options or over IPv6 with
+/// up to eight extension headers, in a frame of any link type that is read, with up to four VLAN
+/// tags where it has an EtherType, and with any padding, is seen as what it carries, from its
+/// sender and at its place; and the first of several fragments of one is seen as a fragment.
 pub fn laid_out_is_seen()
-    ensures ipv4 { (addresses padding : List ℕ) (ip : Ipv4Header) (udp : UdpDatagram) (whole : ℕ)
-        → length addresses ≡ 12 → IsBabel udp → IsIpv4 ip (udp_octets udp)
-        → 14 + length (ipv4_octets ip (udp_octets udp)) ≤ whole
-        → frame_sight Ethernet (ipv4_frame addresses ip udp padding) whole
-        ≡ datagram (record { family = V4; bits = ip.sender }) None udp.payload }
-    ensures ipv6 { (addresses padding : List ℕ) (ip : Ipv6Header) (udp : UdpDatagram) (whole : ℕ)
-        → length addresses ≡ 12 → IsBabel udp → IsIpv6 ip (udp_octets udp)
-        → 14 + length (ipv6_octets ip (udp_octets udp)) ≤ whole
-        → frame_sight Ethernet (ipv6_frame addresses ip udp padding) whole
-        ≡ datagram (record { family = V6; bits = ip.sender }) None udp.payload }
+    ensures { (link : LinkType) (interface ether_type : ℕ) (place : Place) (sender : Address)
+        (carried : Carried) (header packet padding : List ℕ) (all : ℕ)
+        → IsHeader link interface ether_type place header
+        → HasBabel ether_type sender packet carried → length header + length packet ≤ all
+        → frame_sight interface link (header ++ (packet ++ padding)) all
+        ≡ datagram place sender carried }
+{}
+
+/// Where the recorder kept the first octets of such a frame, the datagram's ports within, it is
+/// seen as one that was cut.
+pub fn cut_is_seen()
+    ensures { (link : LinkType) (interface ether_type : ℕ) (place : Place) (sender : Address)
+        (udp : UdpDatagram) (header packet : List ℕ) (n all : ℕ)
+        → IsHeader link interface ether_type place header
+        → IsBabel udp → IsOverIp ether_type sender udp packet
+        → length packet ≤ n + (4 + length udp.payload) → n < length packet
+        → length header + length packet ≤ all
+        → frame_sight interface link (header ++ take n packet) all
+        ≡ datagram place sender (lacking Snapped) }
+{}
+
+/// Octets hold one list of packets: whatever a capture gives, it is gathered of these.
+pub fn packets_are_one()
+    ensures { (limit : ℕ) (octets : List ℕ) (packets : List Captured) (gathering : Gathering)
+        → IsReadAs limit octets packets → (read : IsRead limit octets gathering)
+        → packets_of read.blocks ≡ packets }
+{}
+
+/// A pcap file that is laid out as its format says, in either byte order, with times in
+/// microseconds or in nanoseconds, is read as exactly the packets of its records.
+pub fn pcap_is_read()
+    ensures { (limit : ℕ) (pcap : PcapFile) (link : LinkType) → IsPcap pcap link
+        → length (pcap_octets pcap) ≤ limit
+        → IsReadAs limit (pcap_octets pcap) (packets_in pcap link) }
+{}
+
+/// A section of a pcapng file that is laid out as its format says, in either byte order, of
+/// descriptions, packets in each of their three blocks, and blocks of other types, is read as
+/// exactly its packets.
+pub fn pcapng_is_read()
+    ensures { (limit : ℕ) (order : Order) (head : SectionHeader) (blocks : List PcapngBlock)
+        (packets : List Captured) → IsSection order head → Hold order [] blocks packets
+        → length (section_octets order head blocks) ≤ limit
+        → IsReadAs limit (section_octets order head blocks) packets }
 {}
 
 /// The dump of a capture is whole Babel packets, end to end.
@@ -58,8 +100,8 @@ pub fn dump_is_framed()
         → (fault : DumpFault) → FrameFault gathering.dump fault → IsPastEnd fault }
 {}
 
-/// The senders that are counted of a capture are those of whom a packet was found: each once on
-/// each interface, by interface and then by address, with the number of its packets and of their
+/// The senders that are counted of a capture are those of whom a packet was found: each once at
+/// each place, by place and then by address, with the number of its packets and of their
 /// octets.
 pub fn senders_are_those_found()
     ensures { (limit : ℕ) (octets : List ℕ) (gathering : Gathering)
@@ -88,7 +130,7 @@ pub fn outcome_is_one()
     ensures fault { FaultIsOne }
 {}
 
-/// Where the datagrams of one sender on one interface are wanted, there is one tally at most.
+/// Where the datagrams of one sender at one place are wanted, there is one tally at most.
 pub fn named_is_one()
     ensures { NamedIsOne }
 {}

@@ -11,4 +11,10 @@ pub enum Reason {
     Fragment,
     /// The recorder kept only a part of it.
     Snapped,
+    /// Its length, in the header of IP or of UDP, is more than what there was of it.
+    CutShort,
+    /// Not both of its ports are Babel's, so that no router reads it: RFC 8966, 4.
+    OtherPort,
+    /// Its sender is no link-local address of IPv6, so that no router reads it: RFC 8966, 4.
+    NotLinkLocal,
 }

@@ -1,7 +1,8 @@
 ghost use Rattle.std.specs.Prelude.{◌≡◌, ◌+◌, ◌^◌, ◌<◌, [], IfSome};
 ghost use Rattle.babel_capture.specs.Counts.{Counts, count_at, counts_of, reason_place};
-ghost use Rattle.babel_capture.specs.Counting.{counted_with, one_more};
+ghost use Rattle.babel_capture.specs.Counting.{counted_with, one_more, packet_counted, short_counted};
 
+use crate::link::Link;
 use crate::reason::Reason;
 use std::marker::Model;
 
@@ -9,7 +10,9 @@ use std::marker::Model;
 #[derive(Clone, Copy, Debug, PartialEq, Eq)]
 pub struct Report {
     packets: u64,
-    left_out: [Option<(u64, u64)>; 5],
+    left_out: [Option<(u64, u64)>; 8],
+    short: u64,
+    cooked: u64,
 }
 
 impl Model for Report {
@@ -18,12 +21,23 @@ impl Model for Report {
 
     ghost Value = { Counts };
 
-    ghost view = { λ r. record { packets = r.packets; left_out = r.left_out } };
+    ghost view = { λ r. record {
+      packets = r.packets;
+      left_out = r.left_out;
+      short = r.short;
+      cooked = r.cooked;
+    } };
 
-    ghost invariant = { λ r. (length r.left_out ≡ 5) × ((i : ℕ)
+    ghost invariant = { λ r. (length r.left_out ≡ 8)
+        × (r.short ≤ r.packets) × (r.cooked ≤ r.packets) × ((i : ℕ)
         → IfSome (count_at r.left_out i) (λ counted. counted.0 ≤ r.packets)) };
 
-    ghost inverse = { λ r. record { packets = r.packets; left_out = r.left_out } };
+    ghost inverse = { λ r. record {
+      packets = r.packets;
+      left_out = r.left_out;
+      short = r.short;
+      cooked = r.cooked;
+    } };
 }
 
 impl Report {
@@ -42,13 +56,30 @@ impl Report {
         self.left_out[reason as usize]
     }
 
+    /// How many frames were too short to tell whether they had a datagram of Babel.
+    pub fn short(&self) -> u64
+        ensures { result ≡ self.now.short }
+    {
+        self.short
+    }
+
+    /// How many of the Babel packets came in frames of Linux cooked, version 1, which name no
+    /// interface.
+    pub fn cooked(&self) -> u64
+        ensures { result ≡ self.now.cooked }
+    {
+        self.cooked
+    }
+
     /// The report of no packet.
     pub(crate) fn new() -> Report
         ensures { result ≡ counts_of [] }
     {
         Report {
             packets: 0,
-            left_out: [None; 5],
+            left_out: [None; 8],
+            short: 0,
+            cooked: 0,
         }
     }
 
@@ -61,6 +92,26 @@ impl Report {
         if let Some(reason) = left_out {
             let place = place_of(reason);
             self.left_out[place] = one_more_of(self.left_out[place], self.packets);
+        }
+    }
+
+    /// Counts a frame that is too short to tell.
+    pub(crate) fn count_short(&mut self)
+        requires { self.old.packets + 1 < 2 ^ 64 }
+        ensures { self.new ≡ short_counted self.old }
+    {
+        self.packets += 1;
+        self.short += 1;
+    }
+
+    /// Counts a Babel packet that was found in a frame of this link type.
+    pub(crate) fn count_packet(&mut self, link: Link)
+        requires { self.old.packets + 1 < 2 ^ 64 }
+        ensures { self.new ≡ packet_counted self.old link }
+    {
+        self.packets += 1;
+        if link == Link::Cooked {
+            self.cooked += 1;
         }
     }
 }
@@ -79,7 +130,7 @@ fn one_more_of(counted: Option<(u64, u64)>, number: u64) -> Option<(u64, u64)>
 /// The place of a reason in their order.
 fn place_of(reason: Reason) -> usize
     ensures value { result ≡ reason_place reason }
-    ensures in_order { result < 5 }
+    ensures in_order { result < 8 }
 {
     reason as usize
 }

@@ -1,29 +1,26 @@
+use crate::flaw::Flaw;
+use crate::place::Place;
 use babel_prefix::Addr;
 
-/// What one captured frame is to us.
-///
-/// The sender is the source address of the IP header; the interface is known where the frame itself
-/// names one.
+/// What one captured frame is to us. A datagram has the place where it was captured, and the source
+/// address of its IP header.
 #[derive(Clone, Copy, Debug)]
 pub enum Seen<'a> {
-    /// No datagram of Babel: another protocol or port, a header that contradicts itself, or too
-    /// short to tell.
+    /// No datagram of Babel: another protocol or port, or a header that contradicts itself.
     Other,
-    /// The first fragment of a Babel datagram (RFC 791, 3.2; RFC 8200, 4.5). Fragments are not put
-    /// together.
-    Fragment {
+    /// Too short to tell: its octets end before the ports of a datagram, or before what tells that
+    /// it has none.
+    Short,
+    /// A datagram from or to the port of Babel that can't be read.
+    Flawed {
+        place: Place,
         sender: Addr,
-        interface: Option<u32>,
+        flaw: Flaw,
     },
-    /// A Babel datagram of which the recorder kept only a part.
-    Cut {
-        sender: Addr,
-        interface: Option<u32>,
-    },
-    /// A Babel datagram, and the octets that UDP carries.
+    /// A datagram that routers read, and the octets that UDP carries.
     Datagram {
+        place: Place,
         sender: Addr,
-        interface: Option<u32>,
         payload: &'a [u8],
     },
 }

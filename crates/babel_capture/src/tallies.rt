@@ -1,46 +1,53 @@
 ghost use Rattle.std.specs.Prelude.{◌≡◌, ◌≤◌, ◌+◌, ◌^◌, ◌⊎◌, [], length, IfErr, IfNone, IfSome, None, OnOk};
+ghost use Rattle.babel_capture.specs.Updates.{updates_in};
 ghost use Rattle.babel_capture.specs.Tallies.{IsOneTooMany, one_more, tallied, tally_of};
 
 use crate::fault::Fault;
+use crate::place::Place;
+use crate::updates::updates_in;
 use babel_prefix::Addr;
 use std::alloc::Global;
 use std::collections::BTreeMap;
 use std::marker::Model;
 
-/// How many senders are kept: each is counted on each interface where it occurs.
+/// How many senders are kept: each is counted at each place where it occurs.
 pub const MAX_SENDERS: usize = 65_536;
 
-/// A sender of Babel packets, on the interface where they were captured. These are ordered by
-/// interface, then by address.
+/// A sender of Babel packets, at the place where they were captured. These are ordered by place,
+/// then by address.
 #[derive(Clone, Copy, Debug, PartialEq, Eq, PartialOrd, Ord)]
 pub struct Origin {
-    pub interface: u64,
+    pub place: Place,
     pub sender: Addr,
 }
 
-/// How many packets a sender sent, and how many octets these are: header and body, without what
-/// comes after them.
+/// How many packets a sender sent, how many octets these are, header and body, without what comes
+/// after them, and how many Updates they have.
 #[derive(Clone, Copy, Debug, PartialEq, Eq)]
 pub struct Tally {
     pub packets: u64,
     pub octets: u64,
+    pub updates: u64,
 }
 
 impl Tally {
-    /// With one packet more; `None` if its packets or their octets are more than 2^64 - 1.
+    /// With one packet more; `None` if its packets, their octets or their Updates are more than
+    /// 2^64 - 1.
     fn with(self, packet: &[u8]) -> Option<Tally>
         ensures some { IfSome result (λ tally. tally ≡ one_more self packet.now) }
         ensures none { IfNone result ((2 ^ 64 ≤ self.packets + 1)
-            ⊎ (2 ^ 64 ≤ self.octets + length packet.now)) }
+            ⊎ (2 ^ 64 ≤ self.octets + length packet.now)
+            ⊎ (2 ^ 64 ≤ self.updates + updates_in packet.now)) }
     {
         Some(Tally {
             packets: self.packets.checked_add(1)?,
             octets: self.octets.checked_add(packet.len() as u64)?,
+            updates: self.updates.checked_add(updates_in(packet))?,
         })
     }
 }
 
-/// The tally of each sender on each interface.
+/// The tally of each sender at each place.
 #[derive(Drop)]
 pub struct Tallies {
     tallies: BTreeMap<Origin, Tally>,
@@ -67,7 +74,7 @@ impl Tallies {
         }
     }
 
-    /// The tallies, by interface, then by address.
+    /// The tallies, by place, then by address.
     pub fn as_map(&self) -> &BTreeMap<Origin, Tally>
         ensures { result.now.entries ≡ self.now }
     {
@@ -75,6 +82,7 @@ impl Tallies {
     }
 
     /// Counts the first packet of a sender.
+    #[tactic(auto, using(crate::proofs::TallyLaws::first_by))]
     fn add_first(&mut self, at: u64, origin: Origin, packet: &[u8]) -> Result<(), Fault>
         requires { tally_of self.old origin ≡ None }
         ensures ok { OnOk result (self.new ≡ tallied self.old origin packet.now) }
@@ -88,6 +96,7 @@ impl Tallies {
         let tally = Tally {
             packets: 1,
             octets: packet.len() as u64,
+            updates: updates_in(packet),
         };
         match self.tallies.insert(origin, tally) {
             Ok(_) => Ok(()),

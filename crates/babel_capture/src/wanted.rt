@@ -1,6 +1,7 @@
 ghost use Rattle.std.specs.Prelude.{◌≡◌, ◌↔◌, IsTrue};
 ghost use Rattle.babel_capture.specs.Findings.{IsWanted};
 
+use crate::place::Place;
 use babel_prefix::Addr;
 
 /// Whose datagrams are wanted.
@@ -8,28 +9,25 @@ use babel_prefix::Addr;
 pub enum Wanted {
     /// Those of each sender.
     Everyone,
-    /// Those of one sender: of one interface where it is named, and else of all.
-    Sender {
-        sender: Addr,
-        interface: Option<u64>,
-    },
+    /// Those of one sender: at one place where it is named, and else at all.
+    Sender { sender: Addr, place: Option<Place> },
 }
 
 impl Wanted {
-    /// Whether the datagrams of this sender on this interface are wanted.
-    pub fn takes(&self, from: Addr, on: u64) -> bool
-        ensures { IsTrue result ↔ IsWanted self.now from on }
+    /// Whether the datagrams of this sender at this place are wanted.
+    pub fn takes(&self, from: Addr, at: Place) -> bool
+        ensures { IsTrue result ↔ IsWanted self.now from at }
     {
         match self {
             Wanted::Everyone => true,
             Wanted::Sender {
                 sender,
-                interface: None,
+                place: None,
             } => from == *sender,
             Wanted::Sender {
                 sender,
-                interface: Some(interface),
-            } => from == *sender && on == *interface,
+                place: Some(place),
+            } => from == *sender && at == *place,
         }
     }
 }

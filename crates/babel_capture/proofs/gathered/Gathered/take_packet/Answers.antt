@@ -2,11 +2,11 @@ use Rattle.std.proofs.Common.{◌+◌, refl, ap, ◌∙◌}
 use Rattle.std.specs.Prelude.{None, Some}
 use Rattle.babel_capture.specs.Blocks.{sighting_of}
 use Rattle.babel_capture.specs.Contents.{captured_of}
-use Rattle.babel_capture.specs.Counting.{counted_with}
+use Rattle.babel_capture.specs.Counting.{counted_with, packet_counted, short_counted}
 use Rattle.babel_capture.specs.Findings.{finding_of}
 use Rattle.babel_capture.specs.Gathering.{Gathering, dump_with}
 use Rattle.babel_capture.specs.Tallies.{tallied}
-use Rattle.babel_capture.proofs.GatherLaws.{on-ok3, finds-at, passed-push, left-push, found-push, too-many-refused}
+use Rattle.babel_capture.proofs.GatherLaws.{on-ok3, finds-at, passed-push, short-push, left-push, found-push, lack-refused, too-many-refused}
 use Rattle.babel_capture.proofs.gathered.Gathered.take_packet.Goals as goal
 
 pub returns-in-Passed-clause-ok : goal.returns-in-Passed-clause-ok
@@ -16,7 +16,16 @@ returns-in-Passed-clause-ok c before gathered =
     (ap (λ (g : Gathering). g.dump) c.self.view_is)
     (c.count.ensures ∙ ap (λ (g : Gathering). counted_with g.report None) c.self.view_is)
     (ap (λ (g : Gathering). g.senders) c.self.view_is)
-    gathered refl (finds-at _ _ _ _ _ _ wanted c.look-seen.ensures c.finding.ensures)
+    gathered refl (finds-at _ _ _ _ wanted c.finding.ensures)
+
+pub returns-in-Short-clause-ok : goal.returns-in-Short-clause-ok
+returns-in-Short-clause-ok c before gathered =
+    let wanted = ap (λ (g : Gathering). g.wanted) c.self.view_is in
+    short-push before (sighting_of (c.args.self.now.report.packets + 1) c.args.at (captured_of c.args.packet.now)) c.args.self.now _ _ (ap finding_of c.in-Short.is) wanted
+    (ap (λ (g : Gathering). g.dump) c.self.view_is)
+    (c.count_short.ensures ∙ ap (λ (g : Gathering). short_counted g.report) c.self.view_is)
+    (ap (λ (g : Gathering). g.senders) c.self.view_is)
+    gathered refl (finds-at _ _ _ _ wanted c.finding.ensures)
 
 pub returns-in-Left-clause-ok : goal.returns-in-Left-clause-ok
 returns-in-Left-clause-ok c before gathered =
@@ -25,22 +34,28 @@ returns-in-Left-clause-ok c before gathered =
     (ap (λ (g : Gathering). g.dump) c.self.view_is)
     (c.count-in-Left.ensures ∙ ap (λ (g : Gathering). counted_with g.report (Some c.in-Left.reason)) c.self.view_is)
     (ap (λ (g : Gathering). g.senders) c.self.view_is)
-    gathered refl (finds-at _ _ _ _ _ _ wanted c.look-seen.ensures c.finding.ensures)
+    gathered refl (finds-at _ _ _ _ wanted c.finding.ensures)
+
+pub returns-in-Refused-clause-err : goal.returns-in-Refused-clause-err
+returns-in-Refused-clause-err c =
+    let wanted = ap (λ (g : Gathering). g.wanted) c.self.view_is in
+    lack-refused c.args.self.now.wanted c.args.self.now.senders c.args.at (captured_of c.args.packet.now) c.in-Refused.lack _ _ (ap finding_of c.in-Refused.is) c.fault.ensures.value
+    (finds-at _ _ _ _ wanted c.finding.ensures)
 
 pub returns-in-Packet-clause-ok : goal.returns-in-Packet-clause-ok
 returns-in-Packet-clause-ok c =
     let wanted = ap (λ (g : Gathering). g.wanted) c.self.view_is in
     on-ok3 c.add.result (λ dump senders few before gathered.
-    found-push before (sighting_of (c.args.self.now.report.packets + 1) c.args.at (captured_of c.args.packet.now)) c.args.self.now c.add.new.self _ c.in-Packet.interface c.in-Packet.sender c.in-Packet.packet.now (ap finding_of c.in-Packet.is)
+    found-push before (sighting_of (c.args.self.now.report.packets + 1) c.args.at (captured_of c.args.packet.now)) c.args.self.now c.add.new.self _ c.in-Packet.place c.in-Packet.sender c.in-Packet.packet.now (ap finding_of c.in-Packet.is)
     (c.add.ensures.wanted ∙ wanted)
     (dump ∙ ap (λ (g : Gathering). dump_with g.wanted g.dump c.in-Packet.packet.now) c.self.view_is)
-    (c.add.ensures.report ∙ c.count-in-Packet.ensures ∙ ap (λ (g : Gathering). counted_with g.report None) c.self.view_is)
-    (senders ∙ ap (λ (g : Gathering). tallied g.senders (record { interface = c.in-Packet.interface; sender = c.in-Packet.sender }) c.in-Packet.packet.now) c.self.view_is)
-    few gathered refl (finds-at _ _ _ _ _ _ wanted c.look-seen.ensures c.finding.ensures)) c.add.ensures.dump c.add.ensures.senders c.add.ensures.few
+    (c.add.ensures.report ∙ c.count_packet.ensures ∙ ap (λ (g : Gathering). packet_counted g.report c.args.packet.now.link) c.self.view_is)
+    (senders ∙ ap (λ (g : Gathering). tallied g.senders (record { place = c.in-Packet.place; sender = c.in-Packet.sender }) c.in-Packet.packet.now) c.self.view_is)
+    few gathered refl (finds-at _ _ _ _ wanted c.finding.ensures)) c.add.ensures.dump c.add.ensures.senders c.add.ensures.few
 
 pub returns-in-Packet-clause-err : goal.returns-in-Packet-clause-err
 returns-in-Packet-clause-err c =
     let wanted = ap (λ (g : Gathering). g.wanted) c.self.view_is in
     too-many-refused c.add.result c.args.self.now.wanted _ c.args.self.now.senders c.args.at (captured_of c.args.packet.now)
-    (record { interface = c.in-Packet.interface; sender = c.in-Packet.sender }) c.in-Packet.packet.now _
-    (ap (λ (g : Gathering). g.senders) c.self.view_is) (ap finding_of c.in-Packet.is) (finds-at _ _ _ _ _ _ wanted c.look-seen.ensures c.finding.ensures) c.add.ensures.err
+    (record { place = c.in-Packet.place; sender = c.in-Packet.sender }) c.in-Packet.packet.now _
+    (ap (λ (g : Gathering). g.senders) c.self.view_is) (ap finding_of c.in-Packet.is) (finds-at _ _ _ _ wanted c.finding.ensures) c.add.ensures.err

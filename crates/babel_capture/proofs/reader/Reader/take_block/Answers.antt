@@ -38,4 +38,4 @@ returns-clause-ok c =
     let new = the_view (record { context = c.take.new.self; gathered = c.take_said.new.self; at = c.self.inside.at + length c.args.block.now }) in
     let is_block = subst (λ (p : Progress). IsBlock p.context p.at c.args.block.now) (sym c.self.view_is) c.requires.is_block in
     subst (λ (p : Progress). (limit : ℕ) (read : List ℕ) → LeadTo limit read p → LeadTo limit (read ++ c.args.block.now) new) c.self.view_is
-    (λ limit read lead. lead-push limit read c.args.block.now old new (content_of c.in_ok-said.said) is_block c.in_ok-said.ensures.ok c.in_ok-take.ensures.ok refl c.in_ok-take_said.ensures.ok lead)
+    (λ limit read lead. lead-push limit read c.args.block.now old new (content_of c.in_ok-said.said) is_block c.in_ok-said.ensures.ok c.in_ok-take.ensures.ok refl c.in_ok-take_said.ensures.ok c.in_ok-take_said.ensures.names lead)

@@ -1,13 +1,18 @@
 -- The tally of a sender that is kept has one packet more.
-use Rattle.std.proofs.Common.{rules, ◌≡◌, subst}
-use Rattle.std.specs.Prelude.{Some}
+use Rattle.std.proofs.Common.{rules, ◌≡◌, ◌∙◌, sym, subst}
+use Rattle.std.specs.Prelude.{None, Some}
 use Rattle.std.specs.BTreeMap.{is_at}
 use Rattle.std.specs.List.Sorted.{IsStrictlySortedBy}
 use Rattle.std.specs.Map.{keys_of, lookup, set_value}
 use Rattle.babel_capture.specs.Tallies.{Senders, one_more}
 use Rattle.babel_capture.specs.contracts.tallies.OriginOrd.TheImpl.{ghosts}
-use Rattle.babel_capture.proofs.TallyLaws.{updated-by}
+use Rattle.babel_capture.proofs.TallyLaws.{unknown-by, updated-by}
 use Rattle.babel_capture.proofs.tallies.Tallies.add.Goals as goal
+
+pub add_first-requires : goal.add_first-requires
+add_first-requires c =
+    let none : lookup (is_at (ghosts.cmp c.args.origin)) c.get_mut.follows.lender-at-none.entries ≡ None = search rules in
+    sym (unknown-by c.get_mut.follows.lender-at-none.entries c.args.origin) ∙ none
 
 pub returns-clause-ok : goal.returns-clause-ok
 returns-clause-ok c =

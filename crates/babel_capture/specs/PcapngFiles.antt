@@ -1,0 +1,134 @@
+-- A section of a pcapng file, as it is laid out, and what it is read as: draft-ietf-opsawg-pcapng,
+-- 3.1 and 4.1 to 4.4.
+use Rattle.std.specs.Prelude.{◌≡◌, ◌≢◌, ℕ, ◌+◌, ◌%◌, ◌^◌, ◌<◌, ◌≤◌, ◌⊎◌, List, [], ◌∷◌, ◌++◌}
+use Rattle.std.specs.Prelude.{length, slice_get, false, Some}
+use Rattle.std.specs.List.{flat_map}
+use Rattle.babel_capture.specs.declared.layout.Interface.{Interface}
+use Rattle.babel_capture.specs.declared.link.Link.{Link}
+use Rattle.babel_capture.specs.declared.order.Order.{Order}
+use Rattle.babel_capture.specs.Contents.{Captured, kept_len}
+use Rattle.babel_capture.specs.Link.{link_of}
+use Rattle.babel_capture.specs.Options.{all_options}
+use Rattle.babel_capture.specs.PcapFiles.{written}
+
+-- 3.1: a block of this type: its type, its length, what it holds, and its length again
+abbrev pub block_octets : Order → ℕ → List ℕ → List ℕ
+block_octets order kind body =
+    let total : ℕ = 12 + length body in
+    written order 4 kind ++ (written order 4 total ++ (body ++ written order 4 total))
+
+-- 4.1: the minor version, eight octets of the section's length, and options
+pub record SectionHeader : Type 0 where
+  pub minor : ℕ
+  pub len : List ℕ
+  pub options : List ℕ
+
+abbrev pub section_body : Order → SectionHeader → List ℕ
+section_body order head =
+    written order 4 0x1a2b3c4d ++ (written order 2 1 ++ (written order 2 head.minor
+    ++ (head.len ++ head.options)))
+
+-- 4.2, 4.3, 4.4: a description of an interface: link type, a reserved number, the most octets that
+-- are kept of a packet, and options; an enhanced packet: the interface, two numbers of its time,
+-- how many octets it had, those that were kept, and padding and options; the packet block that it
+-- replaced, with the number of drops beside that of the interface; a simple packet; or a block of
+-- another type
+pub data PcapngBlock : Type 0 where
+  described : (link_number reserved snap_len : ℕ) (options : List ℕ) → PcapngBlock
+  enhanced : (number high low whole_len : ℕ) (frame more : List ℕ) → PcapngBlock
+  old : (number drops high low whole_len : ℕ) (frame more : List ℕ) → PcapngBlock
+  simple : (whole_len : ℕ) (frame padding : List ℕ) → PcapngBlock
+  another : (kind : ℕ) (body : List ℕ) → PcapngBlock
+
+abbrev pub kind_of : PcapngBlock → ℕ
+kind_of (described link_number reserved snap_len options) = 1
+kind_of (enhanced number high low whole_len frame more) = 6
+kind_of (old number drops high low whole_len frame more) = 2
+kind_of (simple whole_len frame padding) = 3
+kind_of (another kind body) = kind
+
+abbrev pub body_of : Order → PcapngBlock → List ℕ
+body_of order (described link_number reserved snap_len options) =
+    written order 2 link_number ++ (written order 2 reserved
+    ++ (written order 4 snap_len ++ options))
+body_of order (enhanced number high low whole_len frame more) =
+    written order 4 number ++ (written order 4 high ++ (written order 4 low
+    ++ (written order 4 (length frame) ++ (written order 4 whole_len ++ (frame ++ more)))))
+body_of order (old number drops high low whole_len frame more) =
+    written order 2 number ++ (written order 2 drops ++ (written order 4 high
+    ++ (written order 4 low ++ (written order 4 (length frame) ++ (written order 4 whole_len
+    ++ (frame ++ more))))))
+body_of order (simple whole_len frame padding) = written order 4 whole_len ++ (frame ++ padding)
+body_of order (another kind body) = body
+
+abbrev pub octets_in : Order → PcapngBlock → List ℕ
+octets_in order block = block_octets order (kind_of block) (body_of order block)
+
+abbrev pub section_octets : Order → SectionHeader → List PcapngBlock → List ℕ
+section_octets order head blocks =
+    block_octets order 0x0a0d0d0a (section_body order head) ++ flat_map (octets_in order) blocks
+
+-- 3.1: what a block holds fills words of four octets, and at most 16 MiB are read of one
+pub record Fits (body : List ℕ) : Type 0 where
+  pub words : length body % 4 ≡ 0
+  pub few : 12 + length body ≤ 16777216
+
+-- a type that is none of those that are read
+abbrev pub NoneOf : ℕ → Type 0
+NoneOf kind =
+    (kind ≢ 0x0a0d0d0a) × (kind ≢ 1) × (kind ≢ 2) × (kind ≢ 3) × (kind ≢ 6)
+
+-- the version is 1.0 or 1.2
+pub record IsSection (order : Order) (head : SectionHeader) : Type 0 where
+  pub is_minor : (head.minor ≡ 0) ⊎ (head.minor ≡ 2)
+  pub len_sized : length head.len ≡ 8
+  pub fits : Fits (section_body order head)
+
+abbrev pub packet_at : ℕ → Link → List ℕ → ℕ → Captured
+packet_at number link frame whole = record {
+  interface = number;
+  link = link;
+  frame = frame;
+  whole_len = whole;
+}
+
+-- the first packet is this one, of an interface that was described and a link type that is read
+pub record IsPacket (interfaces : List Interface) (number whole_len : ℕ) (frame : List ℕ)
+    (packets later : List Captured) : Type 0 where
+  pub number_fits : number < 2 ^ 32
+  pub len_fits : whole_len < 2 ^ 32
+  pub interface : Interface
+  pub is_described : slice_get interfaces number ≡ Some interface
+  pub link : Link
+  pub is_link : link_of interface.link ≡ Some link
+  pub is_packet : packets ≡ packet_at number link frame whole_len ∷ later
+
+abbrev pub interface_of : ℕ → ℕ → Interface
+interface_of link_number snap_len = record { link = link_number; snap_len = snap_len }
+
+-- Blocks, of which each fits, hold these packets, where these interfaces were described before: the
+-- numbers of a block fit their fields; no option of a description runs past it; a packet is of an
+-- interface that was described, of a link type that is read, and a simple one of the first; of a
+-- simple one as much is kept as that interface keeps; and blocks of other types hold none.
+abbrev pub Hold : Order → List Interface → List PcapngBlock → List Captured → Type 0
+Hold order interfaces [] packets = packets ≡ []
+Hold order interfaces (described link_number reserved snap_len options ∷ blocks) packets =
+    Fits (body_of order (described link_number reserved snap_len options))
+    × (link_number < 2 ^ 16) × (snap_len < 2 ^ 32) × (length interfaces < 65536)
+    × ((all_options order options).is_cut ≡ false)
+    × Hold order (interfaces ++ interface_of link_number snap_len ∷ []) blocks packets
+Hold order interfaces (enhanced number high low whole_len frame more ∷ blocks) packets =
+    Fits (body_of order (enhanced number high low whole_len frame more))
+    × ((later : List Captured) × IsPacket interfaces number whole_len frame packets later
+    × Hold order interfaces blocks later)
+Hold order interfaces (old number drops high low whole_len frame more ∷ blocks) packets =
+    Fits (body_of order (old number drops high low whole_len frame more)) × (number < 2 ^ 16)
+    × ((later : List Captured) × IsPacket interfaces number whole_len frame packets later
+    × Hold order interfaces blocks later)
+Hold order interfaces (simple whole_len frame padding ∷ blocks) packets =
+    Fits (body_of order (simple whole_len frame padding))
+    × ((later : List Captured) × (is : IsPacket interfaces 0 whole_len frame packets later)
+    × (length frame ≡ kept_len is.interface.snap_len whole_len)
+    × Hold order interfaces blocks later)
+Hold order interfaces (another kind body ∷ blocks) packets =
+    Fits body × (kind < 2 ^ 32) × NoneOf kind × Hold order interfaces blocks packets

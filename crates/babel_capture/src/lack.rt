@@ -1,0 +1,42 @@
+ghost use Rattle.std.specs.Prelude.{◌≡◌, ◌≢◌};
+ghost use Rattle.babel_capture.specs.Lack.{lack_fault, lack_reason};
+
+use crate::fault::Fault;
+use crate::reason::Reason;
+
+/// Why a datagram is not all there.
+#[derive(Clone, Copy, Debug, PartialEq, Eq)]
+pub enum Lack {
+    /// It is the first fragment of one: RFC 791, 3.2; RFC 8200, 4.5. Fragments are not put
+    /// together.
+    Fragment,
+    /// Its length, in the header of IP or of UDP, is more than what there was of it.
+    CutShort,
+    /// The recorder kept only a part of it.
+    Snapped,
+}
+
+impl Lack {
+    /// Why the datagram is left out.
+    pub fn reason(self) -> Reason
+        ensures { result ≡ lack_reason self }
+    {
+        match self {
+            Lack::Fragment => Reason::Fragment,
+            Lack::CutShort => Reason::CutShort,
+            Lack::Snapped => Reason::Snapped,
+        }
+    }
+
+    /// The fault of a capture whose dump lacks it: the datagram is in the block at this offset.
+    pub fn fault(self, at: u64) -> Fault
+        ensures value { result ≡ lack_fault at self }
+        ensures memory { result ≢ Fault.Memory }
+    {
+        match self {
+            Lack::Fragment => Fault::Fragment { at },
+            Lack::CutShort => Fault::DatagramCutShort { at },
+            Lack::Snapped => Fault::Snapped { at },
+        }
+    }
+}
