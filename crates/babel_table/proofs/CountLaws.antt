@@ -10,9 +10,11 @@ use Rattle.babel_tlv.specs.declared.event.Event.{Event}
 use Rattle.babel_tlv.specs.declared.event.Event.TheVariants as events
 use Rattle.babel_tlv.specs.declared.reason.Reason.{Reason}
 use Rattle.babel_tlv.specs.declared.reason.Reason.TheVariants as reasons
+use Rattle.babel_tlv.specs.Framing.{TlvAt}
 use Rattle.babel_tlv.specs.Says.{Saying}
-use Rattle.babel_table.specs.Counts.{Counts, all_reasons, is_ignored_for, ignored_in, counts_of}
+use Rattle.babel_table.specs.Counts.{Counts, all_reasons, is_ignored_for, is_update, ignored_in, counts_of}
 use Rattle.babel_table.specs.Counting.{one_more, ignored_with, counted_with}
+use Rattle.babel_table.specs.Feeding.{event_at}
 
 abbrev Count : Type 0
 Count = Option (ℕ × ℕ)
@@ -64,17 +66,18 @@ by_event f at events.RetractAll = refl
 by_event f at events.Nothing = refl
 by_event f at (events.Ignored reason) = set_one f at reason
 
-abbrev counts : ℕ → List Count → Counts
-counts tlvs ignored = record { tlvs = tlvs; ignored = ignored }
+abbrev counts : ℕ → ℕ → List Count → Counts
+counts tlvs updates ignored = record { tlvs = tlvs; updates = updates; ignored = ignored }
 
-abbrev saying : ℕ → Event → Saying
-saying at event = record { at = at; what = Ok event }
-
-pub counts-push : (said : List Saying) (at : ℕ) (event : Event) → counts_of (said ++ record { at = at; what = Ok event } ∷ []) ≡ counted_with (counts_of said) event at
-counts-push said at event =
-    let more : length (said ++ saying at event ∷ []) ≡ length said + 1 = length-append said (saying at event ∷ []) in
-    let each : map (ignored_in (said ++ saying at event ∷ [])) all_reasons ≡ ignored_with (map (ignored_in said) all_reasons) event at =
-    map-same (ignored_in (said ++ saying at event ∷ [])) (λ r. bumped (is_ignored_for r (Ok event)) at (ignored_in said r)) (λ r. ignored-push r said (saying at event)) all_reasons
-    ∙ by_event (ignored_in said) at event in
-    ap (λ (n : ℕ). counts n (map (ignored_in (said ++ saying at event ∷ [])) all_reasons)) more
-    ∙ ap (λ (t : List Count). counts (length said + 1) t) each
+pub counts-push : (said : List Saying) (tlv : TlvAt) (event : Event) → counts_of (said ++ event_at tlv event ∷ []) ≡ counted_with (counts_of said) tlv event
+counts-push said tlv event =
+    let one : Saying = event_at tlv event in
+    let all : List Saying = said ++ one ∷ [] in
+    let more : length all ≡ length said + 1 = length-append said (one ∷ []) in
+    let updates : count_by is_update all ≡ count_by is_update said + cond (is_update one) 1 0 = count-push is_update said one in
+    let each : map (ignored_in all) all_reasons ≡ ignored_with (map (ignored_in said) all_reasons) event tlv.at =
+    map-same (ignored_in all) (λ r. bumped (is_ignored_for r (Ok event)) tlv.at (ignored_in said r)) (λ r. ignored-push r said one) all_reasons
+    ∙ by_event (ignored_in said) tlv.at event in
+    ap (λ (n : ℕ). counts n (count_by is_update all) (map (ignored_in all) all_reasons)) more
+    ∙ ap (λ (n : ℕ). counts (length said + 1) n (map (ignored_in all) all_reasons)) updates
+    ∙ ap (λ (t : List Count). counts (length said + 1) (count_by is_update said + cond (is_update one) 1 0) t) each

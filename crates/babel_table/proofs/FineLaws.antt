@@ -6,38 +6,36 @@ use Rattle.babel_tlv.specs.declared.fault.Fault.{Fault}
 use Rattle.babel_tlv.specs.declared.held.Held.{Held}
 use Rattle.babel_tlv.specs.declared.mode.Mode.{Mode}
 use Rattle.babel_tlv.specs.Route.{RouteKey}
+use Rattle.babel_tlv.specs.Framing.{TlvAt}
 use Rattle.babel_tlv.specs.Says.{Saying}
 use Rattle.babel_table.specs.Counts.{Counts, counts_of}
 use Rattle.babel_table.specs.Counting.{counted_with}
 use Rattle.babel_table.specs.TableOf.{AreFine}
 use Rattle.babel_table.specs.DumpFault.{Refuses, RefusedBy, HoldsMoreThan}
-use Rattle.babel_table.specs.Feeding.{StandsBehind, Follows}
+use Rattle.babel_table.specs.Feeding.{StandsBehind, Follows, event_at}
 use Rattle.babel_table.specs.Holds.{AreRowsOf, HoldsAtMost}
 use Rattle.babel_table.specs.Rows.{Routes}
 use Rattle.babel_table.proofs.CountLaws.{counts-push}
 use Rattle.babel_table.proofs.RowsLaws.{rows-none, not_more}
 
-abbrev pub saying : ℕ → Event → Saying
-saying at event = record { at = at; what = Ok event }
-
 abbrev pub routes : List (RouteKey × Held) → Counts → Routes
 routes rows report = record { rows = rows; report = report }
 
-fine-push : (mode : Mode) (entries : ℕ) (before : List Event) (said : List Saying) (events : List Event) (at : ℕ) (event : Event) → AreFine mode entries before said events
-    → HoldsAtMost mode entries (events ++ event ∷ []) → AreFine mode entries before (said ++ saying at event ∷ []) (events ++ event ∷ [])
-fine-push mode entries before [] events at event fine few =
+fine-push : (mode : Mode) (entries : ℕ) (before : List Event) (said : List Saying) (events : List Event) (tlv : TlvAt) (event : Event) → AreFine mode entries before said events
+    → HoldsAtMost mode entries (events ++ event ∷ []) → AreFine mode entries before (said ++ event_at tlv event ∷ []) (events ++ event ∷ [])
+fine-push mode entries before [] events tlv event fine few =
     let same : events ≡ before = fine in
     (event, refl, subst (λ (es : List Event). HoldsAtMost mode entries (es ++ event ∷ [])) same few, ap (λ (es : List Event). es ++ event ∷ []) same)
-fine-push mode entries before (first ∷ said) events at event (e, is, here, later) few = (e, is, here, fine-push mode entries (before ++ e ∷ []) said events at event later few)
+fine-push mode entries before (first ∷ said) events tlv event (e, is, here, later) few = (e, is, here, fine-push mode entries (before ++ e ∷ []) said events tlv event later few)
 
 -- one more event that is taken
-pub stands-push : (mode : Mode) (entries : ℕ) (old new : List (RouteKey × Held)) (report : Counts) (event : Event) (at : ℕ) → Follows mode event old new → length new ≤ entries
-    → (said : List Saying) → StandsBehind mode entries (routes old report) said → StandsBehind mode entries (routes new (counted_with report event at)) (said ++ saying at event ∷ [])
-stands-push mode entries old new report event at follows few said stands = record {
+pub stands-push : (mode : Mode) (entries : ℕ) (old new : List (RouteKey × Held)) (report : Counts) (tlv : TlvAt) (event : Event) → Follows mode event old new → length new ≤ entries
+    → (said : List Saying) → StandsBehind mode entries (routes old report) said → StandsBehind mode entries (routes new (counted_with report tlv event)) (said ++ event_at tlv event ∷ [])
+stands-push mode entries old new report tlv event follows few said stands = record {
   events = stands.events ++ event ∷ [];
-  fine = fine-push mode entries [] said stands.events at event stands.fine (new, follows stands.events stands.rows, few);
+  fine = fine-push mode entries [] said stands.events tlv event stands.fine (new, follows stands.events stands.rows, few);
   rows = follows stands.events stands.rows;
-  report = ap (λ (c : Counts). counted_with c event at) stands.report ∙ sym (counts-push said at event);
+  report = ap (λ (c : Counts). counted_with c tlv event) stands.report ∙ sym (counts-push said tlv event);
 }
 
 pub stands-none : (mode : Mode) (entries : ℕ) → StandsBehind mode entries (routes [] (counts_of [])) []
@@ -77,9 +75,9 @@ fine-not-refused mode entries said more events fault fine (front, one, later, be
     fine-refused mode entries [] front one (later ++ more) events before fault
     (subst (λ (s : List Saying). AreFine mode entries [] s events) (ap (λ (s : List Saying). s ++ more) is ∙ append_assoc front (one ∷ later) more) fine) fine_front refuses
 
-pub taken-stands : (mode : Mode) (entries : ℕ) (old new : List (RouteKey × Held)) (report counted : Counts) (event : Event) (at : ℕ) (r : Result (Unit {0}) Fault) → OnOk r (Follows mode event old new)
-    → length new ≤ entries → counted ≡ counted_with report event at
-    → OnOk r ((said : List Saying) → StandsBehind mode entries (routes old report) said → StandsBehind mode entries (routes new counted) (said ++ saying at event ∷ []))
-taken-stands mode entries old new report counted event at (Ok u) follows few is =
-    λ said stands. subst (λ (c : Counts). StandsBehind mode entries (routes new c) (said ++ saying at event ∷ [])) (sym is) (stands-push mode entries old new report event at follows few said stands)
-taken-stands mode entries old new report counted event at (Err fault) follows few is = tt
+pub taken-stands : (mode : Mode) (entries : ℕ) (old new : List (RouteKey × Held)) (report counted : Counts) (tlv : TlvAt) (event : Event) (r : Result (Unit {0}) Fault) → OnOk r (Follows mode event old new)
+    → length new ≤ entries → counted ≡ counted_with report tlv event
+    → OnOk r ((said : List Saying) → StandsBehind mode entries (routes old report) said → StandsBehind mode entries (routes new counted) (said ++ event_at tlv event ∷ []))
+taken-stands mode entries old new report counted tlv event (Ok u) follows few is =
+    λ said stands. subst (λ (c : Counts). StandsBehind mode entries (routes new c) (said ++ event_at tlv event ∷ [])) (sym is) (stands-push mode entries old new report tlv event follows few said stands)
+taken-stands mode entries old new report counted tlv event (Err fault) follows few is = tt

@@ -305,15 +305,12 @@ hold_grows (Ok events.Nothing) grows = absurd grows
 hold_grows (Ok (events.Ignored reason)) grows = absurd grows
 hold_grows (Err fault) grows = absurd grows
 
-abbrev saying_at : ℕ → Result Event Fault → Saying
-saying_at at what = record { at = at; what = what }
-
 pub routes_need_memory : RoutesNeedMemory
 routes_need_memory sender octets (packets, rest, reads, (saying, is_in, grows)) =
     let grown = plain_grows saying.what grows in
-    (packets, rest, saying.at, grown.0, reads, subst (λ (what : Result Event Fault). Contains (sayings sender packets) (saying_at saying.at what)) grown.1 is_in, (grown.2, grown.3, grown.4))
+    (packets, rest, saying, grown.0, reads, is_in, grown.1, (grown.2, grown.3, grown.4))
 
 pub keys_need_memory : KeysNeedMemory
 keys_need_memory sender octets (packets, rest, reads, (saying, is_in, grows)) =
     let grown = hold_grows saying.what grows in
-    (packets, rest, saying.at, grown.0, reads, subst (λ (what : Result Event Fault). Contains (sayings sender packets) (saying_at saying.at what)) grown.1 is_in, (grown.2, grown.3))
+    (packets, rest, saying, grown.0, reads, is_in, grown.1, (grown.2, grown.3))

@@ -46,22 +46,22 @@ module _ (mode : Mode) (entries : ℕ) (sender : Address) (old : Routes) (all : 
   here_said : (context : Context) (tlv : TlvAt) (some : List TlvAt) (event : Event) → context ≡ context_after sender some → said context tlv ≡ Ok event → said (context_after sender some) tlv ≡ Ok event
   here_said context tlv some event is e = subst (λ (c : Context). said c tlv ≡ Ok event) is e
 
-  abbrev what : ℕ → Result Event Fault → Saying
-  what at r = record { at = at; what = r }
+  abbrev what : TlvAt → Result Event Fault → Saying
+  what tlv r = record { at = tlv.at; kind = tlv.kind; what = r }
 
   pub took-next : (now next : Routes) (context after : Context) (tlv : TlvAt) (left : List TlvAt) (event : Event) → TookSome mode entries sender old all now context (tlv ∷ left)
       → said context tlv ≡ Ok event → ((earlier : List TlvAt) → context ≡ context_after sender earlier → after ≡ context_after sender (tlv ∷ earlier))
-      → ((before : List Saying) → StandsBehind mode entries now before → StandsBehind mode entries next (before ++ event_at tlv.at event ∷ []))
+      → ((before : List Saying) → StandsBehind mode entries now before → StandsBehind mode entries next (before ++ event_at tlv event ∷ []))
       → TookSome mode entries sender old all next after left
   took-next now next context after tlv left event some is_said goes takes =
-      let here : what tlv.at (said (context_after sender some.earlier) tlv) ≡ event_at tlv.at event = ap (what tlv.at) (here_said context tlv some.earlier event some.context_is is_said) in
+      let here : what tlv (said (context_after sender some.earlier) tlv) ≡ event_at tlv event = ap (what tlv) (here_said context tlv some.earlier event some.context_is is_said) in
       record {
         earlier = tlv ∷ some.earlier;
-        done = some.done ++ event_at tlv.at event ∷ [];
+        done = some.done ++ event_at tlv event ∷ [];
         context_is = goes some.earlier some.context_is;
         whole = some.whole ∙ ap (λ (s : Saying). some.done ++ s ∷ sayings_behind sender (tlv ∷ some.earlier) left) here
-            ∙ sym (append_assoc some.done (event_at tlv.at event ∷ []) (sayings_behind sender (tlv ∷ some.earlier) left));
-        stands = λ before stands. subst (StandsBehind mode entries next) (append_assoc before some.done (event_at tlv.at event ∷ [])) (takes (before ++ some.done) (some.stands before stands));
+            ∙ sym (append_assoc some.done (event_at tlv event ∷ []) (sayings_behind sender (tlv ∷ some.earlier) left));
+        stands = λ before stands. subst (StandsBehind mode entries next) (append_assoc before some.done (event_at tlv event ∷ [])) (takes (before ++ some.done) (some.stands before stands));
       }
 
   -- the TLV refuses the dump
@@ -69,7 +69,7 @@ module _ (mode : Mode) (entries : ℕ) (sender : Address) (old : Routes) (all : 
       → said context tlv ≡ Err fault → Fails mode entries (sayings_behind sender [] all) old fault
   took-refused now context tlv left fault some is_said =
       let here : said (context_after sender some.earlier) tlv ≡ Err fault = subst (λ (c : Context). said c tlv ≡ Err fault) some.context_is is_said in
-      let one : Saying = what tlv.at (said (context_after sender some.earlier) tlv) in
+      let one : Saying = what tlv (said (context_after sender some.earlier) tlv) in
       let rest : List Saying = sayings_behind sender (tlv ∷ some.earlier) left in
       let whole : sayings_behind sender [] all ≡ some.done ++ (one ∷ rest) = some.whole in
       inl (
@@ -86,7 +86,7 @@ module _ (mode : Mode) (entries : ℕ) (sender : Address) (old : Routes) (all : 
       → said context tlv ≡ Ok event → IsRefused mode entries tlv.at event now.rows fault → Fails mode entries (sayings_behind sender [] all) old fault
   took-failed now context tlv left event fault some is_said (inl (is, over)) =
       let here : said (context_after sender some.earlier) tlv ≡ Ok event = here_said context tlv some.earlier event some.context_is is_said in
-      let one : Saying = what tlv.at (said (context_after sender some.earlier) tlv) in
+      let one : Saying = what tlv (said (context_after sender some.earlier) tlv) in
       let rest : List Saying = sayings_behind sender (tlv ∷ some.earlier) left in
       let whole : sayings_behind sender [] all ≡ some.done ++ (one ∷ rest) = some.whole in
       inl (
@@ -99,7 +99,7 @@ module _ (mode : Mode) (entries : ℕ) (sender : Address) (old : Routes) (all : 
       )
   took-failed now context tlv left event fault some is_said (inr (memory, grow)) =
       let here : said (context_after sender some.earlier) tlv ≡ Ok event = here_said context tlv some.earlier event some.context_is is_said in
-      let one : Saying = what tlv.at (said (context_after sender some.earlier) tlv) in
+      let one : Saying = what tlv (said (context_after sender some.earlier) tlv) in
       let rest : List Saying = sayings_behind sender (tlv ∷ some.earlier) left in
       let whole : sayings_behind sender [] all ≡ some.done ++ (one ∷ rest) = some.whole in
       inr (
@@ -133,7 +133,7 @@ length-tlvs_of at octets = length-tlvs_past 0 at octets
 module _ (mode : Mode) (entries : ℕ) (now next : Routes) (context after : Context) (tlv : TlvAt) where
   pub tlv-taken : {T : Type 0} (event : Event) (taken : Result T Fault) → Ok event ≡ said context tlv
       → ((sender : Address) (earlier : List TlvAt) → context ≡ context_after sender earlier → after ≡ context_after sender (tlv ∷ earlier))
-      → OnOk taken ((before : List Saying) → StandsBehind mode entries now before → StandsBehind mode entries next (before ++ event_at tlv.at event ∷ []))
+      → OnOk taken ((before : List Saying) → StandsBehind mode entries now before → StandsBehind mode entries next (before ++ event_at tlv event ∷ []))
       → OnOk taken ((sender : Address) (old : Routes) (all left : List TlvAt) → TookSome mode entries sender old all now context (tlv ∷ left) → TookSome mode entries sender old all next after left)
   tlv-taken event (Ok x) is_said goes takes = λ sender old all left some. took-next mode entries sender old all now next context after tlv left event some (sym is_said) (goes sender) takes
   tlv-taken event (Err fault) is_said goes takes = tt

@@ -1,7 +1,8 @@
 -- The counts of TLVs, one more at a time.
-use Rattle.std.specs.Prelude.{ℕ, ◌+◌, List, slice_set, Option, None, Some}
+use Rattle.std.specs.Prelude.{ℕ, ◌+◌, ◌==◌, if◌then◌else◌, List, slice_set, Option, None, Some}
 use Rattle.babel_tlv.specs.declared.event.Event.{Event}
 use Rattle.babel_tlv.specs.declared.event.Event.TheVariants as events
+use Rattle.babel_tlv.specs.Framing.{TlvAt}
 use Rattle.babel_table.specs.Counts.{Counts, reason_place, count_at}
 
 -- one more ignored TLV at this offset
@@ -9,7 +10,7 @@ abbrev pub one_more : ℕ → Option (ℕ × ℕ) → Option (ℕ × ℕ)
 one_more at None = Some (1, at)
 one_more at (Some counted) = Some (counted.0 + 1, counted.1)
 
--- the counts of TLVs, and of one more that says this at this offset
+-- the counts of ignored TLVs, and of one more TLV that says this at this offset
 abbrev pub ignored_with : List (Option (ℕ × ℕ)) → Event → ℕ → List (Option (ℕ × ℕ))
 ignored_with ignored (events.Announce key ann) at = ignored
 ignored_with ignored (events.Retract key) at = ignored
@@ -18,8 +19,10 @@ ignored_with ignored events.Nothing at = ignored
 ignored_with ignored (events.Ignored reason) at =
     slice_set ignored (reason_place reason) (one_more at (count_at ignored (reason_place reason)))
 
-abbrev pub counted_with : Counts → Event → ℕ → Counts
-counted_with counts event at = record {
+-- the counts of TLVs, and of one more that says this
+abbrev pub counted_with : Counts → TlvAt → Event → Counts
+counted_with counts tlv event = record {
   tlvs = counts.tlvs + 1;
-  ignored = ignored_with counts.ignored event at;
+  updates = counts.updates + (if tlv.kind == 8 then 1 else 0);
+  ignored = ignored_with counts.ignored event tlv.at;
 }

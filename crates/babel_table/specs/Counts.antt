@@ -10,10 +10,11 @@ use Rattle.babel_tlv.specs.declared.event.Event.TheVariants as events
 use Rattle.babel_tlv.specs.declared.fault.Fault.{Fault}
 use Rattle.babel_tlv.specs.Says.{Saying}
 
--- how many TLVs there are, and for each reason, in the order of the reasons, how many were ignored for it and where the
--- first lies
+-- how many TLVs there are, how many of them are Updates, and for each reason, in the order of the reasons, how many were
+-- ignored for it and where the first lies
 pub record Counts : Type 0 where
   pub tlvs : ℕ
+  pub updates : ℕ
   pub ignored : List (Option (ℕ × ℕ))
 
 -- the place of a reason in their order
@@ -56,5 +57,13 @@ ignored_in sayings reason =
     let is_one : Saying → Bool = λ saying. is_ignored_for reason saying.what in
     option_map (λ saying. (count_by is_one sayings, saying.at)) (find is_one sayings)
 
+-- RFC 8966, 4.6.9: an Update, whatever it holds
+abbrev pub is_update : Saying → Bool
+is_update saying = saying.kind == 8
+
 abbrev pub counts_of : List Saying → Counts
-counts_of sayings = record { tlvs = length sayings; ignored = map (ignored_in sayings) all_reasons }
+counts_of sayings = record {
+  tlvs = length sayings;
+  updates = count_by is_update sayings;
+  ignored = map (ignored_in sayings) all_reasons;
+}

@@ -38,9 +38,9 @@ pub record StandsBehind (mode : Mode) (entries : ℕ) (table : Routes)
 abbrev pub routes : List (RouteKey × Held) → Counts → Routes
 routes rows report = record { rows = rows; report = report }
 
--- a TLV at this offset says this
-abbrev pub event_at : ℕ → Event → Saying
-event_at at event = record { at = at; what = Ok event }
+-- a TLV says this
+abbrev pub event_at : TlvAt → Event → Saying
+event_at tlv event = record { at = tlv.at; kind = tlv.kind; what = Ok event }
 
 -- an event that may need memory: a route, and in mode Hold a retraction of one key
 abbrev pub MayGrow : Mode → Event → Type 0

@@ -1,5 +1,5 @@
 -- Laws of the definitions: which outcome a dump has is settled by its octets. RFC 8966, 4.2 to 4.6.
-use Rattle.std.specs.Prelude.{◌≡◌, ◌≢◌, ℕ, List, ◌++◌, Contains}
+use Rattle.std.specs.Prelude.{◌≡◌, ◌≢◌, ℕ, List, ◌++◌, Ok, Contains}
 use Rattle.babel_prefix.specs.Address.{Address}
 use Rattle.babel_tlv.specs.declared.event.Event.{Event}
 use Rattle.babel_tlv.specs.declared.event.Event.TheVariants as events
@@ -9,11 +9,11 @@ use Rattle.babel_tlv.specs.declared.mode.Mode.{Mode}
 use Rattle.babel_tlv.specs.declared.mode.Mode.TheVariants as modes
 use Rattle.babel_tlv.specs.Framing.{TlvAt, ReadsAs}
 use Rattle.babel_tlv.specs.Route.{RouteKey, Announcement}
-use Rattle.babel_tlv.specs.Says.{sayings}
+use Rattle.babel_tlv.specs.Says.{Saying, sayings}
 use Rattle.babel_table.specs.Bounds.{Bounds}
 use Rattle.babel_table.specs.TableOf.{IsTableOf}
 use Rattle.babel_table.specs.DumpFault.{DumpFault, IsTruncated}
-use Rattle.babel_table.specs.Feeding.{NeedsMemory, event_at}
+use Rattle.babel_table.specs.Feeding.{NeedsMemory}
 use Rattle.babel_table.specs.Holds.{Names}
 use Rattle.babel_table.specs.Rows.{Routes}
 
@@ -48,9 +48,9 @@ FaultStays =
 -- some TLV of the whole packets that the octets begin with says such an event
 abbrev pub SomeTlvSays : Address → List ℕ → (Event → Type 0) → Type 0
 SomeTlvSays sender octets IsSuch =
-    (packets : List (List TlvAt)) × (rest : List ℕ) × (at : ℕ) × (event : Event)
-    × ReadsAs octets packets rest
-    × Contains (sayings sender packets) (event_at at event) × IsSuch event
+    (packets : List (List TlvAt)) × (rest : List ℕ) × (saying : Saying) × (event : Event)
+    × ReadsAs octets packets rest × Contains (sayings sender packets) saying
+    × (saying.what ≡ Ok event) × IsSuch event
 
 -- in mode Plain only an announcement needs memory
 abbrev pub RoutesNeedMemory : Type 0

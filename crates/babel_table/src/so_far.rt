@@ -26,8 +26,8 @@ impl SoFar {
     ghost use Rattle.babel_table.specs.Streams.{FailsAtTlv, FailsInBody, StopsInPackets};
     ghost use Rattle.babel_table.specs.Streams.{TakesPackets, TakesSayings, TakesTlv};
 
-    /// Takes what a TLV says of a route, at this offset.
-    pub fn take(&mut self, verdict: Verdict, route: &Route, at: u64) -> Result<(), Fault>
+    /// Takes what a TLV says of a route.
+    pub fn take(&mut self, tlv: &Tlv<'_>, verdict: Verdict, route: &Route) -> Result<(), Fault>
         requires fits { EventFits (event_of verdict route.now) }
         requires room { self.old.report.tlvs + 1 < 2 ^ 64 }
         ensures mode { self.new.rows.mode ≡ self.old.rows.mode }
@@ -35,13 +35,13 @@ impl SoFar {
         ensures tlvs { self.new.report.tlvs ≡ self.old.report.tlvs + 1 }
 
         // The table behind some TLVs is then that behind these and this one.
-        ensures ok { OnOk result
-            (TakesSayings self.old (event_at at (event_of verdict route.now) ∷ []) self.new) }
-        ensures refused { IfErr result (IsRefused self.old.rows.mode self.old.rows.entries at
-            (event_of verdict route.now) self.old.rows.rows) }
+        ensures ok { OnOk result (TakesSayings self.old
+            (event_at (tlv_value tlv.now) (event_of verdict route.now) ∷ []) self.new) }
+        ensures refused { IfErr result (IsRefused self.old.rows.mode self.old.rows.entries
+            tlv.now.at (event_of verdict route.now) self.old.rows.rows) }
     {
-        self.report.count(verdict, at);
-        let taken = self.rows.take(verdict, route, at);
+        self.report.count(tlv, verdict);
+        let taken = self.rows.take(verdict, route, tlv.at);
         self.rows.are_few();
         taken
     }
@@ -59,7 +59,7 @@ impl SoFar {
         ensures fails { IfErr result (FailsAtTlv self.old state.old (tlv_value tlv.now)) }
     {
         let verdict = state.step(tlv, route)?;
-        self.take(verdict, route, tlv.at)
+        self.take(tlv, verdict, route)
     }
 
     /// Takes the TLVs of a packet's body, whose first octet lies at this offset. If the body is not

@@ -72,7 +72,7 @@ fn omitted_octets(default: Option<Addr>, count: usize) -> u128
     }
 }
 
-/// The address of the first octets of a default prefix, these behind them, and zeros: RFC 8966, 4.6.9.
+/// The address of the first octets of a default prefix, these after them, and zeros: RFC 8966, 4.6.9.
 pub(crate) fn completed(
     family: Family,
     default: Option<Addr>,

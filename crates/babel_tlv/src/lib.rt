@@ -2,8 +2,8 @@
 //! says of routes, and the octets that say one route.
 //!
 //! The crate reads octets that are in memory and keeps nothing of them but a parser state of a few
-//! addresses; no call takes memory. It knows nothing of tables, of files, or of where a packet came
-//! from.
+//! addresses; no call takes memory. The faults of dumps stand here, too, since later crates share
+//! them. It knows nothing of how rows are kept, of files, or of where a packet came from.
 #![tactic(auto)]
 
 mod address;
@@ -52,5 +52,5 @@ pub use tlv::{Tlv, check_body};
 pub use tlvs::Tlvs;
 pub use verdict::Verdict;
 pub use view::View;
-pub use wire::{MAGIC, VERSION};
+pub use wire::{MAGIC, UPDATE, VERSION};
 pub use writing::Writing;

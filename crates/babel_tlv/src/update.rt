@@ -124,7 +124,7 @@ impl<'a> Update<'a> {
         Ok(source.unwrap_or(Prefix::whole(family)))
     }
 
-    /// The sub-TLVs, behind the prefix.
+    /// The sub-TLVs, after the prefix.
     fn sub_tlvs(&self) -> &'a [u8]
         requires { 10 + field_len self.now.body.now ≤ length self.now.body.now }
         ensures { result.now ≡ update_sub_tlvs self.now.body.now }

@@ -5,14 +5,15 @@ pub const MAGIC: u8 = 42;
 /// The second octet of every packet, its Version: RFC 8966, 4.2.
 pub const VERSION: u8 = 2;
 
+/// The type of an Update: RFC 8966, 4.6.9.
+pub const UPDATE: u8 = 8;
+
 /// The type of the one TLV, and of the one sub-TLV, with no length: RFC 8966, 4.6.1, 4.7.1.
 pub(crate) const PAD1: u8 = 0;
-/// The TLV types that are read: RFC 8966, 4.6.7, 4.6.8, 4.6.9.
+/// The other TLV types that are read: RFC 8966, 4.6.7, 4.6.8.
 pub(crate) const ROUTER_ID: u8 = 6;
 
 pub(crate) const NEXT_HOP: u8 = 7;
-
-pub(crate) const UPDATE: u8 = 8;
 
 /// Address encodings: RFC 8966, 4.1.4.
 pub(crate) const AE_WILDCARD: u8 = 0;

@@ -29,5 +29,5 @@ invariant_of-self c =
     let all = c.self.inside.ignored in
     let place = c.place_of-place.result in
     let tlvs = c.self.inside.tlvs in
-    let one = rw (slice_get-get_or all place None (omega (arith, c.self.invariant.0, c.place_of-place.ensures.in_order))) at (c.self.invariant.1 place) in
-    (length-set all place c.one_more_of.result ∙ c.self.invariant.0, set-within all place tlvs c.one_more_of.result c.self.invariant.1 (rw c.one_more_of.ensures (one_more-within c.args.at tlvs _ one)))
+    let one = rw (slice_get-get_or all place None (omega (arith, c.self.invariant.0, c.place_of-place.ensures.in_order))) at (c.self.invariant.2 place) in
+    (length-set all place c.one_more_of.result ∙ c.self.invariant.0, omega (arith, c.self.invariant.1, c.one_if_update.ensures.few), set-within all place tlvs c.one_more_of.result c.self.invariant.2 (rw c.one_more_of.ensures (one_more-within c.args.tlv.now.at tlvs _ one)))
