@@ -30,7 +30,7 @@ within_ok limit at (Ok n) len is =
 limit_after : (before : Before) (content : Content) → (context_after before content).limit ≡ before.limit
 limit_after before (file order interface) = refl
 limit_after before (section order) = refl
-limit_after before (describes interface) = refl
+limit_after before (describes interface name) = refl
 limit_after before (holds packet) = refl
 limit_after before nothing = refl
 

@@ -115,7 +115,7 @@ not_compared reader other untouched (inr (memory, sound, other_sound)) = absurd 
 
 -- a job's fault is not that of a write
 no_write : (job : Job) (reader other : Reads) (untouched : Type 0) → CauseBy job reader other untouched run_faults.Write → ⊥
-no_write (jobs.Show reading format file) reader other untouched cause = cause
+no_write (jobs.Show reading format file quiet) reader other untouched cause = cause
 no_write (jobs.Lookup reading pair format file quiet) reader other untouched cause = cause
 no_write (jobs.Each reading format file pairs quiet) reader other untouched (inl (refuses, unread)) = absurd cc
 no_write (jobs.Each reading format file pairs quiet) reader other untouched (inr (asked, no_failure, cause)) = cause
@@ -125,7 +125,7 @@ no_write (jobs.Compare reading other_reading view format file another quiet) rea
 no_write (jobs.Differences reading other_reading view count format file another quiet) reader other untouched (inl cause) = not_compared _ _ untouched cause
 no_write (jobs.Differences reading other_reading view count format file another quiet) reader other untouched (inr (many, have)) = absurd cc
 no_write (jobs.Senders reading format file quiet) reader other untouched cause = cause
-no_write (jobs.Extract reading sender interface hex file quiet) reader other untouched cause = cause
+no_write (jobs.Extract reading sender place hex file quiet) reader other untouched cause = cause
 
 other_called : (calls : Option Calls) (untouched : Type 0) (writer : Output) (found : Result Found RunFault) (result : Result Outcome RunFault)
     → OtherCalled calls untouched found → Finished writer found result → OtherCalled calls untouched result

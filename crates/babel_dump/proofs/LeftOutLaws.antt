@@ -28,3 +28,10 @@ none_among counts (reason ∷ rest) is =
 
 pub leaves_none : (counts : Counts) → first_left_out counts ≡ None → LeavesNoneOut counts
 leaves_none counts is = none_among counts all_reasons is
+
+among_none : (counts : Counts) (reasons : List Reason) → AllByRecursion (λ reason. count_at counts.left_out (reason_place reason) ≡ None) reasons → first_among counts reasons ≡ None
+among_none counts [] none = refl
+among_none counts (reason ∷ rest) none = rw (none.0, among_none counts rest none.1) refl
+
+pub none_is_first_left_out : (counts : Counts) → LeavesNoneOut counts → first_left_out counts ≡ None
+none_is_first_left_out counts none = among_none counts all_reasons none

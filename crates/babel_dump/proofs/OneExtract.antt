@@ -1,4 +1,4 @@
--- A sender on an interface that is named is on no other.
+-- A sender at a place that is named is at no other.
 use Rattle.std.proofs.Common.{ℕ, Bool, true, false, List, Option, None, ◌∙◌, ◌≤◌, length, arith}
 use Rattle.babel_capture.specs.Capture.{IsReadToCut}
 use Rattle.babel_capture.specs.Gathering.{Gathering}
@@ -9,14 +9,14 @@ use Rattle.babel_dump.specs.OneOutcome.{NamedIsNotSeveral}
 
 -- a capture that is read so is one that may be cut somewhere
 to_cut : (accept_cut : Bool) (limit : ℕ) (octets : List ℕ) (gathering : Gathering) (cut : Option ℕ) → IsReadSo accept_cut limit octets gathering cut
-    → (place : Option ℕ) × IsReadToCut limit octets gathering place
+    → (at : Option ℕ) × IsReadToCut limit octets gathering at
 to_cut false limit octets gathering cut read = (None, uncut limit octets gathering read.0)
 to_cut true limit octets gathering cut read = (cut, read)
 
 pub named_is_not_several : NamedIsNotSeveral
-named_is_not_several reader sender interface interfaces named several =
+named_is_not_several reader sender place interfaces named several =
     let given = several.gave.given in
     let read = to_cut reader.reading.accept_cut reader.reading.limit given.octets several.gathering several.cut given.is_read in
     let few : length several.gathering.senders ≤ 1 =
-    named_is_one reader.reading.limit given.octets several.gathering read.0 sender interface read.1 (given.wanted ∙ named) in
+    named_is_one reader.reading.limit given.octets several.gathering read.0 sender place read.1 (given.wanted ∙ named) in
     omega (arith, few, several.several)

@@ -27,28 +27,29 @@ use Rattle.babel_canon.proofs.OneOutcome.{boxes_same, form_is_one}
 use Rattle.babel_canon.proofs.OneDifferences.{differences_are_one}
 use Rattle.babel_canon.proofs.OneVerdict.{verdict_is_one}
 use Rattle.babel_dump.specs.AskedPairs.{AskFor, IsFirstWrong, asking, lines_of}
-use Rattle.babel_dump.specs.CaptureGiven.{CaptureInput, GaveSound, IsReadSo}
+use Rattle.babel_dump.specs.CaptureGiven.{GaveCapture, GaveSound, IsReadSo}
 use Rattle.babel_dump.specs.CaptureRun.{CaptureCause, IsOutcomeOf}
 use Rattle.babel_dump.specs.CaptureText.{dump_status, dump_text, senders_in, senders_status}
 use Rattle.babel_dump.specs.Command.{CompareCause, Compares, DifferencesCause, HaveDifferences, InTurn, IsOfMany, IsOfMemory, ListsDifferences, ListsPairs, WritesNormal}
 use Rattle.babel_dump.specs.Each.{EachCause, GavePairsOf, GaveText, LooksUpAsked, RefusesPairs}
-use Rattle.babel_dump.specs.Given.{GaveAll, GaveDump, GaveIgnored, GaveTable, GaveTables, Input, IsFaultOfForm, IsFaultOfGiven, IsOfWhole, Reads, dump_of}
+use Rattle.babel_dump.specs.Given.{GaveAll, GaveDump, GaveTable, GaveUnread, GaveTables, Input, IsFaultOfForm, IsFaultOfGiven, IsOfWhole, Reads, dump_of}
 use Rattle.babel_dump.specs.InFormat.{answer_line_in, differences_or_count_in, each_in, lookup_in, pairs_or_counts_in, show_in, verdict_in}
-use Rattle.babel_dump.specs.JobRun.{CauseBy, SaysBy, capture_of, wanted_of}
-use Rattle.babel_dump.specs.OneOutcome.{FaultIsOfAll, FaultIsOne, IsOfDump, IsOfOctets, NothingWritten, OutcomeIsOne, OutcomeOrFault, RanOver, WrittenIsPrefix, octets_at, reading_at}
+use Rattle.babel_dump.specs.JobRun.{CauseBy, SaysBy, capture_of}
+use Rattle.babel_dump.specs.OneOutcome.{Contents, FaultIsOfAll, FaultIsOne, HasContents, IsOfDump, IsOfOctets, NothingWritten, OutcomeIsOne, OutcomeOrFault, RanOver, WrittenIsPrefix, octets_at, reading_at}
 use Rattle.babel_dump.specs.Run.{InputCause, OfFirst, UnlessWrite}
 use Rattle.babel_dump.specs.RunText.{answer_in, differences_status, each_status, form_text, lookup_status, verdict_status}
 use Rattle.babel_dump.specs.TextParts.{lacks_route}
-use Rattle.babel_dump.specs.Ignored.{IgnoresNone, first_ignored}
+use Rattle.babel_dump.specs.LeftOut.{first_left_out}
+use Rattle.babel_dump.specs.Strict.{IsNotReadWhole, IsReadWhole}
 use Rattle.babel_dump.specs.declared.addr_pair.AddrPair.{AddrPair}
 use Rattle.babel_dump.specs.declared.capture_reading.CaptureReading.{CaptureReading}
 use Rattle.babel_dump.specs.declared.format.Format.{Format}
-use Rattle.babel_dump.specs.declared.ignored.IgnoredTlv.{IgnoredTlv}
 use Rattle.babel_dump.specs.declared.input_fault.InputFault.{InputFault}
 use Rattle.babel_dump.specs.declared.input_fault.InputFault.TheVariants as input_faults
 use Rattle.babel_dump.specs.declared.interfaces.Interfaces.{Interfaces}
 use Rattle.babel_dump.specs.declared.job.Job.{Job}
 use Rattle.babel_dump.specs.declared.job.Job.TheVariants as jobs
+use Rattle.babel_dump.specs.declared.left_out.LeftOutDatagram.{LeftOutDatagram}
 use Rattle.babel_dump.specs.declared.outcome.Outcome.{Outcome}
 use Rattle.babel_dump.specs.declared.outcome.Reports.TheVariants as reports
 use Rattle.babel_dump.specs.declared.pairs_fault.PairsFault.TheVariants as pairs_faults
@@ -58,7 +59,8 @@ use Rattle.babel_dump.specs.declared.run_fault.RunFault.TheVariants as run_fault
 use Rattle.babel_dump.specs.declared.run_fault.Side.{Side}
 use Rattle.babel_dump.specs.declared.run_fault.Side.TheVariants as sides
 use Rattle.babel_dump.proofs.AskedLaws.{first_wrong_one, not_wrong, same_tests, same_texts}
-use Rattle.babel_dump.proofs.IgnoredLaws.{none_is_first}
+use Rattle.babel_dump.proofs.LeftOutLaws.{none_is_first_left_out}
+use Rattle.babel_dump.proofs.StrictLaws.{not_whole_one, whole_or_not}
 
 -- the octets that a reader gave are the first of those that it had
 begins : (old new : Option (List ℕ)) (dump given : List ℕ) → old ≡ Some dump → Consumes old new given → (rest : List ℕ) × (dump ≡ given ++ rest)
@@ -83,51 +85,55 @@ pub record IsDump (reading : Reading) (dump : List ℕ) (table : Routes) : Type 
   pub accepted : HasNoFault reading.limits reading.mode reading.sender dump
   pub is_table : IsTableOf reading.limits reading.mode reading.sender dump table
 
--- and no TLV of it was ignored if it is read strictly
-pub record IsSound (reading : Reading) (dump : List ℕ) (table : Routes) : Type 0 where
-  pub whole : IsDump reading dump table
-  pub strict : reading.strict ≡ true → IgnoresNone table.report
+-- and nothing of it was left unread if it is read strictly
+pub record IsSound (reading : Reading) (dump : Contents) (table : Routes) : Type 0 where
+  pub whole : IsDump reading dump.octets table
+  pub strict : reading.strict ≡ true → IsReadWhole dump.left_out table.report
 
--- it is read strictly, and this TLV of it is the first that was ignored
-pub record IsIgnored (reading : Reading) (dump : List ℕ) (tlv : IgnoredTlv) : Type 0 where
+-- it is read strictly, and refused with this fault
+pub record IsUnread (reading : Reading) (dump : Contents) (fault : InputFault) : Type 0 where
   pub table : Routes
-  pub whole : IsDump reading dump table
+  pub whole : IsDump reading dump.octets table
   pub strict : reading.strict ≡ true
-  pub first : first_ignored table.report ≡ Some tlv
+  pub unread : IsNotReadWhole dump.left_out table.report fault
 
-is_dump : (reader : Input) (dump : List ℕ) (table : Routes) → reader.old.left ≡ Some dump → GaveDump reader table → IsDump reader.reading dump table
+is_dump : (reader : Input) (dump : Contents) (table : Routes) → HasContents reader.old dump → GaveDump reader table → IsDump reader.reading dump.octets table
 is_dump reader dump table has given =
-    let same = gave_all reader dump given.dump has given.gave in record {
+    let same = gave_all reader dump.octets given.dump has.octets given.gave in record {
       accepted = subst (λ (d : List ℕ). HasNoFault reader.reading.limits reader.reading.mode reader.reading.sender d) same given.accepted;
       is_table = subst (λ (d : List ℕ). IsTableOf reader.reading.limits reader.reading.mode reader.reading.sender d table) same given.is_table;
     }
 
-sound : (reader : Input) (dump : List ℕ) (table : Routes) → reader.old.left ≡ Some dump → GaveTable reader table → IsSound reader.reading dump table
-sound reader dump table has gave = record { whole = is_dump reader dump table has gave.given; strict = gave.strict }
+sound : (reader : Input) (dump : Contents) (table : Routes) → HasContents reader.old dump → GaveTable reader table → IsSound reader.reading dump table
+sound reader dump table has gave = record {
+  whole = is_dump reader dump table has gave.given;
+  strict = λ is. subst (λ (l : Option LeftOutDatagram). IsReadWhole l table.report) has.left_out (gave.strict is);
+}
 
-is_ignored : (reader : Input) (dump : List ℕ) (tlv : IgnoredTlv) → reader.old.left ≡ Some dump → GaveIgnored reader tlv → IsIgnored reader.reading dump tlv
-is_ignored reader dump tlv has gave =
-    record { table = gave.table; whole = is_dump reader dump gave.table has gave.given; strict = gave.strict; first = gave.first }
+is_unread : (reader : Input) (dump : Contents) (fault : InputFault) → HasContents reader.old dump → GaveUnread reader fault → IsUnread reader.reading dump fault
+is_unread reader dump fault has gave = record {
+  table = gave.table;
+  whole = is_dump reader dump gave.table has gave.given;
+  strict = gave.strict;
+  unread = subst (λ (l : Option LeftOutDatagram). IsNotReadWhole l gave.table.report fault) has.left_out gave.unread;
+}
 
 dump_one : (reading : Reading) (dump : List ℕ) (table other : Routes) → IsDump reading dump table → IsDump reading dump other → table ≡ other
 dump_one reading dump table other one two = table_is_one _ _ _ dump table other one.is_table two.is_table
 
-sound_one : (reading : Reading) (dump : List ℕ) (table other : Routes) → IsSound reading dump table → IsSound reading dump other → table ≡ other
-sound_one reading dump table other one two = dump_one reading dump table other one.whole two.whole
+sound_one : (reading : Reading) (dump : Contents) (table other : Routes) → IsSound reading dump table → IsSound reading dump other → table ≡ other
+sound_one reading dump table other one two = dump_one reading dump.octets table other one.whole two.whole
 
--- one TLV is the first that was ignored, and none of a sound dump
-ignored_one : (reading : Reading) (dump : List ℕ) (tlv other : IgnoredTlv) → IsIgnored reading dump tlv → IsIgnored reading dump other → tlv ≡ other
-ignored_one reading dump tlv other one two =
-    let same = ap (λ (t : Routes). first_ignored t.report) (dump_one reading dump one.table two.table one.whole two.whole) in
-    let tlvs : Some tlv ≡ Some other = sym one.first ∙ same ∙ two.first in
-    cc
+-- it is refused with one fault, and not where it is sound
+unread_one : (reading : Reading) (dump : Contents) (fault too : InputFault) → IsUnread reading dump fault → IsUnread reading dump too → fault ≡ too
+unread_one reading dump fault too one two =
+    let same = dump_one reading dump.octets one.table two.table one.whole two.whole in
+    not_whole_one dump.left_out two.table.report fault too (subst (λ (t : Routes). IsNotReadWhole dump.left_out t.report fault) same one.unread) two.unread
 
-sound_ignores_none : (reading : Reading) (dump : List ℕ) (table : Routes) (tlv : IgnoredTlv) → IsSound reading dump table → IsIgnored reading dump tlv → ⊥
-sound_ignores_none reading dump table tlv is ignored =
-    let same = ap (λ (t : Routes). first_ignored t.report) (dump_one reading dump table ignored.table is.whole ignored.whole) in
-    let none = none_is_first table.report (is.strict ignored.strict) in
-    let tlvs : None ≡ Some tlv = sym none ∙ same ∙ ignored.first in
-    absurd cc
+sound_is_read : (reading : Reading) (dump : Contents) (table : Routes) (fault : InputFault) → IsSound reading dump table → IsUnread reading dump fault → ⊥
+sound_is_read reading dump table fault is unread =
+    let same = dump_one reading dump.octets table unread.table is.whole unread.whole in
+    whole_or_not dump.left_out unread.table.report fault (subst (λ (t : Routes). IsReadWhole dump.left_out t.report) same (is.strict unread.strict)) unread.unread
 
 -- the fault of what a reader gave is that of all that it had
 lasts : (fault : Fault) → (IsTruncated fault → IsOfWhole fault)
@@ -166,7 +172,7 @@ fault_of_all reader dump fault has given = elim (truncated_or_not fault) [
 -- ---- what a job says
 
 -- a dump has one table, from whichever reader
-table_one : (reading : Reading) (dump : List ℕ) (one two : Reads) (table too : Routes) → one.old.left ≡ Some dump → two.old.left ≡ Some dump
+table_one : (reading : Reading) (dump : Contents) (one two : Reads) (table too : Routes) → HasContents one.old dump → HasContents two.old dump
     → GaveTable (dump_of one reading) table → GaveTable (dump_of two reading) too → table ≡ too
 table_one reading dump one two table too has has_too gave gave_too =
     sound_one reading dump table too (sound (dump_of one reading) dump table has gave) (sound (dump_of two reading) dump too has_too gave_too)
@@ -181,16 +187,16 @@ table_says_one text_of status_of table too text text_too outcome outcome_too sam
   outcome_is ∙ ap (λ (t : Routes). record { status = status_of t; reports = reports.Dump t.report }) same ∙ sym too_outcome,
 )
 
-normal_one : (reading : Reading) (view : View) (body : ℕ) (hex : Bool) (dump : List ℕ) (one two : Reads) (text text_too : List ℕ) (outcome outcome_too : Outcome)
-    → one.old.left ≡ Some dump → two.old.left ≡ Some dump
+normal_one : (reading : Reading) (view : View) (body : ℕ) (hex : Bool) (dump : Contents) (one two : Reads) (text text_too : List ℕ) (outcome outcome_too : Outcome)
+    → HasContents one.old dump → HasContents two.old dump
     → WritesNormal (dump_of one reading) view body hex text outcome → WritesNormal (dump_of two reading) view body hex text_too outcome_too
     → (text ≡ text_too) × (outcome ≡ outcome_too)
 normal_one reading view body hex dump one two text text_too outcome outcome_too has has_too says again =
-    let of_all : (reader : Reads) (octets given : List ℕ) → reader.old.left ≡ Some dump → GaveAll (dump_of reader reading) given
+    let of_all : (reader : Reads) (octets given : List ℕ) → HasContents reader.old dump → GaveAll (dump_of reader reading) given
     → Normalises (seen_rows view) reading.limits reading.mode body (sent reading.sender given) octets
-    → Normalises (seen_rows view) reading.limits reading.mode body (sent reading.sender dump) octets =
+    → Normalises (seen_rows view) reading.limits reading.mode body (sent reading.sender dump.octets) octets =
     λ reader octets given has gave normal. subst (λ (d : List ℕ). Normalises (seen_rows view) reading.limits reading.mode body (sent reading.sender d) octets)
-    (gave_all (dump_of reader reading) dump given has gave) normal in
+    (gave_all (dump_of reader reading) dump.octets given has.octets gave) normal in
     let same = form_is_one (seen_rows view) _ _ body _ says.octets again.octets
     (of_all one says.octets _ has says.gave.gave.given.gave says.gave.under.normalises)
     (of_all two again.octets _ has_too again.gave.gave.given.gave again.gave.under.normalises) in
@@ -200,8 +206,8 @@ normal_one reading view body hex dump one two text text_too outcome outcome_too 
       says.outcome_is ∙ ap (λ r. record { status = 0; reports = reports.Dump r }) reported ∙ sym again.outcome_is,
     )
 
-pairs_one : (reading : Reading) (view : View) (count : Bool) (format : Format) (dump : List ℕ) (one two : Reads) (text text_too : List ℕ) (outcome outcome_too : Outcome)
-    → one.old.left ≡ Some dump → two.old.left ≡ Some dump
+pairs_one : (reading : Reading) (view : View) (count : Bool) (format : Format) (dump : Contents) (one two : Reads) (text text_too : List ℕ) (outcome outcome_too : Outcome)
+    → HasContents one.old dump → HasContents two.old dump
     → ListsPairs (dump_of one reading) view count format text outcome → ListsPairs (dump_of two reading) view count format text_too outcome_too
     → (text ≡ text_too) × (outcome ≡ outcome_too)
 pairs_one reading view count format dump one two text text_too outcome outcome_too has has_too says again =
@@ -220,8 +226,8 @@ differences_same rows rows_too others others_too differences too left right one 
     differences_are_one rows_too others_too differences too
     (subst (λ (r : List Pair). AreDifferences rows_too r differences) right (subst (λ (r : List Pair). AreDifferences r others differences) left one)) two
 
-module _ (reading other_reading : Reading) (view : View) (dump other : List ℕ) (one two one_other two_other : Reads)
-    (has : one.old.left ≡ Some dump) (has_too : two.old.left ≡ Some dump) (other_has : one_other.old.left ≡ Some other) (other_has_too : two_other.old.left ≡ Some other) where
+module _ (reading other_reading : Reading) (view : View) (dump other : Contents) (one two one_other two_other : Reads)
+    (has : HasContents one.old dump) (has_too : HasContents two.old dump) (other_has : HasContents one_other.old other) (other_has_too : HasContents two_other.old other) where
   tables_one : (table other_table too other_too : Routes) → GaveTables (dump_of one reading) (dump_of one_other other_reading) table other_table
       → GaveTables (dump_of two reading) (dump_of two_other other_reading) too other_too → (table ≡ too) × (other_table ≡ other_too)
   tables_one table other_table too other_too gave gave_too = (
@@ -282,8 +288,8 @@ asked_by reader text pairs has gave =
       asked = subst (λ (t : List ℕ). AskFor (lines_of t) pairs) same gave.asked;
     }
 
-each_one : (reading : Reading) (format : Format) (dump pairs : List ℕ) (one two one_pairs two_pairs : Reads) (text text_too : List ℕ) (outcome outcome_too : Outcome)
-    → one.old.left ≡ Some dump → two.old.left ≡ Some dump → one_pairs.old.left ≡ Some pairs → two_pairs.old.left ≡ Some pairs
+each_one : (reading : Reading) (format : Format) (dump pairs : Contents) (one two one_pairs two_pairs : Reads) (text text_too : List ℕ) (outcome outcome_too : Outcome)
+    → HasContents one.old dump → HasContents two.old dump → HasContents one_pairs.old pairs → HasContents two_pairs.old pairs
     → LooksUpAsked (dump_of one reading) (dump_of one_pairs reading) format text outcome
     → LooksUpAsked (dump_of two reading) (dump_of two_pairs reading) format text_too outcome_too
     → (text ≡ text_too) × (outcome ≡ outcome_too)
@@ -292,10 +298,10 @@ each_one reading format dump pairs one two one_pairs two_pairs text text_too out
     let second = again.answers in
     let same = table_one reading dump one two first.table second.table has has_too first.gave second.gave in
     let table = second.table in
-    let asked = (asked_by (dump_of one_pairs reading) pairs says.asked pairs_has says.gave).asked in
-    let asked_too = (asked_by (dump_of two_pairs reading) pairs again.asked pairs_has_too again.gave).asked in
-    let texts = same_texts (λ dst src. answer_line_in format dst src (answer_in table dst src)) (asking (lines_of pairs)) says.asked again.asked asked asked_too in
-    let tests = same_tests (lacks_route table) (asking (lines_of pairs)) says.asked again.asked asked asked_too in
+    let asked = (asked_by (dump_of one_pairs reading) pairs.octets says.asked pairs_has.octets says.gave).asked in
+    let asked_too = (asked_by (dump_of two_pairs reading) pairs.octets again.asked pairs_has_too.octets again.gave).asked in
+    let texts = same_texts (λ dst src. answer_line_in format dst src (answer_in table dst src)) (asking (lines_of pairs.octets)) says.asked again.asked asked asked_too in
+    let tests = same_tests (lacks_route table) (asking (lines_of pairs.octets)) says.asked again.asked asked asked_too in
     table_says_one (λ t. each_in format t again.asked) (λ t. each_status t again.asked) first.table table text text_too outcome outcome_too same
     (first.text_is ∙ ap (λ (t : Routes). each_in format t says.asked) same ∙ texts ∙ ap (λ (t : Routes). each_in format t again.asked) (sym same))
     (first.outcome_is ∙ ap (λ (s : ℕ). record { status = s; reports = reports.Dump first.table.report })
@@ -309,18 +315,31 @@ read_one false limit octets one other cut other_cut read again wanted =
     (capture_is_one limit octets one other read.0 again.0 wanted, read.1 ∙ sym again.1)
 read_one true limit octets one other cut other_cut read again wanted = cut_capture_is_one limit octets one other cut other_cut read again wanted
 
-module _ (reading : CaptureReading) (wanted : Wanted) (octets : List ℕ) (one two : Reads) (has : one.old.left ≡ Some octets) (has_too : two.old.left ≡ Some octets) where
+-- the octets are a capture of which this is read, of the wanted datagrams
+pub record IsGatheringOf (reading : CaptureReading) (wanted : Wanted) (octets : List ℕ) (gathering : Gathering) (cut : Option ℕ) : Type 0 where
+  pub is_read : IsReadSo reading.accept_cut reading.limit octets gathering cut
+  pub wanted_is : gathering.wanted ≡ wanted
+
+reads_one : (reading : CaptureReading) (wanted : Wanted) (octets : List ℕ) (one two : Gathering) (cut cut_too : Option ℕ) → IsGatheringOf reading wanted octets one cut
+    → IsGatheringOf reading wanted octets two cut_too → (one ≡ two) × (cut ≡ cut_too)
+reads_one reading wanted octets one two cut cut_too is is_too =
+    read_one reading.accept_cut reading.limit octets one two cut cut_too is.is_read is_too.is_read (is.wanted_is ∙ sym is_too.wanted_is)
+
+is_read : (reading : CaptureReading) (wanted : Wanted) (reader : Reads) (contents : Contents) (gathering : Gathering) (cut : Option ℕ) → HasContents reader.old contents
+    → GaveCapture (capture_of reader reading wanted) gathering cut → IsGatheringOf reading wanted contents.octets gathering cut
+is_read reading wanted reader contents gathering cut has gave =
+    let all = all_of reader.old.left reader.new.left contents.octets gave.octets has.octets gave.gave.gave gave.gave.all in record {
+      is_read = subst (λ (t : List ℕ). IsReadSo reading.accept_cut reading.limit t gathering cut) all gave.is_read;
+      wanted_is = gave.wanted;
+    }
+
+module _ (reading : CaptureReading) (wanted : Wanted) (contents : Contents) (one two : Reads) (has : HasContents one.old contents) (has_too : HasContents two.old contents) where
   gathering_one : (gathering too : Gathering) (cut cut_too : Option ℕ) → GaveSound (capture_of one reading wanted) gathering cut
       → GaveSound (capture_of two reading wanted) too cut_too → (gathering ≡ too) × (cut ≡ cut_too)
   gathering_one gathering too cut cut_too sound again =
-      let given = sound.given in
-      let given_too = again.given in
-      let all : given.octets ≡ octets = all_of one.old.left one.new.left octets given.octets has given.gave.gave given.gave.all in
-      let all_too : given_too.octets ≡ octets = all_of two.old.left two.new.left octets given_too.octets has_too given_too.gave.gave given_too.gave.all in
-      read_one reading.accept_cut reading.limit octets gathering too cut cut_too
-      (subst (λ (t : List ℕ). IsReadSo reading.accept_cut reading.limit t gathering cut) all given.is_read)
-      (subst (λ (t : List ℕ). IsReadSo reading.accept_cut reading.limit t too cut_too) all_too given_too.is_read)
-      (given.wanted ∙ sym given_too.wanted)
+      let read = is_read reading wanted one contents gathering cut has sound.given in
+      let read_too = is_read reading wanted two contents too cut_too has_too again.given in
+      reads_one reading wanted contents.octets gathering too cut cut_too read read_too
 
   -- what is said of it is one
   capture_says_one : (text_of : Gathering → List ℕ) (status_of : Gathering → ℕ) (gathering too : Gathering) (cut cut_too : Option ℕ) (text text_too : List ℕ) (outcome outcome_too : Outcome)
@@ -335,10 +354,10 @@ module _ (reading : CaptureReading) (wanted : Wanted) (octets : List ℕ) (one t
             ∙ ap (λ (c : Option ℕ). record { status = status_of too; reports = reports.Capture too.report c }) same.1 ∙ sym too_outcome,
       )
 
-says_one : (job : Job) (octets other : List ℕ) (one two one_other two_other : Reads) (text text_too : List ℕ) (outcome outcome_too : Outcome)
-    → one.old.left ≡ Some octets → two.old.left ≡ Some octets → one_other.old.left ≡ Some other → two_other.old.left ≡ Some other
+says_one : (job : Job) (octets other : Contents) (one two one_other two_other : Reads) (text text_too : List ℕ) (outcome outcome_too : Outcome)
+    → HasContents one.old octets → HasContents two.old octets → HasContents one_other.old other → HasContents two_other.old other
     → SaysBy job one one_other text outcome → SaysBy job two two_other text_too outcome_too → (text ≡ text_too) × (outcome ≡ outcome_too)
-says_one (jobs.Show reading format file) octets other one two one_other two_other text text_too outcome outcome_too has has_too other_has other_has_too says again =
+says_one (jobs.Show reading format file quiet) octets other one two one_other two_other text text_too outcome outcome_too has has_too other_has other_has_too says again =
     table_says_one (show_in format) (λ _. 0) says.table again.table text text_too outcome outcome_too
     (table_one reading octets one two says.table again.table has has_too says.gave again.gave) says.text_is says.outcome_is again.text_is again.outcome_is
 says_one (jobs.Lookup reading pair format file quiet) octets other one two one_other two_other text text_too outcome outcome_too has has_too other_has other_has_too says again =
@@ -356,22 +375,22 @@ says_one (jobs.Compare reading other_reading view format file another quiet) oct
 says_one (jobs.Differences reading other_reading view count format file another quiet) octets other one two one_other two_other text text_too outcome outcome_too has has_too other_has other_has_too says again =
     lists_one reading other_reading view octets other one two one_other two_other has has_too other_has other_has_too count format text text_too outcome outcome_too says again
 says_one (jobs.Senders reading format file quiet) octets other one two one_other two_other text text_too outcome outcome_too has has_too other_has other_has_too says again =
-    capture_says_one reading wanteds.Everyone octets one two has has_too (λ g. senders_in format g.senders) (λ g. senders_status g.senders) says.gathering again.gathering says.cut again.cut
+    capture_says_one reading wanteds.Everyone octets one two has has_too (senders_in format) (λ g. senders_status g.senders) says.gathering again.gathering says.cut again.cut
     text text_too outcome outcome_too says.gave again.gave says.text_is says.outcome_is again.text_is again.outcome_is
-says_one (jobs.Extract reading sender interface hex file quiet) octets other one two one_other two_other text text_too outcome outcome_too has has_too other_has other_has_too says again =
-    capture_says_one reading (wanted_of sender interface) octets one two has has_too (λ g. dump_text hex g.dump) (λ g. dump_status g.dump) says.gathering again.gathering says.cut again.cut
+says_one (jobs.Extract reading sender place hex file quiet) octets other one two one_other two_other text text_too outcome outcome_too has has_too other_has other_has_too says again =
+    capture_says_one reading (wanteds.Sender sender place) octets one two has has_too (λ g. dump_text hex g.dump) (λ g. dump_status g.dump) says.gathering again.gathering says.cut again.cut
     text text_too outcome outcome_too says.gave again.gave says.text_is says.outcome_is again.text_is again.outcome_is
 
 -- ---- the fault that a job has of octets
 
--- the fault is a dump's own, or that a TLV of it was ignored
-abbrev pub FaultOfDump : Reading → List ℕ → InputFault → Type 0
+-- the fault is a dump's own, or that of strict reading
+abbrev pub FaultOfDump : Reading → Contents → InputFault → Type 0
 FaultOfDump reading dump fault =
-    ((own : Fault) × (fault ≡ input_faults.Dump own) × DumpFault reading.limits reading.mode reading.sender dump own)
-    ⊎ ((tlv : IgnoredTlv) × (fault ≡ input_faults.Ignored tlv) × IsIgnored reading dump tlv)
+    ((own : Fault) × (fault ≡ input_faults.Dump own) × DumpFault reading.limits reading.mode reading.sender dump.octets own)
+    ⊎ IsUnread reading dump fault
 
 -- or that it has too many pairs
-abbrev pub FaultOfForm : Reading → View → List ℕ → InputFault → Type 0
+abbrev pub FaultOfForm : Reading → View → Contents → InputFault → Type 0
 FaultOfForm reading view dump fault =
     FaultOfDump reading dump fault
     ⊎ ((fault ≡ input_faults.Dump faults.TooManyPairs)
@@ -382,13 +401,13 @@ abbrev pub FaultAt : Side → (InputFault → Type 0) → RunFault → Type 0
 FaultAt side Holds fault = (of_input : InputFault) × (fault ≡ run_faults.Input side of_input) × Holds of_input
 
 -- the fault is that of the first dump, or, where that has none, of the other
-abbrev pub FaultOfBoth : Reading → Reading → List ℕ → List ℕ → RunFault → Type 0
+abbrev pub FaultOfBoth : Reading → Reading → Contents → Contents → RunFault → Type 0
 FaultOfBoth reading other_reading dump other fault =
     FaultAt sides.First (FaultOfDump reading dump) fault
     ⊎ (((table : Routes) × IsSound reading dump table) × FaultAt sides.Other (FaultOfDump other_reading other) fault)
 
 -- two dumps have these differences
-pub record Differ (reading other_reading : Reading) (view : View) (dump other : List ℕ) (differences : List Difference) : Type 0 where
+pub record Differ (reading other_reading : Reading) (view : View) (dump other : Contents) (differences : List Difference) : Type 0 where
   pub table : Routes
   pub other_table : Routes
   pub sound : IsSound reading dump table
@@ -396,7 +415,7 @@ pub record Differ (reading other_reading : Reading) (view : View) (dump other : 
   pub are_differences : AreDifferences (seen_rows view table.rows) (seen_rows view other_table.rows) differences
 
 -- the fault is that of two dumps, or, where they have none, that their differences are more than the limit
-abbrev pub FaultOfDifferences : Reading → Reading → View → List ℕ → List ℕ → RunFault → Type 0
+abbrev pub FaultOfDifferences : Reading → Reading → View → Contents → Contents → RunFault → Type 0
 FaultOfDifferences reading other_reading view dump other fault =
     FaultOfBoth reading other_reading dump other fault
     ⊎ (IsOfMany fault × ((differences : List Difference) × Differ reading other_reading view dump other differences × (reading.limits.entries < length differences)))
@@ -407,42 +426,60 @@ FaultOfPairs reading text fault =
     ((line : ℕ) × (fault ≡ run_faults.Pairs (pairs_faults.NotAPair line)) × (length text ≤ reading.limits.bytes) × IsFirstWrong (lines_of text) line)
     ⊎ ((fault ≡ run_faults.Pairs pairs_faults.TooLong) × (reading.limits.bytes < length text))
 
--- the fault that a job has of the octets of its readers
-abbrev pub FaultOf : Job → List ℕ → List ℕ → RunFault → Type 0
-FaultOf (jobs.Show reading format file) octets other fault = FaultAt sides.First (FaultOfDump reading octets) fault
+-- the fault is that a wanted datagram of a capture was left out, which is read strictly
+pub record IsLeftOut (reading : CaptureReading) (wanted : Wanted) (octets : List ℕ) (datagram : LeftOutDatagram) : Type 0 where
+  pub gathering : Gathering
+  pub cut : Option ℕ
+  pub read : IsGatheringOf reading wanted octets gathering cut
+  pub strict : reading.strict ≡ true
+  pub first : first_left_out gathering.report ≡ Some datagram
+
+abbrev pub FaultOfCapture : CaptureReading → Wanted → Contents → InputFault → Type 0
+FaultOfCapture reading wanted contents fault =
+    (datagram : LeftOutDatagram) × (fault ≡ input_faults.LeftOut datagram) × IsLeftOut reading wanted contents.octets datagram
+
+-- the fault that a job has of the octets of its readers, and of what was left out of them
+abbrev pub FaultOf : Job → Contents → Contents → RunFault → Type 0
+FaultOf (jobs.Show reading format file quiet) octets other fault = FaultAt sides.First (FaultOfDump reading octets) fault
 FaultOf (jobs.Lookup reading pair format file quiet) octets other fault = FaultAt sides.First (FaultOfDump reading octets) fault
 FaultOf (jobs.Each reading format file pairs quiet) octets other fault =
-    FaultOfPairs reading other fault ⊎ (((asked : List AddrPair) × AreAskedBy reading other asked) × FaultAt sides.First (FaultOfDump reading octets) fault)
+    FaultOfPairs reading other.octets fault ⊎ (((asked : List AddrPair) × AreAskedBy reading other.octets asked) × FaultAt sides.First (FaultOfDump reading octets) fault)
 FaultOf (jobs.Normalise reading view body hex file quiet) octets other fault = FaultAt sides.First (FaultOfForm reading view octets) fault
 FaultOf (jobs.Pairs reading view count format file quiet) octets other fault = FaultAt sides.First (FaultOfForm reading view octets) fault
 FaultOf (jobs.Compare reading other_reading view format file another quiet) octets other fault = FaultOfBoth reading other_reading octets other fault
 FaultOf (jobs.Differences reading other_reading view count format file another quiet) octets other fault =
     FaultOfDifferences reading other_reading view octets other fault
-FaultOf job octets other fault = ⊥
+FaultOf (jobs.Senders reading format file quiet) octets other fault = FaultAt sides.First (FaultOfCapture reading wanteds.Everyone octets) fault
+FaultOf (jobs.Extract reading sender place hex file quiet) octets other fault =
+    FaultAt sides.First (FaultOfCapture reading (wanteds.Sender sender place) octets) fault
 
 -- a fault of octets that a run answers is that of its job
-of_dump : (reading : Reading) (reader : Reads) (dump : List ℕ) (fault : InputFault) → reader.old.left ≡ Some dump → IsOfDump fault
+of_dump : (reading : Reading) (reader : Reads) (dump : Contents) (fault : InputFault) → HasContents reader.old dump → IsOfDump fault
     → InputCause (dump_of reader reading) (IsFaultOfGiven (dump_of reader reading)) fault → FaultOfDump reading dump fault
-of_dump reading reader dump (input_faults.Dump fault) has is cause = inl (fault, refl, fault_of_all (dump_of reader reading) dump fault has (cause is))
-of_dump reading reader dump (input_faults.Ignored tlv) has is cause = inr (tlv, refl, is_ignored (dump_of reader reading) dump tlv has cause)
+of_dump reading reader dump (input_faults.Dump fault) has is cause = inl (fault, refl, fault_of_all (dump_of reader reading) dump.octets fault has.octets (cause is))
+of_dump reading reader dump (input_faults.Ignored tlv) has is cause = inr (is_unread (dump_of reader reading) dump (input_faults.Ignored tlv) has cause)
 of_dump reading reader dump (input_faults.Capture fault) has is cause = absurd is
-of_dump reading reader dump (input_faults.LeftOut datagram) has is cause = absurd is
+of_dump reading reader dump (input_faults.LeftOut datagram) has is cause = inr (is_unread (dump_of reader reading) dump (input_faults.LeftOut datagram) has cause)
+of_dump reading reader dump input_faults.NoUpdates has is cause = inr (is_unread (dump_of reader reading) dump input_faults.NoUpdates has cause)
 of_dump reading reader dump (input_faults.SeveralInterfaces interfaces) has is cause = absurd is
+of_dump reading reader dump (input_faults.NoPackets sender) has is cause = absurd is
 of_dump reading reader dump input_faults.Read has is cause = absurd is
 
-form_of_all : (reading : Reading) (view : View) (reader : Reads) (dump : List ℕ) (fault : Fault) → reader.old.left ≡ Some dump
+form_of_all : (reading : Reading) (view : View) (reader : Reads) (dump : Contents) (fault : Fault) → HasContents reader.old dump
     → IsFaultOfForm (dump_of reader reading) view fault → FaultOfForm reading view dump (input_faults.Dump fault)
-form_of_all reading view reader dump fault has (inl given) = inl (inl (fault, refl, fault_of_all (dump_of reader reading) dump fault has given))
+form_of_all reading view reader dump fault has (inl given) = inl (inl (fault, refl, fault_of_all (dump_of reader reading) dump.octets fault has.octets given))
 form_of_all reading view reader dump fault has (inr (is, (table, gave, many))) =
     inr (ap (λ (f : Fault). input_faults.Dump f) is, (table, sound (dump_of reader reading) dump table has gave, many))
 
-of_form : (reading : Reading) (view : View) (reader : Reads) (dump : List ℕ) (fault : InputFault) → reader.old.left ≡ Some dump → IsOfDump fault
+of_form : (reading : Reading) (view : View) (reader : Reads) (dump : Contents) (fault : InputFault) → HasContents reader.old dump → IsOfDump fault
     → InputCause (dump_of reader reading) (IsFaultOfForm (dump_of reader reading) view) fault → FaultOfForm reading view dump fault
 of_form reading view reader dump (input_faults.Dump fault) has is cause = form_of_all reading view reader dump fault has (cause is)
-of_form reading view reader dump (input_faults.Ignored tlv) has is cause = inl (inr (tlv, refl, is_ignored (dump_of reader reading) dump tlv has cause))
+of_form reading view reader dump (input_faults.Ignored tlv) has is cause = inl (inr (is_unread (dump_of reader reading) dump (input_faults.Ignored tlv) has cause))
 of_form reading view reader dump (input_faults.Capture fault) has is cause = absurd is
-of_form reading view reader dump (input_faults.LeftOut datagram) has is cause = absurd is
+of_form reading view reader dump (input_faults.LeftOut datagram) has is cause = inl (inr (is_unread (dump_of reader reading) dump (input_faults.LeftOut datagram) has cause))
+of_form reading view reader dump input_faults.NoUpdates has is cause = inl (inr (is_unread (dump_of reader reading) dump input_faults.NoUpdates has cause))
 of_form reading view reader dump (input_faults.SeveralInterfaces interfaces) has is cause = absurd is
+of_form reading view reader dump (input_faults.NoPackets sender) has is cause = absurd is
 of_form reading view reader dump input_faults.Read has is cause = absurd is
 
 -- a fault of the first input
@@ -474,8 +511,8 @@ of_pairs reader text (run_faults.Pairs pairs_faults.Read) has is refuses = absur
 of_pairs reader text (run_faults.Input side fault) has is memory = absurd (not_of_octets (run_faults.Input side fault) memory is)
 of_pairs reader text run_faults.Write has is memory = absurd is
 
-of_turn : (reading other_reading : Reading) (reader second : Reads) (untouched : Type 0) (dump other : List ℕ) (fault : RunFault) → reader.old.left ≡ Some dump
-    → second.old.left ≡ Some other → IsOfOctets fault → InTurn (dump_of reader reading) (dump_of second other_reading) untouched fault
+of_turn : (reading other_reading : Reading) (reader second : Reads) (untouched : Type 0) (dump other : Contents) (fault : RunFault) → HasContents reader.old dump
+    → HasContents second.old other → IsOfOctets fault → InTurn (dump_of reader reading) (dump_of second other_reading) untouched fault
     → FaultOfBoth reading other_reading dump other fault
 of_turn reading other_reading reader second untouched dump other (run_faults.Input sides.First fault) has other_has is cause =
     inl (fault, refl, of_dump reading reader dump fault has is cause.1)
@@ -484,15 +521,15 @@ of_turn reading other_reading reader second untouched dump other (run_faults.Inp
 of_turn reading other_reading reader second untouched dump other (run_faults.Pairs fault) has other_has is cause = absurd cause
 of_turn reading other_reading reader second untouched dump other run_faults.Write has other_has is cause = absurd cause
 
-of_compare : (reading other_reading : Reading) (reader second : Reads) (untouched : Type 0) (dump other : List ℕ) (fault : RunFault) → reader.old.left ≡ Some dump
-    → second.old.left ≡ Some other → IsOfOctets fault → CompareCause (dump_of reader reading) (dump_of second other_reading) untouched fault
+of_compare : (reading other_reading : Reading) (reader second : Reads) (untouched : Type 0) (dump other : Contents) (fault : RunFault) → HasContents reader.old dump
+    → HasContents second.old other → IsOfOctets fault → CompareCause (dump_of reader reading) (dump_of second other_reading) untouched fault
     → FaultOfBoth reading other_reading dump other fault
 of_compare reading other_reading reader second untouched dump other fault has other_has is (inl cause) =
     of_turn reading other_reading reader second untouched dump other fault has other_has is cause
 of_compare reading other_reading reader second untouched dump other fault has other_has is (inr memory) = absurd (not_of_octets fault memory.0 is)
 
-differ : (reading other_reading : Reading) (view : View) (reader second : Reads) (dump other : List ℕ) (table other_table : Routes) (differences : List Difference)
-    → reader.old.left ≡ Some dump → second.old.left ≡ Some other
+differ : (reading other_reading : Reading) (view : View) (reader second : Reads) (dump other : Contents) (table other_table : Routes) (differences : List Difference)
+    → HasContents reader.old dump → HasContents second.old other
     → HaveDifferences (dump_of reader reading) (dump_of second other_reading) view table other_table differences
     → Differ reading other_reading view dump other differences
 differ reading other_reading view reader second dump other table other_table differences has other_has have = record {
@@ -503,8 +540,8 @@ differ reading other_reading view reader second dump other table other_table dif
   are_differences = have.are_differences;
 }
 
-of_differences : (reading other_reading : Reading) (view : View) (reader second : Reads) (untouched : Type 0) (dump other : List ℕ) (fault : RunFault)
-    → reader.old.left ≡ Some dump → second.old.left ≡ Some other → IsOfOctets fault
+of_differences : (reading other_reading : Reading) (view : View) (reader second : Reads) (untouched : Type 0) (dump other : Contents) (fault : RunFault)
+    → HasContents reader.old dump → HasContents second.old other → IsOfOctets fault
     → DifferencesCause (dump_of reader reading) (dump_of second other_reading) view untouched fault
     → FaultOfDifferences reading other_reading view dump other fault
 of_differences reading other_reading view reader second untouched dump other fault has other_has is (inl cause) =
@@ -512,28 +549,38 @@ of_differences reading other_reading view reader second untouched dump other fau
 of_differences reading other_reading view reader second untouched dump other fault has other_has is (inr (many, have)) =
     inr (many, (have.differences, differ reading other_reading view reader second dump other have.table have.other_table have.differences has other_has have.have, have.many))
 
-of_each : (reading : Reading) (reader pairs : Reads) (dump text : List ℕ) (fault : RunFault) → reader.old.left ≡ Some dump → pairs.old.left ≡ Some text
+of_each : (reading : Reading) (reader pairs : Reads) (dump text : Contents) (fault : RunFault) → HasContents reader.old dump → HasContents pairs.old text
     → IsOfOctets fault → EachCause (dump_of reader reading) (dump_of pairs reading) fault
-    → FaultOfPairs reading text fault ⊎ (((asked : List AddrPair) × AreAskedBy reading text asked) × FaultAt sides.First (FaultOfDump reading dump) fault)
-of_each reading reader pairs dump text fault has pairs_has is (inl (refuses, unread)) = inl (of_pairs (dump_of pairs reading) text fault pairs_has is refuses)
+    → FaultOfPairs reading text.octets fault ⊎ (((asked : List AddrPair) × AreAskedBy reading text.octets asked) × FaultAt sides.First (FaultOfDump reading dump) fault)
+of_each reading reader pairs dump text fault has pairs_has is (inl (refuses, unread)) = inl (of_pairs (dump_of pairs reading) text.octets fault pairs_has.octets is refuses)
 of_each reading reader pairs dump text fault has pairs_has is (inr ((asked, gave), no_failure, cause)) =
-    inr ((asked, asked_by (dump_of pairs reading) text asked pairs_has gave), at_first _ _ fault (λ f is cause. of_dump reading reader dump f has is cause) is cause)
+    inr ((asked, asked_by (dump_of pairs reading) text.octets asked pairs_has.octets gave), at_first _ _ fault (λ f is cause. of_dump reading reader dump f has is cause) is cause)
 
--- no fault of a capture is that of a dump's octets
-capture_none : (reader : CaptureInput) (Several : Interfaces → Type 0) (fault : InputFault) → IsOfDump fault → CaptureCause reader Several fault → ⊥
-capture_none reader Several (input_faults.Dump fault) is memory = is memory
-capture_none reader Several (input_faults.Ignored tlv) is cause = cause
-capture_none reader Several (input_faults.Capture fault) is cause = is
-capture_none reader Several (input_faults.LeftOut datagram) is cause = is
-capture_none reader Several (input_faults.SeveralInterfaces interfaces) is cause = is
-capture_none reader Several input_faults.Read is cause = is
+-- of the faults of a capture this is that of what was left out
+of_capture : (reading : CaptureReading) (wanted : Wanted) (reader : Reads) (contents : Contents) (Several : Interfaces → Type 0) (fault : InputFault) → HasContents reader.old contents
+    → IsOfDump fault → CaptureCause (capture_of reader reading wanted) Several fault → FaultOfCapture reading wanted contents fault
+of_capture reading wanted reader contents Several (input_faults.Dump fault) has is memory = absurd (is memory)
+of_capture reading wanted reader contents Several (input_faults.Ignored tlv) has is cause = absurd cause
+of_capture reading wanted reader contents Several (input_faults.Capture fault) has is cause = absurd is
+of_capture reading wanted reader contents Several (input_faults.LeftOut datagram) has is cause = (
+  datagram,
+  refl,
+  record {
+    gathering = cause.gathering;
+    cut = cause.cut;
+    read = is_read reading wanted reader contents cause.gathering cause.cut has cause.given;
+    strict = cause.strict;
+    first = cause.first;
+  },
+)
+of_capture reading wanted reader contents Several input_faults.NoUpdates has is cause = absurd cause
+of_capture reading wanted reader contents Several (input_faults.SeveralInterfaces interfaces) has is cause = absurd is
+of_capture reading wanted reader contents Several (input_faults.NoPackets sender) has is cause = absurd is
+of_capture reading wanted reader contents Several input_faults.Read has is cause = absurd is
 
-no_capture : (Cause : InputFault → Type 0) (fault : RunFault) → ((of_input : InputFault) → IsOfDump of_input → Cause of_input → ⊥) → IsOfOctets fault → OfFirst Cause fault → ⊥
-no_capture Cause fault none is cause = (at_first Cause (λ _. ⊥) fault none is cause).2
-
-cause_of : (job : Job) (reader second : Reads) (untouched : Type 0) (octets other : List ℕ) (fault : RunFault) → reader.old.left ≡ Some octets → second.old.left ≡ Some other
+cause_of : (job : Job) (reader second : Reads) (untouched : Type 0) (octets other : Contents) (fault : RunFault) → HasContents reader.old octets → HasContents second.old other
     → IsOfOctets fault → CauseBy job reader second untouched fault → FaultOf job octets other fault
-cause_of (jobs.Show reading format file) reader second untouched octets other fault has other_has is cause =
+cause_of (jobs.Show reading format file quiet) reader second untouched octets other fault has other_has is cause =
     at_first _ _ fault (λ f is cause. of_dump reading reader octets f has is cause) is cause
 cause_of (jobs.Lookup reading pair format file quiet) reader second untouched octets other fault has other_has is cause =
     at_first _ _ fault (λ f is cause. of_dump reading reader octets f has is cause) is cause
@@ -547,8 +594,10 @@ cause_of (jobs.Compare reading other_reading view format file another quiet) rea
     of_compare reading other_reading reader second untouched octets other fault has other_has is cause
 cause_of (jobs.Differences reading other_reading view count format file another quiet) reader second untouched octets other fault has other_has is cause =
     of_differences reading other_reading view reader second untouched octets other fault has other_has is cause
-cause_of (jobs.Senders reading format file quiet) reader second untouched octets other fault has other_has is cause = no_capture _ fault (capture_none _ _) is cause
-cause_of (jobs.Extract reading sender interface hex file quiet) reader second untouched octets other fault has other_has is cause = no_capture _ fault (capture_none _ _) is cause
+cause_of (jobs.Senders reading format file quiet) reader second untouched octets other fault has other_has is cause =
+    at_first _ _ fault (λ f is cause. of_capture reading wanteds.Everyone reader octets _ f has is cause) is cause
+cause_of (jobs.Extract reading sender place hex file quiet) reader second untouched octets other fault has other_has is cause =
+    at_first _ _ fault (λ f is cause. of_capture reading (wanteds.Sender sender place) reader octets _ f has is cause) is cause
 
 -- ---- where a job says something of octets it has no fault of them, and it has one at most
 
@@ -559,12 +608,12 @@ not_many limits rows others pairs same boxes few (more, are_boxes, many) =
     absurd (omega (arith, e, few, many))
 
 -- a sound dump has no fault
-sound_no_fault : (reading : Reading) (dump : List ℕ) (table : Routes) (fault : InputFault) → IsSound reading dump table → FaultOfDump reading dump fault → ⊥
+sound_no_fault : (reading : Reading) (dump : Contents) (table : Routes) (fault : InputFault) → IsSound reading dump table → FaultOfDump reading dump fault → ⊥
 sound_no_fault reading dump table fault is (inl (own, same, has)) = is.whole.accepted own has
-sound_no_fault reading dump table fault is (inr (tlv, same, first)) = sound_ignores_none reading dump table tlv is first
+sound_no_fault reading dump table fault is (inr unread) = sound_is_read reading dump table fault is unread
 
 -- nor one of its form, whose boxes are few
-form_no_fault : (reading : Reading) (view : View) (dump : List ℕ) (table : Routes) (pairs : List Pair) (fault : InputFault) → IsSound reading dump table
+form_no_fault : (reading : Reading) (view : View) (dump : Contents) (table : Routes) (pairs : List Pair) (fault : InputFault) → IsSound reading dump table
     → AreBoxes (seen_rows view table.rows) pairs → length pairs ≤ reading.limits.entries → FaultOfForm reading view dump fault → ⊥
 form_no_fault reading view dump table pairs fault is boxes few (inl has) = sound_no_fault reading dump table fault is has
 form_no_fault reading view dump table pairs fault is boxes few (inr (many, (too, is_too, more))) =
@@ -572,14 +621,14 @@ form_no_fault reading view dump table pairs fault is boxes few (inr (many, (too,
     not_many reading.limits (seen_rows view table.rows) (seen_rows view too.rows) pairs (ap (λ (t : Routes). seen_rows view t.rows) same) boxes few more
 
 -- nor have two
-both_no_fault : (reading other_reading : Reading) (dump other : List ℕ) (table other_table : Routes) (fault : RunFault) → IsSound reading dump table
+both_no_fault : (reading other_reading : Reading) (dump other : Contents) (table other_table : Routes) (fault : RunFault) → IsSound reading dump table
     → IsSound other_reading other other_table → FaultOfBoth reading other_reading dump other fault → ⊥
 both_no_fault reading other_reading dump other table other_table fault is other_is (inl (of_input, same, has)) = sound_no_fault reading dump table of_input is has
 both_no_fault reading other_reading dump other table other_table fault is other_is (inr (first, (of_input, same, has))) =
     sound_no_fault other_reading other other_table of_input other_is has
 
 -- two dumps have one list of differences
-differ_one : (reading other_reading : Reading) (view : View) (dump other : List ℕ) (differences too : List Difference)
+differ_one : (reading other_reading : Reading) (view : View) (dump other : Contents) (differences too : List Difference)
     → Differ reading other_reading view dump other differences → Differ reading other_reading view dump other too → differences ≡ too
 differ_one reading other_reading view dump other differences too one two =
     let left = ap (λ (t : Routes). seen_rows view t.rows) (sound_one reading dump one.table two.table one.sound two.sound) in
@@ -591,14 +640,23 @@ asked_no_fault : (reading : Reading) (text : List ℕ) (pairs : List AddrPair) (
 asked_no_fault reading text pairs fault are (inl (line, is, few, wrong)) = not_wrong (lines_of text) pairs line are.asked wrong
 asked_no_fault reading text pairs fault are (inr (is, over)) = let few = are.in_limit in absurd (omega (arith, few, over))
 
-says_no_fault : (job : Job) (reader second : Reads) (octets other text : List ℕ) (outcome : Outcome) (fault : RunFault) → reader.old.left ≡ Some octets
-    → second.old.left ≡ Some other → SaysBy job reader second text outcome → FaultOf job octets other fault → ⊥
-says_no_fault (jobs.Show reading format file) reader second octets other text outcome fault has other_has says (of_input, is, is_fault) =
+-- a sound capture has none left out
+sound_leaves_none : (reading : CaptureReading) (wanted : Wanted) (contents : Contents) (reader : Reads) → HasContents reader.old contents → (gathering : Gathering) (cut : Option ℕ)
+    → GaveSound (capture_of reader reading wanted) gathering cut → (fault : InputFault) → FaultOfCapture reading wanted contents fault → ⊥
+sound_leaves_none reading wanted contents reader has gathering cut sound fault (datagram, is, left) =
+    let same = reads_one reading wanted contents.octets gathering left.gathering cut left.cut (is_read reading wanted reader contents gathering cut has sound.given) left.read in
+    let none = none_is_first_left_out gathering.report (sound.strict left.strict) in
+    let firsts : None ≡ Some datagram = sym none ∙ ap (λ (g : Gathering). first_left_out g.report) same.0 ∙ left.first in
+    absurd cc
+
+says_no_fault : (job : Job) (reader second : Reads) (octets other : Contents) (text : List ℕ) (outcome : Outcome) (fault : RunFault) → HasContents reader.old octets
+    → HasContents second.old other → SaysBy job reader second text outcome → FaultOf job octets other fault → ⊥
+says_no_fault (jobs.Show reading format file quiet) reader second octets other text outcome fault has other_has says (of_input, is, is_fault) =
     sound_no_fault reading octets says.table of_input (sound (dump_of reader reading) octets says.table has says.gave) is_fault
 says_no_fault (jobs.Lookup reading pair format file quiet) reader second octets other text outcome fault has other_has says (of_input, is, is_fault) =
     sound_no_fault reading octets says.table of_input (sound (dump_of reader reading) octets says.table has says.gave) is_fault
 says_no_fault (jobs.Each reading format file pairs quiet) reader second octets other text outcome fault has other_has says (inl is_fault) =
-    asked_no_fault reading other says.asked fault (asked_by (dump_of second reading) other says.asked other_has says.gave) is_fault
+    asked_no_fault reading other.octets says.asked fault (asked_by (dump_of second reading) other.octets says.asked other_has.octets says.gave) is_fault
 says_no_fault (jobs.Each reading format file pairs quiet) reader second octets other text outcome fault has other_has says (inr (asked, (of_input, is, is_fault))) =
     sound_no_fault reading octets says.answers.table of_input (sound (dump_of reader reading) octets says.answers.table has says.answers.gave) is_fault
 says_no_fault (jobs.Normalise reading view body hex file quiet) reader second octets other text outcome fault has other_has says (of_input, is, is_fault) =
@@ -621,19 +679,28 @@ says_no_fault (jobs.Differences reading other_reading view count format file ano
     let one = differ reading other_reading view reader second octets other says.table says.other_table says.differences has other_has says.have in
     let same = ap (λ (l : List Difference). length l) (differ_one reading other_reading view octets other says.differences more one differ_too) in
     absurd (omega (arith, same, few, many))
-says_no_fault (jobs.Senders reading format file quiet) reader second octets other text outcome fault has other_has says is_fault = is_fault
-says_no_fault (jobs.Extract reading sender interface hex file quiet) reader second octets other text outcome fault has other_has says is_fault = is_fault
+says_no_fault (jobs.Senders reading format file quiet) reader second octets other text outcome fault has other_has says (of_input, is, is_fault) =
+    sound_leaves_none reading wanteds.Everyone octets reader has says.gathering says.cut says.gave of_input is_fault
+says_no_fault (jobs.Extract reading sender place hex file quiet) reader second octets other text outcome fault has other_has says (of_input, is, is_fault) =
+    sound_leaves_none reading (wanteds.Sender sender place) octets reader has says.gathering says.cut says.gave of_input is_fault
 
 -- octets have one fault
-dump_fault_one : (reading : Reading) (dump : List ℕ) (fault too : InputFault) → FaultOfDump reading dump fault → FaultOfDump reading dump too → fault ≡ too
+dump_fault_one : (reading : Reading) (dump : Contents) (fault too : InputFault) → FaultOfDump reading dump fault → FaultOfDump reading dump too → fault ≡ too
 dump_fault_one reading dump fault too (inl (one, is_one, has_one)) (inl (two, is_two, has_two)) =
-    is_one ∙ ap (λ (f : Fault). input_faults.Dump f) (fault_is_one reading.limits reading.mode reading.sender dump one two has_one has_two) ∙ sym is_two
-dump_fault_one reading dump fault too (inl (one, is_one, has_one)) (inr (two, is_two, has_two)) = absurd (has_two.whole.accepted one has_one)
-dump_fault_one reading dump fault too (inr (one, is_one, has_one)) (inl (two, is_two, has_two)) = absurd (has_one.whole.accepted two has_two)
-dump_fault_one reading dump fault too (inr (one, is_one, has_one)) (inr (two, is_two, has_two)) =
-    is_one ∙ ap (λ (tlv : IgnoredTlv). input_faults.Ignored tlv) (ignored_one reading dump one two has_one has_two) ∙ sym is_two
+    is_one ∙ ap (λ (f : Fault). input_faults.Dump f) (fault_is_one reading.limits reading.mode reading.sender dump.octets one two has_one has_two) ∙ sym is_two
+dump_fault_one reading dump fault too (inl (one, is_one, has_one)) (inr two) = absurd (two.whole.accepted one has_one)
+dump_fault_one reading dump fault too (inr one) (inl (two, is_two, has_two)) = absurd (one.whole.accepted two has_two)
+dump_fault_one reading dump fault too (inr one) (inr two) = unread_one reading dump fault too one two
 
-form_fault_one : (reading : Reading) (view : View) (dump : List ℕ) (fault too : InputFault) → FaultOfForm reading view dump fault
+capture_fault_one : (reading : CaptureReading) (wanted : Wanted) (contents : Contents) (fault too : InputFault) → FaultOfCapture reading wanted contents fault
+    → FaultOfCapture reading wanted contents too → fault ≡ too
+capture_fault_one reading wanted contents fault too (datagram, is, one) (other, is_too, two) =
+    let same = reads_one reading wanted contents.octets one.gathering two.gathering one.cut two.cut one.read two.read in
+    let firsts : Some datagram ≡ Some other = sym one.first ∙ ap (λ (g : Gathering). first_left_out g.report) same.0 ∙ two.first in
+    let datagrams : datagram ≡ other = cc in
+    is ∙ ap (λ (d : LeftOutDatagram). input_faults.LeftOut d) datagrams ∙ sym is_too
+
+form_fault_one : (reading : Reading) (view : View) (dump : Contents) (fault too : InputFault) → FaultOfForm reading view dump fault
     → FaultOfForm reading view dump too → fault ≡ too
 form_fault_one reading view dump fault too (inl one) (inl two) = dump_fault_one reading dump fault too one two
 form_fault_one reading view dump fault too (inl one) (inr (is_two, (table, is, boxes))) = absurd (sound_no_fault reading dump table fault is one)
@@ -644,14 +711,14 @@ at_side_one : (side : Side) (Holds : InputFault → Type 0) (fault too : RunFaul
     → FaultAt side Holds fault → FaultAt side Holds too → fault ≡ too
 at_side_one side Holds fault too one (f, is, holds) (g, is_too, holds_too) = is ∙ ap (λ (h : InputFault). run_faults.Input side h) (one f g holds holds_too) ∙ sym is_too
 
-both_fault_one : (reading other_reading : Reading) (dump other : List ℕ) (fault too : RunFault)
+both_fault_one : (reading other_reading : Reading) (dump other : Contents) (fault too : RunFault)
     → FaultOfBoth reading other_reading dump other fault → FaultOfBoth reading other_reading dump other too → fault ≡ too
 both_fault_one reading other_reading dump other fault too (inl one) (inl two) = at_side_one sides.First _ fault too (dump_fault_one reading dump) one two
 both_fault_one reading other_reading dump other fault too (inl (f, is, one)) (inr (first, two)) = absurd (sound_no_fault reading dump first.0 f first.1 one)
 both_fault_one reading other_reading dump other fault too (inr (first, one)) (inl (f, is, two)) = absurd (sound_no_fault reading dump first.0 f first.1 two)
 both_fault_one reading other_reading dump other fault too (inr (first, one)) (inr (first_too, two)) = at_side_one sides.Other _ fault too (dump_fault_one other_reading other) one two
 
-differences_fault_one : (reading other_reading : Reading) (view : View) (dump other : List ℕ) (fault too : RunFault)
+differences_fault_one : (reading other_reading : Reading) (view : View) (dump other : Contents) (fault too : RunFault)
     → FaultOfDifferences reading other_reading view dump other fault → FaultOfDifferences reading other_reading view dump other too → fault ≡ too
 differences_fault_one reading other_reading view dump other fault too (inl one) (inl two) = both_fault_one reading other_reading dump other fault too one two
 differences_fault_one reading other_reading view dump other fault too (inl one) (inr (is_two, (more, differ, many))) =
@@ -667,20 +734,21 @@ pairs_fault_one reading text fault fault_too (inl (line, is, few, wrong)) (inr (
 pairs_fault_one reading text fault fault_too (inr (is, over)) (inl (line_too, is_too, few, wrong)) = absurd (omega (arith, few, over))
 pairs_fault_one reading text fault fault_too (inr (is, over)) (inr (is_too, over_too)) = is ∙ sym is_too
 
-fault_one : (job : Job) (octets other : List ℕ) (fault too : RunFault) → FaultOf job octets other fault → FaultOf job octets other too → fault ≡ too
-fault_one (jobs.Show reading format file) octets other fault too one two = at_side_one sides.First _ fault too (dump_fault_one reading octets) one two
+fault_one : (job : Job) (octets other : Contents) (fault too : RunFault) → FaultOf job octets other fault → FaultOf job octets other too → fault ≡ too
+fault_one (jobs.Show reading format file quiet) octets other fault too one two = at_side_one sides.First _ fault too (dump_fault_one reading octets) one two
 fault_one (jobs.Lookup reading pair format file quiet) octets other fault too one two = at_side_one sides.First _ fault too (dump_fault_one reading octets) one two
-fault_one (jobs.Each reading format file pairs quiet) octets other fault too (inl one) (inl two) = pairs_fault_one reading other fault too one two
-fault_one (jobs.Each reading format file pairs quiet) octets other fault too (inl one) (inr (asked, two)) = absurd (asked_no_fault reading other asked.0 fault asked.1 one)
-fault_one (jobs.Each reading format file pairs quiet) octets other fault too (inr (asked, one)) (inl two) = absurd (asked_no_fault reading other asked.0 too asked.1 two)
+fault_one (jobs.Each reading format file pairs quiet) octets other fault too (inl one) (inl two) = pairs_fault_one reading other.octets fault too one two
+fault_one (jobs.Each reading format file pairs quiet) octets other fault too (inl one) (inr (asked, two)) = absurd (asked_no_fault reading other.octets asked.0 fault asked.1 one)
+fault_one (jobs.Each reading format file pairs quiet) octets other fault too (inr (asked, one)) (inl two) = absurd (asked_no_fault reading other.octets asked.0 too asked.1 two)
 fault_one (jobs.Each reading format file pairs quiet) octets other fault too (inr (asked, one)) (inr (asked_too, two)) = at_side_one sides.First _ fault too (dump_fault_one reading octets) one two
 fault_one (jobs.Normalise reading view body hex file quiet) octets other fault too one two = at_side_one sides.First _ fault too (form_fault_one reading view octets) one two
 fault_one (jobs.Pairs reading view count format file quiet) octets other fault too one two = at_side_one sides.First _ fault too (form_fault_one reading view octets) one two
 fault_one (jobs.Compare reading other_reading view format file another quiet) octets other fault too one two = both_fault_one reading other_reading octets other fault too one two
 fault_one (jobs.Differences reading other_reading view count format file another quiet) octets other fault too one two =
     differences_fault_one reading other_reading view octets other fault too one two
-fault_one (jobs.Senders reading format file quiet) octets other fault too one two = absurd one
-fault_one (jobs.Extract reading sender interface hex file quiet) octets other fault too one two = absurd one
+fault_one (jobs.Senders reading format file quiet) octets other fault too one two = at_side_one sides.First _ fault too (capture_fault_one reading wanteds.Everyone octets) one two
+fault_one (jobs.Extract reading sender place hex file quiet) octets other fault too one two =
+    at_side_one sides.First _ fault too (capture_fault_one reading (wanteds.Sender sender place) octets) one two
 
 -- ---- the laws
 
@@ -700,7 +768,7 @@ not_write : (fault : RunFault) → IsOfOctets fault → fault ≢ run_faults.Wri
 not_write fault is same = subst IsOfOctets same is
 
 -- a run's fault of octets is that of its job
-pub fault_of_run : (job : Job) (octets other before after : List ℕ) (fault : RunFault) → RanOver job octets other before after (Err fault) → IsOfOctets fault
+pub fault_of_run : (job : Job) (octets other : Contents) (before after : List ℕ) (fault : RunFault) → RanOver job octets other before after (Err fault) → IsOfOctets fault
     → FaultOf job octets other fault
 fault_of_run job octets other before after fault run is =
     cause_of job run.reader run.second _ octets other fault run.has run.other_has is (not_at_write fault _ _ (not_write fault is) run.ran.ran.cause)
@@ -744,15 +812,15 @@ nothing_written job octets other before after fault one not_write =
 -- ---- a dump's fault is that of all octets
 
 -- the fault that is answered for a dump is its own
-own_fault : (reading : Reading) (dump : List ℕ) (fault : Fault) → FaultOfDump reading dump (input_faults.Dump fault)
-    → DumpFault reading.limits reading.mode reading.sender dump fault
+own_fault : (reading : Reading) (dump : Contents) (fault : Fault) → FaultOfDump reading dump (input_faults.Dump fault)
+    → DumpFault reading.limits reading.mode reading.sender dump.octets fault
 own_fault reading dump fault (inl (own, is, has)) =
-    let same : own ≡ fault = cc in subst (λ (f : Fault). DumpFault reading.limits reading.mode reading.sender dump f) same has
-own_fault reading dump fault (inr (tlv, is, ignored)) = absurd cc
+    let same : own ≡ fault = cc in subst (λ (f : Fault). DumpFault reading.limits reading.mode reading.sender dump.octets f) same has
+own_fault reading dump fault (inr unread) = absurd unread.unread
 
 -- so is one of its form, but for too many pairs
-own_form_fault : (reading : Reading) (view : View) (dump : List ℕ) (fault : Fault) → fault ≢ faults.TooManyPairs → FaultOfForm reading view dump (input_faults.Dump fault)
-    → DumpFault reading.limits reading.mode reading.sender dump fault
+own_form_fault : (reading : Reading) (view : View) (dump : Contents) (fault : Fault) → fault ≢ faults.TooManyPairs → FaultOfForm reading view dump (input_faults.Dump fault)
+    → DumpFault reading.limits reading.mode reading.sender dump.octets fault
 own_form_fault reading view dump fault not_pairs (inl has) = own_fault reading dump fault has
 own_form_fault reading view dump fault not_pairs (inr (is, many)) = let same : fault ≡ faults.TooManyPairs = cc in absurd (not_pairs same)
 
@@ -769,7 +837,7 @@ pub record HasDumpFault (job : Job) (side : Side) (octets : List ℕ) (fault : F
   pub is_read : reading_at side job ≡ Some reading
   pub has : DumpFault reading.limits reading.mode reading.sender octets fault
 
-of_both : (job : Job) (reading other_reading : Reading) (side : Side) (octets other : List ℕ) (fault : Fault) → reading_at sides.First job ≡ Some reading
+of_both : (job : Job) (reading other_reading : Reading) (side : Side) (octets other : Contents) (fault : Fault) → reading_at sides.First job ≡ Some reading
     → reading_at sides.Other job ≡ Some other_reading → FaultOfBoth reading other_reading octets other (run_faults.Input side (input_faults.Dump fault))
     → HasDumpFault job side (octets_at side octets other) fault
 of_both job reading other_reading sides.First octets other fault first second (inl has) =
@@ -781,17 +849,24 @@ of_both job reading other_reading sides.First octets other fault first second (i
 of_both job reading other_reading sides.Other octets other fault first second (inr (sound, has)) =
     record { reading = other_reading; is_read = second; has = own_fault other_reading other fault (at_side sides.Other sides.Other _ _ has).1 }
 
-of_one : (job : Job) (reading : Reading) (side : Side) (octets other : List ℕ) (fault : Fault) (Holds : InputFault → Type 0) → reading_at sides.First job ≡ Some reading
-    → (Holds (input_faults.Dump fault) → DumpFault reading.limits reading.mode reading.sender octets fault)
+of_one : (job : Job) (reading : Reading) (side : Side) (octets other : Contents) (fault : Fault) (Holds : InputFault → Type 0) → reading_at sides.First job ≡ Some reading
+    → (Holds (input_faults.Dump fault) → DumpFault reading.limits reading.mode reading.sender octets.octets fault)
     → FaultAt sides.First Holds (run_faults.Input side (input_faults.Dump fault)) → HasDumpFault job side (octets_at side octets other) fault
 of_one job reading sides.First octets other fault Holds first own has =
     record { reading = reading; is_read = first; has = own (at_side sides.First sides.First Holds _ has).1 }
 of_one job reading sides.Other octets other fault Holds first own has = let no = (at_side sides.Other sides.First Holds _ has).0 in absurd cc
 
-dump_fault_of : (job : Job) (side : Side) (octets other : List ℕ) (fault : Fault) → fault ≢ faults.TooManyPairs
+of_no_capture : (side : Side) (reading : CaptureReading) (wanted : Wanted) (contents : Contents) (fault : Fault)
+    → FaultAt sides.First (FaultOfCapture reading wanted contents) (run_faults.Input side (input_faults.Dump fault)) → ⊥
+of_no_capture side reading wanted contents fault has =
+    let left = (at_side side sides.First _ _ has).1 in
+    let none = left.1 in
+    absurd cc
+
+dump_fault_of : (job : Job) (side : Side) (octets other : Contents) (fault : Fault) → fault ≢ faults.TooManyPairs
     → FaultOf job octets other (run_faults.Input side (input_faults.Dump fault)) → HasDumpFault job side (octets_at side octets other) fault
-dump_fault_of (jobs.Show reading format file) side octets other fault not_pairs has =
-    of_one (jobs.Show reading format file) reading side octets other fault _ refl (own_fault reading octets fault) has
+dump_fault_of (jobs.Show reading format file quiet) side octets other fault not_pairs has =
+    of_one (jobs.Show reading format file quiet) reading side octets other fault _ refl (own_fault reading octets fault) has
 dump_fault_of (jobs.Lookup reading pair format file quiet) side octets other fault not_pairs has =
     of_one (jobs.Lookup reading pair format file quiet) reading side octets other fault _ refl (own_fault reading octets fault) has
 dump_fault_of (jobs.Each reading format file pairs quiet) side octets other fault not_pairs (inl (inl (line, is, few, wrong))) = absurd cc
@@ -808,10 +883,10 @@ dump_fault_of (jobs.Differences reading other_reading view count format file ano
     of_both (jobs.Differences reading other_reading view count format file another quiet) reading other_reading side octets other fault refl refl has
 dump_fault_of (jobs.Differences reading other_reading view count format file another quiet) side octets other fault not_pairs (inr (is, many)) =
     let same : fault ≡ faults.TooManyPairs = cc in absurd (not_pairs same)
-dump_fault_of (jobs.Senders reading format file quiet) side octets other fault not_pairs has = absurd has
-dump_fault_of (jobs.Extract reading sender interface hex file quiet) side octets other fault not_pairs has = absurd has
+dump_fault_of (jobs.Senders reading format file quiet) side octets other fault not_pairs has = absurd (of_no_capture side _ _ octets fault has)
+dump_fault_of (jobs.Extract reading sender place hex file quiet) side octets other fault not_pairs has = absurd (of_no_capture side _ _ octets fault has)
 
-pub dump_fault_of_run : (job : Job) (side : Side) (octets other before after : List ℕ) (fault : Fault)
+pub dump_fault_of_run : (job : Job) (side : Side) (octets other : Contents) (before after : List ℕ) (fault : Fault)
     → RanOver job octets other before after (Err (run_faults.Input side (input_faults.Dump fault))) → fault ≢ faults.Memory → fault ≢ faults.TooManyPairs
     → HasDumpFault job side (octets_at side octets other) fault
 dump_fault_of_run job side octets other before after fault run not_memory not_pairs =

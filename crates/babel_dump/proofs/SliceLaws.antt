@@ -159,3 +159,10 @@ pub pushed_next : {A : Type 0} (f : A → List ℕ) (xs : List A) (i : ℕ) (x :
 pushed_next f xs i x writer text left now first within is put =
     pushed writer text left (f x) now _ (flat_map f (drop (i + 1) xs)) first put
     (ap (flat_map f) (drop-cons xs i x within ∙ ap (λ y. y ∷ drop (suc i) xs) (sym is)) ∙ ap (λ (k : ℕ). f x ++ flat_map f (drop k xs)) (next i))
+
+-- the same of an item by its place
+pub pushed_at : {A : Type 0} (f : A → List ℕ) (xs : List A) (i : ℕ) (d : A) (writer : Output) (text left now : List ℕ)
+    → Took writer text (left ++ flat_map f (drop i xs)) → i < length xs → now ≡ left ++ f (get_or xs i d) → Took writer text (now ++ flat_map f (drop (i + 1) xs))
+pushed_at f xs i d writer text left now first within put =
+    pushed writer text left (f (get_or xs i d)) now _ (flat_map f (drop (i + 1) xs)) first put
+    (ap (flat_map f) (drop-cons xs i d within) ∙ ap (λ (k : ℕ). f (get_or xs i d) ++ flat_map f (drop k xs)) (next i))

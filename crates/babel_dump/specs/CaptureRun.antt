@@ -5,7 +5,7 @@ use Rattle.babel_capture.specs.Gathering.{Gathering}
 use Rattle.babel_capture.specs.declared.fault.Fault.TheVariants as capture_faults
 use Rattle.babel_tlv.specs.declared.fault.Fault.TheVariants as faults
 use Rattle.babel_dump.specs.CaptureGiven.{CaptureInput, GaveLeftOut, GaveSound, IsFaultOfCapture}
-use Rattle.babel_dump.specs.CaptureText.{dump_status, dump_text, interfaces_of, senders_in, senders_status}
+use Rattle.babel_dump.specs.CaptureText.{dump_status, dump_text, places_of, senders_in, senders_status}
 use Rattle.babel_dump.specs.Run.{Calls}
 use Rattle.babel_dump.specs.declared.format.Format.{Format}
 use Rattle.babel_dump.specs.declared.input_fault.InputFault.{InputFault}
@@ -29,7 +29,7 @@ CaptureCause reader Several (input_faults.SeveralInterfaces interfaces) = Severa
 CaptureCause reader Several (input_faults.Dump fault) = fault ≡ faults.Memory
 CaptureCause reader Several fault = ⊥
 
--- several interfaces are no fault
+-- several places are no fault
 abbrev pub IsNoFault : Interfaces → Type 0
 IsNoFault interfaces = ⊥
 
@@ -37,27 +37,27 @@ IsNoFault interfaces = ⊥
 abbrev pub IsOutcomeOf : Outcome → ℕ → Counts → Option ℕ → Type 0
 IsOutcomeOf outcome status report cut = outcome ≡ record { status = status; reports = reports.Capture report cut }
 
--- `senders`: a line for each sender of the capture on each interface
+-- `senders`: a line for each sender of the capture at each place
 pub record ListsSenders (reader : CaptureInput) (format : Format) (text : List ℕ) (outcome : Outcome) : Type 0 where
   pub gathering : Gathering
   pub cut : Option ℕ
   pub gave : GaveSound reader gathering cut
-  pub text_is : text ≡ senders_in format gathering.senders
+  pub text_is : text ≡ senders_in format gathering
   pub outcome_is : IsOutcomeOf outcome (senders_status gathering.senders) gathering.report cut
 
--- `extract`: the dump of the wanted sender, who sent on one interface at most
+-- `extract`: the dump of the wanted sender, who sent at one place at most
 pub record Extracts (reader : CaptureInput) (hex : Bool) (text : List ℕ) (outcome : Outcome) : Type 0 where
   pub gathering : Gathering
   pub cut : Option ℕ
   pub gave : GaveSound reader gathering cut
-  pub one_interface : length gathering.senders ≤ 1
+  pub one_place : length gathering.senders ≤ 1
   pub text_is : text ≡ dump_text hex gathering.dump
   pub outcome_is : IsOutcomeOf outcome (dump_status gathering.dump) gathering.report cut
 
--- the wanted sender sent on several interfaces, which are these
+-- the wanted sender sent at several places, which are these
 pub record IsOnSeveral (reader : CaptureInput) (interfaces : Interfaces) : Type 0 where
   pub gathering : Gathering
   pub cut : Option ℕ
   pub gave : GaveSound reader gathering cut
   pub several : 2 ≤ length gathering.senders
-  pub are : interfaces.0.items ≡ interfaces_of gathering.senders
+  pub are : interfaces.0.items ≡ places_of gathering.senders

@@ -1,43 +1,119 @@
 -- The lines that the runs of captures write: this project's own. The texts of addresses are those of RFC 4291, 2.2.
-use Rattle.std.specs.Prelude.{ℕ, Bool, List, [], ◌∷◌, ◌++◌, map, codes}
+use Rattle.std.specs.Prelude.{ℕ, Bool, ◌==◌, ◌||◌, if◌then◌else◌, List, [], ◌∷◌, ◌++◌, map, codes, Option, None, Some}
 use Rattle.std.specs.List.{flat_map}
 use Rattle.std.specs.Fmt.{decimal}
+use Rattle.std.specs.Char.{is_ascii_alphanumeric}
+use Rattle.hex.specs.Hex.{encode_lower}
 use Rattle.babel_prefix.specs.Text.{printed}
+use Rattle.babel_capture.specs.Gathering.{Gathering, name_of}
+use Rattle.babel_capture.specs.Place.{vlan_numbers}
 use Rattle.babel_capture.specs.Tallies.{Senders}
+use Rattle.babel_capture.specs.declared.place.Place.{Place}
+use Rattle.babel_capture.specs.declared.place.Vlans.{Vlans}
 use Rattle.babel_capture.specs.declared.tallies.Origin.{Origin}
 use Rattle.babel_capture.specs.declared.tallies.Tally.{Tally}
 use Rattle.babel_dump.specs.InFormat.{in_format}
+use Rattle.babel_dump.specs.JsonText.{quoted}
 use Rattle.babel_dump.specs.RunText.{form_text, newline}
 use Rattle.babel_dump.specs.declared.format.Format.{Format}
+use Rattle.babel_dump.specs.declared.format.Format.TheVariants as formats
 
--- `ADDRESS interface N packets N octets N`
-abbrev pub sender_line : Origin × Tally → List ℕ
-sender_line sender =
-    printed sender.0.sender ++ codes " interface " ++ decimal sender.0.interface
-    ++ codes " packets " ++ decimal sender.1.packets ++ codes " octets " ++ decimal sender.1.octets ++ newline
+-- the octet of a name stands for itself: a letter, a digit, `.`, `-` or `_`
+abbrev pub is_plain : ℕ → Bool
+is_plain octet = is_ascii_alphanumeric octet || octet == 46 || octet == 45 || octet == 95
 
--- `{"address":"ADDRESS","interface":N,"packets":N,"octets":N}`
-abbrev pub sender_json : Origin × Tally → List ℕ
-sender_json sender =
-    codes "{\"address\":\"" ++ printed sender.0.sender ++ codes "\",\"interface\":" ++ decimal sender.0.interface
-    ++ codes ",\"packets\":" ++ decimal sender.1.packets ++ codes ",\"octets\":" ++ decimal sender.1.octets
-    ++ codes "}" ++ newline
+-- each octet of a name, as it is or as two lower-case hexadecimal digits after an escape
+abbrev pub octet_text : (escape : List ℕ) → ℕ → List ℕ
+octet_text escape octet = if is_plain octet then octet ∷ [] else escape ++ encode_lower (octet ∷ [])
 
-abbrev pub sender_in : Format → Origin × Tally → List ℕ
-sender_in format sender = in_format format (sender_line sender) (sender_json sender)
+abbrev pub escaped : (escape : List ℕ) → List ℕ → List ℕ
+escaped escape name = flat_map (octet_text escape) name
 
--- a line for each sender on each interface
-abbrev pub senders_in : Format → Senders → List ℕ
-senders_in format senders = flat_map (sender_in format) senders
+-- `\x`, whose backslash is two in JSON
+abbrev pub escape : Format → List ℕ
+escape format = in_format format (codes "\\x") (codes "\\\\x")
+
+-- ` (NAME)`, or nothing where there is none
+abbrev pub name_text : List ℕ → List ℕ
+name_text [] = []
+name_text (octet ∷ octets) = codes " (" ++ escaped (escape formats.Text) (octet ∷ octets) ++ codes ")"
+
+-- `"NAME"`, or `null`
+abbrev pub name_json : List ℕ → List ℕ
+name_json [] = codes "null"
+name_json (octet ∷ octets) = quoted (escaped (escape formats.Json) (octet ∷ octets))
+
+-- ` link N`, or nothing where there is none
+abbrev pub link_text : Option ℕ → List ℕ
+link_text None = []
+link_text (Some number) = codes " link " ++ decimal number
+
+-- `N`, or `null`
+abbrev pub link_json : Option ℕ → List ℕ
+link_json None = codes "null"
+link_json (Some number) = decimal number
+
+-- numbers in decimal: the first after one mark, each later one after the other
+abbrev pub marked : (first later : List ℕ) → List ℕ → List ℕ
+marked first later [] = []
+marked first later (number ∷ numbers) = first ++ decimal number ++ marked later later numbers
+
+-- ` vlan N.N`, or nothing where there are none
+abbrev pub vlans_text : Vlans → List ℕ
+vlans_text vlans = marked (codes " vlan ") (codes ".") (vlan_numbers vlans)
+
+-- `[N,N]`
+abbrev pub vlans_json : Vlans → List ℕ
+vlans_json vlans = codes "[" ++ marked [] (codes ",") (vlan_numbers vlans) ++ codes "]"
+
+-- `ADDRESS interface N`, and ` link N vlan N.N packets N octets N updates N`
+abbrev pub sender_front : Origin → List ℕ
+sender_front origin = printed origin.sender ++ codes " interface " ++ decimal origin.place.interface
+
+abbrev pub sender_end : Place → Tally → List ℕ
+sender_end place tally =
+    link_text place.link ++ vlans_text place.vlans ++ codes " packets " ++ decimal tally.packets
+    ++ codes " octets " ++ decimal tally.octets ++ codes " updates " ++ decimal tally.updates ++ newline
+
+-- `ADDRESS interface N (NAME) link N vlan N.N packets N octets N updates N`
+abbrev pub sender_line : (name : List ℕ) → Origin × Tally → List ℕ
+sender_line name sender = sender_front sender.0 ++ name_text name ++ sender_end sender.0.place sender.1
+
+-- `{"address":"ADDRESS","interface":N,"link":N,"vlans":[N,N],"name":`, and `,"packets":N,"octets":N,"updates":N}`
+abbrev pub sender_front_json : Origin → List ℕ
+sender_front_json origin =
+    codes "{\"address\":\"" ++ printed origin.sender ++ codes "\",\"interface\":" ++ decimal origin.place.interface
+    ++ codes ",\"link\":" ++ link_json origin.place.link ++ codes ",\"vlans\":" ++ vlans_json origin.place.vlans
+    ++ codes ",\"name\":"
+
+abbrev pub sender_end_json : Tally → List ℕ
+sender_end_json tally =
+    codes ",\"packets\":" ++ decimal tally.packets ++ codes ",\"octets\":" ++ decimal tally.octets
+    ++ codes ",\"updates\":" ++ decimal tally.updates ++ codes "}" ++ newline
+
+-- `{"address":"ADDRESS","interface":N,"link":N,"vlans":[N,N],"name":"NAME","packets":N,"octets":N,"updates":N}`
+abbrev pub sender_json : (name : List ℕ) → Origin × Tally → List ℕ
+sender_json name sender = sender_front_json sender.0 ++ name_json name ++ sender_end_json sender.1
+
+abbrev pub sender_in : Format → (name : List ℕ) → Origin × Tally → List ℕ
+sender_in format name sender = in_format format (sender_line name sender) (sender_json name sender)
+
+-- with the name that the capture has for its interface
+abbrev pub named_in : Format → Gathering → Origin × Tally → List ℕ
+named_in format gathering sender = sender_in format (name_of gathering sender.0.place.interface) sender
+
+-- a line for each sender at each place
+abbrev pub senders_in : Format → Gathering → List ℕ
+senders_in format gathering = flat_map (named_in format gathering) gathering.senders
 
 -- 1 where there is no sender
 abbrev pub senders_status : Senders → ℕ
 senders_status [] = 1
 senders_status (sender ∷ senders) = 0
 
--- the interface of each sender
-abbrev pub interfaces_of : Senders → List ℕ
-interfaces_of senders = map (λ sender. sender.0.interface) senders
+-- the place of each sender
+abbrev pub places_of : Senders → List Place
+places_of senders = map (λ sender. sender.0.place) senders
 
 -- the dump as it is or in hexadecimal, and nothing where it is empty
 abbrev pub dump_text : (hex : Bool) → List ℕ → List ℕ

@@ -87,7 +87,7 @@ pub record ListsDifferences (reader other : Input) (view : View) (count : Bool) 
   pub text_is : text ≡ differences_or_count_in format view count differences
   pub outcome_is : IsOutcomeOfBoth outcome (differences_status (length differences)) table.report other_table.report
 
--- the reader gave a dump without a fault, and without an ignored TLV if it is read strictly
+-- the reader gave a dump without a fault, of which nothing was left unread if it is read strictly
 abbrev pub GaveSound : Input → Type 0
 GaveSound reader = (table : Routes) × GaveTable reader table
 

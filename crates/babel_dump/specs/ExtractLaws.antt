@@ -1,9 +1,10 @@
 -- What `extract` writes is a dump for the commands over dumps: this project's own.
 use Rattle.std.specs.Prelude.{ℕ, Bool, List, ◌++◌, false, Option, Ok, Err}
 use Rattle.babel_prefix.specs.Address.{Address}
+use Rattle.babel_capture.specs.declared.place.Place.{Place}
 use Rattle.babel_tlv.specs.declared.fault.Fault.{Fault}
 use Rattle.babel_tlv.specs.declared.fault.Fault.TheVariants as faults
-use Rattle.babel_dump.specs.OneOutcome.{RanOver, octets_at}
+use Rattle.babel_dump.specs.OneOutcome.{Contents, RanOver, octets_at}
 use Rattle.babel_dump.specs.declared.capture_reading.CaptureReading.{CaptureReading}
 use Rattle.babel_dump.specs.declared.input_fault.InputFault.TheVariants as input_faults
 use Rattle.babel_dump.specs.declared.job.DumpFile.{DumpFile}
@@ -24,20 +25,20 @@ IsOfFraming fault = ⊥
 pub record Extracted (dump : List ℕ) : Type 0 where
   pub reading : CaptureReading
   pub sender : Address
-  pub interface : Option ℕ
+  pub place : Option Place
   pub file : DumpFile
   pub quiet : Bool
-  pub octets : List ℕ
-  pub other : List ℕ
+  pub contents : Contents
+  pub other : Contents
   pub before : List ℕ
   pub outcome : Outcome
-  pub ran : RanOver (jobs.Extract reading sender interface false file quiet) octets other before (before ++ dump) (Ok outcome)
+  pub ran : RanOver (jobs.Extract reading sender place false file quiet) contents other before (before ++ dump) (Ok outcome)
 
 -- no job over them, whatever its words and limits, refuses them for such a fault: not as its first
 -- dump, and not as the other of a comparison
 abbrev pub ExtractedIsFramed : Type 0
 ExtractedIsFramed =
-    (job : Job) (side : Side) (octets other before after : List ℕ) (fault : Fault)
-    → Extracted (octets_at side octets other)
-    → RanOver job octets other before after (Err (run_faults.Input side (input_faults.Dump fault)))
+    (job : Job) (side : Side) (contents other : Contents) (before after : List ℕ) (fault : Fault)
+    → Extracted (octets_at side contents other)
+    → RanOver job contents other before after (Err (run_faults.Input side (input_faults.Dump fault)))
     → ¬ IsOfFraming fault

@@ -6,7 +6,7 @@ use Rattle.babel_dump.specs.declared.job.Job.TheVariants as jobs
 
 -- where the input is read from, or the first of two
 abbrev pub first_file : Job → DumpFile
-first_file (jobs.Show reading format file) = file
+first_file (jobs.Show reading format file quiet) = file
 first_file (jobs.Lookup reading pair format file quiet) = file
 first_file (jobs.Each reading format file pairs quiet) = file
 first_file (jobs.Normalise reading view body hex file quiet) = file

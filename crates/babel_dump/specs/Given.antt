@@ -1,5 +1,5 @@
 -- What readers gave, as dumps. No RFC speaks of readers: these are this project's own.
-use Rattle.std.specs.Prelude.{ℕ, ◌≡◌, ◌≢◌, ◌<◌, ◌⊎◌, false, true, List, Some}
+use Rattle.std.specs.Prelude.{ℕ, ◌≡◌, ◌≢◌, ◌<◌, ◌⊎◌, false, true, List, None, Some}
 use Rattle.std.specs.Io.KnownBytes.{Consumes, IsAtEnd}
 use Rattle.babel_prefix.specs.Address.{Address}
 use Rattle.babel_tlv.specs.declared.fault.Fault.{Fault}
@@ -23,8 +23,8 @@ use Rattle.babel_canon.specs.Sent.{Sent, sent}
 use Rattle.babel_canon.specs.Normalises.{NormaliseFault, Normalises, SaysFewest, as_they_are}
 use Rattle.babel_canon.specs.Views.{AnswerTheSameUnder, ReadsAgainSeen}
 use Rattle.babel_dump.specs.Device.{InputState}
-use Rattle.babel_dump.specs.Ignored.{IgnoresNone, first_ignored}
-use Rattle.babel_dump.specs.declared.ignored.IgnoredTlv.{IgnoredTlv}
+use Rattle.babel_dump.specs.Strict.{IsNotReadWhole, IsReadWhole}
+use Rattle.babel_dump.specs.declared.input_fault.InputFault.{InputFault}
 use Rattle.babel_dump.specs.declared.reading.Reading.{Reading}
 
 -- a reader, before a run and after it
@@ -47,10 +47,20 @@ read_from old new reading = record { reading = reading; old = old; new = new }
 abbrev pub dump_of : Reads → Reading → Input
 dump_of reader reading = read_from reader.old reader.new reading
 
--- a reader of a dump whose TLVs may be ignored
+-- a dump whose TLVs may be ignored
+abbrev pub usual_reading : Bounds → Mode → Address → Reading
+usual_reading limits mode sender = record {
+  limits = limits;
+  mode = mode;
+  sender = sender;
+  place = None;
+  accept_cut = false;
+  strict = false;
+}
+
+-- a reader of such a dump
 abbrev pub input : Bounds → Mode → Address → InputState → InputState → Input
-input limits mode sender old new =
-    read_from old new (record { limits = limits; mode = mode; sender = sender; strict = false })
+input limits mode sender old new = read_from old new (usual_reading limits mode sender)
 
 -- a reader gave these octets, all that it had, and met its end
 pub record GaveOctets (old new : InputState) (octets : List ℕ) : Type 0 where
@@ -68,17 +78,17 @@ pub record GaveDump (reader : Input) (table : Routes) : Type 0 where
   pub accepted : HasNoFault reader.reading.limits reader.reading.mode reader.reading.sender dump
   pub is_table : IsTableOf reader.reading.limits reader.reading.mode reader.reading.sender dump table
 
--- the reader gave such a dump, of which no TLV was ignored if it is read strictly
+-- the reader gave such a dump, of which nothing was left unread if it is read strictly
 pub record GaveTable (reader : Input) (table : Routes) : Type 0 where
   pub given : GaveDump reader table
-  pub strict : reader.reading.strict ≡ true → IgnoresNone table.report
+  pub strict : reader.reading.strict ≡ true → IsReadWhole reader.old.left_out table.report
 
--- the reader gave such a dump, which is read strictly, and this TLV of it is the first that was ignored
-pub record GaveIgnored (reader : Input) (tlv : IgnoredTlv) : Type 0 where
+-- the reader gave such a dump, which is read strictly and refused with this fault
+pub record GaveUnread (reader : Input) (fault : InputFault) : Type 0 where
   pub table : Routes
   pub given : GaveDump reader table
   pub strict : reader.reading.strict ≡ true
-  pub first : first_ignored table.report ≡ Some tlv
+  pub unread : IsNotReadWhole reader.old.left_out table.report fault
 
 -- only a whole dump has the fault: octets may mend it, or it is about what all octets say
 abbrev pub IsOfWhole : Fault → Type 0

@@ -1,6 +1,5 @@
 -- What the run of a job promises: this project's own.
 use Rattle.std.specs.Prelude.{ℕ, List, Option, None, Some, Result}
-use Rattle.babel_prefix.specs.Address.{Address}
 use Rattle.babel_capture.specs.declared.wanted.Wanted.{Wanted}
 use Rattle.babel_capture.specs.declared.wanted.Wanted.TheVariants as wanteds
 use Rattle.babel_dump.specs.CaptureGiven.{CaptureInput, capture_from}
@@ -16,16 +15,12 @@ use Rattle.babel_dump.specs.declared.outcome.Outcome.{Outcome}
 use Rattle.babel_dump.specs.declared.reading.Reading.{Reading}
 use Rattle.babel_dump.specs.declared.run_fault.RunFault.{RunFault}
 
--- the datagrams of one sender, on this interface where one is named
-abbrev pub wanted_of : Address → Option ℕ → Wanted
-wanted_of sender interface = wanteds.Sender sender interface
-
 abbrev pub capture_of : Reads → CaptureReading → Wanted → CaptureInput
 capture_of reader reading wanted = capture_from reader.old reader.new reading wanted
 
 -- what a job says of what its readers gave, in its text and its outcome: what its command does, with the job's own words
 abbrev pub SaysBy : Job → (reader other : Reads) → List ℕ → Outcome → Type 0
-SaysBy (jobs.Show reading format file) reader other = Shows (dump_of reader reading) format
+SaysBy (jobs.Show reading format file quiet) reader other = Shows (dump_of reader reading) format
 SaysBy (jobs.Lookup reading pair format file quiet) reader other = LooksUp (dump_of reader reading) pair.dst pair.src format
 SaysBy (jobs.Each reading format file pairs quiet) reader other =
     LooksUpAsked (dump_of reader reading) (dump_of other reading) format
@@ -36,12 +31,12 @@ SaysBy (jobs.Compare reading other_reading view format file another quiet) reade
 SaysBy (jobs.Differences reading other_reading view count format file another quiet) reader other =
     ListsDifferences (dump_of reader reading) (dump_of other other_reading) view count format
 SaysBy (jobs.Senders reading format file quiet) reader other = ListsSenders (capture_of reader reading wanteds.Everyone) format
-SaysBy (jobs.Extract reading sender interface hex file quiet) reader other =
-    Extracts (capture_of reader reading (wanted_of sender interface)) hex
+SaysBy (jobs.Extract reading sender place hex file quiet) reader other =
+    Extracts (capture_of reader reading (wanteds.Sender sender place)) hex
 
 -- why it says nothing; `untouched` says that the other reader is as it was
 abbrev pub CauseBy : Job → (reader other : Reads) → (untouched : Type 0) → RunFault → Type 0
-CauseBy (jobs.Show reading format file) reader other untouched =
+CauseBy (jobs.Show reading format file quiet) reader other untouched =
     OfFirst (InputCause (dump_of reader reading) (IsFaultOfGiven (dump_of reader reading)))
 CauseBy (jobs.Lookup reading pair format file quiet) reader other untouched =
     OfFirst (InputCause (dump_of reader reading) (IsFaultOfGiven (dump_of reader reading)))
@@ -57,13 +52,13 @@ CauseBy (jobs.Differences reading other_reading view count format file another q
     DifferencesCause (dump_of reader reading) (dump_of other other_reading) view untouched
 CauseBy (jobs.Senders reading format file quiet) reader other untouched =
     OfFirst (CaptureCause (capture_of reader reading wanteds.Everyone) IsNoFault)
-CauseBy (jobs.Extract reading sender interface hex file quiet) reader other untouched =
-    let capture = capture_of reader reading (wanted_of sender interface) in
+CauseBy (jobs.Extract reading sender place hex file quiet) reader other untouched =
+    let capture = capture_of reader reading (wanteds.Sender sender place) in
     OfFirst (CaptureCause capture (IsOnSeveral capture))
 
 -- how often it may call its first reader, and the other where it reads that too
 abbrev pub first_calls : Job → Reads → Calls
-first_calls (jobs.Show reading format file) reader = calls_of (dump_of reader reading)
+first_calls (jobs.Show reading format file quiet) reader = calls_of (dump_of reader reading)
 first_calls (jobs.Lookup reading pair format file quiet) reader = calls_of (dump_of reader reading)
 first_calls (jobs.Each reading format file pairs quiet) reader = calls_of (dump_of reader reading)
 first_calls (jobs.Normalise reading view body hex file quiet) reader = calls_of (dump_of reader reading)
@@ -72,8 +67,8 @@ first_calls (jobs.Compare reading other_reading view format file another quiet) 
 first_calls (jobs.Differences reading other_reading view count format file another quiet) reader =
     calls_of (dump_of reader reading)
 first_calls (jobs.Senders reading format file quiet) reader = capture_calls (capture_of reader reading wanteds.Everyone)
-first_calls (jobs.Extract reading sender interface hex file quiet) reader =
-    capture_calls (capture_of reader reading (wanted_of sender interface))
+first_calls (jobs.Extract reading sender place hex file quiet) reader =
+    capture_calls (capture_of reader reading (wanteds.Sender sender place))
 
 abbrev pub other_calls : Job → Reads → Option Calls
 other_calls (jobs.Each reading format file pairs quiet) other = Some (calls_of (dump_of other reading))

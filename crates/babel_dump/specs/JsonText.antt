@@ -1,5 +1,5 @@
 -- The lines that the runs write as JSON (RFC 8259): one object a line, with the members in the order that is shown here. No
--- string has a character that needs an escape. These are this project's own.
+-- string has a character that needs an escape, but the name of an interface. These are this project's own.
 use Rattle.std.specs.Prelude.{Bool, if◌then◌else◌, ℕ, List, ◌++◌, codes, Option, Some, None}
 use Rattle.std.specs.List.{filter_map, join_by}
 use Rattle.std.specs.Option.{option_map}

@@ -1,7 +1,10 @@
 -- What the two parts of a run promise, reading and writing. These are this project's own.
-use Rattle.std.specs.Prelude.{ℕ, Bool, ◌≡◌, ◌+◌, ◌<◌, ◌≤◌, ◌⊎◌, List, length, Result, IfOk, IfErr, OnOk, OnErr}
+use Rattle.std.specs.Prelude.{ℕ, Bool, true, false, ◌≡◌, ◌+◌, ◌<◌, ◌≤◌, ◌⊎◌, List, [], length, Option, None, Some, Result, IfOk, IfErr, OnOk, OnErr}
 use Rattle.std.specs.Io.KnownBytes.{Appends}
 use Rattle.babel_prefix.specs.Address.{Address}
+use Rattle.babel_capture.specs.Gathering.{Gathering}
+use Rattle.babel_capture.specs.declared.fault.Fault.TheVariants as capture_faults
+use Rattle.babel_tlv.specs.declared.fault.Fault.TheVariants as faults
 use Rattle.babel_tlv.specs.declared.view.View.{View}
 use Rattle.babel_tlv.specs.Pair.{Pair}
 use Rattle.babel_table.specs.Bounds.{Bounds}
@@ -16,16 +19,21 @@ use Rattle.babel_canon.specs.Verdict.{IsVerdict}
 use Rattle.babel_canon.specs.declared.every_difference.Difference.{Difference}
 use Rattle.babel_canon.specs.declared.verdict.Verdict.{Verdict}
 use Rattle.babel_dump.specs.AskedPairs.{IsFirstWrong}
+use Rattle.babel_dump.specs.CaptureText.{places_of}
 use Rattle.babel_dump.specs.Command.{IsOfMany, IsOfMemory, IsOutcomeOfBoth}
 use Rattle.babel_dump.specs.Device.{AppendsPrefix}
 use Rattle.babel_dump.specs.Given.{GaveAll, GaveTables, Input, Reads}
 use Rattle.babel_dump.specs.InFormat.{differences_or_count_in, pairs_or_counts_in, verdict_in}
 use Rattle.babel_dump.specs.JobRun.{CauseBy, OtherCalled, SaysBy, first_calls, other_calls}
+use Rattle.babel_dump.specs.LeftOut.{LeavesNoneOut, first_left_out}
 use Rattle.babel_dump.specs.Run.{Called, Calls, Output}
 use Rattle.babel_dump.specs.RunText.{answer_in, differences_status, verdict_status}
 use Rattle.babel_dump.specs.SlicedRows.{found_text}
 use Rattle.babel_dump.specs.declared.both.SeenTables.{SeenTables}
+use Rattle.babel_dump.specs.declared.captured.CaptureNotes.{CaptureNotes}
 use Rattle.babel_dump.specs.declared.format.Format.{Format}
+use Rattle.babel_dump.specs.declared.input_fault.InputFault.{InputFault}
+use Rattle.babel_dump.specs.declared.input_fault.InputFault.TheVariants as input_faults
 use Rattle.babel_dump.specs.declared.job.Job.{Job}
 use Rattle.babel_dump.specs.declared.outcome.Outcome.{Outcome}
 use Rattle.babel_dump.specs.declared.pairs_fault.PairsFault.TheVariants as pairs_faults
@@ -99,6 +107,31 @@ HasManyDifferences limits seen fault =
     IsOfMemory fault
     ⊎ (IsOfMany fault × ((differences : List Difference) × AreDifferences seen.left.rows seen.right.rows differences
     × (limits.entries < length differences)))
+
+-- a capture that was read to its end is not cut short there, unless that is accepted
+abbrev pub IsAccepted : (accept_cut : Bool) → (cut : Option ℕ) → Type 0
+IsAccepted accept_cut cut = accept_cut ≡ false → cut ≡ None
+
+-- it has the dump of a sender at one place
+pub record EndsWith (accept_cut : Bool) (gathering : Gathering) (cut : Option ℕ) (notes : CaptureNotes) : Type 0 where
+  pub accepted : IsAccepted accept_cut cut
+  pub one_place : length gathering.senders ≡ 1
+  pub report_is : notes.report ≡ gathering.report
+  pub cut_is : notes.cut ≡ cut
+
+-- it is refused
+abbrev pub EndsRefused : (accept_cut strict : Bool) → Gathering → (cut : Option ℕ) → InputFault → Type 0
+EndsRefused accept_cut strict gathering cut (input_faults.Capture fault) =
+    (accept_cut ≡ false) × ((at : ℕ) × (cut ≡ Some at) × (fault ≡ capture_faults.CutShort at))
+EndsRefused accept_cut strict gathering cut (input_faults.LeftOut datagram) =
+    IsAccepted accept_cut cut × (strict ≡ true) × (first_left_out gathering.report ≡ Some datagram)
+EndsRefused accept_cut strict gathering cut (input_faults.NoPackets sender) =
+    IsAccepted accept_cut cut × (gathering.senders ≡ [])
+EndsRefused accept_cut strict gathering cut (input_faults.SeveralInterfaces interfaces) =
+    IsAccepted accept_cut cut × (strict ≡ true → LeavesNoneOut gathering.report) × (2 ≤ length gathering.senders)
+    × (interfaces.0.items ≡ places_of gathering.senders)
+EndsRefused accept_cut strict gathering cut (input_faults.Dump fault) = fault ≡ faults.Memory
+EndsRefused accept_cut strict gathering cut fault = ⊥
 
 -- what a job finds of what its readers gave
 pub record FoundBy (job : Job) (reader other : Reads) (untouched : Type 0) (result : Result Found RunFault) : Type 0 where

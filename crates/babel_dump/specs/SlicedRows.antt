@@ -25,7 +25,7 @@ lines_of format (rows.Table table) = pairs_in format keeps_all table.rows
 lines_of format (rows.Pairs view pairs) = pairs_in format view pairs
 lines_of format (rows.Answers answers) = flat_map (answered_in format) answers.items
 lines_of format (rows.Differences view differences) = flat_map (difference_in format view) differences.items
-lines_of format (rows.Senders gathered) = senders_in format gathered.senders
+lines_of format (rows.Senders gathered) = senders_in format gathered
 lines_of format rows.Empty = []
 
 -- the whole text of what was found

@@ -1,12 +1,15 @@
 -- Parts of texts that functions inside make: this project's own.
-use Rattle.std.specs.Prelude.{ℕ, Bool, ◌==◌, List, ◌++◌, codes}
-use Rattle.std.specs.List.{filter_map, flat_map, join_by}
+use Rattle.std.specs.Prelude.{ℕ, Bool, not, ◌==◌, List, [], ◌∷◌, ◌++◌, codes}
+use Rattle.std.specs.List.{filter, filter_map, flat_map, join_by}
 use Rattle.std.specs.Option.{option_map}
 use Rattle.hex.specs.Hex.{encode_lower}
 use Rattle.babel_prefix.specs.Address.{Address}
+use Rattle.babel_capture.specs.declared.tallies.Origin.{Origin}
+use Rattle.babel_capture.specs.declared.tallies.Tally.{Tally}
 use Rattle.babel_tlv.specs.declared.reason.Reason.{Reason}
 use Rattle.babel_table.specs.Counts.{Counts, reason_place, count_at}
 use Rattle.babel_table.specs.Rows.{Routes}
+use Rattle.babel_dump.specs.CaptureText.{sender_end, sender_end_json, sender_front, sender_front_json}
 use Rattle.babel_dump.specs.InFormat.{in_format}
 use Rattle.babel_dump.specs.JsonText.{difference_count_json, ignored_object, same_json}
 use Rattle.babel_dump.specs.RunText.{answer_in, difference_count_text, ignored_line, lookup_status}
@@ -37,6 +40,27 @@ ignored_objects counts reasons =
 -- with a comma between each two
 abbrev pub comma_separated : List (List ℕ) → List ℕ
 comma_separated values = join_by (λ value. value) (codes ",") values
+
+-- those that are not 0
+abbrev pub nonzero : List ℕ → List ℕ
+nonzero numbers = filter (λ number. not (number == 0)) numbers
+
+-- what stands before the octets of a name, or in place of one, and after them
+abbrev pub opening : Format → (name : List ℕ) → List ℕ
+opening format [] = in_format format [] (codes "null")
+opening format (octet ∷ octets) = in_format format (codes " (") (codes "\"")
+
+abbrev pub closing : Format → (name : List ℕ) → List ℕ
+closing format [] = []
+closing format (octet ∷ octets) = in_format format (codes ")") (codes "\"")
+
+-- the parts of a sender's line before the octets of the name and after them
+abbrev pub to_name : Format → Origin → (name : List ℕ) → List ℕ
+to_name format origin name = in_format format (sender_front origin) (sender_front_json origin) ++ opening format name
+
+abbrev pub after_name : Format → Origin × Tally → (name : List ℕ) → List ℕ
+after_name format sender name =
+    closing format name ++ in_format format (sender_end sender.0.place sender.1) (sender_end_json sender.1)
 
 -- `same`
 abbrev pub same_in : Format → List ℕ

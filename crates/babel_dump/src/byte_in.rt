@@ -1,15 +1,16 @@
-ghost use Rattle.std.specs.Prelude.{◌≡◌, ◌+◌, ◌-◌, ◌^◌, ◌<◌, length};
+ghost use Rattle.std.specs.Prelude.{◌≡◌, ◌+◌, ◌-◌, ◌^◌, ◌<◌, None, length};
 ghost use Rattle.std.specs.Io.{ReadsAtMost};
 ghost use Rattle.std.specs.Io.KnownBytes.{ReadConsumes};
 ghost use Rattle.babel_dump.specs.Device.{InputState, failed_calls, ended_reads};
 
+use crate::left_out::LeftOutDatagram;
 use std::io;
 use std::io::Read;
 
 /// A device that gives octets, as std's `Read` does, with counts that contracts alone see.
 pub trait ByteIn {
-    // The octets that are left to give, where the device says them, how many calls failed, how many
-    // reads there were, and how many of them met the end.
+    // The octets that are left to give, where the device says them, what was left out of them, how
+    // many calls failed, how many reads there were, and how many of them met the end.
     ghost state: { Self → InputState };
 
     /// Gives its next octets, at least one where there are more and the buffer isn't empty.
@@ -23,17 +24,24 @@ pub trait ByteIn {
         requires few_ends { (state self.old).ends < 2 ^ 64 - 1 }
         ensures bound { ReadsAtMost result buf.new }
         ensures octets { ReadConsumes (state self.old).left (state self.new).left result buf.new }
+        ensures same { (state self.new).left_out ≡ (state self.old).left_out }
         ensures counts_failure { (state self.new).failures
             ≡ (state self.old).failures + failed_calls result }
         ensures counts_read { (state self.new).reads ≡ (state self.old).reads + 1 }
         ensures counts_end { (state self.new).ends
             ≡ (state self.old).ends + ended_reads result (length buf.old) };
+
+    /// The first datagram that was left out of what it gives, if what it gives was cut from a
+    /// capture.
+    fn left_out(&self) -> Option<LeftOutDatagram>
+        ensures { result ≡ (state self.now).left_out };
 }
 
 /// A device over any reader of std.
 #[derive(Drop)]
 pub struct FromReader<R: Read> {
     reader: R,
+    left_out: Option<LeftOutDatagram>,
     failures: u64,
     reads: u64,
     ends: u64,
@@ -44,6 +52,21 @@ impl<R: Read> FromReader<R> {
     pub fn new(reader: R) -> FromReader<R>
         ensures { ⟦<FromReader<R> as ByteIn>⟧.state result ≡ record {
           left = R.remaining reader;
+          left_out = None;
+          failures = 0;
+          reads = 0;
+          ends = 0;
+        } }
+    {
+        FromReader::of_capture(reader, None)
+    }
+
+    /// A device that gives what the reader gives, which was cut from a capture, and has counted
+    /// nothing. This datagram is the first that was left out of it, if any was.
+    pub fn of_capture(reader: R, left_out: Option<LeftOutDatagram>) -> FromReader<R>
+        ensures { ⟦<FromReader<R> as ByteIn>⟧.state result ≡ record {
+          left = R.remaining reader;
+          left_out = left_out;
           failures = 0;
           reads = 0;
           ends = 0;
@@ -51,6 +74,7 @@ impl<R: Read> FromReader<R> {
     {
         FromReader {
             reader,
+            left_out,
             failures: 0,
             reads: 0,
             ends: 0,
@@ -61,6 +85,7 @@ impl<R: Read> FromReader<R> {
 impl<R: Read> ByteIn for FromReader<R> {
     ghost state = { λ d. record {
       left = R.remaining d.reader;
+      left_out = d.left_out;
       failures = d.failures;
       reads = d.reads;
       ends = d.ends;
@@ -80,5 +105,9 @@ impl<R: Read> ByteIn for FromReader<R> {
                 Err(error)
             }
         }
+    }
+
+    fn left_out(&self) -> Option<LeftOutDatagram> {
+        self.left_out
     }
 }

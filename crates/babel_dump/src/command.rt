@@ -9,7 +9,7 @@ const MOST_ROUTES: i64 = 51_746_593;
 /// 0 and 1 differ from command to command, and examples.
 macro_rules! after_help {
     ($($known:literal,)* examples: $($example:literal),+; $($status:literal),+) => {
-        after_help!(refused: "a dump"; $($known,)* examples: $($example),+; $($status),+)
+        after_help!(refused: "a dump or a capture"; $($known,)* examples: $($example),+; $($status),+)
     };
     (refused: $refused:literal; $($known:literal,)* examples: $($example:literal),+; $($status:literal),+) => {
         concat!(
@@ -20,7 +20,7 @@ macro_rules! after_help {
             "\n  3  ", $refused, " is refused",
             "\n  4  a file can't be opened, or a read or a write failed",
             "\n  5  out of memory",
-            "\n  141  nobody reads the output any more",
+            "\n  141  the reader of the output has closed the pipe",
             "\n\nExamples:"
             $(, "\n  babel-dump ", $example)+
         )
@@ -28,70 +28,69 @@ macro_rules! after_help {
 }
 
 const AFTER_HELP: &str = after_help!(
-    refused: "a dump or a capture";
     "IPv4 routes with an IPv6 next hop (address encoding 4, AE 4 for short, RFC 9229) are not read.",
     "babeld sends them on links without IPv4 addresses. They and their retractions are ignored and",
     "counted as unknown-encoding, so that an answer for IPv4 can be missing or stale.\n",
     examples:
-    "show --from fe80::5eff:fe00:4a01 examples/captures/frr-basic.dump",
-    "lookup --from 192.0.2.1 --to 10.1.2.3 --src 0.0.0.0 examples/one-route.dump",
-    "senders examples/captures/babeld-basic-a.pcap";
+    "senders x.pcap",
+    "show --from fe80::1 x.pcap",
+    "lookup --from fe80::1 --to 10.1.2.3 --src 0.0.0.0 x.pcap";
     "0  done; a lookup has a route; the compared dumps answer the same",
     "1  a lookup has no route: none or unreachable; the compared dumps differ; a capture has no packets"
 );
 
 const AFTER_SHOW: &str = after_help!(
     examples:
-    "show --from 192.0.2.1 examples/one-route.dump",
-    "show --hold --from fe80::5eff:fe00:b901 examples/captures/babeld-retract.dump | grep unreachable";
+    "show --from fe80::1 x.pcap",
+    "show --hold --from fe80::1 x.pcap | grep -v unreachable";
     "0  done"
 );
 
 const AFTER_LOOKUP: &str = after_help!(
     examples:
-    "lookup --from 192.0.2.1 --to 10.1.2.3 --src 0.0.0.0 examples/one-route.dump",
-    "lookup --from 192.0.2.1 --to 10.1.2.3 --src 0.0.0.0 < examples/one-route.dump",
-    "lookup --from 192.0.2.1 --each examples/pairs.txt examples/one-route.dump";
+    "lookup --from fe80::1 --to 10.1.2.3 --src 0.0.0.0 x.pcap",
+    "lookup --from 192.0.2.1 --to 10.1.2.3 --src 0.0.0.0 < x.dump",
+    "lookup --from fe80::1 --each pairs.txt x.pcap";
     "0  each answer is a route",
     "1  an answer is none or unreachable"
 );
 
 const AFTER_NORMALISE: &str = after_help!(
     examples:
-    "normalise --from 192.0.2.1 --hex examples/one-route.dump",
-    "normalise --from 192.0.2.1 examples/one-route.dump | sha256sum";
+    "normalise --from fe80::1 --hex x.pcap",
+    "normalise --from fe80::1 x.pcap | sha256sum";
     "0  done"
 );
 
 const AFTER_PAIRS: &str = after_help!(
     examples:
-    "pairs --from 192.0.2.1 examples/one-route.dump",
-    "pairs --count --from fe80::5eff:fe00:4a01 examples/captures/frr-basic.dump";
+    "pairs --from fe80::1 x.pcap",
+    "pairs --count --from fe80::1 x.pcap";
     "0  done"
 );
 
 const AFTER_COMPARE: &str = after_help!(
     examples:
-    "compare --from fe80::5eff:fe00:4a01 --other-from fe80::5eff:fe00:4b01 examples/captures/frr-basic.dump examples/captures/bird-sadr.dump",
-    "compare --all --ignore next-hop,metric --from fe80::ff:fe00:305 --other-from fe80::ff:fe00:405 examples/network/north-after.dump examples/network/south-after.dump";
+    "compare --from fe80::1 before.pcap now.pcap",
+    "compare --all --ignore next-hop,metric --from fe80::1 --other-from fe80::2 x.pcap x.pcap";
     "0  every destination and source has the same answer",
-    "1  some destination and source has not"
+    "1  at least one destination and source has a different answer"
 );
 
 const AFTER_SENDERS: &str = after_help!(
     refused: "a capture";
     examples:
-    "senders examples/captures/babeld-basic-a.pcap",
-    "senders --json < examples/captures/babeld-basic-a.pcap";
+    "senders x.pcap",
+    "senders --json < x.pcap";
     "0  there are senders",
-    "1  there is none"
+    "1  there are no senders"
 );
 
 const AFTER_EXTRACT: &str = after_help!(
     refused: "a capture";
     examples:
-    "extract --from fe80::5eff:fe00:c601 --hex examples/captures/babeld-basic-a.pcap",
-    "extract --from fe80::5eff:fe00:c601 examples/captures/babeld-basic-a.pcap | babel-dump show --from fe80::5eff:fe00:c601";
+    "extract --from fe80::1 --hex x.pcap",
+    "extract --from fe80::1 x.pcap | babel-dump show --from fe80::1";
     "0  done",
     "1  there are no packets from the sender"
 );
@@ -99,9 +98,9 @@ const AFTER_EXTRACT: &str = after_help!(
 /// The program's command line.
 pub(crate) fn command<'a>(alloc: Global) -> Result<Command<'a>, AllocError> {
     let command = Command::new(alloc, "babel-dump")
-        .version("1.0.0")
+        .version("1.1.0")
         .about(
-            "Reads dumps of Babel packets (RFC 8966, RFC 9079), each from one sender, and makes them from captures",
+            "Shows what Babel packets of one sender announce (RFC 8966, RFC 9079), from a packet capture or a dump",
         )
         .after_help(AFTER_HELP)
         .no_binary_name(true)
@@ -123,7 +122,7 @@ fn with_tables<'a>(alloc: Global, command: Command<'a>) -> Result<Command<'a>, A
 
 /// The command for all rows.
 fn show<'a>(alloc: Global) -> Result<Command<'a>, AllocError> {
-    let about = "Write the routes of a dump, how many TLVs it has, and why some were ignored";
+    let about = "Print the routes, the number of TLVs, and why TLVs were ignored";
     let command = Command::new(alloc, "show")
         .about(about)
         .after_help(AFTER_SHOW);
@@ -132,7 +131,7 @@ fn show<'a>(alloc: Global) -> Result<Command<'a>, AllocError> {
 
 /// The command for one answer, or for one a pair.
 fn lookup<'a>(alloc: Global) -> Result<Command<'a>, AllocError> {
-    let about = "Write the route that a dump gives for a destination and a source, or none";
+    let about = "Look up the route for a destination and a source";
     let command = Command::new(alloc, "lookup")
         .about(about)
         .after_help(AFTER_LOOKUP);
@@ -158,7 +157,7 @@ fn unless_each(arg: Arg<'_>) -> Result<Arg<'_>, AllocError> {
 /// The option for the pairs to look up.
 fn each<'a>(alloc: Global) -> Result<Arg<'a>, AllocError> {
     let help =
-        "In place of --to and --src: look up each line of PAIRS, which has a destination and a source; - is standard input";
+        "Look up each destination and source in the file PAIRS (- for standard input) instead of --to and --src";
     Arg::new(alloc, "each")
         .long("each")
         .value_name("PAIRS")
@@ -171,7 +170,7 @@ fn each<'a>(alloc: Global) -> Result<Arg<'a>, AllocError> {
 /// The command for the canonical octets.
 fn normalise<'a>(alloc: Global) -> Result<Command<'a>, AllocError> {
     let about =
-        "Write the canonical octets of a dump, which are the same for all dumps with the same answers";
+        "Write the canonical octets, which are the same for all inputs with the same answers";
     let command = Command::new(alloc, "normalise")
         .about(about)
         .after_help(AFTER_NORMALISE);
@@ -180,9 +179,7 @@ fn normalise<'a>(alloc: Global) -> Result<Command<'a>, AllocError> {
         .value_name("OCTETS")
         .value_parser(value_parser!(u16).range(128..))
         .action(ArgAction::Set)
-        .help(
-            "How long the body of a packet may be, from 128 to 65535 octets; 1024 if it is left out",
-        );
+        .help("How long the body of a packet may be, from 128 to 65535 octets [default: 1024]");
     of_one_dump(alloc, command)?
         .arg(strict(alloc))?
         .arg(ignore(alloc))?
@@ -190,21 +187,20 @@ fn normalise<'a>(alloc: Global) -> Result<Command<'a>, AllocError> {
         .arg(flag(
             alloc,
             "hex",
-            "Write the octets as lower-case hexadecimal digits on a line",
+            "Write the octets as lower-case hexadecimal digits on one line",
         ))
 }
 
 /// The command for the canonical pairs.
 fn pairs<'a>(alloc: Global) -> Result<Command<'a>, AllocError> {
-    let about =
-        "Write the canonical pairs of a dump: the longest blocks of addresses with one answer";
+    let about = "Print the canonical pairs: the largest blocks of addresses that share one answer";
     let command = Command::new(alloc, "pairs")
         .about(about)
         .after_help(AFTER_PAIRS);
     let count = flag(
         alloc,
         "count",
-        "Write only how many rows and how many canonical pairs there are",
+        "Print only how many rows and how many canonical pairs there are",
     );
     of_one_dump(alloc, command)?
         .arg(strict(alloc))?
@@ -215,7 +211,7 @@ fn pairs<'a>(alloc: Global) -> Result<Command<'a>, AllocError> {
 
 /// The command for the answers of two dumps.
 fn compare<'a>(alloc: Global) -> Result<Command<'a>, AllocError> {
-    let about = "Write same, or the least destination and source for which two dumps differ";
+    let about = "Print \"same\", or the lowest destination and source for which two inputs differ";
     let from = address(
         alloc,
         "from",
@@ -224,45 +220,61 @@ fn compare<'a>(alloc: Global) -> Result<Command<'a>, AllocError> {
     let other_from = address(
         alloc,
         "other-from",
-        "The address that the packets of OTHER were sent from",
+        "The address that the packets of OTHER were sent from [default: that of --from]",
+    );
+    let interface = place(
+        alloc,
+        "interface",
+        "The place in FILE, if it is a capture: the interface, with its link and VLANs, as senders lists it",
+    );
+    let other_interface = place(
+        alloc,
+        "other-interface",
+        "The same for OTHER, if it is a capture",
     );
     let command = Command::new(alloc, "compare")
         .about(about)
         .after_help(AFTER_COMPARE)
         .arg(from)?
-        .arg(other_from)?;
+        .arg(other_from.required(false))?
+        .arg(interface)?
+        .arg(other_interface)?;
     with_settings(alloc, command)?
         .arg(strict(alloc))?
         .arg(ignore(alloc))?
         .arg(json(alloc))?
         .arg(all(alloc))?
         .arg(count_of_all(alloc)?)?
-        .arg(dump(alloc, "file", "FILE", "The first dump; - is standard input"))?
+        .arg(dump(
+            alloc,
+            "file",
+            "FILE",
+            "The first dump, or the capture that has it; - is standard input",
+        ))?
         .arg(dump(
             alloc,
             "other",
             "OTHER",
-            "The other dump; - is standard input",
+            "The other dump, or the capture that has it; - is standard input",
         ))
 }
 
 /// The option for all differences.
 fn all<'a>(alloc: Global) -> Arg<'a> {
-    let help =
-        "In place of the least pair: write each longest block of destinations and sources that the dumps answer differently";
+    let help = "List every largest block of destinations and sources on which the inputs differ";
     flag(alloc, "all", help)
 }
 
 /// The option for the number of all differences.
 fn count_of_all<'a>(alloc: Global) -> Result<Arg<'a>, AllocError> {
-    let help = "With --all: write only how many such blocks there are";
+    let help = "With --all: print only how many such blocks there are";
     flag(alloc, "count", help).requires_arg("all")
 }
 
 /// The command for the senders of a capture.
 fn senders<'a>(alloc: Global) -> Result<Command<'a>, AllocError> {
     let about =
-        "Write who sent Babel packets in a capture (pcap, pcapng), on which interface, and how many";
+        "List who sent Babel packets in a capture (pcap, pcapng), at which place, and how many packets, octets and Updates";
     let command = Command::new(alloc, "senders")
         .about(about)
         .after_help(AFTER_SENDERS);
@@ -275,25 +287,13 @@ fn extract<'a>(alloc: Global) -> Result<Command<'a>, AllocError> {
     let command = Command::new(alloc, "extract")
         .about(about)
         .after_help(AFTER_EXTRACT);
-    let from = address(
-        alloc,
-        "from",
-        "The address that the dump's packets were sent from",
-    );
-    let interface = Arg::new(alloc, "interface")
-        .long("interface")
-        .value_name("NUMBER")
-        .value_parser(value_parser!(u32))
-        .action(ArgAction::Set)
-        .help(
-            "The interface where they were captured, as senders names it; needed where there are several",
-        );
+    let from = address(alloc, "from", "The source address of the packets");
     let hex = flag(
         alloc,
         "hex",
-        "Write the octets as lower-case hexadecimal digits on a line",
+        "Write the octets as lower-case hexadecimal digits on one line",
     );
-    let command = command.arg(from)?.arg(interface)?.arg(hex)?;
+    let command = command.arg(from)?.arg(interface(alloc))?.arg(hex)?;
     of_one_capture(alloc, command)
 }
 
@@ -301,29 +301,21 @@ fn extract<'a>(alloc: Global) -> Result<Command<'a>, AllocError> {
 fn of_one_capture<'a>(alloc: Global, command: Command<'a>) -> Result<Command<'a>, AllocError> {
     let file = Arg::new(alloc, "file")
         .value_name("CAPTURE")
-        .help("The capture; standard input if it is left out, or is -");
+        .help("The capture; standard input if omitted or -");
     command
         .arg(flag(
             alloc,
             "strict",
-            "Refuse a capture of which a datagram is left out",
+            "Reject a capture if any datagram is left out",
         ))?
-        .arg(flag(
-            alloc,
-            "accept-cut",
-            "Read a capture that is cut short to its last whole record",
-        ))?
-        .arg(flag(
-            alloc,
-            "quiet",
-            "Leave out the notes on standard error: how many datagrams were left out and why, and where the capture is cut short",
-        ))?
+        .arg(accept_cut(alloc))?
+        .arg(flag(alloc, "quiet", "Suppress the notes on standard error"))?
         .arg(number(
             alloc,
             "max-octets",
             "OCTETS",
             i64::from(u32::MAX),
-            "How many octets the capture may have; 1073741824 if it is left out",
+            "How many octets the capture may have [default: 1073741824]",
         ))?
         .arg(file)
 }
@@ -338,15 +330,11 @@ fn dump<'a>(alloc: Global, id: &'a str, name: &'a str, help: &'a str) -> Arg<'a>
 
 /// The command with what each command over one dump has.
 fn of_one_dump<'a>(alloc: Global, command: Command<'a>) -> Result<Command<'a>, AllocError> {
-    let file = Arg::new(alloc, "file")
-        .value_name("FILE")
-        .help("The dump; standard input if it is left out, or is -");
-    let from = address(
-        alloc,
-        "from",
-        "The address that the dump's packets were sent from",
+    let file = Arg::new(alloc, "file").value_name("FILE").help(
+        "The dump, or the capture that has it; standard input if omitted or -",
     );
-    with_settings(alloc, command.arg(from)?)?.arg(file)
+    let from = address(alloc, "from", "The source address of the packets");
+    with_settings(alloc, command.arg(from)?.arg(interface(alloc))?)?.arg(file)
 }
 
 /// The command with what each command has that reads a dump: how retractions are read, whether
@@ -355,19 +343,20 @@ fn with_settings<'a>(alloc: Global, command: Command<'a>) -> Result<Command<'a>,
     command
         .arg(hold(alloc))?
         .arg(quiet(alloc))?
+        .arg(accept_cut(alloc))?
         .arg(number(
             alloc,
             "max-routes",
             "ROUTES",
             MOST_ROUTES,
-            "How many routes, and how many canonical pairs or differences, there may be; 262144 if it is left out",
+            "How many routes, and how many canonical pairs or differences, there may be [default: 262144]",
         ))?
         .arg(number(
             alloc,
             "max-octets",
             "OCTETS",
             i64::from(u32::MAX),
-            "How many octets a dump may have; if it is left out, 33554432, or 83 for each of the routes if that is more",
+            "How many octets a dump may have, also one in a capture [default: 33554432, or 83 for each of the routes if that is more]",
         ))
 }
 
@@ -399,9 +388,32 @@ fn flag<'a>(alloc: Global, id: &'a str, help: &'a str) -> Arg<'a> {
         .help(help)
 }
 
+/// The option for the place where the packets of a sender were captured.
+fn interface<'a>(alloc: Global) -> Arg<'a> {
+    let help =
+        "The place in a capture: the interface, as 1, with its link and VLANs if there are any, as 1/3, 1:10 or 1/3:10.20; required if the sender appears at several";
+    place(alloc, "interface", help)
+}
+
+/// An option whose value is a place in a capture.
+fn place<'a>(alloc: Global, id: &'a str, help: &'a str) -> Arg<'a> {
+    Arg::new(alloc, id)
+        .long(id)
+        .value_name("INTERFACE")
+        .action(ArgAction::Set)
+        .help(help)
+}
+
+/// The option that takes a capture which is cut short.
+fn accept_cut<'a>(alloc: Global) -> Arg<'a> {
+    let help = "Read a truncated capture up to its last complete record";
+    flag(alloc, "accept-cut", help)
+}
+
 /// The option that refuses what is not read whole.
 fn strict<'a>(alloc: Global) -> Arg<'a> {
-    let help = "Refuse a dump of which a TLV is ignored";
+    let help =
+        "Reject a dump in which any TLV was ignored or a datagram left out, or that has no Update";
     flag(alloc, "strict", help)
 }
 
@@ -412,18 +424,18 @@ fn ignore<'a>(alloc: Global) -> Arg<'a> {
         .value_name("LIST")
         .action(ArgAction::Set)
         .help(
-            "Fields of a route that do not count: next-hop, router-id, seqno, metric, with a comma between each two",
+            "Fields of a route that do not count: next-hop, router-id, seqno, metric, separated by commas",
         )
 }
 
 /// The option that has the output be read by programs.
 fn json<'a>(alloc: Global) -> Arg<'a> {
-    flag(alloc, "json", "Write one JSON object a line")
+    flag(alloc, "json", "Print one JSON object per line")
 }
 
 /// The option that leaves notes out.
 fn quiet<'a>(alloc: Global) -> Arg<'a> {
-    let help = "Leave out the note on standard error that says how many TLVs were ignored, and why";
+    let help = "Suppress the notes on standard error";
     flag(alloc, "quiet", help)
 }
 

@@ -49,16 +49,8 @@ pub fn run_compare<R: ByteIn, S: ByteIn, W: ByteOut>(
         let output = output (W.state writer.old) (W.state writer.new) in
         RanCompare dump other_dump formats.Text output (other.new ≡ other.old) result }
 {
-    let reading = Reading {
-        limits,
-        mode,
-        sender,
-        strict: false,
-    };
-    let other_reading = Reading {
-        sender: other_sender,
-        ..reading
-    };
+    let reading = Reading::of(limits, mode, sender);
+    let other_reading = Reading::of(limits, mode, other_sender);
     let (view, format) = (View::all(), Format::Text);
     let found = find_verdict(alloc, reading, other_reading, view, format, reader, other);
     status_alone(finish(writer, found))

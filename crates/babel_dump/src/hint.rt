@@ -1,4 +1,5 @@
 //! What a user can do where an input is refused.
+use crate::dump_input::begins_capture;
 use crate::input_fault::InputFault;
 use crate::job::Job;
 use crate::pairs_fault::PairsFault;
@@ -22,46 +23,65 @@ pub enum Hint {
     /// There are more octets than the limit.
     #[error("hint: the limit is {0} octets; --max-octets raises it")]
     Octets(u32),
-    /// The octets of a dump are those of a packet capture.
-    #[error("hint: this is a packet capture: senders lists who sent in it, and extract gives the dump of one sender")]
-    Capture,
+    /// The octets are compressed. This program gives what they were.
+    #[error("hint: this is compressed: {0} FILE | babel-dump ..")]
+    Compressed(&'static str),
+    /// The octets are text.
+    #[error("hint: this is text, and neither a dump of Babel packets nor a capture")]
+    Text,
+    /// A block of a capture has no length that it can have.
+    #[error("hint: captures joined by cat are not one capture; use mergecap")]
+    Joined,
     /// What comes after a packet begins no packet.
     #[error("hint: the packet before may have a trailer (RFC 8967), which is not read")]
     Trailer,
     /// A TLV has an address encoding that is not read.
-    #[error("hint: unknown-encoding is mostly IPv4 via IPv6 (AE 4, RFC 9229), which is not read: IPv4 answers can be missing or stale")]
+    #[error("hint: unknown-encoding usually means IPv4 routes with IPv6 next hops (AE 4, RFC 9229), which are not read: IPv4 answers can be missing or stale")]
     UnknownEncoding,
     /// A route has no next hop. This option names the sender.
-    #[error("hint: no-next-hop: {0} is of the other family than these routes, and they have no next hop of their own")]
+    #[error("hint: no-next-hop: {0} names a sender of the other family, and these routes carry no next hop")]
     NoNextHop(&'static str),
     /// The octets of a capture begin as a dump does.
-    #[error("hint: this begins as a dump does, which show, lookup, normalise, pairs and compare read")]
+    #[error("hint: this looks like a dump, not a capture: use show, lookup, normalise, pairs or compare")]
     Dump,
     /// The octets are no capture.
     #[error("hint: a capture is a file of pcap or pcapng, as tcpdump -w writes it")]
     Format,
     /// The capture is cut short.
-    #[error("hint: the recorder was stopped within a record; --accept-cut reads those before it")]
+    #[error("hint: the recorder was stopped within a record; --accept-cut reads the complete records")]
     Cut,
     /// The recorder kept only a part of a datagram.
     #[error("hint: tcpdump -s 0 keeps packets whole")]
     Snapped,
+    /// A datagram came in fragments.
+    #[error("hint: fragments are not put together, so the dump would lack what they have")]
+    Fragment,
+    /// A datagram is longer than its frame.
+    #[error("hint: the frame has less than the datagram says; take the capture as it was recorded, since --accept-cut does not help")]
+    DatagramCutShort,
+    /// A capture is of a version that is not read.
+    #[error("hint: supported versions: pcap 2.4, pcapng 1.0 and 1.2")]
+    Version,
     /// A packet is of a link type that is not read.
-    #[error("hint: read are Ethernet, Linux cooked (tcpdump -i any), raw IP and null or loopback")]
+    #[error("hint: supported link types: Ethernet, Linux cooked (tcpdump -i any), raw IP, null and loopback")]
     Link,
+    /// The sender has no packets in the capture, or none on the interface that is named.
+    #[error("hint: senders lists who sent, and at which places")]
+    Senders,
     /// The sender is on several interfaces.
-    #[error("hint: --interface takes one of them")]
+    #[error("hint: choose one with --interface")]
     Interface,
+    /// The fault of a dump in a capture tells where a TLV is in the dump.
+    #[error("hint: this counts the octets of the dump, as extract writes it")]
+    Offset,
 }
 
-/// The first octets of captures: pcapng, and pcap in either byte order, with microseconds or
-/// nanoseconds.
-const CAPTURES: [[u8; 4]; 5] = [
-    [0x0a, 0x0d, 0x0d, 0x0a],
-    [0xd4, 0xc3, 0xb2, 0xa1],
-    [0xa1, 0xb2, 0xc3, 0xd4],
-    [0x4d, 0x3c, 0xb2, 0xa1],
-    [0xa1, 0xb2, 0x3c, 0x4d],
+/// What makes of compressed octets what was compressed, by their first octets: RFC 1952, 2.3.1;
+/// the file formats of xz, 2.1.1.1; RFC 8878, 3.1.1.
+const COMPRESSED: [(&[u8], &str); 3] = [
+    (&[0x1f, 0x8b], "zcat"),
+    (&[0xfd, b'7', b'z', b'X'], "xzcat"),
+    (&[0x28, 0xb5, 0x2f, 0xfd], "zstdcat"),
 ];
 
 impl Hint {
@@ -84,13 +104,31 @@ impl Hint {
         }
     }
 
+    /// What to know about the offset of a TLV that a fault tells, of an input that begins with these
+    /// octets.
+    pub fn of_offset(fault: &RunFault, begins: &[u8]) -> Option<Hint> {
+        match fault {
+            RunFault::Input(
+                _,
+                InputFault::Ignored(_)
+                | InputFault::Dump(
+                    Fault::TlvPastEnd { .. }
+                    | Fault::EncodingSetsRouterId { .. }
+                    | Fault::TooManyRoutes { .. },
+                ),
+            ) if begins_capture(begins) => Some(Hint::Offset),
+            _ => None,
+        }
+    }
+
     fn of_input(job: &Job, side: Side, fault: &InputFault, begins: &[u8]) -> Option<Hint> {
         match fault {
             InputFault::Dump(fault) => Hint::of_dump(job, *fault, begins),
             InputFault::Ignored(tlv) => Hint::of_reason(tlv.reason, side),
             InputFault::Capture(fault) => Hint::of_capture(job, fault, begins),
             InputFault::SeveralInterfaces(_) => Some(Hint::Interface),
-            InputFault::LeftOut(_) | InputFault::Read => None,
+            InputFault::NoPackets(_) => Some(Hint::Senders),
+            InputFault::LeftOut(_) | InputFault::NoUpdates | InputFault::Read => None,
         }
     }
 
@@ -99,9 +137,7 @@ impl Hint {
             Fault::TooManyRoutes { .. } => Some(Hint::Routes(job.limits()?.entries())),
             Fault::TooManyPairs => Hint::of_too_many(job),
             Fault::TooLong => Some(Hint::Octets(job.most_octets())),
-            Fault::BadMagic { at: 0 } if CAPTURES.iter().any(|magic| begins == magic.as_slice()) =>
-                { Some(Hint::Capture) }
-            Fault::BadMagic { at: 0 } => None,
+            Fault::BadMagic { at: 0 } => Hint::of_other(begins),
             Fault::BadMagic { .. } => Some(Hint::Trailer),
             _ => None,
         }
@@ -117,12 +153,28 @@ impl Hint {
         }
     }
 
+    /// What octets are that are neither a dump nor a capture, by the first of them.
+    fn of_other(begins: &[u8]) -> Option<Hint> {
+        for (magic, program) in &COMPRESSED {
+            if begins.starts_with(magic) {
+                return Some(Hint::Compressed(program));
+            }
+        }
+        let is_text = !begins.is_empty()
+            && begins.iter().all(|octet| octet.is_ascii_graphic() || octet.is_ascii_whitespace());
+        if is_text { Some(Hint::Text) } else { None }
+    }
+
     fn of_capture(job: &Job, fault: &CaptureFault, begins: &[u8]) -> Option<Hint> {
         match fault {
             CaptureFault::NotCapture if begins.starts_with(&[42, 2]) => Some(Hint::Dump),
-            CaptureFault::NotCapture => Some(Hint::Format),
+            CaptureFault::NotCapture => Hint::of_other(begins).or(Some(Hint::Format)),
+            CaptureFault::BadLength { .. } => Some(Hint::Joined),
             CaptureFault::CutShort { .. } => Some(Hint::Cut),
             CaptureFault::Snapped { .. } => Some(Hint::Snapped),
+            CaptureFault::Fragment { .. } => Some(Hint::Fragment),
+            CaptureFault::DatagramCutShort { .. } => Some(Hint::DatagramCutShort),
+            CaptureFault::Version { .. } => Some(Hint::Version),
             CaptureFault::UnreadLink { .. } => Some(Hint::Link),
             CaptureFault::TooLong { .. } => Some(Hint::Octets(job.most_octets())),
             _ => None,

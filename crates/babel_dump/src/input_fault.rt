@@ -5,6 +5,7 @@ use crate::ignored::IgnoredTlv;
 use crate::interfaces::Interfaces;
 use crate::left_out::LeftOutDatagram;
 use babel_capture::Fault as CaptureFault;
+use babel_prefix::Addr;
 use babel_tlv::Fault;
 use std::alloc::AllocError;
 use thiserror::Error;
@@ -22,12 +23,18 @@ pub enum InputFault {
     /// The capture is refused, or an allocation was.
     #[error("{0}")]
     Capture(CaptureFault),
-    /// A wanted datagram was left out, and the capture is read strictly.
+    /// A wanted datagram was left out, and the capture, or the dump of it, is read strictly.
     #[error("{0}")]
     LeftOut(LeftOutDatagram),
+    /// The dump has no Update, and is read strictly.
+    #[error("no Updates")]
+    NoUpdates,
     /// The sender whose dump is asked for sent on several interfaces, and none of them is named.
     #[error("packets from this sender on several interfaces: {0}")]
     SeveralInterfaces(Interfaces),
+    /// The sender whose dump is asked for has no packets in the capture.
+    #[error("no packets from {0}")]
+    NoPackets(Addr),
     /// A read failed.
     #[error("read failed")]
     Read,

@@ -7,6 +7,7 @@ use crate::capture_reading::CaptureReading;
 use crate::format::Format;
 use crate::reading::Reading;
 use babel_canon::Body;
+use babel_capture::Place;
 use babel_prefix::Addr;
 use babel_table::Limits;
 use babel_tlv::View;
@@ -20,6 +21,7 @@ pub enum Job {
         reading: Reading,
         format: Format,
         file: DumpFile,
+        quiet: bool,
     },
     /// `lookup`: what a dump answers for two addresses.
     Lookup {
@@ -94,9 +96,9 @@ pub enum Job {
         reading: CaptureReading,
         /// The sender: `--from`.
         sender: Addr,
-        /// The interface where its packets were captured: `--interface`. Where it is left out,
-        /// there may be only one.
-        interface: Option<u32>,
+        /// Where its packets were captured: `--interface`. Where it is left out, there may be only
+        /// one place.
+        place: Option<Place>,
         /// Whether the dump is written as hexadecimal digits: `--hex`.
         hex: bool,
         file: DumpFile,
@@ -142,8 +144,8 @@ impl Job {
         }
     }
 
-    /// The limits of its dump, or of the first of two; `None` where it reads a capture.
-    pub(crate) fn limits(&self) -> Option<Limits> {
+    /// How its dump is read, or the first of two; `None` where it reads captures alone.
+    pub fn reading(&self) -> Option<Reading> {
         match self {
             Job::Show { reading, .. }
             | Job::Lookup { reading, .. }
@@ -151,9 +153,47 @@ impl Job {
             | Job::Normalise { reading, .. }
             | Job::Pairs { reading, .. }
             | Job::Compare { reading, .. }
-            | Job::Differences { reading, .. } => Some(reading.limits),
+            | Job::Differences { reading, .. } => Some(*reading),
             Job::Senders { .. } | Job::Extract { .. } => None,
         }
+    }
+
+    /// How the other dump of a comparison is read.
+    pub fn other_reading(&self) -> Option<Reading> {
+        match self {
+            Job::Compare { other_reading, .. } | Job::Differences { other_reading, .. } => Some(
+                *other_reading,
+            ),
+            _ => None,
+        }
+    }
+
+    /// The limits of its dump, or of the first of two; `None` where it reads captures alone.
+    pub(crate) fn limits(&self) -> Option<Limits> {
+        match self.reading() {
+            Some(reading) => Some(reading.limits),
+            None => None,
+        }
+    }
+
+    /// The option that is for captures alone and was given for a dump, by whether FILE and OTHER are
+    /// captures.
+    pub fn misplaced(&self, is_capture: bool, other_is_capture: bool) -> Option<&'static str> {
+        let reading = self.reading()?;
+        let other_place = match self.other_reading() {
+            Some(other) => other.place,
+            None => None,
+        };
+        if reading.place.is_some() && !is_capture {
+            return Some("--interface");
+        }
+        if other_place.is_some() && !other_is_capture {
+            return Some("--other-interface");
+        }
+        if reading.accept_cut && !is_capture && !other_is_capture {
+            return Some("--accept-cut");
+        }
+        None
     }
 
     /// How many octets of an input are read at most.
@@ -164,11 +204,16 @@ impl Job {
         }
     }
 
-    /// Whether no note comes after the output: `--quiet`, and where `show` says it all.
+    /// Whether its output says which TLVs were ignored, as that of `show` does.
+    pub fn reports_ignored(&self) -> bool {
+        matches!(self, Job::Show { .. })
+    }
+
+    /// Whether no note comes after the output: `--quiet`.
     pub fn is_quiet(&self) -> bool {
         match self {
-            Job::Show { .. } => true,
-            Job::Lookup { quiet, .. }
+            Job::Show { quiet, .. }
+            | Job::Lookup { quiet, .. }
             | Job::Each { quiet, .. }
             | Job::Normalise { quiet, .. }
             | Job::Pairs { quiet, .. }

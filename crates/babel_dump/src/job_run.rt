@@ -1,7 +1,7 @@
 ghost use Rattle.std.specs.Prelude.{◌≡◌};
 ghost use Rattle.babel_dump.specs.Device.{HasRoomToCount, HasRoomToWrite};
 ghost use Rattle.babel_dump.specs.Given.{reads};
-ghost use Rattle.babel_dump.specs.JobRun.{RanJob, wanted_of};
+ghost use Rattle.babel_dump.specs.JobRun.{RanJob};
 ghost use Rattle.babel_dump.specs.Parts.{FoundBy};
 ghost use Rattle.babel_dump.specs.Run.{output};
 
@@ -21,7 +21,6 @@ use crate::senders::find_senders;
 use crate::show::find_rows;
 use crate::slices::{Found, finish};
 use babel_capture::Wanted;
-use babel_prefix::Addr;
 use std::alloc::Global;
 
 /// Does a job: reads its input, finds what its command asks for, writes that, and flushes. The other
@@ -126,20 +125,12 @@ fn find<R: ByteIn, S: ByteIn>(
         Job::Extract {
             reading,
             sender,
-            interface,
+            place,
             hex,
             ..
-        } => find_packets(alloc, reading, wanted(sender, interface), hex, reader),
+        } => {
+            let wanted = Wanted::Sender { sender, place };
+            find_packets(alloc, reading, wanted, hex, reader)
+        }
     }
-}
-
-/// The datagrams of one sender, on this interface where one is named.
-fn wanted(sender: Addr, interface: Option<u32>) -> Wanted
-    ensures { result ≡ wanted_of sender interface }
-{
-    let interface = match interface {
-        Some(number) => Some(u64::from(number)),
-        None => None,
-    };
-    Wanted::Sender { sender, interface }
 }

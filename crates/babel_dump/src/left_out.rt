@@ -107,12 +107,15 @@ fn sooner(
 }
 
 /// The reasons, in their order.
-const REASONS: [Reason; 5] = [
+const REASONS: [Reason; 8] = [
     Reason::Truncated,
     Reason::BadMagic,
     Reason::BadVersion,
     Reason::Fragment,
     Reason::Snapped,
+    Reason::CutShort,
+    Reason::OtherPort,
+    Reason::NotLinkLocal,
 ];
 
 /// The name of a reason.
@@ -123,5 +126,8 @@ fn name(reason: Reason) -> &'static str {
         Reason::BadVersion => "bad-version",
         Reason::Fragment => "fragment",
         Reason::Snapped => "snapped",
+        Reason::CutShort => "cut-short",
+        Reason::OtherPort => "other-port",
+        Reason::NotLinkLocal => "not-link-local",
     }
 }

@@ -47,12 +47,7 @@ pub fn run_lookup<R: ByteIn, W: ByteOut>(
         let output = output (W.state writer.old) (W.state writer.new) in
         RanLookup dump dst src formats.Text output result }
 {
-    let reading = Reading {
-        limits,
-        mode,
-        sender,
-        strict: false,
-    };
+    let reading = Reading::of(limits, mode, sender);
     let found = find_answer(alloc, reading, AddrPair { dst, src }, Format::Text, reader);
     status_alone(finish(writer, found))
 }

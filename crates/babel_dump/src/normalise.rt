@@ -50,12 +50,7 @@ pub fn run_normalise<R: ByteIn, W: ByteOut>(
         let output = output (W.state writer.old) (W.state writer.new) in
         RanNormalise dump body hex output result }
 {
-    let reading = Reading {
-        limits,
-        mode,
-        sender,
-        strict: false,
-    };
+    let reading = Reading::of(limits, mode, sender);
     let found = find_normal(alloc, reading, View::all(), body, hex, reader);
     status_alone(finish(writer, found))
 }

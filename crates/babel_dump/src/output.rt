@@ -1,21 +1,21 @@
 //! What the runs write, in the format that is asked for.
-ghost use Rattle.std.specs.Prelude.{◌≡◌, ◌++◌, List, ℕ, IfOk};
+ghost use Rattle.std.specs.Prelude.{◌≡◌, ◌≤◌, ◌++◌, List, ℕ, IfOk, length};
 ghost use Rattle.babel_tlv.specs.declared.view.View.{View};
-ghost use Rattle.babel_dump.specs.CaptureText.{sender_in};
+ghost use Rattle.babel_dump.specs.CaptureText.{escape};
 ghost use Rattle.babel_dump.specs.InFormat.{counts_in, line_in, lookup_in, report_in, verdict_in};
 ghost use Rattle.babel_dump.specs.Slices.{HasRoom, TookRoom};
-ghost use Rattle.babel_dump.specs.TextParts.{difference_count_in, hex_text, same_in};
+ghost use Rattle.babel_dump.specs.TextParts.{after_name, closing, difference_count_in, hex_text, opening, same_in, to_name};
 ghost use Rattle.babel_dump.specs.declared.format.Format.{Format};
 
 use crate::addr_pair::AddrPair;
 use crate::format::Format;
 use crate::push::{
     push_answer_line, push_counts, push_differ, push_difference_count, push_lookup, push_pair_line,
-    push_sender, push_text,
+    push_sender_end, push_sender_front, push_text,
 };
 use crate::push_json::{
     push_answered, push_counts_json, push_differ_json, push_difference_count_json, push_pair_json,
-    push_sender_json,
+    push_sender_end_json, push_sender_front_json,
 };
 use crate::push_report::{push_report, push_report_json};
 use babel_canon::{Difference, Verdict};
@@ -86,15 +86,72 @@ pub(crate) fn push_line(buffer: &mut Vec<u8>, format: Format, view: View, key: K
     }
 }
 
-/// Appends a sender on an interface, and what it sent: a line.
-pub(crate) fn push_sender_in(buffer: &mut Vec<u8>, format: Format, origin: Origin, tally: Tally)
+/// Appends a sender's line up to the octets of its interface's name.
+pub(crate) fn push_to_name(buffer: &mut Vec<u8>, format: Format, origin: Origin, name: &[u8])
     requires { HasRoom buffer.old 384 }
-    ensures text { buffer.new.items ≡ buffer.old.items ++ sender_in format (origin, tally) }
+    ensures text { buffer.new.items ≡ buffer.old.items ++ to_name format origin name.now }
     ensures room { TookRoom buffer.old buffer.new 384 }
 {
     match format {
-        Format::Text => push_sender(buffer, origin, tally),
-        Format::Json => push_sender_json(buffer, origin, tally),
+        Format::Text => push_sender_front(buffer, origin),
+        Format::Json => push_sender_front_json(buffer, origin),
+    }
+    push_text(buffer, opening(format, name));
+}
+
+/// Appends a sender's line after the octets of its interface's name.
+pub(crate) fn push_after_name(
+    buffer: &mut Vec<u8>,
+    format: Format,
+    origin: Origin,
+    tally: Tally,
+    name: &[u8],
+)
+    requires { HasRoom buffer.old 384 }
+    ensures text { buffer.new.items
+        ≡ buffer.old.items ++ after_name format (origin, tally) name.now }
+    ensures room { TookRoom buffer.old buffer.new 384 }
+{
+    push_text(buffer, closing(format, name));
+    match format {
+        Format::Text => push_sender_end(buffer, origin.place, tally),
+        Format::Json => push_sender_end_json(buffer, tally),
+    }
+}
+
+/// What stands before the octets of a name, or in place of one.
+fn opening(format: Format, name: &[u8]) -> &'static str
+    ensures text { result.now ≡ opening format name.now }
+    ensures short { length result.now ≤ 4 }
+{
+    match (format, name.is_empty()) {
+        (Format::Text, true) => "",
+        (Format::Text, false) => " (",
+        (Format::Json, true) => "null",
+        (Format::Json, false) => "\"",
+    }
+}
+
+/// What stands after the octets of a name.
+fn closing(format: Format, name: &[u8]) -> &'static str
+    ensures text { result.now ≡ closing format name.now }
+    ensures short { length result.now ≤ 4 }
+{
+    match (format, name.is_empty()) {
+        (_, true) => "",
+        (Format::Text, false) => ")",
+        (Format::Json, false) => "\"",
+    }
+}
+
+/// What stands before the digits of an octet of a name.
+pub(crate) fn escape_of(format: Format) -> &'static str
+    ensures text { result.now ≡ escape format }
+    ensures short { length result.now ≤ 3 }
+{
+    match format {
+        Format::Text => r"\x",
+        Format::Json => r"\\x",
     }
 }
 

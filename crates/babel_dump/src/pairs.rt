@@ -49,12 +49,7 @@ pub fn run_pairs<R: ByteIn, W: ByteOut>(
         let output = output (W.state writer.old) (W.state writer.new) in
         RanPairs dump count formats.Text output result }
 {
-    let reading = Reading {
-        limits,
-        mode,
-        sender,
-        strict: false,
-    };
+    let reading = Reading::of(limits, mode, sender);
     let found = find_pairs(alloc, reading, View::all(), count, Format::Text, reader);
     status_alone(finish(writer, found))
 }

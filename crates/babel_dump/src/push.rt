@@ -6,13 +6,13 @@ ghost use Rattle.std.specs.Fmt.{decimal, digits, digit_glyph};
 ghost use Rattle.babel_prefix.specs.declared.family.Family.TheVariants.{V6};
 ghost use Rattle.babel_prefix.specs.Text.{printed, printed_bits, printed_prefix};
 ghost use Rattle.babel_tlv.specs.Views.{keeps_all};
-ghost use Rattle.babel_dump.specs.CaptureText.{sender_line};
+ghost use Rattle.babel_dump.specs.CaptureText.{link_text, marked, octet_text, sender_end, sender_front};
 ghost use Rattle.babel_dump.specs.RunText.{announcement_text, answer_line, answer_text, counts_text, difference_count_text, differ_lines, held_text, kept_text, newline, pair_line};
 ghost use Rattle.babel_dump.specs.Slices.{HasRoom, TookRoom};
-ghost use Rattle.babel_dump.specs.TextParts.{hex_digits};
+ghost use Rattle.babel_dump.specs.TextParts.{hex_digits, nonzero};
 
 use crate::addr_pair::AddrPair;
-use babel_capture::{Origin, Tally};
+use babel_capture::{Origin, Place, Tally};
 use babel_prefix::{Addr, Family, Prefix};
 use babel_tlv::{Ann, Held, Key, View};
 use itoa::{Buffer, Integer};
@@ -109,20 +109,79 @@ pub(crate) fn push_difference_count(buffer: &mut Vec<u8>, count: usize)
     push_octet(buffer, b'\n');
 }
 
-/// Appends a sender on an interface, and what it sent.
-pub(crate) fn push_sender(buffer: &mut Vec<u8>, origin: Origin, tally: Tally)
-    requires { HasRoom buffer.old 128 }
-    ensures text { buffer.new.items ≡ buffer.old.items ++ sender_line (origin, tally) }
-    ensures room { TookRoom buffer.old buffer.new 128 }
+/// Appends a sender and the number of its interface: the front of a line.
+pub(crate) fn push_sender_front(buffer: &mut Vec<u8>, origin: Origin)
+    requires { HasRoom buffer.old 70 }
+    ensures text { buffer.new.items ≡ buffer.old.items ++ sender_front origin }
+    ensures room { TookRoom buffer.old buffer.new 70 }
 {
     push_addr(buffer, origin.sender);
     push_text(buffer, " interface ");
-    push_decimal(buffer, origin.interface);
+    push_decimal(buffer, origin.place.interface);
+}
+
+/// Appends the link and the VLANs of a sender, and what it sent: the end of a line.
+pub(crate) fn push_sender_end(buffer: &mut Vec<u8>, place: Place, tally: Tally)
+    requires { HasRoom buffer.old 147 }
+    ensures text { buffer.new.items ≡ buffer.old.items ++ sender_end place tally }
+    ensures room { TookRoom buffer.old buffer.new 147 }
+{
+    push_link(buffer, place.link);
+    push_marked(buffer, " vlan ", ".", &place.vlans.numbers());
     push_text(buffer, " packets ");
     push_decimal(buffer, tally.packets);
     push_text(buffer, " octets ");
     push_decimal(buffer, tally.octets);
+    push_text(buffer, " updates ");
+    push_decimal(buffer, tally.updates);
     push_octet(buffer, b'\n');
+}
+
+/// Appends the number of a link, or nothing where there is none.
+fn push_link(buffer: &mut Vec<u8>, link: Option<u32>)
+    requires { HasRoom buffer.old 16 }
+    ensures text { buffer.new.items ≡ buffer.old.items ++ link_text link }
+    ensures room { TookRoom buffer.old buffer.new 16 }
+{
+    if let Some(number) = link {
+        push_text(buffer, " link ");
+        push_decimal(buffer, number);
+    }
+}
+
+/// Appends those of the numbers that are not 0, in decimal: the first after one mark, each later
+/// one after the other.
+pub(crate) fn push_marked(buffer: &mut Vec<u8>, first: &str, later: &str, numbers: &[u16])
+    requires room { HasRoom buffer.old (11 * length numbers.now) }
+    requires short { (length first.now ≤ 6) × (length later.now ≤ 6) }
+    ensures text { buffer.new.items
+        ≡ buffer.old.items ++ marked first.now later.now (nonzero numbers.now) }
+    ensures room { TookRoom buffer.old buffer.new (11 * length numbers.now) }
+{
+    let mut mark = first;
+    for number in numbers {
+        if *number != 0 {
+            push_text(buffer, mark);
+            push_decimal(buffer, *number);
+            mark = later;
+        }
+    }
+}
+
+/// Appends an octet of a name: as it is where it is a letter, a digit, `.`, `-` or `_`, and else
+/// the escape and two hexadecimal digits.
+pub(crate) fn push_name_octet(buffer: &mut Vec<u8>, escape: &str, octet: u8)
+    requires room { HasRoom buffer.old 5 }
+    requires short { length escape.now ≤ 3 }
+    ensures text { buffer.new.items ≡ buffer.old.items ++ octet_text escape.now octet }
+    ensures room { TookRoom buffer.old buffer.new 5 }
+{
+    if octet.is_ascii_alphanumeric() || octet == b'.' || octet == b'-' || octet == b'_' {
+        push_octet(buffer, octet);
+    } else {
+        push_text(buffer, escape);
+        push_hex(buffer, octet);
+    }
 }
 
 /// Appends what is answered, under a view: what stands for a key, or `none`.
@@ -369,6 +428,17 @@ pub(crate) fn push_router_id(buffer: &mut Vec<u8>, router_id: [u8; 8])
     let mut digits = [0; 16];
     hex::encode_to_slice(router_id, &mut digits).unwrap();
     buffer.extend_from_slice(&digits).unwrap();
+}
+
+/// Appends an octet as two lower-case hexadecimal digits.
+fn push_hex(buffer: &mut Vec<u8>, octet: u8)
+    requires { HasRoom buffer.old 2 }
+    ensures text { buffer.new.items ≡ buffer.old.items ++ hex_digits (octet ∷ []) }
+    ensures room { TookRoom buffer.old buffer.new 2 }
+{
+    let mut digits = [0; 2];
+    hex::encode_to_slice([octet], &mut digits).unwrap();
+    push_octets(buffer, &digits);
 }
 
 /// Appends a digit.

@@ -3,14 +3,14 @@
 ghost use Rattle.std.specs.Prelude.{◌≡◌, ◌++◌, Some};
 ghost use Rattle.hex.specs.Hex.{encode_lower};
 ghost use Rattle.babel_prefix.specs.Text.{printed};
-ghost use Rattle.babel_dump.specs.CaptureText.{sender_json};
+ghost use Rattle.babel_dump.specs.CaptureText.{link_json, sender_end_json, sender_front_json, vlans_json};
 ghost use Rattle.babel_dump.specs.JsonText.{addressed_json, announcement_json, answer_json, answered_line, counts_json, differ_json, difference_count_json, kept_json, pair_json, quoted};
 ghost use Rattle.babel_dump.specs.Slices.{HasRoom, TookRoom};
 
 use crate::push::{
-    Shown, push_addr, push_decimal, push_number, push_octet, push_router_id, push_text,
+    Shown, push_addr, push_decimal, push_marked, push_number, push_octet, push_router_id, push_text,
 };
-use babel_capture::{Origin, Tally};
+use babel_capture::{Origin, Tally, Vlans};
 use babel_prefix::Addr;
 use babel_tlv::{Ann, Held, Key, View};
 
@@ -94,22 +94,60 @@ pub(crate) fn push_difference_count_json(buffer: &mut Vec<u8>, count: usize)
     push_octet(buffer, b'\n');
 }
 
-/// Appends a sender on an interface, and what it sent: an object.
-pub(crate) fn push_sender_json(buffer: &mut Vec<u8>, origin: Origin, tally: Tally)
-    requires { HasRoom buffer.old 148 }
-    ensures text { buffer.new.items ≡ buffer.old.items ++ sender_json (origin, tally) }
-    ensures room { TookRoom buffer.old buffer.new 148 }
+/// Appends a sender and its place: the front of an object, up to the interface's name.
+pub(crate) fn push_sender_front_json(buffer: &mut Vec<u8>, origin: Origin)
+    requires { HasRoom buffer.old 166 }
+    ensures text { buffer.new.items ≡ buffer.old.items ++ sender_front_json origin }
+    ensures room { TookRoom buffer.old buffer.new 166 }
 {
     push_text(buffer, r#"{"address":""#);
     push_addr(buffer, origin.sender);
     push_text(buffer, r#"","interface":"#);
-    push_decimal(buffer, origin.interface);
+    push_decimal(buffer, origin.place.interface);
+    push_text(buffer, r#","link":"#);
+    push_link_json(buffer, origin.place.link);
+    push_text(buffer, r#","vlans":"#);
+    push_vlans_json(buffer, origin.place.vlans);
+    push_text(buffer, r#","name":"#);
+}
+
+/// Appends what a sender sent: the end of an object.
+pub(crate) fn push_sender_end_json(buffer: &mut Vec<u8>, tally: Tally)
+    requires { HasRoom buffer.old 94 }
+    ensures text { buffer.new.items ≡ buffer.old.items ++ sender_end_json tally }
+    ensures room { TookRoom buffer.old buffer.new 94 }
+{
     push_text(buffer, r#","packets":"#);
     push_decimal(buffer, tally.packets);
     push_text(buffer, r#","octets":"#);
     push_decimal(buffer, tally.octets);
+    push_text(buffer, r#","updates":"#);
+    push_decimal(buffer, tally.updates);
     push_text(buffer, "}");
     push_octet(buffer, b'\n');
+}
+
+/// Appends the numbers of VLANs: an array.
+fn push_vlans_json(buffer: &mut Vec<u8>, vlans: Vlans)
+    requires { HasRoom buffer.old 46 }
+    ensures text { buffer.new.items ≡ buffer.old.items ++ vlans_json vlans }
+    ensures room { TookRoom buffer.old buffer.new 46 }
+{
+    push_text(buffer, "[");
+    push_marked(buffer, "", ",", &vlans.numbers());
+    push_text(buffer, "]");
+}
+
+/// Appends the number of a link, or `null`.
+fn push_link_json(buffer: &mut Vec<u8>, link: Option<u32>)
+    requires { HasRoom buffer.old 10 }
+    ensures text { buffer.new.items ≡ buffer.old.items ++ link_json link }
+    ensures room { TookRoom buffer.old buffer.new 10 }
+{
+    match link {
+        Some(number) => push_decimal(buffer, number),
+        None => push_text(buffer, "null"),
+    }
 }
 
 /// Appends a destination and a source: two members of an object.

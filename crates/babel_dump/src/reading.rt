@@ -1,8 +1,17 @@
+ghost use Rattle.std.specs.Prelude.{◌≡◌};
+ghost use Rattle.babel_dump.specs.CapturedDump.{capture_limit, capture_reading_of, wanted_by};
+ghost use Rattle.babel_dump.specs.Given.{usual_reading};
+
+use crate::capture_reading::CaptureReading;
+use babel_capture::{Place, Wanted};
 use babel_prefix::Addr;
 use babel_table::Limits;
 use babel_tlv::Mode;
 
-/// How a dump is read.
+/// How many octets a capture may have where its dump may not have more.
+const USUAL_CAPTURE: u32 = 1_073_741_824;
+
+/// How a dump is read, or the dump of its sender in a capture.
 #[derive(Clone, Copy, Debug)]
 pub struct Reading {
     /// How many octets are read at most, and how many rows its table has at most: `--max-octets`,
@@ -12,6 +21,56 @@ pub struct Reading {
     pub mode: Mode,
     /// The address that the dump's packets were sent from: `--from`, or `--other-from`.
     pub sender: Addr,
-    /// Whether the dump is refused if a TLV of it is ignored: `--strict`.
+    /// The place where they were captured, in a capture: `--interface`, or `--other-interface`.
+    /// Where it is left out, there may be only one.
+    pub place: Option<Place>,
+    /// Whether a capture that is cut short is read to its last whole record: `--accept-cut`.
+    pub accept_cut: bool,
+    /// Whether the dump is refused if a TLV of it is ignored, a datagram was left out of it, or it
+    /// has no Update: `--strict`.
     pub strict: bool,
+}
+
+impl Reading {
+    /// A dump of this sender, whose TLVs may be ignored.
+    pub fn of(limits: Limits, mode: Mode, sender: Addr) -> Reading
+        ensures { result ≡ usual_reading limits mode sender }
+    {
+        Reading {
+            limits,
+            mode,
+            sender,
+            place: None,
+            accept_cut: false,
+            strict: false,
+        }
+    }
+
+    /// How a capture is read for the dump of the sender.
+    pub(crate) fn of_capture(&self) -> CaptureReading
+        ensures { result ≡ capture_reading_of self.now }
+    {
+        CaptureReading {
+            limit: capture_limit(self.limits.bytes()),
+            accept_cut: self.accept_cut,
+            strict: self.strict,
+        }
+    }
+
+    /// Whose datagrams of a capture are its dump.
+    pub(crate) fn wanted(&self) -> Wanted
+        ensures { result ≡ wanted_by self.now }
+    {
+        Wanted::Sender {
+            sender: self.sender,
+            place: self.place,
+        }
+    }
+}
+
+/// How many octets a capture may have whose dump may have so many.
+fn capture_limit(dump: u32) -> u32
+    ensures { result ≡ capture_limit dump }
+{
+    USUAL_CAPTURE.max(dump)
 }

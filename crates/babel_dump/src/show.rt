@@ -41,12 +41,7 @@ pub fn run_show<R: ByteIn, W: ByteOut>(
         let output = output (W.state writer.old) (W.state writer.new) in
         RanShow dump formats.Text output result }
 {
-    let reading = Reading {
-        limits,
-        mode,
-        sender,
-        strict: false,
-    };
+    let reading = Reading::of(limits, mode, sender);
     let found = find_rows(alloc, reading, Format::Text, reader);
     status_alone(finish(writer, found))
 }

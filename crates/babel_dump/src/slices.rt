@@ -4,7 +4,7 @@
 ghost use Rattle.std.specs.Prelude.{◌≡◌, ◌++◌, ◌-◌, ◌^◌, ◌<◌, ◌≤◌, [], IfOk, OnOk, vec_capacity};
 ghost use Rattle.std.specs.List.{flat_map};
 ghost use Rattle.babel_tlv.specs.Views.{keeps_all};
-ghost use Rattle.babel_dump.specs.CaptureText.{senders_in};
+ghost use Rattle.babel_dump.specs.CaptureText.{escape, escaped, sender_in, senders_in};
 ghost use Rattle.babel_dump.specs.Device.{HasRoomToWrite};
 ghost use Rattle.babel_dump.specs.InFormat.{pairs_in};
 ghost use Rattle.babel_dump.specs.Run.{output};
@@ -14,9 +14,9 @@ ghost use Rattle.babel_dump.specs.Slices.{HasRoom, WroteFront, WroteText};
 use crate::byte_out::ByteOut;
 use crate::format::Format;
 use crate::outcome::Outcome;
-use crate::output::{Answered, Line, push_line, push_sender_in};
+use crate::output::{Answered, Line, escape_of, push_after_name, push_line, push_to_name};
 use crate::pair_lines::PairLines;
-use crate::push::push_octets;
+use crate::push::{push_name_octet, push_octets};
 use crate::run_fault::RunFault;
 use crate::slice_buffer::{LONGEST_LINE, SliceBuffer};
 use crate::write::{WriteFailed, write_all, write_text};
@@ -25,7 +25,6 @@ use babel_capture::{Gathered, Origin, Tally};
 use babel_table::Table;
 use babel_tlv::View;
 use std::alloc::{AllocError, Global};
-use std::collections::BTreeMap;
 
 /// Rows of which each has a line.
 #[derive(Drop)]
@@ -126,7 +125,7 @@ fn write_rows<W: ByteOut>(
         Rows::Pairs(view, pairs) => write_pairs(writer, format, view, pairs, buffer),
         Rows::Answers(answers) => write_lines(writer, format, View::all(), &answers, buffer),
         Rows::Differences(view, listed) => write_lines(writer, format, view, &listed, buffer),
-        Rows::Senders(gathered) => write_senders(writer, format, gathered.senders(), buffer),
+        Rows::Senders(gathered) => write_senders(writer, format, &gathered, buffer),
         Rows::Empty => Ok(()),
     }
 }
@@ -199,18 +198,65 @@ fn write_lines<W: ByteOut, L: Line>(
 fn write_senders<W: ByteOut>(
     writer: &mut W,
     format: Format,
-    senders: &BTreeMap<Origin, Tally>,
+    gathered: &Gathered,
     buffer: &mut Vec<u8>,
 ) -> Result<(), WriteFailed>
     requires few_failures { (W.state writer.old).failures < 2 ^ 64 - 1 }
     requires empty { buffer.old.items ≡ [] }
     requires room { 384 ≤ vec_capacity buffer.old }
     ensures { WroteFront (output (W.state writer.old) (W.state writer.new))
-        (senders_in format senders.now.entries) buffer.new.items result }
+        (senders_in format gathered.now) buffer.new.items result }
 {
-    for (origin, tally) in senders.iter() {
+    for (origin, tally) in gathered.senders().iter() {
+        let name = gathered.name(origin.place.interface);
+        write_sender(writer, format, origin, tally, name, buffer)?;
+    }
+    Ok(())
+}
+
+/// Writes a sender's line after what the buffer has, but for the last of both, which the buffer has
+/// then.
+fn write_sender<W: ByteOut>(
+    writer: &mut W,
+    format: Format,
+    origin: &Origin,
+    tally: &Tally,
+    name: &[u8],
+    buffer: &mut Vec<u8>,
+) -> Result<(), WriteFailed>
+    requires few_failures { (W.state writer.old).failures < 2 ^ 64 - 1 }
+    requires room { 384 ≤ vec_capacity buffer.old }
+    ensures front { WroteFront (output (W.state writer.old) (W.state writer.new))
+        (buffer.old.items ++ sender_in format name.now (origin.now, tally.now))
+        buffer.new.items result }
+    ensures room { OnOk result (384 ≤ vec_capacity buffer.new) }
+{
+    make_room(writer, buffer)?;
+    push_to_name(buffer, format, *origin, name);
+    write_name(writer, format, name, buffer)?;
+    make_room(writer, buffer)?;
+    push_after_name(buffer, format, *origin, *tally, name);
+    Ok(())
+}
+
+/// Writes the octets of an interface's name after what the buffer has, but for the last of both,
+/// which the buffer has then.
+fn write_name<W: ByteOut>(
+    writer: &mut W,
+    format: Format,
+    name: &[u8],
+    buffer: &mut Vec<u8>,
+) -> Result<(), WriteFailed>
+    requires few_failures { (W.state writer.old).failures < 2 ^ 64 - 1 }
+    requires room { 384 ≤ vec_capacity buffer.old }
+    ensures front { WroteFront (output (W.state writer.old) (W.state writer.new))
+        (buffer.old.items ++ escaped (escape format) name.now) buffer.new.items result }
+    ensures room { OnOk result (384 ≤ vec_capacity buffer.new) }
+{
+    let escape = escape_of(format);
+    for octet in name {
         make_room(writer, buffer)?;
-        push_sender_in(buffer, format, *origin, *tally);
+        push_name_octet(buffer, escape, *octet);
     }
     Ok(())
 }

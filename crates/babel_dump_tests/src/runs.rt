@@ -5,6 +5,7 @@ mod forms;
 mod one_call;
 mod one_command;
 mod pairs_files;
+mod places;
 mod refusals;
 mod refused_memory;
 mod strict;

@@ -1,10 +1,10 @@
-//! Captures, by the public calls. The packets are of examples/captures/babeld-basic-a.pcap, and
+//! Captures, by the public calls. The packets are of examples/routers/babeld-basic-a.pcap, and
 //! what they give is of the dump beside it; the blocks round them are worked by hand from
 //! draft-ietf-opsawg-pcap and draft-ietf-opsawg-pcapng.
 
 ghost use Rattle.std.specs.Prelude.{◌≤◌};
 
-use babel_capture::{Capture, Wanted};
+use babel_capture::{Capture, Fault, Gathered, Reason, Wanted};
 use babel_prefix::{Addr, Family};
 use std::alloc::Global;
 use std::test::Fail;
@@ -26,7 +26,7 @@ const SECOND: &str =
 
 /// What is read of a capture of so many octets at most: the dump of fe80::5eff:fe00:c601 in
 /// hexadecimal, or the fault.
-static CAPTURES: [(&[&str], u64, &str); 14] = [
+static CAPTURES: [(&[&str], u64, &str); 21] = [
     (
         &[
             LITTLE,
@@ -159,6 +159,63 @@ static CAPTURES: [(&[&str], u64, &str); 14] = [
         4096,
         "bad length at 28",
     ),
+    (
+        &["d4c3b2a10200030000000000000000000000040001000000"],
+        4096,
+        "version 2.3 not read at 0",
+    ),
+    (
+        &["0a0d0d0a0000001c1a2b3c4d00010001ffffffffffffffff0000001c"],
+        4096,
+        "version 1.1 not read at 0",
+    ),
+    (
+        &[
+            LITTLE,
+            "00000000000000004600000046000000",
+            "33330001000602005e00c60186dd6c04230000181101fe8000000000000000005efffe00c601ff0200000000000000000000000100061a281a28001820b62a02000c04060000",
+        ],
+        4096,
+        "datagram cut short at 24",
+    ),
+    (
+        &[
+            LITTLE,
+            "00000000000000005600000056000000",
+            "33330001000602005e00c60186dd6c04230000202c01fe8000000000000000005efffe00c601ff0200000000000000000000000100061100000100000007",
+            "1a281a28001820b62a02000c0406000040ff006409020000",
+        ],
+        4096,
+        "datagram in fragments at 24",
+    ),
+    (
+        &[
+            LITTLE,
+            "00000000000000004e0000004e000000",
+            "33330001000602005e00c60186dd6c04230000181101fe8000000000000000005efffe00c601ff02000000000000000000000001000614e91a28001820b62a02000c0406000040ff006409020000",
+        ],
+        4096,
+        "",
+    ),
+    (
+        &[
+            "0a0d0d0a0000001c1a2b3c4d00010000ffffffffffffffff0000001c",
+            "00000001000000200001000000000000000200046c616e300000000000000020",
+            "00000002000000700000000000000000000000000000004e0000004e",
+            FIRST,
+            "000000000070",
+        ],
+        4096,
+        "2a02000c0406000040ff006409020000",
+    ),
+    (
+        &[
+            "0a0d0d0a0000001c1a2b3c4d00010000ffffffffffffffff0000001c",
+            "00000001000000200001000000000000000200096c616e300000000000000020",
+        ],
+        4096,
+        "bad length at 28",
+    ),
 ];
 
 #[test]
@@ -194,16 +251,277 @@ fn read(alloc: Global, limit: u64, octets: &[u8], step: usize) -> Result<String,
     };
     let wanted = Wanted::Sender {
         sender,
-        interface: None,
+        place: None,
     };
-    let mut capture = Capture::new(alloc, limit, wanted);
-    for piece in octets.chunks(step) {
-        if let Err(fault) = capture.feed(piece) {
-            return Ok(fault.to_string(alloc)?);
-        }
-    }
-    match capture.finish() {
+    match gathered_of(alloc, limit, wanted, octets, step) {
         Ok(gathered) => Ok(hex::encode(alloc, gathered.dump())?),
         Err(fault) => Ok(fault.to_string(alloc)?),
     }
+}
+
+/// What is gathered of a capture that is read in pieces of so many octets.
+fn gathered_of(
+    alloc: Global,
+    limit: u64,
+    wanted: Wanted,
+    octets: &[u8],
+    step: usize,
+) -> Result<Gathered, Fault>
+    requires { 1 ≤ step }
+{
+    let mut capture = Capture::new(alloc, limit, wanted);
+    for piece in octets.chunks(step) {
+        capture.feed(piece)?;
+    }
+    capture.finish()
+}
+
+/// The addresses of the frame `FIRST`, and the parts of its IP packet: what is before the source, the source, the destination,
+/// the ports, and what is after them.
+const ADDRESSES: &str = "33330001000602005e00c601";
+
+const HEAD: &str = "6c04230000181101";
+
+const SOURCE: &str = "fe8000000000000000005efffe00c601";
+
+const GROUP: &str = "ff020000000000000000000000010006";
+
+const PORTS: &str = "1a281a28";
+
+const REST: &str = "001820b62a02000c0406000040ff006409020000";
+
+/// The headers of a record of 64 octets, and of a pcap file of raw IP.
+const RECORD: &str = "00000000000000004000000040000000";
+
+const RAW: &str = "d4c3b2a10200040000000000000000000000040065000000";
+
+/// What is seen in captures: a line for each sender at each place, with the interface, its name in hexadecimal, the link, the
+/// VLANs, and its packets, octets and Updates; for each reason how many datagrams were left out and the first one's number; and
+/// how many frames were too short to tell, and how many packets came in frames of Linux cooked, version 1.
+static SEEN: [(&[&str], &str); 6] = [
+    (
+        &[
+            LITTLE,
+            "00000000000000005200000052000000",
+            ADDRESSES,
+            "8100000a86dd",
+            HEAD,
+            SOURCE,
+            GROUP,
+            PORTS,
+            REST,
+            "00000000000000005600000056000000",
+            ADDRESSES,
+            "88a800148100000a86dd",
+            HEAD,
+            SOURCE,
+            GROUP,
+            PORTS,
+            REST,
+            "00000000000000005200000052000000",
+            ADDRESSES,
+            "9100200086dd",
+            HEAD,
+            SOURCE,
+            GROUP,
+            PORTS,
+            REST,
+            "00000000000000005200000052000000",
+            ADDRESSES,
+            "92000fff86dd",
+            HEAD,
+            SOURCE,
+            GROUP,
+            PORTS,
+            REST,
+        ],
+        "0 '' None [0, 0, 0, 0] 1 16 0\n\
+        0 '' None [10, 0, 0, 0] 1 16 0\n\
+        0 '' None [20, 10, 0, 0] 1 16 0\n\
+        0 '' None [4095, 0, 0, 0] 1 16 0\n\
+        short 0 cooked 0",
+    ),
+    (
+        &[
+            "d4c3b2a10200040000000000000000000000040014010000",
+            "0000000000000000540000005400000086dd0000ffffffff0001020602005e00c6010000",
+            HEAD,
+            SOURCE,
+            GROUP,
+            PORTS,
+            REST,
+            "0000000000000000540000005400000086dd0000000000030001020602005e00c6010000",
+            HEAD,
+            SOURCE,
+            GROUP,
+            PORTS,
+            REST,
+        ],
+        "0 '' Some(3) [0, 0, 0, 0] 1 16 0\n\
+        0 '' Some(4294967295) [0, 0, 0, 0] 1 16 0\n\
+        short 0 cooked 0",
+    ),
+    (
+        &[
+            "d4c3b2a10200040000000000000000000000040071000000",
+            "0000000000000000500000005000000000020001000602005e00c601000086dd",
+            HEAD,
+            SOURCE,
+            GROUP,
+            PORTS,
+            REST,
+            "0000000000000000500000005000000000020001000602005e00c601000086dd",
+            HEAD,
+            SOURCE,
+            GROUP,
+            PORTS,
+            REST,
+        ],
+        "0 '' None [0, 0, 0, 0] 2 32 0\nshort 0 cooked 2",
+    ),
+    (
+        &[
+            "0a0d0d0a0000001c1a2b3c4d00010002ffffffffffffffff0000001c",
+            "0000000100000014006500000000000000000014",
+            "0000000100000020006500000000000000020004776c616e0000000000000020",
+            "0000000600000060000000010000000000000000",
+            "0000004000000040",
+            HEAD,
+            SOURCE,
+            GROUP,
+            PORTS,
+            "001820b62a02000c0406000040ff006408020000",
+            "00000060",
+        ],
+        "1 '776c616e' None [0, 0, 0, 0] 1 16 1\nshort 0 cooked 0",
+    ),
+    (
+        &[
+            RAW,
+            RECORD,
+            HEAD,
+            SOURCE,
+            GROUP,
+            PORTS,
+            "001820b62a02000d0406000040ff006409020000",
+            RECORD,
+            HEAD,
+            SOURCE,
+            GROUP,
+            PORTS,
+            "001820b62b02000c0406000040ff006409020000",
+            RECORD,
+            HEAD,
+            SOURCE,
+            GROUP,
+            PORTS,
+            "001820b62a03000c0406000040ff006409020000",
+            "00000000000000004800000048000000",
+            "6c04230000202c01",
+            SOURCE,
+            GROUP,
+            "1100000100000007",
+            PORTS,
+            REST,
+            "00000000000000003000000040000000",
+            HEAD,
+            SOURCE,
+            GROUP,
+            PORTS,
+            "001820b6",
+            RECORD,
+            HEAD,
+            SOURCE,
+            GROUP,
+            PORTS,
+            "001920b62a02000c0406000040ff006409020000",
+            RECORD,
+            HEAD,
+            SOURCE,
+            GROUP,
+            "1a281a29",
+            REST,
+            RECORD,
+            HEAD,
+            "20010db8000000000000000000000001",
+            GROUP,
+            PORTS,
+            REST,
+        ],
+        "Truncated 1 1\n\
+        BadMagic 1 2\n\
+        BadVersion 1 3\n\
+        Fragment 1 4\n\
+        Snapped 1 5\n\
+        CutShort 1 6\n\
+        OtherPort 1 7\n\
+        NotLinkLocal 1 8\n\
+        short 0 cooked 0",
+    ),
+    (
+        &[
+            RAW,
+            "00000000000000002800000028000000",
+            HEAD,
+            SOURCE,
+            GROUP,
+            RECORD,
+            HEAD,
+            SOURCE,
+            GROUP,
+            "14e914e9",
+            REST,
+        ],
+        "short 1 cooked 0",
+    ),
+];
+
+const REASONS: [Reason; 8] = [
+    Reason::Truncated,
+    Reason::BadMagic,
+    Reason::BadVersion,
+    Reason::Fragment,
+    Reason::Snapped,
+    Reason::CutShort,
+    Reason::OtherPort,
+    Reason::NotLinkLocal,
+];
+
+#[test]
+fn tells_what_is_seen(rt: HostRuntime) -> Result<(), Fail> {
+    for (parts, told) in &SEEN {
+        let octets = joined(rt.alloc(), parts)?;
+        let seen = seen(rt.alloc(), octets.as_slice())?;
+        assert_eq!(rt; seen.as_str(), *told);
+    }
+    Ok(())
+}
+
+/// What is seen in a capture.
+fn seen(alloc: Global, octets: &[u8]) -> Result<String, Fail> {
+    let Ok(gathered) = gathered_of(alloc, 4096, Wanted::Everyone, octets, 4096) else {
+        return Err(Fail::from("no capture"));
+    };
+    let mut seen = String::new(alloc);
+    for (origin, tally) in gathered.senders().iter() {
+        let interface = origin.place.interface;
+        let name = hex::encode(alloc, gathered.name(interface))?;
+        let (link, vlans) = (origin.place.link, origin.place.vlans.numbers());
+        let (packets, octets, updates) = (tally.packets, tally.octets, tally.updates);
+        let line = format!(in alloc;
+            "{interface} '{name}' {link:?} {vlans:?} {packets} {octets} {updates}\n"
+        )?;
+        seen.push_str(line.as_str())?;
+    }
+    let report = gathered.report();
+    for reason in &REASONS {
+        if let Some((count, first)) = report.left_out(*reason) {
+            let line = format!(in alloc; "{reason:?} {count} {first}\n")?;
+            seen.push_str(line.as_str())?;
+        }
+    }
+    let (short, cooked) = (report.short(), report.cooked());
+    let line = format!(in alloc; "short {short} cooked {cooked}")?;
+    seen.push_str(line.as_str())?;
+    Ok(seen)
 }

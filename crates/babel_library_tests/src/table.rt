@@ -4,6 +4,7 @@ mod changes;
 mod faults;
 mod pieces;
 mod refused_memory;
+mod updates;
 
 ghost use Rattle.std.specs.Prelude.{◌≡◌, ◌<◌, ◌^◌};
 ghost use Rattle.babel_prefix.specs.declared.family.Family.TheVariants.{V4, V6};

@@ -32,7 +32,7 @@ pub static CAPTURE: [u8; 122] = [
 ];
 
 pub const SENDERS: &str =
-    "192.0.2.1 interface 0 packets 1 octets 4\n192.0.2.2 interface 0 packets 1 octets 4\n";
+    "192.0.2.1 interface 0 packets 1 octets 4 updates 0\n192.0.2.2 interface 0 packets 1 octets 4 updates 0\n";
 
 /// What the two commands write of the capture.
 static WRITTEN: [(&str, &str); 3] = [
@@ -76,7 +76,7 @@ fn run(alloc: Global, line: &str, octets: &[u8], failing: (u64, u64)) -> Result<
 }
 
 /// What is asked of these octets ends in this fault, if any, with this status, and writes these octets.
-fn expect_run(
+pub fn expect_run(
     rt: &impl Abort,
     alloc: Global,
     line: &str,

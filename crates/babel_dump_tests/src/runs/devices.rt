@@ -1,7 +1,7 @@
 //! Devices in memory that follow a script.
 ghost use Rattle.std.specs.Prelude.{◌≡◌, ◌<◌, None, Some};
 
-use babel_dump::{ByteIn, ByteOut};
+use babel_dump::{ByteIn, ByteOut, LeftOutDatagram};
 use std::alloc::Global;
 use std::io;
 use std::io::ErrorKind;
@@ -43,6 +43,7 @@ impl<'a> ScriptedIn<'a> {
 impl ByteIn for ScriptedIn<'_> {
     ghost state = { λ d. record {
       left = Some d.rest.now;
+      left_out = None;
       failures = d.failures;
       reads = d.reads;
       ends = d.ends;
@@ -62,6 +63,10 @@ impl ByteIn for ScriptedIn<'_> {
             self.ends += 1;
         }
         Ok(n)
+    }
+
+    fn left_out(&self) -> Option<LeftOutDatagram> {
+        None
     }
 }
 
@@ -91,7 +96,13 @@ impl<'a> EndlessIn<'a> {
 }
 
 impl ByteIn for EndlessIn<'_> {
-    ghost state = { λ d. record { left = None; failures = d.failures; reads = d.reads; ends = 0 } };
+    ghost state = { λ d. record {
+      left = None;
+      left_out = None;
+      failures = d.failures;
+      reads = d.reads;
+      ends = 0;
+    } };
 
     fn read(&mut self, buf: &mut [u8]) -> io::Result<usize> {
         let at = self.reads as usize;
@@ -105,6 +116,10 @@ impl ByteIn for EndlessIn<'_> {
         }
         buf[0] = self.cycle[at % self.cycle.len()];
         Ok(1)
+    }
+
+    fn left_out(&self) -> Option<LeftOutDatagram> {
+        None
     }
 }
 

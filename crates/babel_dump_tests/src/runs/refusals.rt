@@ -253,7 +253,7 @@ fn another_dump_without_end(rt: HostRuntime) -> Result<(), Fail> {
 }
 
 /// Each fault, its status and its text.
-const TEXTS: [(RunFault, u8, &str); 16] = [
+const TEXTS: [(RunFault, u8, &str); 17] = [
     (
         RunFault::Input(Side::First, InputFault::Dump(Fault::Truncated { at: 29 })),
         3,
@@ -336,6 +336,11 @@ const TEXTS: [(RunFault, u8, &str); 16] = [
         ),
         3,
         "other: ignored TLV at 29: bad-plen",
+    ),
+    (
+        RunFault::Input(Side::Other, InputFault::NoUpdates),
+        3,
+        "other: no Updates",
     ),
     (
         RunFault::Input(Side::First, InputFault::Read),

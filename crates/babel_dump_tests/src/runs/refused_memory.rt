@@ -6,6 +6,7 @@ use super::address;
 use super::captures::{CAPTURE, SENDERS};
 use super::devices::ScriptedIn;
 use babel_canon::Body;
+use babel_capture::Place;
 use babel_dump::{
     AddrPair, ByteOut, CaptureReading, DumpFile, Format, InputFault, Job, Reading, RunFault,
     run_job, status_of,
@@ -115,12 +116,7 @@ fn decoded<'a>(text: &str, room: &'a mut [u8; 64]) -> Result<&'a [u8], Fail> {
 
 /// How a dump is read that this sender sent.
 fn reading(sender: &str) -> Result<Reading, Fail> {
-    Ok(Reading {
-        limits: Limits::usual(),
-        mode: Mode::Plain,
-        sender: address(sender)?,
-        strict: false,
-    })
+    Ok(Reading::of(Limits::usual(), Mode::Plain, address(sender)?))
 }
 
 #[test]
@@ -129,6 +125,7 @@ fn refused_memory_of_show(rt: HostRuntime) -> Result<(), Fail> {
         reading: reading(V4)?,
         format: Format::Text,
         file: DumpFile::StandardInput,
+        quiet: false,
     };
     outcome(rt.alloc(), &job, NESTED_SOURCES, "", 0, ROWS)
 }
@@ -267,7 +264,7 @@ fn refused_memory_of_extract(rt: HostRuntime) -> Result<(), Fail> {
     let job = Job::Extract {
         reading: READING,
         sender: address("192.0.2.2")?,
-        interface: Some(0),
+        place: Some(Place::on(0)),
         hex: true,
         file: DumpFile::StandardInput,
         quiet: true,

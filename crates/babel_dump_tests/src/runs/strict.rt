@@ -1,6 +1,8 @@
-//! Dumps that are refused for TLVs that are ignored.
-use super::{Case, ONE_BY_ONE, expect_run};
-use babel_dump::{IgnoredTlv, InputFault, RunFault, Side};
+//! Dumps that are refused for TLVs that are ignored, for datagrams that were left out, and for want of Updates.
+use super::devices::{ScriptedIn, ScriptedOut};
+use super::{Case, ONE_BY_ONE, expect_run, job};
+use babel_capture::Reason as LeftOutReason;
+use babel_dump::{FromReader, IgnoredTlv, InputFault, LeftOutDatagram, RunFault, Side, run_job};
 use babel_library_tests::dumps::{ONE_ROUTE, V4, octets};
 use babel_table::Limits;
 use babel_tlv::{Fault, Mode, Reason};
@@ -16,6 +18,15 @@ const VAIN: &str =
 const FIRST: IgnoredTlv = IgnoredTlv {
     at: 29,
     reason: Reason::BadPlen,
+};
+
+/// Two Hellos.
+const HELLOS: &str = "2a020010 0406000040ff0064 0406000041000064";
+
+/// A datagram that was left out.
+const LEFT_OUT: LeftOutDatagram = LeftOutDatagram {
+    packet: 3,
+    reason: LeftOutReason::BadMagic,
 };
 
 /// Two routes that are nine pairs, and an Update of 2 octets.
@@ -99,6 +110,51 @@ fn strictly_read_dumps(rt: HostRuntime) -> Result<(), Fail> {
         0,
         "same\n",
     )?;
+    Ok(())
+}
+
+#[test]
+fn strictly_read_dumps_without_an_update(rt: HostRuntime) -> Result<(), Fail> {
+    let usual = Limits::usual();
+    for asked in &STRICT {
+        for dump in ["", HELLOS] {
+            let fault = RunFault::Input(Side::First, InputFault::NoUpdates);
+            let dumps = (dump, VAIN);
+            let other_reads = expect(&rt, rt.alloc(), usual, asked, dumps, Some(&fault), 3, "")?;
+            assert_eq!(rt; other_reads, 0, "{asked}");
+        }
+    }
+    let fault = RunFault::Input(Side::Other, InputFault::NoUpdates);
+    let dumps = (ONE_ROUTE, HELLOS);
+    expect(&rt, rt.alloc(), usual, COMPARE, dumps, Some(&fault), 3, "")?;
+    Ok(())
+}
+
+/// Why this dump, of which LEFT_OUT was left out, is refused when it is read so.
+fn fault_of_cut(alloc: Global, asked: &str, text: &str) -> Result<Option<RunFault>, Fail> {
+    let dump = octets(alloc, text)?;
+    let job = job(alloc, Limits::usual(), Mode::Plain, V4, asked)?;
+    let mut reader = FromReader::of_capture(dump.as_slice(), Some(LEFT_OUT));
+    let mut other = ScriptedIn::new(&[], 1, 0);
+    let mut writer = ScriptedOut::new(alloc, 1, 0);
+    Ok(run_job(alloc, &job, &mut reader, &mut other, &mut writer).err())
+}
+
+#[test]
+fn strictly_read_dumps_of_captures(rt: HostRuntime) -> Result<(), Fail> {
+    let ignored = RunFault::Input(Side::First, InputFault::Ignored(FIRST));
+    let left_out = RunFault::Input(Side::First, InputFault::LeftOut(LEFT_OUT));
+    let truncated = RunFault::Input(Side::First, InputFault::Dump(Fault::Truncated { at: 0 }));
+    for (text, fault) in [
+        ("2a0200", &truncated),
+        (VAIN, &ignored),
+        (HELLOS, &left_out),
+        (ONE_ROUTE, &left_out),
+    ] {
+        let given = fault_of_cut(rt.alloc(), "pairs --strict", text)?;
+        assert_eq!(rt; given.as_ref(), Some(fault), "{text}");
+    }
+    assert_eq!(rt; fault_of_cut(rt.alloc(), "pairs", ONE_ROUTE)?, None);
     Ok(())
 }
 

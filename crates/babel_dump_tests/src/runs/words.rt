@@ -73,7 +73,7 @@ const COMPARE: Wanted<'static> = Wanted {
 
 /// Words, and the job that they ask for.
 #[rattlefmt::skip]
-static JOBS: [(&str, Wanted<'static>); 33] = [
+static JOBS: [(&str, Wanted<'static>); 34] = [
     (
         "lookup --from fe80::1 --to 10.1.2.3 --src=0.0.0.0 --hold x",
         Wanted {
@@ -125,6 +125,7 @@ static JOBS: [(&str, Wanted<'static>); 33] = [
     ("compare --from ::1 --other-from :: --all --hold --json - b", Wanted {
         all: true, from: "::1", mode: Mode::Hold, format: Format::Json, file: None, ..COMPARE
     }),
+    ("compare --from :: a b", COMPARE),
     ("compare --from :: --other-from :: --all --strict a -", Wanted { all: true, strict: true, other: None, ..COMPARE }),
 ];
 
@@ -281,7 +282,7 @@ fn usage(rt: &impl Abort, alloc: Global, line: &str) -> Result<String, Fail> {
 /// Words that are no addresses, and others that go together with no other, with the text that they are refused with. Of
 /// several that are no addresses the first is named, in the order `--from`, `--other-from`, `--to`, `--src`.
 #[rattlefmt::skip]
-static NO_JOBS: [(&str, &str); 14] = [
+static NO_JOBS: [(&str, &str); 16] = [
     ("lookup --src v --to w --from q", "not an address: q\nhint: --from takes an IPv4 or IPv6 address\n"),
     ("lookup --src v --to w --from ::", "not an address: w\nhint: --to takes an IPv4 or IPv6 address\n"),
     ("lookup --src 01.2.3.4 --to :: --from ::", "not an address: 01.2.3.4\nhint: --src takes an IPv4 or IPv6 address\n"),
@@ -291,11 +292,13 @@ static NO_JOBS: [(&str, &str); 14] = [
     ("show --from fe80::1%eth0", "not an address: fe80::1%eth0\nhint: --from takes an address without a zone\n"),
     ("lookup --from :: --to :: --src ::/0", "not an address: ::/0\nhint: --src takes an address without a prefix length\n"),
     ("show --from \u{7}q", "not an address: \\u{7}q\nhint: --from takes an IPv4 or IPv6 address\n"),
+    ("extract --from q --interface x", "not an address: q\nhint: --from takes an IPv4 or IPv6 address\n"),
+    ("extract --from :: --interface x", "not an interface: x\nhint: --interface takes the number of an interface, as 1, with its link and VLANs, as 1/3, 1:10 or 1/3:10.20\n"),
     ("lookup --from 192.0.2.1 --to 10.0.0.1 --src ::1 x", "--to and --src are of different families\n"),
     ("lookup --from 192.0.2.1 --to ::1 --src 10.0.0.1 x", "--to and --src are of different families\n"),
     ("compare --from :: --other-from :: - -", "both dumps are standard input\n"),
-    ("lookup --from :: --each - -", "the dump and the pairs are standard input\n"),
-    ("show --from :: --max-octets 82 --max-routes 1", "--max-octets 82 is less than 83 for each of 1 routes\n"),
+    ("lookup --from :: --each - -", "the dump and the pairs cannot both be standard input\n"),
+    ("show --from :: --max-octets 82 --max-routes 1", "--max-octets 82 is less than 83 for each of 1 routes\nhint: lower --max-routes too\n"),
 ];
 
 #[test]
@@ -322,7 +325,7 @@ static REFUSED: [(&str, &str); 27] = [
     ("lookup --from :: --each p --src ::", USAGE),
     ("normalise x", USAGE),
     ("pairs x", USAGE),
-    ("compare --from :: a b", USAGE),
+    ("compare --other-from :: a b", USAGE),
     ("compare --from :: --other-from :: a", USAGE),
     (
         "compare --from :: --other-from :: --count a b",
@@ -351,9 +354,9 @@ static REFUSED: [(&str, &str); 27] = [
     ),
 ];
 
-/// Words, the octets and the routes that they limit a dump to, and whether nothing is said of ignored TLVs.
+/// Words, the octets and the routes that they limit a dump to, and whether they ask for no notes.
 static ORDERS: [(&str, u32, u32, bool); 9] = [
-    ("show --from ::", 33_554_432, 262_144, true),
+    ("show --from ::", 33_554_432, 262_144, false),
     ("show --from :: --quiet", 33_554_432, 262_144, true),
     ("pairs --from ::", 33_554_432, 262_144, false),
     (
@@ -373,9 +376,14 @@ static ORDERS: [(&str, u32, u32, bool); 9] = [
         "show --from :: --max-routes 51746593",
         4_294_967_219,
         51_746_593,
-        true,
+        false,
     ),
-    ("show --from :: --max-octets 83 --max-routes 1", 83, 1, true),
+    (
+        "show --from :: --max-octets 83 --max-routes 1",
+        83,
+        1,
+        false,
+    ),
     (
         "compare --from :: --other-from :: --max-octets 4294967295 a b",
         4_294_967_295,
@@ -423,15 +431,15 @@ fn words_that_are_refused(rt: HostRuntime) -> Result<(), Fail> {
 
 /// The words of the options that each command over one dump has.
 const OF_ONE_DUMP: [&str; 6] = [
-    "--from <ADDRESS>       The address that the dump's packets were sent from",
-    "--hold                 Keep a retracted route as unreachable, so",
-    "--quiet                Leave out the note on standard error",
-    "--max-routes <ROUTES>  How many routes, and how many canonical pairs or differences, there may be",
-    "--max-octets <OCTETS>  How many octets a dump may have",
-    "[FILE]  The dump; standard input if it is left out, or is -",
+    "--from <ADDRESS>         The source address of the packets",
+    "--hold                   Keep a retracted route as unreachable, so",
+    "--quiet                  Suppress the notes on standard error",
+    "--max-routes <ROUTES>    How many routes, and how many canonical pairs or differences, there may be",
+    "--max-octets <OCTETS>    How many octets a dump may have",
+    "[FILE]  The dump, or the capture that has it; standard input if omitted or -",
 ];
 
-const OF_JSON: &str = "--json                 Write one JSON object a line";
+const OF_JSON: &str = "--json                   Print one JSON object per line";
 
 const COMMANDS: [&str; 5] = [
     "  show  ",
@@ -443,39 +451,39 @@ const COMMANDS: [&str; 5] = [
 
 const OF_LOOKUP: [&str; 6] = [
     OF_JSON,
-    "--strict               Refuse a dump of which a TLV is ignored",
-    "--to <ADDRESS>         The destination to look up",
-    "--src <ADDRESS>        The source to look up, of the destination's family",
+    "--strict                 Reject a dump in which any TLV was ignored",
+    "--to <ADDRESS>           The destination to look up",
+    "--src <ADDRESS>          The source to look up, of the destination's family",
     "babel-dump lookup --from",
     "  1  an answer is none or unreachable",
 ];
 
 const OF_NORMALISE: [&str; 4] = [
-    "--strict               Refuse a dump of which a TLV is ignored",
-    "--body <OCTETS>        How long the body of a packet may be, from 128 to 65535 octets; 1024 if it is left out",
-    "--hex                  Write the octets as lower-case hexadecimal digits on a line",
+    "--strict                 Reject a dump in which any TLV was ignored",
+    "--body <OCTETS>          How long the body of a packet may be, from 128 to 65535 octets [default: 1024]",
+    "--hex                    Write the octets as lower-case hexadecimal digits on one line",
     "babel-dump normalise --from",
 ];
 
 const OF_PAIRS: [&str; 4] = [
     OF_JSON,
-    "--strict               Refuse a dump of which a TLV is ignored",
-    "--count                Write only how many rows and how many canonical pairs there are",
+    "--strict                 Reject a dump in which any TLV was ignored",
+    "--count                  Print only how many rows and how many canonical pairs there are",
     "babel-dump pairs --from",
 ];
 
 const OF_COMPARE: [&str; 11] = [
-    "--json                  Write one JSON object a line",
-    "--strict                Refuse a dump of which a TLV is ignored",
-    "--from <ADDRESS>        The address that the packets of FILE were sent from",
-    "--other-from <ADDRESS>  The address that the packets of OTHER were sent from",
-    "--hold                  Keep a retracted route as unreachable, so",
-    "--all                   In place of the least pair: write each longest block of destinations and sources",
-    "--count                 With --all: write only how many such blocks there are",
-    "<FILE>   The first dump; - is standard input",
-    "<OTHER>  The other dump; - is standard input",
+    "--json                         Print one JSON object per line",
+    "--strict                       Reject a dump in which any TLV was ignored",
+    "--from <ADDRESS>               The address that the packets of FILE were sent from",
+    "--other-from <ADDRESS>         The address that the packets of OTHER were sent from",
+    "--hold                         Keep a retracted route as unreachable, so",
+    "--all                          List every largest block of destinations and sources",
+    "--count                        With --all: print only how many such blocks there are",
+    "<FILE>   The first dump, or the capture that has it; - is standard input",
+    "<OTHER>  The other dump, or the capture that has it; - is standard input",
     "babel-dump compare --from",
-    "  1  some destination and source has not",
+    "  1  at least one destination and source has a different answer",
 ];
 
 const ENDS: [&str; 3] = [

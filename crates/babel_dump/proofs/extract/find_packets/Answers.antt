@@ -1,4 +1,4 @@
--- The dump of a sender on one interface at most.
+-- The dump of a sender at one place at most.
 use Rattle.std.proofs.Common.{rules, ◌≡◌, ℕ, ◌≤◌, Bool, false, ap, ◌∙◌, subst, length, List}
 use Rattle.std.specs.Prelude.{◌↔◌, IsTrue}
 use Rattle.babel_capture.specs.Tallies.{Senders}
@@ -13,7 +13,7 @@ returns g c = record {
     gathering = c.in_ok-read.read.gathered;
     cut = c.in_ok-read.read.cut;
     gave = c.in_ok-read.ensures.made;
-    one_interface = subst (λ (senders : Senders). length senders ≤ 1) c.senders.ensures (few _ _ c.are_several.ensures c.if-are_several.false);
+    one_place = subst (λ (senders : Senders). length senders ≤ 1) c.senders.ensures (few _ _ c.are_several.ensures c.if-are_several.false);
     text_is = search rules;
     outcome_is = search rules;
   };

@@ -5,4 +5,4 @@ use Rattle.babel_dump.proofs.show.run_show.Goals as goal
 pub returns : goal.returns
 returns g c =
     let reader = input c.args.limits c.args.mode c.args.sender (g.R.ByteIn.state c.args.reader.now) (g.R.ByteIn.state c.find_rows-found.new.reader) in
-    rw c.status_alone.ensures (ran_alone reader _ _ _ c.find_rows-found.result c.finish.result c.find_rows-found.ensures c.finish.ensures)
+    rw c.status_alone.ensures (ran_alone reader _ _ _ c.find_rows-found.result c.finish.result (rw c.of-reading.ensures at c.find_rows-found.ensures) c.finish.ensures)

@@ -1,0 +1,72 @@
+//! Places of a capture, as `--interface` names them.
+use babel_capture::{Place, Vlans};
+use std::fmt;
+use std::num::ParseIntError;
+use std::str::FromStr;
+
+/// The largest number of a VLAN tag: IEEE 802.1Q, 9.6.
+const MOST_VLAN: u16 = 4_095;
+
+/// A place, which `Display` gives in the form of `--interface`: the interface's number, then `/`
+/// and the link's, then `:` and those of the VLANs, the outer one first, with `.` between each two.
+#[derive(Clone, Copy)]
+pub struct PlaceWord(pub Place);
+
+impl fmt::Display for PlaceWord {
+    fn fmt<W: fmt::Write>(&self, f: &mut fmt::Formatter<W>) -> fmt::Result {
+        write!(f, "{}", self.0.interface)?;
+        if let Some(link) = self.0.link {
+            write!(f, "/{link}")?;
+        }
+        let mut mark = ":";
+        for number in &self.0.vlans.numbers() {
+            if *number != 0 {
+                write!(f, "{mark}{number}")?;
+                mark = ".";
+            }
+        }
+        Ok(())
+    }
+}
+
+/// The place that a word of `--interface` names, as `PlaceWord` gives it: `1`, `1/3`, `1:10` or
+/// `1/3:10.20`. `None` for any other word.
+pub fn parse_place(word: &str) -> Option<Place> {
+    let (word, vlans) = match word.split_once(':') {
+        Some((word, numbers)) => (word, parse_vlans(numbers)?),
+        None => (word, Vlans::none()),
+    };
+    let (word, link) = match word.split_once('/') {
+        Some((word, link)) => (word, Some(parse_number(link)?)),
+        None => (word, None),
+    };
+    let interface = parse_number(word)?;
+    Some(Place {
+        interface,
+        link,
+        vlans,
+    })
+}
+
+/// The numbers of at most four VLAN tags, with `.` between each two.
+fn parse_vlans(word: &str) -> Option<Vlans> {
+    let mut vlans = Vlans::none();
+    for number in word.split('.') {
+        let number: u16 = parse_number(number)?;
+        let [_, _, _, last] = vlans.numbers();
+        if number == 0 || number > MOST_VLAN || last != 0 {
+            return None;
+        }
+        vlans = vlans.with(number);
+    }
+    Some(vlans)
+}
+
+/// A number in decimal, of digits alone.
+fn parse_number<N: FromStr<Err = ParseIntError>>(word: &str) -> Option<N> {
+    if word.bytes().all(|octet| octet.is_ascii_digit()) {
+        word.parse().ok()
+    } else {
+        None
+    }
+}
