@@ -1,14 +1,16 @@
 #!/usr/bin/env python3
-"""Runs a program over small random tables, and compares what it writes with what a slow program has from the definitions.
+"""Runs a program over small random tables, and compares what it writes with what a slow program has
+from the definitions.
 
     definition.py PROGRAM [--plain] [--all] [--tables N] [--seed N]
 
-Each table has a few routes of both families, with and without source prefixes, some retracted, in any order; half of them
-have prefixes within the first four bits alone, the others prefixes of any length that share long beginnings. `pairs`, with
-and without `--count` and `--hold`, `lookup`, and `compare` with another table, which mostly differs in a few Updates, must
-write what the definitions say and end with the status of that; and, unless it is the plain program, `pairs` and `compare`
-with `--ignore metric`. With `--all` so must `compare --all`, with and without `--count`, `--json`, `--hold` and
-`--ignore metric`. Exits 1 where they do not. The same seed makes the same tables.
+Each table has a few routes of both families, with and without source prefixes, some retracted, in
+any order; half of them have prefixes within the first four bits alone, the others prefixes of any
+length that share long beginnings. `pairs`, with and without `--count` and `--hold`, `lookup`, and
+`compare` with another table, which mostly differs in a few Updates, must write what the definitions
+say and end with the status of that; and, unless it is the plain program, `pairs` and `compare` with
+`--ignore metric`. With `--all` so must `compare --all`, with and without `--count`, `--json`,
+`--hold` and `--ignore metric`. Exits 1 where they do not. The same seed makes the same tables.
 """
 
 import argparse
@@ -27,9 +29,12 @@ from loads import INFINITY, NEXT_HOP, ROUTER_ID, WIDTH, WILDCARD
 FROM = ["--from", "192.0.2.1"]
 ANY = (0, 0)
 VIA = {4: "192.0.2.1", 6: "fe80:0:0:0:0:0:0:1"}
+# What the program, and not the plain one, says of dumps that are made of no Updates.
+NO_UPDATES = {"note: no Updates", "note: other: no Updates"}
 
 
-# ---- random Updates: (family, destination, source, metric), or None for a retraction of all; a prefix is (bits, length)
+# ---- random Updates: (family, destination, source, metric), or None for a retraction of all; a
+# prefix is (bits, length)
 
 
 def short_prefix(rng, width):
@@ -41,7 +46,9 @@ def short_prefix(rng, width):
 def long_prefix(rng, width, stems):
     """One of any length that begins as others do."""
     length = rng.choice((0, 1, width // 2, width - 1, width, rng.randrange(width + 1)))
-    bits = rng.choice(stems) ^ rng.choice((0, 1 << rng.randrange(width), 1 << width - length if length else 0))
+    bits = rng.choice(stems) ^ rng.choice(
+        (0, 1 << rng.randrange(width), 1 << width - length if length else 0)
+    )
     return bits >> width - length << width - length, length
 
 
@@ -55,7 +62,9 @@ def random_updates(rng):
     updates = []
     for family, width in WIDTH.items():
         stems = [rng.getrandbits(width) for _ in range(2)]
-        prefix = rng.choice((lambda: short_prefix(rng, width), lambda: long_prefix(rng, width, stems)))
+        prefix = rng.choice(
+            (lambda: short_prefix(rng, width), lambda: long_prefix(rng, width, stems))
+        )
         sources = [ANY]
         for _ in range(rng.randrange(3)):
             source = prefix()
@@ -70,7 +79,8 @@ def random_updates(rng):
 
 
 def changed(rng, updates):
-    """The Updates in another order of their keys, with up to one left out and up to one of another metric."""
+    """The Updates in another order of their keys, with up to one left out and up to one of another
+    metric."""
     updates = list(updates)
     if updates and rng.randrange(2):
         updates.pop(rng.randrange(len(updates)))
@@ -135,18 +145,23 @@ def answer(table, family, dst, src):
 
 
 def places(prefixes, width):
-    """The addresses from which an answer may be another one: the first of each prefix, and the one after its last."""
+    """The addresses from which an answer may be another one: the first of each prefix, and the one
+    after its last."""
     ends = (bits + (1 << width - length) for bits, length in prefixes)
     return sorted({0, *(bits for bits, _ in prefixes), *(end for end in ends if end < 1 << width)})
 
 
-def longest_blocks(width, places, answer_at):
-    """The blocks whose addresses all have one answer, while those of the block that is one bit shorter have not."""
+def largest_blocks(width, places, answer_at):
+    """The blocks whose addresses all have one answer, while those of the block that is one bit
+    shorter have not."""
     blocks, open_blocks = [], [ANY]
     while open_blocks:
         bits, length = open_blocks.pop()
         end = bits + (1 << width - length)
-        answers = {answer_at(place) for place in [bits, *(place for place in places if bits <= place < end)]}
+        answers = {
+            answer_at(place)
+            for place in [bits, *(place for place in places if bits <= place < end)]
+        }
         if len(answers) == 1:
             blocks.append(((bits, length), answers.pop()))
         else:
@@ -156,17 +171,17 @@ def longest_blocks(width, places, answer_at):
 
 
 def boxes(keys, answer_at):
-    """For each destination block with one function of the source, the source blocks with one answer, if they have one.
+    """For each destination block with one function of the source, the source blocks with one
+    answer, if they have one.
 
-    The answer may be another one only where a prefix of the keys begins or has ended.
-    """
+    The answer may be another one only where a prefix of the keys begins or has ended."""
     for family, width in WIDTH.items():
         own = [key for key in keys if key[0] == family]
         destinations, sources = (places([key[part] for key in own], width) for part in (1, 2))
         at = functools.lru_cache(None)(functools.partial(answer_at, family))
         function = functools.lru_cache(None)(lambda dst: tuple(at(dst, src) for src in sources))
-        for dst, _ in longest_blocks(width, destinations, function):
-            for src, value in longest_blocks(width, sources, lambda place: at(dst[0], place)):
+        for dst, _ in largest_blocks(width, destinations, function):
+            for src, value in largest_blocks(width, sources, lambda place: at(dst[0], place)):
                 if value is not None:
                     yield family, dst, src, value
 
@@ -180,7 +195,7 @@ def without_metrics(table):
 
 
 def differences(left, right):
-    """The boxes of the function that is none where both answer the same, and else the two answers."""
+    """The boxes of the function that is none where both answer the same, and else both answers."""
 
     def told_apart(*place):
         answers = answer(left, *place), answer(right, *place)
@@ -234,14 +249,20 @@ def text_of_pairs(table):
 
 
 def three_lines(family, dst, src, left, right):
-    return [f"differ {dst} from {src}", f"left {text_of(family, left)}", f"right {text_of(family, right)}"]
+    return [
+        f"differ {dst} from {src}",
+        f"left {text_of(family, left)}",
+        f"right {text_of(family, right)}",
+    ]
 
 
 def text_of_difference(found):
     if found is None:
         return ["same"]
     family, dst, src, left, right = found
-    return three_lines(family, text_of_address(family, dst), text_of_address(family, src), left, right)
+    return three_lines(
+        family, text_of_address(family, dst), text_of_address(family, src), left, right
+    )
 
 
 def text_of_differences(found):
@@ -277,10 +298,13 @@ def pair_runs(table, words, dump):
 
 def lookup_run(rng, table, words, dump):
     family = rng.choice((4, 6))
-    dst, src = (rng.choice([key[part][0] for key in table if key[0] == family] or [0]) for part in (1, 2))
+    dst, src = (
+        rng.choice([key[part][0] for key in table if key[0] == family] or [0]) for part in (1, 2)
+    )
     asked = ["--to", text_of_address(family, dst), "--src", text_of_address(family, src)]
     found = answer(table, family, dst, src)
-    yield ["lookup", *words, *asked, dump], [text_of(family, found)], 1 if found in (None, "unreachable") else 0
+    status = 1 if found in (None, "unreachable") else 0
+    yield ["lookup", *words, *asked, dump], [text_of(family, found)], status
 
 
 def compare_runs(left, right, words, dumps, every):
@@ -293,7 +317,8 @@ def compare_runs(left, right, words, dumps, every):
         yield ["compare", "--all", *words], text_of_differences(found), status
         yield ["compare", "--all", "--json", *words], json_of_differences(found), status
         yield ["compare", "--all", "--count", *words], [f"differences {len(found)}"], status
-        yield ["compare", "--all", "--count", "--json", *words], [f'{{"differences":{len(found)}}}'], status
+        count = [f'{{"differences":{len(found)}}}']
+        yield ["compare", "--all", "--count", "--json", *words], count, status
 
 
 def expected_runs(rng, updates, others, dumps, options):
@@ -311,9 +336,15 @@ def expected_runs(rng, updates, others, dumps, options):
 
 
 def main():
-    parser = argparse.ArgumentParser(description=__doc__, formatter_class=argparse.RawDescriptionHelpFormatter)
+    parser = argparse.ArgumentParser(
+        description=__doc__, formatter_class=argparse.RawDescriptionHelpFormatter
+    )
     parser.add_argument("program", type=pathlib.Path)
-    parser.add_argument("--plain", action="store_true", help="the program is the plain one, which lacks some options")
+    parser.add_argument(
+        "--plain",
+        action="store_true",
+        help="the program is the plain one, which lacks some options",
+    )
     parser.add_argument("--all", action="store_true", help="run compare --all, too")
     parser.add_argument("--tables", type=int, default=1_000)
     parser.add_argument("--seed", type=int, default=1)
@@ -331,10 +362,12 @@ def main():
                 run = subprocess.run([program, *words], capture_output=True, text=True)
                 runs += 1
                 most = max(most, len(lines))
-                if run.stdout.splitlines() != lines or run.stderr or run.returncode != status:
+                told = set(run.stderr.splitlines()) - NO_UPDATES
+                if run.stdout.splitlines() != lines or told or run.returncode != status:
                     wrong += 1
                     given = f"{run.stdout!r}, {run.stderr!r} and status {run.returncode}"
-                    print(f"table {turn}, {words}: {given} in place of {lines!r} and status {status}: {updates}, {others}")
+                    given += f" in place of {lines!r} and status {status}"
+                    print(f"table {turn}, {words}: {given}: {updates}, {others}")
     print(f"{wrong} of {runs} runs differ from the definitions; the longest text had {most} lines")
     return 1 if wrong else 0
 

@@ -1,10 +1,11 @@
 #!/usr/bin/env python3
-"""Writes the loads of the measurements into a folder: dumps of Babel packets (RFC 8966, 4.2), all from 192.0.2.1.
+"""Writes the loads of the measurements into a folder: dumps of Babel packets (RFC 8966, 4.2), all
+from 192.0.2.1.
 
     loads.py FOLDER [--seed N]
 
-The same seed writes the same octets. No dump is past the program's limits: 33,554,432 octets, 262,144 rows, and as many
-canonical pairs.
+The same seed writes the same octets. No dump is past the program's limits: 33,554,432 octets,
+262,144 rows, and as many canonical pairs.
 """
 
 import argparse
@@ -22,7 +23,8 @@ NEXT_HOP = bytes.fromhex("070a0300") + bytes.fromhex("0000000000000001")
 
 
 class Dump:
-    """Packets being written; each Update leaves out the octets that it shares with the one before of its family."""
+    """Packets being written; each Update leaves out the octets that it shares with the one before
+    of its family."""
 
     def __init__(self, path):
         self.file = open(path, "wb")
@@ -87,11 +89,15 @@ def update(family, bits, length, metric=256):
     """An Update that leaves nothing out."""
     field = bits.to_bytes(WIDTH[family] // 8, "big")[: (length + 7) // 8]
     encoding = 1 if family == 4 else 2
-    return struct.pack(">BBBBBBHHH", 8, 10 + len(field), encoding, 0, length, 0, 1_600, 1, metric) + field
+    return (
+        struct.pack(">BBBBBBHHH", 8, 10 + len(field), encoding, 0, length, 0, 1_600, 1, metric)
+        + field
+    )
 
 
 def write_tlvs(path, tlvs):
-    """As many of the TLVs as fit into a dump, in packets that begin with one router-id and one IPv6 next hop."""
+    """As many of the TLVs as fit into a dump, in packets that begin with one router-id and one IPv6
+    next hop."""
     head = ROUTER_ID + NEXT_HOP
     body, written = bytearray(head), 0
     with open(path, "wb") as file:
@@ -108,12 +114,19 @@ def write_tlvs(path, tlvs):
 
 def announcements(rng, count):
     """Router-ids with a sequence number each, at some metrics."""
-    routers = [(rng.randrange(1, 2**63).to_bytes(8, "big"), rng.randrange(2**16)) for _ in range(count)]
-    return [(router_id, seqno, metric) for router_id, seqno in routers for metric in (96, 192, 256, 352, 512, 1_024)]
+    routers = [
+        (rng.randrange(1, 2**63).to_bytes(8, "big"), rng.randrange(2**16)) for _ in range(count)
+    ]
+    return [
+        (router_id, seqno, metric)
+        for router_id, seqno in routers
+        for metric in (96, 192, 256, 352, 512, 1_024)
+    ]
 
 
 def disjoint(rng, family, start, lengths, count, gap):
-    """So many prefixes from an address on, no two with a common address, of lengths in these proportions."""
+    """So many prefixes from an address on, no two with a common address, of lengths in these
+    proportions."""
     values, weights = zip(*lengths.items())
     width, at, prefixes = WIDTH[family], start, []
     for length in rng.choices(values, weights, k=count):
@@ -125,8 +138,11 @@ def disjoint(rng, family, start, lengths, count, gap):
     return prefixes
 
 
-IPV4_LENGTHS = {24: 600, 23: 120, 22: 120, 21: 50, 20: 40, 19: 30, 18: 15, 17: 7, 16: 12, 15: 2, 14: 2, 13: 1, 12: 1}
-IPV6_LENGTHS = {48: 550, 47: 20, 46: 30, 44: 100, 40: 90, 36: 40, 33: 20, 32: 120, 29: 25, 28: 3, 24: 2}
+IPV4_LENGTHS = {24: 600, 23: 120, 22: 120, 21: 50, 20: 40, 19: 30, 18: 15, 17: 7, 16: 12}
+IPV4_LENGTHS |= {15: 2, 14: 2, 13: 1, 12: 1}
+IPV6_LENGTHS = {
+    48: 550, 47: 20, 46: 30, 44: 100, 40: 90, 36: 40, 33: 20, 32: 120, 29: 25, 28: 3, 24: 2
+}
 
 
 def ipv4_routes(rng, count):
@@ -145,8 +161,16 @@ def write(path, rng, family, prefixes):
 
 def write_updates(path, rng):
     """As many octets as a dump may have, of Updates to 1,000 keys, one in fifty a retraction."""
-    ipv4 = [(4, bits, length) for bits, length in disjoint(rng, 4, 10 << 24, {24: 8, 22: 1, 32: 1}, 600, 1 << 8)]
-    ipv6 = [(6, bits, length) for bits, length in disjoint(rng, 6, 0x2001_0DB8 << 96, {64: 8, 56: 1, 128: 1}, 400, 1 << 64)]
+    ipv4 = [
+        (4, bits, length)
+        for bits, length in disjoint(rng, 4, 10 << 24, {24: 8, 22: 1, 32: 1}, 600, 1 << 8)
+    ]
+    ipv6 = [
+        (6, bits, length)
+        for bits, length in disjoint(
+            rng, 6, 0x2001_0DB8 << 96, {64: 8, 56: 1, 128: 1}, 400, 1 << 64
+        )
+    ]
     keys = ipv4 + ipv6
     routers = [rng.randrange(1, 2**63).to_bytes(8, "big") for _ in range(8)]
     dump, seqno = Dump(path), 0
@@ -178,7 +202,7 @@ def write_ipv4(folder, rng):
 
 
 def write_sources(path, rng):
-    """20,000 destinations from three source prefixes each, and 400 of them from anywhere besides."""
+    """20,000 destinations from three source prefixes each, and 400 of them from anywhere too."""
     destinations = disjoint(rng, 4, 1 << 24, IPV4_LENGTHS, 20_000, 1 << 13)
     sources = disjoint(rng, 4, 100 << 24, {24: 4, 22: 2, 20: 2, 16: 2}, 256, 1 << 16)
     anns = announcements(rng, 20)
@@ -203,18 +227,25 @@ def write_with_other(folder, name, routes):
     """The routes; and the same with one other metric at the last."""
     *before, (family, bits, length, (router_id, seqno, metric), source) = routes
     write_routes(folder / f"{name}.dump", routes)
-    write_routes(folder / f"{name}-other.dump", [*before, (family, bits, length, (router_id, seqno, metric + 1), source)])
+    write_routes(
+        folder / f"{name}-other.dump",
+        [*before, (family, bits, length, (router_id, seqno, metric + 1), source)],
+    )
 
 
 def write_shared(folder, name, rng, count):
-    """So many sources of all destinations, and nearly as many destinations that each have one of them otherwise. Nearly all
-    that the destinations answer is shared by all of them. Split, the dump answers the same, but its rows are others from the
-    first on: one source has a route for each half of the destinations in place of one for all."""
+    """So many sources of all destinations, and nearly as many destinations that each have one of
+    them otherwise. Nearly all that the destinations answer is shared by all of them. Split, the
+    dump answers the same, but its rows are others from the first on: one source has a route for
+    each half of the destinations in place of one for all."""
     sources = disjoint(rng, 4, 100 << 24, {24: 1}, count, 1 << 8)
     destinations = disjoint(rng, 4, 1 << 24, {24: 1}, count - 1, 1 << 8)
     anns = announcements(rng, 20)
     routes = [(4, 0, 0, rng.choice(anns), source) for source in sources]
-    routes += [(4, *destination, rng.choice(anns), source) for destination, source in zip(destinations, sources)]
+    routes += [
+        (4, *destination, rng.choice(anns), source)
+        for destination, source in zip(destinations, sources)
+    ]
     write_with_other(folder, name, routes)
     (family, _, _, *rest), *others = routes
     halves = [(family, half, 1, *rest) for half in (0, 1 << 31)]
@@ -222,11 +253,16 @@ def write_shared(folder, name, rng, count):
 
 
 def write_many_sources(path, rng, count):
-    """So many sources of one network, and as many hosts of another: of all that is answered nearly all is what the first
-    destination answers for each source."""
+    """So many sources of one network, and as many hosts of another: of all that is answered nearly
+    all is what the first destination answers for each source."""
     anns = announcements(rng, 20)
-    routes = [(4, 10 << 24, 8, rng.choice(anns), source) for source in disjoint(rng, 4, 100 << 24, {24: 1}, count, 1 << 8)]
-    routes += [(4, 11 << 24 | host, 32, rng.choice(anns)) for host in rng.sample(range(1 << 24), count)]
+    routes = [
+        (4, 10 << 24, 8, rng.choice(anns), source)
+        for source in disjoint(rng, 4, 100 << 24, {24: 1}, count, 1 << 8)
+    ]
+    routes += [
+        (4, 11 << 24 | host, 32, rng.choice(anns)) for host in rng.sample(range(1 << 24), count)
+    ]
     write_routes(path, routes)
 
 
@@ -245,10 +281,14 @@ def write_hosts(path, rng, family, count):
 
 
 def write_hosts_from_hosts(folder, rng):
-    """100,000 IPv6 hosts, each from a host of its own; and the same with one other metric at the last."""
+    """100,000 IPv6 hosts, each from a host of its own; and the same with one other metric at the
+    last."""
     anns = announcements(rng, 20)
     sources = ((bits, 128) for bits in hosts(rng, 6, 100_000))
-    routes = [(6, bits, 128, rng.choice(anns), source) for bits, source in zip(hosts(rng, 6, 100_000), sources)]
+    routes = [
+        (6, bits, 128, rng.choice(anns), source)
+        for bits, source in zip(hosts(rng, 6, 100_000), sources)
+    ]
     write_with_other(folder, "hosts-from-hosts", routes)
 
 
@@ -258,16 +298,21 @@ def write_default_over_hosts(path, rng):
 
 
 def write_deep(folder, rng):
-    """A default route and 3,100 long prefixes in it: 3,101 rows and 262,043 pairs. Each bit of a prefix that it shares with
-    no other makes one more pair."""
+    """A default route and 3,100 long prefixes in it: 3,101 rows and 262,043 pairs. Each bit of a
+    prefix that it shares with no other makes one more pair."""
     lengths = dict.fromkeys((rng.getrandbits(96) for _ in range(3_100)), 96)
     pairs = 1 + sum(len({bits >> 96 - length for bits in lengths}) for length in range(96))
     for bits in itertools.islice(itertools.cycle(lengths), pairs - 262_043):
         lengths[bits] -= 1
-    prefixes = [(0, 0)] + [(bits >> 96 - length << 128 - length, length) for bits, length in lengths.items()]
+    prefixes = [(0, 0)] + [
+        (bits >> 96 - length << 128 - length, length) for bits, length in lengths.items()
+    ]
     default, *anns = announcements(rng, 20)
     rng.shuffle(prefixes)
-    routes = [(6, bits, length, rng.choice(anns) if length else default, None) for bits, length in prefixes]
+    routes = [
+        (6, bits, length, rng.choice(anns) if length else default, None)
+        for bits, length in prefixes
+    ]
     write_with_other(folder, "deep", routes)
 
 
@@ -282,8 +327,8 @@ def fold(state, octets):
 
 
 def flooding_keys(count):
-    """IPv6 addresses that such a hash puts into one place, since a word that equals its state makes it forget all before: for
-    three ways to write a family before the address."""
+    """IPv6 addresses that such a hash puts into one place, since a word that equals its state makes
+    it forget all before: for three ways to write a family before the address."""
     for kind, size in enumerate((1, 4, 8)):
         state = fold(fold(0x243F_6A88_85A3_08D3, (1).to_bytes(size, "little")), bytes((128,)))
         for place in range(count // 3):
@@ -296,16 +341,28 @@ def write_readings(folder, seed):
     rng = random.Random(f"{seed} readings")
     rising = [(4, bits, length) for bits, length in ipv4_routes(rng, 200_000)]
     write_tlvs(folder / "rising.dump", (update(*route) for route in rising))
-    write_tlvs(folder / "shuffled.dump", (update(*route) for route in rng.sample(rising, len(rising))))
+    write_tlvs(
+        folder / "shuffled.dump", (update(*route) for route in rng.sample(rising, len(rising)))
+    )
     keys = [10 << 24 | 7 * place for place in range(131_072)]
     for name, order in (("turns", keys), ("turns-shuffled", rng.sample(keys, len(keys)))):
         metrics = itertools.chain.from_iterable((256 + turn, INFINITY) for turn in range(16))
-        write_tlvs(folder / f"{name}.dump", (update(4, bits, 32, metric) for metric in metrics for bits in order))
+        write_tlvs(
+            folder / f"{name}.dump",
+            (update(4, bits, 32, metric) for metric in metrics for bits in order),
+        )
     few = keys[:600]
-    write_tlvs(folder / "random.dump", (update(4, bits, 32, rng.randrange(1, 60_000)) for bits in rng.choices(few, k=2_400_000)))
+    write_tlvs(
+        folder / "random.dump",
+        (update(4, bits, 32, rng.randrange(1, 60_000)) for bits in rng.choices(few, k=2_400_000)),
+    )
     write_tlvs(folder / "flooding.dump", (update(6, bits, 128) for bits in flooding_keys(MAX_ROWS)))
     write_tlvs(folder / "wildcards.dump", wildcards(rising))
-    passing = ((place * 2_654_435_761 & 0xFFFF_FFFF, metric) for place in itertools.count() for metric in (256, INFINITY))
+    passing = (
+        (place * 2_654_435_761 & 0xFFFF_FFFF, metric)
+        for place in itertools.count()
+        for metric in (256, INFINITY)
+    )
     write_tlvs(folder / "passing.dump", (update(4, bits, 32, metric) for bits, metric in passing))
 
 
@@ -333,7 +390,9 @@ def write_merging(path, rng, blocks):
 
 
 def main():
-    parser = argparse.ArgumentParser(description=__doc__, formatter_class=argparse.RawDescriptionHelpFormatter)
+    parser = argparse.ArgumentParser(
+        description=__doc__, formatter_class=argparse.RawDescriptionHelpFormatter
+    )
     parser.add_argument("folder", type=pathlib.Path)
     parser.add_argument("--seed", type=int, default=1)
     options = parser.parse_args()
@@ -342,7 +401,12 @@ def main():
     write_updates(folder / "updates.dump", random.Random(f"{seed} updates"))
     write_ipv4(folder, random.Random(f"{seed} ipv4"))
     rng = random.Random(f"{seed} ipv6")
-    write(folder / "ipv6.dump", rng, 6, disjoint(rng, 6, 0x2001 << 112, IPV6_LENGTHS, 100_000, 1 << 84))
+    write(
+        folder / "ipv6.dump",
+        rng,
+        6,
+        disjoint(rng, 6, 0x2001 << 112, IPV6_LENGTHS, 100_000, 1 << 84),
+    )
     write_sources(folder / "sources.dump", random.Random(f"{seed} sources"))
     write_shared(folder, "shared", random.Random(f"{seed} shared"), 20_000)
     write_shared(folder, "shared-131k", random.Random(f"{seed} shared 131k"), 131_072)

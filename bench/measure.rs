@@ -1,12 +1,13 @@
-//! Runs a command with its output thrown away, and prints what it cost: processor time in microseconds, peak memory in
-//! kilobytes, exit status.
+//! Runs a command with its output thrown away, and prints what it cost: processor time in
+//! microseconds, peak memory in kilobytes, exit status.
 //!
-//! It is a program of its own because Linux counts the peak memory of the process that starts a program as that
-//! program's own, and this one is small.
+//! It is a program of its own because Linux counts the peak memory of the process that starts a
+//! program as that program's own, and this one is small.
 
 use std::process::{Command, ExitCode, Stdio};
 
-/// `struct rusage` of 64-bit Linux: seconds and microseconds of user time, of system time, then the peak memory.
+/// `struct rusage` of 64-bit Linux: seconds and microseconds of user time, of system time, then the
+/// peak memory.
 type Usage = [i64; 18];
 
 extern "C" {

@@ -1,32 +1,34 @@
 #!/usr/bin/env python3
-"""Measures a built program against the limit, a plain Rust program, alternately, on the loads of loads.py.
+"""Measures a built program against the limit, a plain Rust program, alternately, on the loads of
+loads.py.
 
     run.py PROGRAM LOADS [--rounds N] [--only WORD] [--plain SOURCE]
 
 It takes those cases whose load is there: the dumps of loads.py, and the captures of captures.py.
 
-For each command and load it first compares what the two write, then runs them in turn, and prints the minimum and median
-of processor time (user and system), the peak memory, and the program's figures divided by the limit's; and the
-microseconds of the program for each TLV read (show, lookup), row or canonical pair, whichever are more, or KiB of a capture.
-In each round the limit runs before the program and after it, and the program's time is divided by the mean of those two, so
-that a machine whose speed changes from run to run changes it for both; the ratio of times is the median of the rounds'.
-Microseconds are given as they are, and as they would be on a machine on which the limit takes 20 ms to normalise the load
-ipv4, which runs once more in each round: so they can be compared from one machine to another.
-The last column says whether both ratios are at most 3, over a capture 2; of times below 2 ms and of memories below 8 MB it
-does not ask.
+For each command and load it first compares what the two write, then runs them in turn, and prints
+the minimum and median of processor time (user and system), the peak memory, and the program's
+figures divided by the limit's; and the microseconds of the program for each TLV read (show,
+lookup), row or canonical pair, whichever are more, or KiB of a capture. In each round the limit
+runs before the program and after it, and the program's time is divided by the mean of those two, so
+that a machine whose speed changes from run to run changes it for both; the ratio of times is the
+median of the rounds'. Microseconds are given as they are, and as they would be on a machine on
+which the limit takes 20 ms to normalise the load ipv4, which runs once more in each round: so they
+can be compared from one machine to another. The last column says whether both ratios are at most 3,
+over a capture 2; of times below 2 ms and of memories below 8 MB it does not ask.
 """
 
 import argparse
 import pathlib
-import re
 import statistics
 import subprocess
 import sys
 import tempfile
 
 HERE = pathlib.Path(__file__).resolve().parent
-PLAIN = HERE / "limit.rs"
-PLAIN_OF_CAPTURES = HERE / "capture_limit.rs"
+sys.path.append(str(HERE.parent / "reference"))
+from plain import PLAIN, PLAIN_OF_CAPTURES, build, outcome  # noqa: E402
+
 MOST = 3
 MOST_OVER_CAPTURES = 2
 REFERENCE = "ipv4"
@@ -36,7 +38,9 @@ LOOKUP = ["--to", "10.0.0.1", "--src", "192.0.2.7"]
 LOOKUP_IPV6 = ["--to", "2001:db8::1", "--src", "2001:db8::2"]
 IPV4 = ("ipv4", "sources", "many-sources", "merging", "merging-16", "hosts-ipv4")
 IPV6 = ("ipv6", "hosts-ipv6", "hosts-from-hosts", "deep", "default-over-hosts")
-READINGS = ("updates", "rising", "shuffled", "turns", "turns-shuffled", "random", "wildcards", "passing")
+READINGS = (
+    "updates", "rising", "shuffled", "turns", "turns-shuffled", "random", "wildcards", "passing"
+)
 SHARED = ("shared", "shared-131k")
 COMPARED = (
     ("ipv4", "ipv4-other"),
@@ -90,18 +94,6 @@ def file_of(load, loads):
     return loads / (load if is_capture(load) else f"{load}.dump")
 
 
-def build(source, folder):
-    target = folder / source.stem
-    subprocess.run(["rustc", "-O", "--edition", "2021", "-o", target, source], check=True)
-    return target
-
-
-def outcome(words):
-    """What a run writes and answers, but for its hints and notes, which only one of two programs gives."""
-    run = subprocess.run(words, capture_output=True)
-    return run.returncode, run.stdout, re.sub(rb"(?m)^(hint|note): .*\n", b"", run.stderr)
-
-
 def measure(measurer, words):
     """Seconds of processor time and megabytes of peak memory of one run."""
     run = subprocess.run([measurer, *words], capture_output=True, text=True, check=True)
@@ -121,11 +113,16 @@ def words_of(program, load, command, loads):
 def numbers_of(plain, words):
     """The numbers that end the lines of a text of the plain program."""
     run = subprocess.run([plain, *words], capture_output=True, text=True)
-    return {line.split()[0]: int(line.split()[1]) for line in run.stdout.splitlines()[-20:] if len(line.split()) == 2}
+    return {
+        line.split()[0]: int(line.split()[1])
+        for line in run.stdout.splitlines()[-20:]
+        if len(line.split()) == 2
+    }
 
 
 def size_of(plain, load, command, loads, sizes):
-    """How much there is to do: KiB of a capture, TLVs of a dump that is read, or else the rows or pairs, whichever are more."""
+    """How much there is to do: KiB of a capture, TLVs of a dump that is read, or else the rows or
+    pairs, whichever are more."""
     if is_capture(load):
         return file_of(load, loads).stat().st_size / 1024
     if load not in sizes:
@@ -141,7 +138,8 @@ def size_of(plain, load, command, loads, sizes):
 
 
 def rounds_of(measurer, sides, reference, count):
-    """In each round the times of the program, of the limit before and after it, and of the reference; and both peak memories."""
+    """In each round the times of the program, of the limit before and after it, and of the
+    reference; and both peak memories."""
     times, memories = [], ([], [])
     for _ in range(count):
         runs = [measure(measurer, words) for words in (sides[1], sides[0], sides[1], reference)]
@@ -162,12 +160,16 @@ def verdict(most, ratio, time, memory, plain_memory):
 
 
 def main():
-    parser = argparse.ArgumentParser(description=__doc__, formatter_class=argparse.RawDescriptionHelpFormatter)
+    parser = argparse.ArgumentParser(
+        description=__doc__, formatter_class=argparse.RawDescriptionHelpFormatter
+    )
     parser.add_argument("program", type=pathlib.Path)
     parser.add_argument("loads", type=pathlib.Path)
     parser.add_argument("--rounds", type=int, default=9)
     parser.add_argument("--only", default="", help="the cases whose load or command has this word")
-    parser.add_argument("--plain", type=pathlib.Path, default=PLAIN, help="the source of the plain program")
+    parser.add_argument(
+        "--plain", type=pathlib.Path, default=PLAIN, help="the source of the plain program"
+    )
     options = parser.parse_args()
     program = options.program.resolve()
     differing, within, measured, sizes = 0, 0, 0, {}
@@ -176,7 +178,10 @@ def main():
         plain, plain_of_captures = build(options.plain, folder), build(PLAIN_OF_CAPTURES, folder)
         measurer = build(HERE / "measure.rs", folder)
         reference = words_of(plain, REFERENCE, ["normalise", *FROM], options.loads)
-        print("| load | command | program min / median ms | limit min / median ms | time | program MB | limit MB | memory | µs each | scaled | within |")
+        print(
+            "| load | command | program min / median ms | limit min / median ms | time "
+            "| program MB | limit MB | memory | µs each | scaled | within |"
+        )
         print("|---|---|---|---|---|---|---|---|---|---|---|")
         for load, command in cases():
             name = " ".join(word for word in command[:2] if word != "--from")
@@ -186,10 +191,15 @@ def main():
             sides = [words_of(side, load, command, options.loads) for side in (program, beside)]
             same = outcome(sides[0]) == outcome(sides[1])
             times, memory, memory_2 = rounds_of(measurer, sides, reference, options.rounds)
-            own, plain_own = [time for time, *_ in times], [time for _, *both, _ in times for time in both]
-            ratio = statistics.median(2 * time / (before + after) for time, before, after, _ in times)
-            scaled = statistics.median(time / standard for time, *_, standard in times) * REFERENCE_SECONDS
-            low, mid, low_2, mid_2 = min(own), statistics.median(own), min(plain_own), statistics.median(plain_own)
+            own = [time for time, *_ in times]
+            plain_own = [time for _, *both, _ in times for time in both]
+            ratio = statistics.median(
+                2 * time / (before + after) for time, before, after, _ in times
+            )
+            standards = statistics.median(time / standard for time, *_, standard in times)
+            scaled = standards * REFERENCE_SECONDS
+            low, mid = min(own), statistics.median(own)
+            low_2, mid_2 = min(plain_own), statistics.median(plain_own)
             size = size_of(plain, load, command[0], options.loads, sizes)
             most = MOST_OVER_CAPTURES if is_capture(load) else MOST
             answer = verdict(most, ratio, mid, memory, memory_2)
@@ -197,13 +207,15 @@ def main():
             within += answer == "yes"
             measured += 1
             print(
-                f"| {load} | {name} | {low * 1e3:.1f} / {mid * 1e3:.1f} | {low_2 * 1e3:.1f} / {mid_2 * 1e3:.1f} "
+                f"| {load} | {name} | {low * 1e3:.1f} / {mid * 1e3:.1f} "
+                f"| {low_2 * 1e3:.1f} / {mid_2 * 1e3:.1f} "
                 f"| {ratio:.2f} | {memory:.1f} | {memory_2:.1f} | {memory / memory_2:.2f} "
                 f"| {mid * 1e6 / size:.2f} | {scaled * 1e6 / size:.2f} | {answer} |"
                 + ("" if same else " THE TWO WRITE DIFFERENT TEXTS"),
                 flush=True,
             )
-    print(f"{within} of {measured} cases within {MOST} times the limit, over captures {MOST_OVER_CAPTURES} times")
+    most = f"{MOST} times the limit, over captures {MOST_OVER_CAPTURES} times"
+    print(f"{within} of {measured} cases within {most}")
     return 1 if differing else 0
 
 

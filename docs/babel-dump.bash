@@ -2,21 +2,25 @@
 
 _babel_dump() {
     local word=${COMP_WORDS[COMP_CWORD]} command=${COMP_WORDS[1]}
-    local options="--from --hold --strict --quiet --json --max-routes --max-octets --help"
+    local names="show lookup pairs normalise compare senders extract help --help --version"
+    local options="--from --interface --accept-cut --hold --strict --quiet --json"
+    options="$options --max-routes --max-octets --help"
     case $command in
         show) options=${options/ --strict/} ;;
         lookup) options="$options --to --src --each" ;;
         pairs) options="$options --count --ignore" ;;
         normalise) options="${options/ --json/} --hex --body --ignore" ;;
-        compare) options="$options --other-from --ignore --all --count" ;;
+        compare) options="$options --other-from --other-interface --ignore --all --count" ;;
         senders) options="--accept-cut --strict --quiet --json --max-octets --help" ;;
-        extract) options="--from --interface --hex --accept-cut --strict --quiet --max-octets --help" ;;
-        *) options="show lookup pairs normalise compare senders extract help --help --version" ;;
+        extract)
+            options="--from --interface --hex --accept-cut --strict --quiet --max-octets --help"
+            ;;
+        *) options=$names ;;
     esac
     if [[ $COMP_CWORD -gt 1 && $word != -* ]]; then
         mapfile -t COMPREPLY < <(compgen -f -- "$word")
     else
-        [[ $COMP_CWORD -eq 1 ]] && options="show lookup pairs normalise compare senders extract help --help --version"
+        [[ $COMP_CWORD -eq 1 ]] && options=$names
         mapfile -t COMPREPLY < <(compgen -W "$options" -- "$word")
     fi
 }

@@ -1,4 +1,5 @@
-"""Captures, made: frames round the packets of a dump, and the blocks of pcap and pcapng round the frames."""
+"""Captures, made: frames round the packets of a dump, and the blocks of pcap and pcapng round the
+frames."""
 
 import ipaddress
 from dataclasses import dataclass
@@ -40,22 +41,36 @@ def ip(sender, carried, **how):
 
 def ipv4(sender, carried, options=b"", fragment=0, total=None, protocol=17):
     """RFC 791, 3.1; the options are of whole words."""
-    words, total = 5 + len(options) // 4, 20 + len(options) + len(carried) if total is None else total
-    head = bytes((0x40 + words, 0xC0)) + number(total) + b"\x12\x34" + number(fragment) + bytes((1, protocol)) + b"\0\0"
+    words, total = (
+        5 + len(options) // 4, 20 + len(options) + len(carried) if total is None else total
+    )
+    head = (
+        bytes((0x40 + words, 0xC0))
+        + number(total)
+        + b"\x12\x34"
+        + number(fragment)
+        + bytes((1, protocol))
+        + b"\0\0"
+    )
     return head + sender.packed + ipaddress.ip_address(GROUP[4]).packed + options + carried
 
 
 def ipv6(sender, carried, headers=(), length=None, protocol=17):
-    """RFC 8200, 3; extension headers are numbers with the octets that follow the number of the next header."""
+    """RFC 8200, 3; extension headers are numbers with the octets that follow the number of the next
+    header."""
     numbers = [kind for kind, _ in headers] + [protocol]
-    carried = b"".join(bytes((after,)) + octets for after, (_, octets) in zip(numbers[1:], headers)) + carried
+    carried = (
+        b"".join(bytes((after,)) + octets for after, (_, octets) in zip(numbers[1:], headers))
+        + carried
+    )
     length = len(carried) if length is None else length
     head = b"\x6c\x00\x00\x00" + number(length) + bytes((numbers[0], 1))
     return head + sender.packed + ipaddress.ip_address(GROUP[6]).packed + carried
 
 
 def extension(kind, units, octets):
-    """A header with so many units of 8 octets after the first (RFC 8200, 4.3 to 4.6), which begins with these octets."""
+    """A header with so many units of 8 octets after the first (RFC 8200, 4.3 to 4.6), which begins
+    with these octets."""
     return kind, bytes((units,)) + octets.ljust(8 * units + 6, b"\0")
 
 
@@ -80,22 +95,39 @@ def ether_type(packet):
     return IPV4 if packet[0] >> 4 == 4 else IPV6
 
 
+def typed(packet, tags=()):
+    """The EtherType of a packet, after these tags, and the packet: IEEE 802.1Q, 9. A tag is its
+    EtherType, or that and the number of its VLAN, which is 7 where it is left out; its priority is
+    1."""
+    tags = [tag if isinstance(tag, tuple) else (tag, 7) for tag in tags]
+    return (
+        b"".join(number(kind) + number(0x2000 + vlan) for kind, vlan in tags)
+        + number(ether_type(packet))
+        + packet
+    )
+
+
 def ethernet(packet, tags=(), padding=b""):
-    """IEEE 802.3, 3.2; IEEE 802.1Q, 9: the tags are EtherTypes."""
-    return MACS + b"".join(number(tag) + b"\x20\x07" for tag in tags) + number(ether_type(packet)) + packet + padding
+    """IEEE 802.3, 3.2"""
+    return MACS + typed(packet, tags) + padding
 
 
 def cooked(packet, tags=()):
     """tcpdump.org/linktypes/LINKTYPE_LINUX_SLL.html"""
-    types = [*tags, ether_type(packet)]
-    return bytes.fromhex("0002 0001 0006 02005e00c601 0000") + b"\x20\x07".join(map(number, types)) + packet
+    return bytes.fromhex("0002 0001 0006 02005e00c601 0000") + typed(packet, tags)
 
 
 def cooked2(packet, interface, tags=()):
-    """tcpdump.org/linktypes/LINKTYPE_LINUX_SLL2.html"""
-    first, *types = [*tags, ether_type(packet)]
-    head = number(first) + b"\0\0" + number(interface, 4) + bytes.fromhex("0001 02 06 02005e00c601 0000")
-    return head + b"".join(b"\x20\x07" + number(kind) for kind in types) + packet
+    """tcpdump.org/linktypes/LINKTYPE_LINUX_SLL2.html: the EtherType comes first, and what it is of
+    after the header"""
+    after = typed(packet, tags)
+    return (
+        after[:2]
+        + b"\0\0"
+        + number(interface, 4)
+        + bytes.fromhex("0001 02 06 02005e00c601 0000")
+        + after[2:]
+    )
 
 
 def after_family(packet, order="little", ipv6=10):
@@ -108,7 +140,8 @@ def after_family(packet, order="little", ipv6=10):
 
 @dataclass
 class Record:
-    """A frame of an interface, and how many octets it had: all that are there, unless it is said otherwise."""
+    """A frame of an interface, and how many octets it had: all that are there, unless it is said
+    otherwise."""
 
     frame: bytes
     interface: int = 0
@@ -124,12 +157,22 @@ def snapped(record, kept):
     return Record(record.frame[:kept], record.interface, len(record.frame))
 
 
-def pcap(records, link=1, order="little", nanoseconds=False):
+def sliced(record, kept):
+    """The record with so many of its octets, as if it had no more."""
+    return Record(record.frame[:kept], record.interface)
+
+
+def pcap(records, link=1, order="little", nanoseconds=False, version=(2, 4)):
     """draft-ietf-opsawg-pcap, 4 and 5."""
     magic = 0xA1B23C4D if nanoseconds else 0xA1B2C3D4
     numbers = lambda *values: b"".join(number(value, 4, order) for value in values)
-    head = numbers(magic) + number(2, 2, order) + number(4, 2, order) + numbers(0, 0, SNAP, link)
-    return head + b"".join(numbers(TIME + place, place) + each.lengths(order) + each.frame for place, each in enumerate(records))
+    head = numbers(magic) + number(version[0], 2, order) + number(version[1], 2, order) + numbers(
+        0, 0, SNAP, link
+    )
+    return head + b"".join(
+        numbers(TIME + place, place) + each.lengths(order) + each.frame
+        for place, each in enumerate(records)
+    )
 
 
 def block(kind, body, order="little"):
@@ -144,9 +187,9 @@ def option(code, text, order="little"):
     return number(code, 2, order) + number(len(text), 2, order) + text + bytes(-len(text) % 4)
 
 
-def section(order="little", options=b""):
+def section(order="little", options=b"", version=(1, 0)):
     """draft-ietf-opsawg-pcapng, 4.1."""
-    versions = number(1, 2, order) + number(0, 2, order)
+    versions = number(version[0], 2, order) + number(version[1], 2, order)
     return block(0x0A0D0D0A, number(0x1A2B3C4D, 4, order) + versions + b"\xff" * 8 + options, order)
 
 
@@ -158,7 +201,32 @@ def interface(link=1, order="little", snap=0, options=b""):
 def enhanced(record, order="little", options=b"", place=0):
     """draft-ietf-opsawg-pcapng, 4.3."""
     head = b"".join(number(value, 4, order) for value in (record.interface, TIME, place))
-    return block(6, head + record.lengths(order) + record.frame + bytes(-len(record.frame) % 4) + options, order)
+    return block(
+        6,
+        head + record.lengths(order) + record.frame + bytes(-len(record.frame) % 4) + options,
+        order,
+    )
+
+
+def old_packet(record, order="little", options=b""):
+    """The packet block, which the enhanced one replaced: the interface's number and the dropped
+    packets in 16 bits each."""
+    head = (
+        number(record.interface, 2, order)
+        + number(0, 2, order)
+        + number(TIME, 4, order)
+        + number(0, 4, order)
+    )
+    return block(
+        2,
+        head + record.lengths(order) + record.frame + bytes(-len(record.frame) % 4) + options,
+        order,
+    )
+
+
+def named(name, order="little"):
+    """The options of an interface with this name: draft-ietf-opsawg-pcapng, 4.2."""
+    return option(2, name, order) + option(0, b"", order)
 
 
 def simple(record, order="little"):
@@ -167,18 +235,24 @@ def simple(record, order="little"):
 
 
 def name_resolution(order="little"):
-    """draft-ietf-opsawg-pcapng, 4.5: what is passed over."""
+    """draft-ietf-opsawg-pcapng, 4.5: what is skipped."""
     return block(4, number(0, 4, order), order)
 
 
 def custom(order="little"):
-    """draft-ietf-opsawg-pcapng, 4.7: what is passed over, with octets that look like a packet's block."""
+    """draft-ietf-opsawg-pcapng, 4.7: what is skipped, with octets that look like a packet's
+    block."""
     return block(0xBAD, number(32_473, 4, order) + enhanced(Record(bytes(60)), order), order)
 
 
 def pcapng(records, links=(1,), order="little"):
     """One section of these interfaces, with options everywhere and other blocks in between."""
     comment = option(1, b"a comment", order) + option(0, b"", order)
-    head = section(order, comment) + b"".join(interface(link, order, SNAP, comment) for link in links)
-    body = b"".join(enhanced(each, order, comment, place) + (name_resolution(order) if place % 3 == 1 else b"") for place, each in enumerate(records))
+    head = section(order, comment) + b"".join(
+        interface(link, order, SNAP, comment) for link in links
+    )
+    body = b"".join(
+        enhanced(each, order, comment, place) + (name_resolution(order) if place % 3 == 1 else b"")
+        for place, each in enumerate(records)
+    )
     return head + name_resolution(order) + custom(order) + body

@@ -1,7 +1,8 @@
 """A plain reader of captures: what `senders` and `extract` have to say of one.
 
-It is written from draft-ietf-opsawg-pcap, draft-ietf-opsawg-pcapng, RFC 791, RFC 768, RFC 8200 and docs/FORMAT.md, for nothing
-but to be read: it has the whole capture in memory, and each layer gives the octets of the next one.
+It is written from draft-ietf-opsawg-pcap, draft-ietf-opsawg-pcapng, RFC 791, RFC 768, RFC 8200, RFC
+8966 and docs/FORMAT.md, for nothing but to be read: it has the whole capture in memory, and each
+layer gives the octets of the next one.
 """
 
 import ipaddress
@@ -14,7 +15,25 @@ LONGEST_PACKET = 262_144
 LONGEST_BLOCK = 16_777_216
 BABEL = 6_696
 UDP = 17
-REASONS = "truncated", "bad-magic", "bad-version", "fragment", "snapped"
+UPDATE = 8
+LISTED_PLACES = 16
+REASONS = (
+    "truncated",
+    "bad-magic",
+    "bad-version",
+    "fragment",
+    "snapped",
+    "cut-short",
+    "other-port",
+    "not-link-local",
+)
+# What refuses a capture whose dump lacks such a datagram.
+LACKS = {
+    "fragment": "datagram in fragments",
+    "cut-short": "datagram cut short",
+    "snapped": "datagram cut by the recorder",
+}
+OTHER, SHORT = "other", "too short to tell"
 
 
 class Fault(Exception):
@@ -23,7 +42,8 @@ class Fault(Exception):
 
 @dataclass
 class Packet:
-    """A captured packet: the offset of its block, its interface and link type, the octets kept, and how many there were."""
+    """A captured packet: the offset of its block, its interface and link type, the octets kept, and
+    how many there were."""
 
     at: int
     interface: int
@@ -34,26 +54,34 @@ class Packet:
 
 @dataclass
 class Seen:
-    """A Babel datagram: whole, with its payload, or a `fragment`, or `snapped`."""
+    """A datagram from or to Babel's port: whole, with its payload, or the reason why it is not
+    read."""
 
     sender: object
-    interface: int
     what: str
     payload: bytes = b""
+    link: int = None
+    vlans: tuple = ()
 
 
 @dataclass
 class Found:
-    """What a capture gives: each sender's packets, and for each reason the numbers of the packets left out."""
+    """What a capture gives: each sender's packets at each place, for each reason the numbers of the
+    packets left out, how many frames were too short to tell, and how many packets came in frames
+    that name no interface."""
 
     packets: dict = field(default_factory=dict)
     left_out: dict = field(default_factory=dict)
+    short: int = 0
+    cooked: int = 0
+    names: list = field(default_factory=list)
     cut: int = None
 
 
 @dataclass
 class Answer:
-    """The status of a run, and what it writes: standard output, then the lines of its standard error."""
+    """The status of a run, and what it writes: standard output, then the lines of its standard
+    error."""
 
     status: int
     output: bytes = b""
@@ -85,12 +113,38 @@ def block_of(octets, at, len_of, header, limit):
     return octets[at : at + length] if at + length <= len(octets) else b""
 
 
-def pcap_packets(octets, order, limit):
+def refuse_version(block, begin, place, order, read):
+    """Two numbers of two octets here are one of these versions."""
+    version = tuple(int.from_bytes(block[at : at + 2], order) for at in (place, place + 2))
+    if version not in read:
+        raise Fault(f"version {version[0]}.{version[1]} not read at {begin}")
+
+
+def name_in(options, order, at):
+    """draft-ietf-opsawg-pcapng, 3.5, 4.2: the name among the options of an interface, the first if
+    there are several."""
+    name, place = b"", 0
+    while place + 4 <= len(options):
+        code, length = (
+            int.from_bytes(options[here : here + 2], order) for here in (place, place + 2)
+        )
+        if code == 0:
+            break
+        if place + 4 + length > len(options):
+            raise Fault(f"bad length at {at}")
+        if code == 2 and not name:
+            name = options[place + 4 : place + 4 + length]
+        place += 4 + (length + 3) // 4 * 4
+    return name
+
+
+def pcap_packets(octets, order, limit, _names):
     """The packets of a pcap file, and then where it is cut, if it is."""
     number = lambda block, at: int.from_bytes(block[at : at + 4], order)
     if limit < 24:
         raise Fault("capture too long at 0")
     link, at = number(octets, 20) % 65_536, 24
+    refuse_version(octets, 0, 4, order, [(2, 4)])
 
     def length(header):
         if number(header, 8) > LONGEST_PACKET:
@@ -106,7 +160,7 @@ def pcap_packets(octets, order, limit):
         at += len(record)
 
 
-def pcapng_packets(octets, limit):
+def pcapng_packets(octets, limit, names):
     """The packets of a pcapng file, and then where it is cut, if it is."""
     order, interfaces, first, at = None, [], 0, 0
     number = lambda block, at, count=4: int.from_bytes(block[at : at + count], order)
@@ -139,6 +193,8 @@ def pcapng_packets(octets, limit):
             first = len(interfaces)
         if number(block, len(block) - 4) != len(block):
             raise Fault(f"bad length at {at}")
+        if is_section:
+            refuse_version(block, at, 12, order, [(1, 0), (1, 2)])
         kind = None if is_section else number(block, 0)
         if kind in LEAST and len(block) < LEAST[kind]:
             raise Fault(f"bad length at {at}")
@@ -146,6 +202,7 @@ def pcapng_packets(octets, limit):
             if len(interfaces) == MOST_INTERFACES:
                 raise Fault(f"too many interfaces at {at}")
             interfaces.append((number(block, 8, 2), number(block, 12)))
+            names.append(name_in(block[16:-4], order, at))
         elif kind == 3:
             if first >= len(interfaces):
                 raise Fault(f"no such interface at {at}")
@@ -154,26 +211,33 @@ def pcapng_packets(octets, limit):
             if 16 + kept > len(block):
                 raise Fault(f"bad length at {at}")
             yield packet(first, block[12 : 12 + kept], whole)
-        elif kind == 6:
+        elif kind in (2, 6):
             kept = number(block, 20)
             if 32 + kept > len(block):
                 raise Fault(f"bad length at {at}")
-            yield packet(first + number(block, 8), block[28 : 28 + kept], number(block, 24))
+            yield packet(
+                first + number(block, 8, 2 if kind == 2 else 4),
+                block[28 : 28 + kept],
+                number(block, 24),
+            )
         at += len(block)
 
 
-# How long the blocks are at least that are read: descriptions of interfaces, simple and enhanced packets.
-LEAST = {1: 20, 3: 16, 6: 32}
+# How long the blocks are at least that are read: descriptions of interfaces, packets, simple and
+# enhanced packets.
+LEAST = {1: 20, 2: 32, 3: 16, 6: 32}
 
 
-def packets(octets, limit):
+def packets(octets, limit, names):
     """The packets of a capture, and then where it is cut, if it is."""
     if len(octets) < 24:
         raise Fault("not a capture")
     order = byte_order(octets, 0, [0xA1B2C3D4, 0xA1B23C4D])
     if order is None and not octets.startswith(b"\n\r\r\n"):
         raise Fault("not a capture")
-    for each in pcap_packets(octets, order, limit) if order else pcapng_packets(octets, limit):
+    for each in pcap_packets(octets, order, limit, names) if order else pcapng_packets(
+        octets, limit, names
+    ):
         if each == 0:
             # Not even the first block is whole.
             raise Fault("not a capture")
@@ -182,90 +246,148 @@ def packets(octets, limit):
 
 # ---- frames
 
+TAGS = 0x8100, 0x88A8, 0x9100, 0x9200
+IPV4, IPV6 = 0x0800, 0x86DD
+
 
 def seen_in(link, frame, whole):
-    """The Babel datagram in a frame of this link type that had so many octets, if one is seen; the type is one that is read."""
+    """The datagram from or to Babel's port in a frame of this link type that had so many octets; or
+    that it has none, or is too short to tell. The type is one that is read."""
     whole = max(whole, len(frame))
     if link == 1:
         return after_type(frame, 12, 14, whole)
     if link == 113:
         return after_type(frame, 14, 16, whole)
     if link == 276:
+        if len(frame) >= 2 and big(frame, 0, 2) not in (IPV4, IPV6, *TAGS):
+            return OTHER
         seen = after_type(frame, 0, 20, whole)
-        if seen:
-            seen.interface = big(frame, 4, 4)
+        if isinstance(seen, Seen):
+            seen.link = big(frame, 4, 4)
         return seen
     if link in (0, 108):
+        if len(frame) < 4:
+            return SHORT
         family = min(int.from_bytes(frame[:4], order) for order in ("big", "little"))
-        if len(frame) < 4 or family not in (2, 10, 24, 28, 30):
-            return None
+        if family not in (2, 10, 24, 28, 30):
+            return OTHER
         return (in_ipv4 if family == 2 else in_ipv6)(frame[4:], whole - 4)
-    version = {228: 4, 229: 6}.get(link, frame[0] >> 4 if frame else None)
-    return {4: in_ipv4, 6: in_ipv6}.get(version, lambda *_: None)(frame, whole)
+    if link in (228, 229):
+        return {228: in_ipv4, 229: in_ipv6}[link](frame, whole)
+    if not frame:
+        return SHORT
+    return {4: in_ipv4, 6: in_ipv6}.get(frame[0] >> 4, lambda *_: OTHER)(frame, whole)
 
 
 def after_type(frame, place, header, whole):
-    """Behind a header with an EtherType at this place, and up to four VLAN tags."""
+    """After a header with an EtherType at this place, and up to four VLAN tags."""
     if len(frame) < header:
-        return None
-    kind, frame, whole = big(frame, place, 2), frame[header:], whole - header
+        return SHORT
+    kind, frame, whole, vlans = big(frame, place, 2), frame[header:], whole - header, ()
     for _ in range(4):
-        if kind in (0x8100, 0x88A8) and len(frame) >= 4:
+        if kind in TAGS and len(frame) >= 4:
+            vlan = big(frame, 0, 2) % 0x1000
+            vlans += (vlan,) if vlan else ()
             kind, frame, whole = big(frame, 2, 2), frame[4:], whole - 4
-    return {0x0800: in_ipv4, 0x86DD: in_ipv6}.get(kind, lambda *_: None)(frame, whole)
+    if kind in TAGS and len(frame) < 4:
+        return SHORT
+    seen = {IPV4: in_ipv4, IPV6: in_ipv6}.get(kind, lambda *_: OTHER)(frame, whole)
+    if isinstance(seen, Seen):
+        seen.vlans = vlans
+    return seen
 
 
 def in_ipv4(packet, whole):
-    """RFC 791, 3.1."""
-    if len(packet) < 20 or packet[0] >> 4 != 4 or packet[9] != UDP:
-        return None
-    header, total, fragment = 4 * (packet[0] % 16), big(packet, 2, 2), big(packet, 6, 2)
-    if header < 20 or total > whole or fragment % 0x2000:
-        return None
-    carried = packet[:total][header:]
-    return in_udp(ipaddress.IPv4Address(packet[12:16]), bool(fragment & 0x2000), carried, total - header)
+    """RFC 791, 3.1: its fields, in their order, as far as they were kept."""
+    if len(packet) < 1:
+        return SHORT
+    header = 4 * (packet[0] % 16)
+    if packet[0] >> 4 != 4 or header < 20:
+        return OTHER
+    if len(packet) < 4:
+        return SHORT
+    total = big(packet, 2, 2)
+    if total < header + 4:
+        return OTHER
+    if len(packet) < 8:
+        return SHORT
+    fragment = big(packet, 6, 2)
+    if fragment % 0x2000:
+        return OTHER
+    if len(packet) < 10:
+        return SHORT
+    if packet[9] != UDP:
+        return OTHER
+    if len(packet) < 20:
+        return SHORT
+    sender = ipaddress.IPv4Address(packet[12:16])
+    return in_udp(
+        sender, bool(fragment & 0x2000), total > whole, packet[:total][header:], total - header
+    )
 
 
 def in_ipv6(packet, whole):
     """RFC 8200, 3 and 4."""
-    if len(packet) < 40 or packet[0] >> 4 != 6:
-        return None
-    number, length = packet[6], big(packet, 4, 2)
-    if 40 + length > whole:
-        return None
-    carried, is_fragment = packet[40 : 40 + length], False
+    if len(packet) < 1:
+        return SHORT
+    if packet[0] >> 4 != 6:
+        return OTHER
+    if len(packet) < 7:
+        return SHORT
+    number, said = packet[6], big(packet, 4, 2)
+    carried, length, is_fragment = packet[40 : 40 + said], said, False
+    telling = {0: 2, 43: 2, 60: 2, 44: 4}
     for _ in range(8):
-        if len(carried) < 8:
+        if number not in telling or len(carried) < telling[number]:
             break
-        if number in (0, 43, 60):
-            header = 8 + 8 * carried[1]
-        elif number == 44 and big(carried, 2, 2) < 8:
+        if number == 44:
+            if big(carried, 2, 2) >= 8:
+                break
             header = 8
             is_fragment = is_fragment or carried[3] % 2 == 1
         else:
-            break
+            header = 8 + 8 * carried[1]
         number, carried, length = carried[0], carried[header:], max(length - header, 0)
     if number != UDP:
-        return None
-    return in_udp(ipaddress.IPv6Address(packet[8:24]), is_fragment, carried, length)
+        unkept = number in telling and len(carried) < telling[number] <= length
+        return SHORT if unkept else OTHER
+    if len(packet) < 40:
+        return OTHER if length < 4 else SHORT
+    return in_udp(
+        ipaddress.IPv6Address(packet[8:24]), is_fragment, 40 + said > whole, carried, length
+    )
 
 
-def in_udp(sender, is_fragment, carried, whole):
-    """RFC 768."""
-    if len(carried) < 4 or BABEL not in (big(carried, 0, 2), big(carried, 2, 2)):
-        return None
+def in_udp(sender, is_fragment, is_cut, carried, whole):
+    """RFC 768; RFC 8966, 4: a datagram of which IP carries so many octets, of which these were
+    kept."""
+    if whole < 4:
+        return OTHER
+    if len(carried) < 4:
+        return SHORT
+    ports = big(carried, 0, 2), big(carried, 2, 2)
+    if BABEL not in ports:
+        return OTHER
+    if ports != (BABEL, BABEL):
+        return Seen(sender, "other-port")
+    if sender.version == 6 and not sender.is_link_local:
+        return Seen(sender, "not-link-local")
     if is_fragment:
-        return Seen(sender, None, "fragment")
-    if whole < 8:
-        return None
-    if len(carried) < 8:
-        return Seen(sender, None, "snapped")
+        return Seen(sender, "fragment")
+    if is_cut:
+        return Seen(sender, "cut-short")
+    if whole < 6:
+        return OTHER
+    if len(carried) < 6:
+        return Seen(sender, "snapped")
     length = big(carried, 4, 2)
-    if not 8 <= length <= whole:
-        return None
+    if length > whole:
+        return Seen(sender, "cut-short")
+    if length < 8:
+        return OTHER
     if len(carried) < length:
-        return Seen(sender, None, "snapped")
-    return Seen(sender, None, "whole", carried[8:length])
+        return Seen(sender, "snapped")
+    return Seen(sender, "whole", carried[8:length])
 
 
 LINKS = {0, 1, 12, 14, 101, 108, 113, 228, 229, 276}
@@ -286,10 +408,24 @@ def packet_in(payload):
     return (payload[:end], None) if end <= len(payload) else (None, "truncated")
 
 
+def updates_in(packet):
+    """How many Updates a packet has: RFC 8966, 4.3, 4.6.9; none if a TLV runs past its end."""
+    count, at = 0, 4
+    while at < len(packet):
+        if packet[at] == 0:
+            at += 1
+            continue
+        if at + 2 > len(packet) or at + 2 + packet[at + 1] > len(packet):
+            return 0
+        count += packet[at] == UPDATE
+        at += 2 + packet[at + 1]
+    return count
+
+
 def find(octets, limit, wanted, accept_cut):
     """What a capture gives of the senders that are wanted."""
     found, number = Found(), 0
-    for packet in packets(octets, limit):
+    for packet in packets(octets, limit, found.names):
         if isinstance(packet, int):
             if not accept_cut:
                 raise Fault(f"capture cut short at {packet}")
@@ -299,28 +435,37 @@ def find(octets, limit, wanted, accept_cut):
             raise Fault(f"link type {packet.link} not read at {packet.at}")
         number += 1
         seen = seen_in(packet.link, packet.frame, packet.whole)
-        if seen is None:
+        if seen == SHORT:
+            found.short += 1
+        if not isinstance(seen, Seen):
             continue
-        on = packet.interface if seen.interface is None else seen.interface
-        if not wanted(seen.sender, on):
+        place = packet.interface, seen.link, seen.vlans
+        if not wanted(seen.sender, place):
             continue
         reason = seen.what
-        if reason == "snapped" and wanted is not everyone:
-            raise Fault(f"datagram cut by the recorder at {packet.at}")
+        if reason in LACKS and wanted is not everyone:
+            raise Fault(f"{LACKS[reason]} at {packet.at}")
         if reason == "whole":
             babel, reason = packet_in(seen.payload)
         if reason:
             found.left_out.setdefault(reason, []).append(number)
             continue
-        origin = on, seen.sender.version, int(seen.sender)
+        origin = place, seen.sender.version, int(seen.sender)
         if origin not in found.packets and len(found.packets) == MOST_SENDERS:
             raise Fault(f"too many senders at {packet.at}")
         found.packets.setdefault(origin, []).append(babel)
+        found.cooked += packet.link == 113
     return found
 
 
-def everyone(_sender, _interface):
+def everyone(_sender, _place):
     return True
+
+
+def by_place(origin):
+    """The order of senders: by description, link (none first), VLANs and address."""
+    (interface, link, vlans), version, bits = origin
+    return interface, (link is not None, link or 0), vlans, version, bits
 
 
 # ---- what is written
@@ -330,24 +475,81 @@ def text_of(version, bits):
     """The text of an address: IPv6 as eight groups."""
     if version == 4:
         return str(ipaddress.IPv4Address(bits))
-    return ":".join(f"{int(group, 16):x}" for group in ipaddress.IPv6Address(bits).exploded.split(":"))
+    return ":".join(
+        f"{int(group, 16):x}" for group in ipaddress.IPv6Address(bits).exploded.split(":")
+    )
 
 
-def sender_line(origin, sent, as_json):
-    interface, version, bits = origin
-    says = {"address": text_of(version, bits), "interface": interface, "packets": len(sent), "octets": sum(map(len, sent))}
+def name_text(name):
+    """The text of an interface's name: letters, digits and three marks stand for themselves."""
+    plain = b"abcdefghijklmnopqrstuvwxyzABCDEFGHIJKLMNOPQRSTUVWXYZ0123456789.-_"
+    return "".join(chr(octet) if octet in plain else f"\\x{octet:02x}" for octet in name)
+
+
+def place_asked(place):
+    """A place as `--interface` asks for it."""
+    interface, link, vlans = place
+    return str(interface) + ("" if link is None else f"/{link}") + (
+        ":" + ".".join(map(str, vlans)) if vlans else ""
+    )
+
+
+def place_text(place, name):
+    interface, link, vlans = place
+    words = [f"interface {interface}"]
+    words += [f"({name_text(name)})"] if name else []
+    words += [] if link is None else [f"link {link}"]
+    words += ["vlan " + ".".join(map(str, vlans))] if vlans else []
+    return " ".join(words)
+
+
+def sender_line(origin, sent, names, as_json):
+    place, version, bits = origin
+    interface, link, vlans = place
+    name = names[interface] if interface < len(names) else b""
+    address, octets, updates = text_of(version, bits), sum(map(len, sent)), sum(
+        map(updates_in, sent)
+    )
     if as_json:
+        says = {
+            "address": address,
+            "interface": interface,
+            "link": link,
+            "vlans": list(vlans),
+            "name": name_text(name) or None,
+        }
+        says.update(packets=len(sent), octets=octets, updates=updates)
         return json.dumps(says, separators=(",", ":")) + "\n"
-    return "{address} interface {interface} packets {packets} octets {octets}\n".format(**says)
+    counts = f"packets {len(sent)} octets {octets} updates {updates}"
+    return f"{address} {place_text(place, name)} {counts}\n"
+
+
+COOKED = (
+    "note: frames of Linux cooked, version 1, name no interface, so links can't be told apart; "
+    "record with -y LINUX_SLL2"
+)
+
+
+def short_note(found):
+    """Of `senders` alone: how many frames were too short to tell."""
+    if not found.short:
+        return ()
+    return (f"note: {found.short} frame{'' if found.short == 1 else 's'} too short to tell",)
 
 
 def notes_of(found):
     """The notes on a capture: what was left out, and where it is cut."""
-    counts = [f"{reason} {len(found.left_out[reason])} first {found.left_out[reason][0]}" for reason in REASONS if reason in found.left_out]
+    counts = [
+        f"{reason} {len(found.left_out[reason])} first {found.left_out[reason][0]}"
+        for reason in REASONS
+        if reason in found.left_out
+    ]
     notes = []
     if counts:
         total = sum(map(len, found.left_out.values()))
         notes.append(f"note: {total} datagrams left out: {', '.join(counts)}")
+    if found.cooked:
+        notes.append(COOKED)
     if found.cut is not None:
         notes.append(f"note: capture cut short at {found.cut}, and read up to there")
     return tuple(notes)
@@ -367,21 +569,29 @@ def senders(octets, as_json=False, strict=False, accept_cut=False, limit=USUAL_O
         refuse_if_strict(found, strict)
     except Fault as fault:
         return Answer(3, errors=(str(fault),))
-    lines = [sender_line(origin, sent, as_json) for origin, sent in sorted(found.packets.items())]
-    return Answer(0 if lines else 1, "".join(lines).encode(), notes_of(found))
+    origins = sorted(found.packets, key=by_place)
+    lines = [sender_line(origin, found.packets[origin], found.names, as_json) for origin in origins]
+    none = () if lines else ("no Babel packets",)
+    return Answer(
+        0 if lines else 1, "".join(lines).encode(), none + notes_of(found) + short_note(found)
+    )
 
 
-def extract(octets, sender, interface=None, as_hex=False, strict=False, accept_cut=False, limit=USUAL_OCTETS):
+def extract(
+    octets, sender, interface=None, as_hex=False, strict=False, accept_cut=False, limit=USUAL_OCTETS
+):
     """What `extract` answers for a capture."""
     sender = ipaddress.ip_address(sender)
-    wanted = lambda of, on: of == sender and interface in (None, on)
+    wanted = lambda of, place: of == sender and interface in (None, place_asked(place))
     try:
         found = find(octets, limit, wanted, accept_cut)
         refuse_if_strict(found, strict)
         name = text_of(sender.version, int(sender))
         if len(found.packets) > 1:
-            numbers = ", ".join(str(on) for on, *_ in sorted(found.packets))
-            raise Fault(f"packets from this sender on several interfaces: {numbers}")
+            places = [place_asked(place) for place, *_ in sorted(found.packets, key=by_place)]
+            more = len(places) - LISTED_PLACES
+            listed = ", ".join(places[:LISTED_PLACES]) + (f", and {more} more" if more > 0 else "")
+            raise Fault(f"packets from this sender on several interfaces: {listed}")
     except Fault as fault:
         return Answer(3, errors=(str(fault),))
     if not found.packets:

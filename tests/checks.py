@@ -1,4 +1,4 @@
-"""What the parts of `./check` share: where things stand, what a part needs, and the count of what passed."""
+"""What the parts of `./check` share: where things stand, what a part needs, and what passed."""
 
 import pathlib
 import shutil
@@ -7,10 +7,10 @@ import sys
 
 TOP = pathlib.Path(__file__).resolve().parent.parent
 PROGRAM = TOP / "build/babel-dump"
-CAPTURES = TOP / "examples/captures"
+ROUTERS = TOP / "examples/routers"
 
 # Whoever imports their scripts imports this module first.
-sys.path += [str(CAPTURES), str(TOP / "bench")]
+sys.path += [str(ROUTERS), str(TOP / "reference")]
 
 
 class Missing(Exception):

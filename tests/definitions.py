@@ -1,34 +1,71 @@
-"""docs/PROMISES.md: how long each file of definitions is, that each uses only those above it, those that the headline
-needs, and the clauses that are quoted."""
+#!/usr/bin/env python3
+"""docs/DEFINITIONS.md: how long each file of definitions is, that each uses only those above it,
+those that the headline needs, and the clauses that are quoted.
+
+Run by itself, this prints the lists and the numbers of that page anew, into it.
+"""
 
 import re
+import textwrap
 
 import headline
+import transcript
 from checks import TOP
 
-ROW = re.compile(r"\| `(babel_\w+)` (\w+) \| (\d+) \|")
+ROW = re.compile(r"(\| `(babel_\w+)` (\w+) \|) \d+ \|")
+LENGTH = re.compile(r"\d+\s+definitions\s+of\s+\d+\s+files,\s+\d+\s+lines,\s+of\s+which\s+\d+\s")
+LIST = re.compile(r"(?m)(?:^- `babel_\w+` \w+: .*\n(?:^  .*\n)*)+")
 QUOTED = re.compile(r"(?m)(?:^    .*\n)+")
 IMPORT = re.compile(r"use Rattle\.(babel_\w+)\.specs\.(\w+)\.")
+COLUMNS = {"width": 100, "break_long_words": False, "break_on_hyphens": False}
+
+
+def length_of(file):
+    """The lines of a file's definitions and comments."""
+    lines = headline.specs(file).splitlines()
+    return sum(bool(line) and not line.startswith("use ") for line in lines)
+
+
+def printed(text):
+    """The page with its numbers and lists as they are to be."""
+    length, rows = headline.reading_list()
+    counts = lambda row: f"{row[1]} {length_of((row[2], row[3]))} |"
+    lines = (textwrap.fill(row, subsequent_indent="  ", **COLUMNS) + "\n" for row in rows)
+    text = ROW.sub(counts, text)
+    # Where the page breaks the sentence it is broken still, so that its numbers alone change.
+    numbers = iter(re.findall(r"\d+", length))
+    stated = lambda found: re.sub(r"\d+", lambda _: next(numbers), found[0])
+    text = LENGTH.sub(stated, text, count=1)
+    return LIST.sub(lambda _: "".join(lines), text, count=1)
+
+
+def check_order(tally):
+    """Each file uses only those above it."""
+    seen = set()
+    for file in headline.files():
+        used = set(IMPORT.findall(headline.specs(file)))
+        late = sorted(each for each in used - seen if each[1] != "declared")
+        told = "".join(f"it uses {' '.join(each)}, which is not above it\n" for each in late)
+        tally.check(f"the order of {' '.join(file)}", told)
+        seen.add(file)
 
 
 def check(tally, _long):
-    seen, lengths = set(), {}
-    promises = (TOP / "docs/PROMISES.md").read_text()
+    text = headline.DOCUMENT.read_text()
     clauses = (TOP / "crates/babel_canon/src/normal_form.rt").read_text()
-    for block in QUOTED.findall(promises):
-        tally.check("quoted clauses", "" if block in clauses else f"they do not stand in the code:\n{block}")
-    length, rows = headline.reading_list()
-    running = re.sub(r"\s+", " ", promises)
-    tally.check("the headline's length", "" if length in running else f"it is not stated; it is {length}")
-    table = "\n".join(rows)
-    tally.check("the headline's definitions", "" if table in promises else f"the table does not name them:\n{table}")
-    for crate, name, said in ROW.findall(promises):
-        lines = (TOP / f"crates/{crate}/specs/{name}.antt").read_text().splitlines()
-        length = sum(1 for line in lines if line and not line.startswith("use "))
-        tally.check(f"{crate} {name}", "" if length == int(said) else f"{said} lines are stated, and there are {length}")
-        used = {each for line in lines for each in IMPORT.findall(line) if each[1] != "declared"}
-        late = used - seen
-        tally.check(f"{crate} {name}", "".join(f"it uses {' '.join(each)}, which is not above it\n" for each in late))
-        seen.add((crate, name))
-        lengths[crate] = lengths.get(crate, 0) + length
-    print(f"definitions: {sum(lengths.values())} lines ({', '.join(f'{crate} {length}' for crate, length in lengths.items())})")
+    for block in QUOTED.findall(text):
+        problem = "" if block in clauses else f"they do not stand in the code:\n{block}"
+        tally.check("quoted clauses", problem)
+    told = transcript.difference(printed(text), text)
+    hint = "python3 tests/definitions.py prints them anew\n"
+    tally.check("the lists and numbers of docs/DEFINITIONS.md", told and told + hint)
+    check_order(tally)
+    lengths = {}
+    for file in headline.files():
+        lengths[file[0]] = lengths.get(file[0], 0) + length_of(file)
+    each = ", ".join(f"{crate} {length}" for crate, length in lengths.items())
+    print(f"definitions: {sum(lengths.values())} lines ({each})")
+
+
+if __name__ == "__main__":
+    headline.DOCUMENT.write_text(printed(headline.DOCUMENT.read_text()))

@@ -1,4 +1,5 @@
-"""`senders` and `extract`: over captures made of the dumps of examples/captures, beside a plain reader of captures."""
+"""`senders` and `extract`: over captures made of the dumps of examples/routers, beside a plain
+reader of captures."""
 
 import concurrent.futures
 import os
@@ -12,15 +13,16 @@ from dataclasses import dataclass
 
 import capture_files as made
 import capture_reader as reader
-from checks import CAPTURES, built_program
+from checks import ROUTERS, built_program
 
 from agree import SENDERS
 
-PCAP = CAPTURES / "babeld-basic-a.pcap"
+PCAP = ROUTERS / "babeld-basic-a.pcap"
 NAME = "babeld-basic-a"
 SENDER = SENDERS[NAME]
 OTHER = "fe80::5eff:fe00:c602"
 OVER_IPV4 = "192.0.2.1"
+GLOBAL = "2001:db8::1"
 ORDERS = "little", "big"
 SECONDS = 120
 # What the octets of a small capture are changed to: two values, and two of their bits turned over.
@@ -43,7 +45,9 @@ def words_of(options):
     """The options of a command, by the names that the plain reader has for them."""
     words = []
     for name, value in options.items():
-        word = {"as_hex": "--hex", "as_json": "--json", "limit": "--max-octets"}.get(name, "--" + name.replace("_", "-"))
+        word = {"as_hex": "--hex", "as_json": "--json", "limit": "--max-octets"}.get(
+            name, "--" + name.replace("_", "-")
+        )
         words += [word] if value is True else [word, str(value)]
     return words
 
@@ -62,7 +66,7 @@ def both_of(what, capture, sender=SENDER):
 
 
 def dump_of(name=NAME):
-    return (CAPTURES / f"{name}.dump").read_bytes()
+    return (ROUTERS / f"{name}.dump").read_bytes()
 
 
 # ---- captures of the dumps
@@ -70,7 +74,10 @@ def dump_of(name=NAME):
 
 def records_of(dump, sender=SENDER, frame_of=made.ethernet, interface=0, **how):
     """A frame for each packet of a dump."""
-    return [made.Record(frame_of(made.ip(sender, made.udp(packet), **how)), interface) for packet in made.packets_of(dump)]
+    return [
+        made.Record(frame_of(made.ip(sender, made.udp(packet), **how)), interface)
+        for packet in made.packets_of(dump)
+    ]
 
 
 def containers(dump, sender):
@@ -78,16 +85,41 @@ def containers(dump, sender):
     records = records_of(dump, sender)
     for order in ORDERS:
         for nanoseconds in False, True:
-            yield f"pcap, {order}, {'nano' if nanoseconds else 'micro'}seconds", made.pcap(records, 1, order, nanoseconds)
+            yield f"pcap, {order}, {'nano' if nanoseconds else 'micro'}seconds", made.pcap(
+                records, 1, order, nanoseconds
+            )
         yield f"pcapng, {order}", made.pcapng(records, (1,), order)
+        old = b"".join(
+            made.old_packet(each, order, made.option(1, b"old", order)) for each in records
+        )
+        yield (
+            f"pcapng of old packet blocks, {order}", made.section(order)
+            + made.interface(1, order)
+            + old
+        )
         simple = b"".join(made.simple(each, order) for each in records)
-        yield f"pcapng of simple packets, {order}", made.section(order) + made.interface(1, order) + simple
+        yield (
+            f"pcapng of simple packets, {order}", made.section(order)
+            + made.interface(1, order)
+            + simple
+        )
         other = [made.Record(made.ethernet(made.ip(OTHER, made.udp(b"\x2a\2\0\0"))))]
         before = made.pcapng(other, (1, 147), {"little": "big", "big": "little"}[order])
-        yield f"pcapng of two sections, {order}", before + made.pcapng(records_of(dump, sender, interface=1), (147, 1), order)
+        yield f"pcapng of two sections, {order}", before + made.pcapng(
+            records_of(dump, sender, interface=1), (147, 1), order
+        )
 
 
-TAGS = {"no tag": (), "a tag": (0x8100,), "two tags": (0x88A8, 0x8100), "four tags": (0x88A8, 0x8100, 0x8100, 0x8100), "five tags": (0x8100,) * 5}
+TAGS = {
+    "no tag": (),
+    "a tag": (0x8100,),
+    "a tag for priority": ((0x8100, 0),),
+    "the tags of old": (0x9100, 0x9200),
+    "two tags": ((0x88A8, 10), (0x8100, 20)),
+    "a tag for priority, and one more": ((0x8100, 0), (0x8100, 4_095)),
+    "four tags": (0x88A8, 0x8100, 0x8100, 0x8100),
+    "five tags": (0x8100,) * 5,
+}
 
 
 def frames():
@@ -95,8 +127,12 @@ def frames():
     for name, tags in TAGS.items():
         yield f"Ethernet with {name}", 1, lambda packet, tags=tags: made.ethernet(packet, tags)
         yield f"cooked with {name}", 113, lambda packet, tags=tags: made.cooked(packet, tags)
-        yield f"cooked, version 2, with {name}", 276, lambda packet, tags=tags: made.cooked2(packet, 7, tags)
-    yield "Ethernet with padding", 1, lambda packet: made.ethernet(packet, padding=b"\x2a\2\0\0" * 5)
+        yield f"cooked, version 2, with {name}", 276, lambda packet, tags=tags: made.cooked2(
+            packet, 7, tags
+        )
+    yield "Ethernet with padding", 1, lambda packet: made.ethernet(
+        packet, padding=b"\x2a\2\0\0" * 5
+    )
     for order in ORDERS:
         for family in 10, 24, 28, 30, 11:
             yield f"null, {order}, family {family}", 0, lambda packet, order=order, family=family: made.after_family(packet, order, family)
@@ -118,12 +154,17 @@ HEADERS = {
     "a header that is not known": [made.extension(139, 0, b"")],
 }
 OPTIONS = {"options of IPv4": b"\x94\4\0\0", "the most options of IPv4": b"\1" * 40}
-FRAGMENTS = {"a first fragment over IPv4": 0x2000, "a later fragment over IPv4": 0x20B9, "a last fragment over IPv4": 0x00B9, "not to be fragmented": 0x4000}
+FRAGMENTS = {
+    "a first fragment over IPv4": 0x2000,
+    "a later fragment over IPv4": 0x20B9,
+    "a last fragment over IPv4": 0x00B9,
+    "not to be fragmented": 0x4000,
+}
 DATAGRAMS = {
     "trailers behind the bodies": lambda packet: made.udp(packet + b"\x10\x22" + b"\x2a\2" * 17),
     "octets behind the datagrams": lambda packet: made.udp(packet) + b"\x2a\2\0\0",
-    "sent from the port alone": lambda packet: made.udp(packet, destination=50_000),
-    "sent to the port alone": lambda packet: made.udp(packet, source=50_000),
+    "sent from the port alone": lambda packet: made.udp(packet, destination=6_697),
+    "sent to the port alone": lambda packet: made.udp(packet, source=5_353),
     "other ports": lambda packet: made.udp(packet, 6_697, 6_695),
     "no length of UDP": lambda packet: made.udp(packet, length=0),
     "a length of UDP that is too long": lambda packet: made.udp(packet, length=9 + len(packet)),
@@ -137,9 +178,12 @@ DATAGRAMS = {
 
 
 def variants(dump, sender):
-    """Captures of a dump with something round each of its packets: the name, the records, the sender."""
+    """Captures of a dump with something round each of its packets: the name, the records, the
+    sender."""
     for name, headers in HEADERS.items():
-        yield name, records_of(dump, "2001:db8::1", headers=headers), "2001:db8::1"
+        yield name, records_of(dump, sender, headers=headers), sender
+    for address in "fe7f::1", "fe80::", "febf:ffff::1", "fec0::1", "::1", GLOBAL:
+        yield f"sent by {address}", records_of(dump, address), address
     for name, options in OPTIONS.items():
         yield name, records_of(dump, OVER_IPV4, options=options), OVER_IPV4
     for name, fragment in FRAGMENTS.items():
@@ -159,7 +203,10 @@ NOISE = [
     made.ethernet(made.ip(SENDER, made.udp(b"\x2a\2\0\7\1\0"))),
     made.ethernet(made.ip(SENDER, made.udp(b"GET /"))),
     made.ethernet(made.ip(SENDER, made.udp(b"\x2a\1\0\0"))),
-    made.ethernet(made.ip(SENDER, made.udp(b"\x2a\2\0\0"), headers=[made.fragment_header(0, True)])),
+    made.ethernet(made.ip(OTHER, made.udp(b"\x2a\2\0\0"), headers=[made.fragment_header(0, True)])),
+    made.ethernet(made.ip(SENDER, made.udp(b"\x2a\2\0\0", 5_353))),
+    made.ethernet(made.ip(GLOBAL, made.udp(b"\x2a\2\0\0"))),
+    made.ethernet(made.ip(SENDER, made.udp(b"\x2a\2\0\0")))[:40],
     made.ethernet(made.ip(SENDER, b"\x80\0\0\0", protocol=58)),
     made.MACS + b"\x08\x06" + bytes(28),
     b"",
@@ -175,7 +222,8 @@ def among_others(dump, interface=0):
 
 
 def dump_cases(tally):
-    """Each dump in many captures. Where a capture has nothing else of its sender, the plain reader finds the dump."""
+    """Each dump in many captures. Where a capture has nothing else of its sender, the plain reader
+    finds the dump."""
     for name, sender in SENDERS.items():
         dump = dump_of(name)
         for what, capture in containers(dump, sender):
@@ -184,37 +232,158 @@ def dump_cases(tally):
             yield from (whole, senders_of(whole.what, capture))
         for what, link, frame_of in frames():
             of = OVER_IPV4 if link == 228 else sender
-            yield from both_of(f"{name}, {what}", made.pcap(records_of(dump, of, frame_of), link), of)
+            yield from both_of(
+                f"{name}, {what}", made.pcap(records_of(dump, of, frame_of), link), of
+            )
         for place, (what, records, of) in enumerate(variants(dump, sender)):
             capture = made.pcapng(records) if place % 2 else made.pcap(records)
             yield from both_of(f"{name}, {what}", capture, of)
     whole = extract_of("the capture of the repository", PCAP.read_bytes())
-    expect(tally, "the plain reader, the capture of the repository", whole.answer, reader.Answer(0, dump_of()))
+    expect(
+        tally,
+        "the plain reader, the capture of the repository",
+        whole.answer,
+        reader.Answer(0, dump_of()),
+    )
     yield from (whole, senders_of(whole.what, whole.capture))
 
 
 def option_cases():
-    """Each option, over captures of several senders and interfaces."""
+    """Each option, over captures of several senders and places."""
     records = list(among_others(dump_of()))
     elsewhere = list(among_others(dump_of("babeld-retract"), 1))[:30]
-    # Over version 2 of Linux cooked, the frames name their interfaces.
-    named = [frame for number in (2**32 - 1, 3) for frame in records_of(dump_of(), SENDER, lambda packet: made.cooked2(packet, number))]
     for what, capture in (
         ("one interface", made.pcap(records)),
         ("two interfaces", made.pcapng([each for pair in zip(records, elsewhere) for each in pair], (1, 1))),
-        ("named interfaces", made.pcap(named, 276)),
         ("no packets", made.pcap([])),
         ("no interfaces", made.section()),
     ):
         yield senders_of(what, capture)
         yield senders_of(what, capture, as_json=True)
         yield senders_of(what, capture, strict=True)
-        yield from (extract_of(what, capture, sender) for sender in (SENDER, OTHER, OVER_IPV4, "::1"))
-        yield from (extract_of(what, capture, interface=number) for number in (0, 1, 3, 2**32 - 1))
+        yield from (
+            extract_of(what, capture, sender)
+            for sender in (SENDER, OTHER, OVER_IPV4, GLOBAL, "::1")
+        )
+        yield from (
+            extract_of(what, capture, interface=place)
+            for place in ("0", "1", "0/3", "0:7", str(2**64 - 1))
+        )
         yield extract_of(what, capture, as_hex=True)
-        yield extract_of(what, capture, interface=0, as_hex=True)
+        yield extract_of(what, capture, interface="0", as_hex=True)
         yield from (extract_of(what, capture, sender, strict=True) for sender in (SENDER, OTHER))
-        yield extract_of(what, capture, interface=0, strict=True)
+        yield extract_of(what, capture, interface="0", strict=True)
+
+
+def tagged(*tags):
+    return lambda packet: made.ethernet(packet, tags)
+
+
+def linked(link, *tags):
+    return lambda packet: made.cooked2(packet, link, tags)
+
+
+def one_sender_at(*frames_of):
+    """The packets of a dump in turn, in frames of the one kind, of the next, and so on."""
+    packets = made.packets_of(dump_of())
+    return [
+        made.Record(frames_of[place % len(frames_of)](made.ip(SENDER, made.udp(packet))))
+        for place, packet in enumerate(packets)
+    ]
+
+
+def places():
+    """Captures of one sender at several places, with how `--interface` asks for each."""
+    vlans = one_sender_at(tagged((0x8100, 10)), tagged((0x8100, 20)))
+    yield "two VLANs", made.pcap(vlans), ("0:10", "0:20")
+    yield "a VLAN and none", made.pcap(one_sender_at(tagged(), tagged(0x8100))), ("0", "0:7")
+    stacked = [
+        tagged((0x88A8, outer), (0x8100, inner))
+        for outer, inner in ((10, 20), (20, 10), (10, 21), (10, 0), (0, 10))
+    ]
+    yield "stacked VLANs", made.pcap(one_sender_at(*stacked)), (
+        "0:10", "0:10.20", "0:10.21", "0:20.10"
+    )
+    links = one_sender_at(linked(3), linked(4), linked(2**32 - 1), linked(3, (0x8100, 10)))
+    yield "links of Linux cooked, version 2", made.pcap(links, 276), (
+        "0/3", "0/4", f"0/{2**32 - 1}", "0/3:10"
+    )
+    yield "two links of Linux cooked, version 1", made.pcap(one_sender_at(made.cooked, made.cooked), 113), ("0",)
+    machine = made.pcapng(one_sender_at(linked(2)), (276,))
+    yield "two machines, merged", machine + machine, ("0/2", "1/2")
+    one, other = records_of(dump_of()), records_of(dump_of("babeld-retract"), SENDER, linked(0), 1)
+    yield "an interface beside a link of its number", made.pcapng([*one, *other], (1, 276)), (
+        "0", "1/0"
+    )
+    for count in 16, 17, 19:
+        many = one_sender_at(*(tagged((0x8100, vlan)) for vlan in range(1, count + 1)))
+        yield f"{count} VLANs", made.pcap(many), ("0:1", f"0:{count}")
+
+
+def place_cases():
+    for what, capture, asked in places():
+        yield from both_of(what, capture)
+        yield senders_of(what, capture, as_json=True)
+        yield from (
+            extract_of(what, capture, interface=place)
+            for place in (*asked, "0", "1", "0:11", "0/5", "0:10.20.30", "3")
+        )
+        yield extract_of(what, capture, strict=True)
+
+
+NAMES = {
+    "a name": b"eth0",
+    "a name of all marks": b"br-lan.10_a",
+    "a name of other octets": b"a b\"\\\xc3\xa4\0\x7f",
+    "an empty name": b"",
+}
+
+
+def name_cases():
+    """The names of interfaces, and the options round them."""
+    record, *_ = records_of(dump_of())
+    for order in ORDERS:
+        end, option = made.option(0, b"", order), lambda code, text, order=order: made.option(
+            code, text, order
+        )
+        for what, options in (
+            *((what, made.named(name, order)) for what, name in NAMES.items()),
+            ("a name after a comment", option(1, b"abc") + made.named(b"eth1", order)),
+            ("two names", option(2, b"eth1") + made.named(b"eth2", order)),
+            ("an empty name, and a name", option(2, b"") + made.named(b"eth2", order)),
+            ("a name after the options", end + made.named(b"eth3", order)),
+            ("a name without an end of options", option(2, b"eth4")),
+            ("an option past its block", option(2, b"eth5")[:2] + made.number(5, 2, order) + b"eth5"),
+            ("a comment past its block", option(2, b"eth5") + made.number(1, 2, order) + made.number(9, 2, order) + b"long"),
+            ("an end of options with a length", option(2, b"eth6") + end[:2] + made.number(9, 2, order)),
+        ):
+            capture = (
+                made.section(order)
+                + made.interface(1, order, options=options)
+                + made.enhanced(record, order)
+            )
+            yield from both_of(f"{what}, {order}", capture)
+            yield senders_of(f"{what}, {order}", capture, as_json=True)
+    two = made.section() + made.interface(options=made.named(b"eth0")) + made.enhanced(record)
+    two += made.section() + made.interface(options=made.named(b"eth1")) + made.enhanced(record)
+    yield from both_of("names in two sections", two)
+
+
+def version_cases():
+    """Versions of pcap files and of sections."""
+    record, *_ = records_of(dump_of())
+    for order in ORDERS:
+        for version in (2, 4), (2, 3), (2, 5), (1, 4), (4, 2), (543, 0):
+            yield from both_of(
+                f"pcap {version}, {order}", made.pcap([record], 1, order, version=version)
+            )
+        for version in (1, 0), (1, 1), (1, 2), (1, 3), (0, 0), (2, 0):
+            head = made.section(order, version=version) + made.interface(1, order)
+            yield from both_of(f"pcapng {version}, {order}", head + made.enhanced(record, order))
+            yield from both_of(
+                f"pcapng {version} in a later section, {order}",
+                made.pcapng([record], (1,), order) + head,
+            )
 
 
 def snapped_cases():
@@ -228,15 +397,42 @@ def snapped_cases():
             capture = made.pcap([second, made.snapped(first, kept)])
             yield from both_of(f"{what}, {sender}, {kept} octets kept", capture, sender)
             yield extract_of(f"{what}, {sender}, {kept} octets of another kept", capture, OTHER)
+            # What was sliced says that it had no more.
+            yield from both_of(
+                f"{what}, {sender}, sliced to {kept} octets",
+                made.pcap([second, made.sliced(first, kept)]),
+                sender,
+            )
+    for what, link, frame_of in (
+        ("with tags", 1, tagged(0x88A8, 0x8100)),
+        ("Linux cooked, version 2", 276, linked(3)),
+        ("null", 0, made.after_family),
+        ("raw IP", 101, lambda packet: packet),
+    ):
+        first, *_ = records_of(
+            dump_of(), SENDER, frame_of, headers=[made.HOP_BY_HOP, made.fragment_header(0, False)]
+        )
+        for kept in range(len(first.frame)):
+            yield from both_of(
+                f"{what}, sliced to {kept} octets", made.pcap([made.sliced(first, kept)], link)
+            )
+            yield from both_of(
+                f"{what}, {kept} octets kept", made.pcap([made.snapped(first, kept)], link)
+            )
     # A simple packet has as many octets as its interface keeps.
     first, *_ = records_of(dump_of())
     for snap in range(0, len(first.frame) + 2, 7):
         kept = first.frame[:snap] if snap else first.frame
         simple = made.simple(made.Record(kept, 0, len(first.frame)))
-        yield from both_of(f"a simple packet of an interface that keeps {snap}", made.section() + made.interface(snap=snap) + simple)
+        yield from both_of(
+            f"a simple packet of an interface that keeps {snap}",
+            made.section() + made.interface(snap=snap) + simple,
+        )
     # Padding that was not kept cuts nothing of the datagram.
     padded = made.Record(first.frame + bytes(20))
-    yield from both_of("padding that was not kept", made.pcap([made.snapped(padded, len(first.frame))]))
+    yield from both_of(
+        "padding that was not kept", made.pcap([made.snapped(padded, len(first.frame))])
+    )
 
 
 def broken_cases():
@@ -262,6 +458,9 @@ def broken_cases():
             ("another interface", described + made.enhanced(made.Record(record.frame, 1), order)),
             ("a description that is too short", head + made.block(1, number(1), order)),
             ("a packet that is too short", described + made.block(6, bytes(16), order)),
+            ("an old packet that is too short", described + made.block(2, bytes(16), order)),
+            ("an old packet that is longer than its block", described + made.block(2, bytes(12) + number(5) + number(5) + b"abcd", order)),
+            ("an old packet of another interface", described + made.old_packet(made.Record(record.frame, 1), order)),
             ("a simple packet that is too short", described + made.block(3, b"", order)),
             ("a packet that is longer than its block", described + made.block(6, bytes(12) + number(5) + number(5) + b"abcd", order)),
             ("a simple packet that is longer than its block", described + made.block(3, number(5) + b"abcd", order)),
@@ -284,24 +483,35 @@ def limit_cases():
         yield extract_of(f"at most {limit} octets", capture, limit=limit)
         yield senders_of(f"at most {limit} octets", capture, limit=limit)
     longest = made.block(5, bytes((1 << 24) - 12))
-    yield from both_of("a block of 16 MiB", made.section() + made.interface() + longest + made.enhanced(record) + longest)
-    yield from both_of("a record of 262,144 octets", made.pcap([record, made.Record(bytes(262_144)), record]))
+    yield from both_of(
+        "a block of 16 MiB",
+        made.section() + made.interface() + longest + made.enhanced(record) + longest,
+    )
+    yield from both_of(
+        "a record of 262,144 octets", made.pcap([record, made.Record(bytes(262_144)), record])
+    )
     sent = made.udp(b"\x2a\2\0\0")
     for count in 65_536, 65_537:
-        packets = [made.Record(made.ip(f"10.{place >> 16}.{place >> 8 & 255}.{place & 255}", sent)) for place in range(count)]
+        packets = [
+            made.Record(made.ip(f"10.{place >> 16}.{place >> 8 & 255}.{place & 255}", sent))
+            for place in range(count)
+        ]
         packets.append(packets[0])
         yield from both_of(f"{count} senders", made.pcap(packets, 101), "10.0.0.7")
         described = made.section() + made.interface() * count
-        yield from both_of(f"{count} interfaces", described + made.enhanced(made.Record(record.frame, 65_535)))
+        yield from both_of(
+            f"{count} interfaces", described + made.enhanced(made.Record(record.frame, 65_535))
+        )
 
 
 def small_captures():
-    """A pcap file and a pcapng file of few octets, each with two packets of the sender, one of them with a trailer, and one of another."""
+    """A pcap file and a pcapng file of few octets, each with two packets of the sender, one of them
+    with a trailer, and one of another."""
     packet = b"\x2a\2\0\6\4\4\0\0\x40\0"
     frames = [
         made.ethernet(made.ip(SENDER, made.udp(packet))),
         made.ethernet(made.ip(OTHER, made.udp(packet))),
-        made.ethernet(made.ip(SENDER, made.udp(packet + b"\x2a"), headers=[made.HOP_BY_HOP]), (0x8100,)),
+        made.ethernet(made.ip(SENDER, made.udp(packet + b"\x2a"), headers=[made.HOP_BY_HOP]), ((0x8100, 0),)),
     ]
     records = [made.Record(frame) for frame in frames]
     yield "a small pcap", made.pcap(records, order="big")
@@ -337,13 +547,26 @@ def expect(tally, what, found, wanted):
 
 def run(program, words, capture=b"", **how):
     """What a run answers, but for its hints."""
-    done = subprocess.run([program, *words], input=capture, stdout=subprocess.PIPE, stderr=subprocess.PIPE, timeout=SECONDS, **how)
+    done = subprocess.run(
+        [program, *words],
+        input=capture,
+        stdout=subprocess.PIPE,
+        stderr=subprocess.PIPE,
+        timeout=SECONDS,
+        **how,
+    )
     lines = done.stderr.decode().splitlines()
-    return reader.Answer(done.returncode, done.stdout, tuple(line for line in lines if not line.startswith("hint: ")))
+    return reader.Answer(
+        done.returncode, done.stdout, tuple(line for line in lines if not line.startswith("hint: "))
+    )
 
 
 def without_notes(answer):
-    return reader.Answer(answer.status, answer.output, tuple(line for line in answer.errors if not line.startswith("note: ")))
+    return reader.Answer(
+        answer.status,
+        answer.output,
+        tuple(line for line in answer.errors if not line.startswith("note: ")),
+    )
 
 
 def check_cases(program, cases, tally, of_answer=lambda answer: answer):
@@ -352,7 +575,12 @@ def check_cases(program, cases, tally, of_answer=lambda answer: answer):
     with concurrent.futures.ThreadPoolExecutor(os.cpu_count()) as pool:
         found = lambda case: (case, run(program, case.words, case.capture))
         for case, answer in pool.map(found, cases):
-            expect(tally, f"{' '.join(case.words)}: {case.what}", of_answer(answer), of_answer(case.answer))
+            expect(
+                tally,
+                f"{' '.join(case.words)}: {case.what}",
+                of_answer(answer),
+                of_answer(case.answer),
+            )
             if case.words[0] == "extract" and answer.status == 0 and "--hex" not in case.words:
                 dumps.add(answer.output)
     return dumps
@@ -361,7 +589,9 @@ def check_cases(program, cases, tally, of_answer=lambda answer: answer):
 def check_framing(program, dumps, tally):
     """No dump that `extract` gave has a fault of framing."""
     with concurrent.futures.ThreadPoolExecutor(os.cpu_count()) as pool:
-        for answer in pool.map(lambda dump: run(program, ["show", "--quiet", "--from", "::1"], dump), sorted(dumps)):
+        for answer in pool.map(
+            lambda dump: run(program, ["show", "--quiet", "--from", "::1"], dump), sorted(dumps)
+        ):
             faults = [line for line in answer.errors if line.startswith(FRAMING)]
             expect(tally, "the framing of a dump", faults, [])
 
@@ -370,17 +600,27 @@ def check_pieces(program, tally):
     """A capture that comes in small pieces, one after the other."""
     capture = PCAP.read_bytes()
     for size in 61, 1_500:
-        reading = subprocess.Popen([program, "extract", "--from", SENDER, "-"], stdin=subprocess.PIPE, stdout=subprocess.PIPE)
+        reading = subprocess.Popen(
+            [program, "extract", "--from", SENDER, "-"],
+            stdin=subprocess.PIPE,
+            stdout=subprocess.PIPE,
+        )
         for at in range(0, len(capture), size):
             reading.stdin.write(capture[at : at + size])
             reading.stdin.flush()
             time.sleep(0.001)
         output, _ = reading.communicate(timeout=SECONDS)
-        expect(tally, f"a capture in pieces of {size} octets", (reading.returncode, output), (0, dump_of()))
+        expect(
+            tally,
+            f"a capture in pieces of {size} octets",
+            (reading.returncode, output),
+            (0, dump_of()),
+        )
 
 
 def check_files(program, folder, tally):
-    """A capture is a file, or standard input where it is left out or is -; what is no file is not read."""
+    """A capture is a file, or standard input where it is left out or is -; what is no file is not
+    read."""
     wanted = reader.extract(PCAP.read_bytes(), SENDER)
     words = ["extract", "--from", SENDER]
     expect(tally, "a file", run(program, [*words, PCAP]), wanted)
@@ -389,16 +629,30 @@ def check_files(program, folder, tally):
         for command in words, ["senders"]:
             found = run(program, [*command, file], cwd=folder)
             begins = [line.startswith(text) for line in found.errors]
-            expect(tally, f"{command[0]} {file}", (found.status, found.output, begins), (4, b"", [True]))
+            expect(
+                tally,
+                f"{command[0]} {file}",
+                (found.status, found.output, begins),
+                (4, b"", [True]),
+            )
 
 
 def check_streams(program, tally):
-    """Nobody reads what is written: the status is 141. Memory is wanting: the status is 5, and nothing is written."""
-    for words in ["senders", PCAP], ["extract", "--from", SENDER, PCAP], ["extract", "--hex", "--from", SENDER, PCAP]:
+    """Nobody reads what is written: the status is 141. Memory is wanting: the status is 5, and
+    nothing is written."""
+    for words in ["senders", PCAP], ["extract", "--from", SENDER, PCAP], [
+        "extract", "--hex", "--from", SENDER, PCAP
+    ]:
         reader_end, writer_end = os.pipe()
         os.close(reader_end)
         ready = lambda: signal.signal(signal.SIGPIPE, signal.SIG_IGN)
-        done = subprocess.run([program, *words], stdout=writer_end, stderr=subprocess.PIPE, preexec_fn=ready, restore_signals=False)
+        done = subprocess.run(
+            [program, *words],
+            stdout=writer_end,
+            stderr=subprocess.PIPE,
+            preexec_fn=ready,
+            restore_signals=False,
+        )
         os.close(writer_end)
         expect(tally, f"{words[0]}, a closed pipe", (done.returncode, done.stderr), (141, b""))
     packets = made.packets_of(dump_of("frr-basic")) * 1_000
@@ -413,13 +667,23 @@ def check_way(program, tally):
     words = ["lookup", "--from", SENDER, "--to", "10.1.2.3", "--src", "192.0.2.9"]
     way = f'"$0" extract --from {SENDER} "$1" | "$0" {" ".join(words)}'
     found = subprocess.run(["sh", "-c", way, program, PCAP], capture_output=True, timeout=SECONDS)
-    wanted = subprocess.run([program, *words, CAPTURES / f"{NAME}.dump"], capture_output=True, timeout=SECONDS)
-    expect(tally, "from a capture to an answer", (found.returncode, found.stdout), (wanted.returncode, wanted.stdout))
+    wanted = subprocess.run(
+        [program, *words, ROUTERS / f"{NAME}.dump"], capture_output=True, timeout=SECONDS
+    )
+    expect(
+        tally,
+        "from a capture to an answer",
+        (found.returncode, found.stdout),
+        (wanted.returncode, wanted.stdout),
+    )
 
 
 def cases_of(tally):
     yield from dump_cases(tally)
     yield from option_cases()
+    yield from place_cases()
+    yield from name_cases()
+    yield from version_cases()
     yield from snapped_cases()
     yield from broken_cases()
     yield from limit_cases()

@@ -24,7 +24,7 @@ SAYS = re.compile(r"^! babel-dump: the proved program is not built yet; .*\n", r
 # Two first runs at once, with a file above the folder, octets through a pipe, and a refused dump.
 SENDER = "fe80::5eff:fe00:c601"
 PIPED = (
-    f"babel-dump extract --from {SENDER} ../examples/captures/babeld-basic-a.pcap"
+    f"babel-dump extract --from {SENDER} ../examples/routers/babeld-basic-a.pcap"
     f" | head -c 1000 | babel-dump show --from {SENDER}"
 )
 

@@ -1,6 +1,7 @@
-"""The kit's gate, `rt ci`: every proof from nothing, the bodies that must be refused, the crates' tests, a run of the program.
+"""The kit's gate, `rt ci`: every proof from nothing, the bodies that must be refused, the crates'
+tests, a run of the program.
 
-A wrong body in must-fail/NAME.edit is tried by each gate, one in must-fail/NAME.md by its long form alone.
+A wrong body in must-fail/ is tried by each gate, one in must-fail-long/ by its long form alone.
 """
 
 import os
@@ -21,21 +22,25 @@ BUILT = TOP / "crates/babel_dump_program/out/babel_dump_program"
 
 
 def run_gate():
-    """Runs the gate, shows all that it says, and how far it is, and returns its last line and its status."""
+    """Runs the gate, shows all that it says, and how far it is, and returns its last line and its
+    status."""
     last, proved, begun = "", 0, time.monotonic()
     crates = len(re.findall(r"^\w+:", (TOP / "crates.txt").read_text(), re.MULTILINE))
-    with subprocess.Popen(["rt", "ci"], cwd=TOP, stdout=subprocess.PIPE, text=True, errors="replace") as gate:
+    how = {"cwd": TOP, "stdout": subprocess.PIPE, "text": True, "errors": "replace"}
+    with subprocess.Popen(["rt", "ci"], **how) as gate:
         for last in gate.stdout:
             print(last, end="", flush=True)
             if PROVED.fullmatch(last):
                 proved += 1
                 minutes = round((time.monotonic() - begun) // 60)
-                print(f"gate: {proved} of {crates} crates proved, {minutes} minutes so far", flush=True)
+                told = f"{proved} of {crates} crates proved, {minutes} minutes so far"
+                print(f"gate: {told}", flush=True)
     return last, gate.returncode
 
 
 def keep_program(begun):
-    """Keeps the program that the gate proved and built. What is edited meanwhile stays newer than it."""
+    """Keeps the program that the gate proved and built. What is edited meanwhile stays newer than
+    it."""
     if BUILT.is_file() and BUILT.stat().st_mtime >= begun:
         PROGRAM.parent.mkdir(exist_ok=True)
         fresh = PROGRAM.with_suffix(".fresh")
@@ -45,31 +50,43 @@ def keep_program(begun):
 
 
 def only_long_bodies(top):
-    """Leaves in a copy of the sources those wrong bodies that only the long form tries, to be tried; returns how many they are."""
-    for body in top.glob("crates/*/must-fail/*.edit"):
-        body.unlink()
-    bodies = list(top.glob("crates/*/must-fail/*.md"))
-    for body in bodies:
-        body.rename(body.with_suffix(".edit"))
-    return len(bodies)
+    """Puts the wrong bodies of the long form in place of the others, in a copy of the sources;
+    returns how many they are."""
+    for folder in top.glob("crates/*/must-fail"):
+        shutil.rmtree(folder)
+    for folder in top.glob("crates/*/must-fail-long"):
+        folder.rename(folder.with_name("must-fail"))
+    return len(list(top.glob("crates/*/must-fail/*.edit")))
 
 
 def try_long_bodies(tally):
     """Tries these bodies over a copy of the sources."""
+    left_out = shutil.ignore_patterns("out", "build", ".git", "__pycache__")
     with tempfile.TemporaryDirectory() as folder:
         top = pathlib.Path(folder, "sources")
-        shutil.copytree(TOP, top, ignore=shutil.ignore_patterns("out", "build", ".git", "__pycache__"))
+        shutil.copytree(TOP, top, ignore=left_out)
         bodies = only_long_bodies(top)
-        run = subprocess.run(["rt", "must-fail"], cwd=top, stdout=subprocess.PIPE, text=True, errors="replace")
+        words = ["rt", "must-fail"]
+        run = subprocess.run(words, cwd=top, stdout=subprocess.PIPE, text=True, errors="replace")
     tried = TRIED.findall(run.stdout)
     for name, said in tried:
         tally.check(name, "" if said.startswith(REFUSED) else said)
     if len(tried) != bodies:
-        tally.check("rt must-fail", f"it tried {len(tried)} of {bodies} bodies, and ended with status {run.returncode}")
+        told = f"it tried {len(tried)} of {bodies} bodies, and ended with status {run.returncode}"
+        tally.check("rt must-fail", told)
+
+
+def check_bodies(tally):
+    """The kit passes over files of other names without a word."""
+    folders = ["must-fail", "must-fail-long"]
+    files = [file for name in folders for file in TOP.glob(f"crates/*/{name}/*")]
+    odd = [str(file.relative_to(TOP)) for file in files if file.suffix != ".edit"]
+    tally.check("wrong bodies", "".join(f"{file} is never tried: no .edit\n" for file in odd))
 
 
 def check(tally, long):
     need("rt", "it is the Rattle kit's")
+    check_bodies(tally)
     begun = time.time()
     last, status = run_gate()
     verdict = VERDICT.fullmatch(last)

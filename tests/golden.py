@@ -1,11 +1,12 @@
 #!/usr/bin/env python3
-"""Makes the golden files anew: what each command writes of each capture, by the plain Rust program of bench/.
+"""Makes the golden files anew: what each command writes of each dump of examples/routers, by the
+plain Rust program of reference/.
 
     python3 tests/golden.py
 
-The files are transcripts, golden/CAPTURE.COMMAND.txt. The plain program shares no code with babel-dump, which is not run
-here, so that what babel-dump is held to is never its own output. `./check captures` holds babel-dump to the files, and
-`./check fuzz` the plain program.
+The files are transcripts, golden/DUMP.COMMAND.txt. The plain program shares no code with
+babel-dump, which is not run here, so that what babel-dump is held to is never its own output.
+`./check routers` holds babel-dump to the files, and `./check differential` the plain program.
 """
 
 import pathlib
@@ -13,18 +14,20 @@ import shutil
 import tempfile
 
 import transcript
-from checks import CAPTURES, TOP
+from checks import ROUTERS, TOP
 
 from agree import SENDERS
 from canonical import questions
-from run import PLAIN, build
+from plain import PLAIN, build
 
 GOLDEN = TOP / "tests/golden"
 MODES = ["", " --hold"]
 LOOKUPS = 12
 # What is longer is kept by its length, its hash, and its first and its last line.
 LONGEST = 40_000
-BY_HASH = " > whole; wc -c < whole; sha256sum < whole; (head -n 1 whole; tail -n 1 whole) | cut -c 1-200"
+BY_HASH = (
+    " > whole; wc -c < whole; sha256sum < whole; (head -n 1 whole; tail -n 1 whole) | cut -c 1-200"
+)
 
 
 def show(name, sent):
@@ -34,12 +37,17 @@ def show(name, sent):
 def lookup(name, sent):
     """Some of the addresses that the neighbour's table names, and some that are none of its."""
     named = questions(name)
-    asked = named[:: len(named) // LOOKUPS + 1] + [("203.0.113.1", "198.51.100.1"), ("3fff::1", "3fff::2")]
-    return [f"lookup{mode} {sent} --to {dst} --src {src} {name}.dump" for dst, src in asked for mode in MODES]
+    asked = named[:: len(named) // LOOKUPS + 1] + [
+        ("203.0.113.1", "198.51.100.1"), ("3fff::1", "3fff::2")
+    ]
+    words = [f"--to {dst} --src {src} {name}.dump" for dst, src in asked]
+    return [f"lookup{mode} {sent} {each}" for each in words for mode in MODES]
 
 
 def pairs(name, sent):
-    return [f"pairs{mode}{count} {sent} {name}.dump" for count in (" --count", "") for mode in MODES]
+    return [
+        f"pairs{mode}{count} {sent} {name}.dump" for count in (" --count", "") for mode in MODES
+    ]
 
 
 def normalise(name, sent):
@@ -48,16 +56,18 @@ def normalise(name, sent):
 
 
 def compare(name, sent):
-    others = [f"--other-from {sender} {name}.dump {other}.dump" for other, sender in SENDERS.items()]
+    others = [
+        f"--other-from {sender} {name}.dump {other}.dump" for other, sender in SENDERS.items()
+    ]
     return [f"compare{mode} {sent} {other}" for other in others for mode in MODES]
 
 
 COMMANDS = (show, lookup, pairs, normalise, compare)
 
 
-def put_captures(folder):
+def put_dumps(folder):
     for name in SENDERS:
-        shutil.copy(CAPTURES / f"{name}.dump", folder)
+        shutil.copy(ROUTERS / f"{name}.dump", folder)
 
 
 def golden(command, folder):
@@ -78,7 +88,7 @@ def files():
 
 def play(folder, tally):
     """Holds the babel-dump of a folder to the golden files. The plain program writes no notes."""
-    put_captures(folder)
+    put_dumps(folder)
     for file, _ in files():
         transcript.play(GOLDEN / file, folder, tally, transcript.without_notes)
 
@@ -88,7 +98,7 @@ def main():
     with tempfile.TemporaryDirectory() as folder:
         folder = pathlib.Path(folder)
         transcript.link(build(PLAIN, folder), folder)
-        put_captures(folder)
+        put_dumps(folder)
         for file, commands in files():
             text = "\n".join(golden(f"babel-dump {words}", folder) for words in commands)
             (GOLDEN / file).write_text(text)

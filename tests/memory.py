@@ -1,8 +1,9 @@
-"""Each allocation refused in turn: of the program over program.txt, of the crates' tests, in the long form over the captures.
+"""Each allocation refused in turn: of the program over program.txt, of the crates' tests, in the
+long form over the dumps of routers.
 
-refuse.c is loaded into a process and refuses its Nth allocation, for N = 1, 2, .. until none is refused. The program must
-print what it prints otherwise, or `out of memory` alone, with status 5. A test must pass, or fail with the text that
-it has for a refusal that was answered.
+refuse.c is loaded into a process and refuses its Nth allocation, for N = 1, 2, .. until none is
+refused. The program must print what it prints otherwise, or `out of memory` alone, with status 5. A
+test must pass, or fail with the text that it has for a refusal that was answered.
 """
 
 import concurrent.futures
@@ -23,14 +24,16 @@ OUT_OF_MEMORY = ["! out of memory\n? 5\n", "! other: out of memory\n? 5\n"]
 # What the crates' tests named so fail with where a refusal was answered as such.
 TESTS = "refused_memory"
 CRATES = ["babel_library_tests", "babel_dump_tests"]
-TEST_REFUSED = re.compile(rb"memory was refused, and Memory answered|error: AllocError|error: OutOfMemory")
+TEST_REFUSED = re.compile(
+    rb"memory was refused, and Memory answered|error: AllocError|error: OutOfMemory"
+)
 # Words with one of these are the shell's, and not the program's alone.
 OF_SHELL = re.compile(r"[|&;<>$`(){}*?\\]")
 
 
 @dataclass
 class Case:
-    """A process, and whether a run of it is right, of which an allocation was refused or was not."""
+    """A process, and whether a run of it is right, an allocation of which was refused or not."""
 
     name: str
     words: list
@@ -41,15 +44,21 @@ class Case:
 def build_refuser(folder):
     need("cc", "it has to build tests/refuse.c")
     refuser = folder / "refuse.so"
-    subprocess.run(["cc", "-O", "-shared", "-fPIC", "-o", refuser, TOP / "tests/refuse.c"], check=True)
+    subprocess.run(
+        ["cc", "-O", "-shared", "-fPIC", "-o", refuser, TOP / "tests/refuse.c"], check=True
+    )
     return refuser
 
 
 def run_refused(case, refuser, number):
     """A run whose allocation of this number is refused, and whether there was such a one."""
     reader, writer = os.pipe()
-    environment = {**os.environ, "LD_PRELOAD": str(refuser), "REFUSE": str(number), "REFUSED_TO": str(writer)}
-    how = {"cwd": case.folder, "env": environment, "pass_fds": [writer], "stdin": subprocess.DEVNULL}
+    environment = {
+        **os.environ, "LD_PRELOAD": str(refuser), "REFUSE": str(number), "REFUSED_TO": str(writer)
+    }
+    how = {
+        "cwd": case.folder, "env": environment, "pass_fds": [writer], "stdin": subprocess.DEVNULL
+    }
     run = subprocess.run(case.words, capture_output=True, timeout=transcript.SECONDS, **how)
     os.close(writer)
     with open(reader, "rb") as told:
@@ -63,7 +72,8 @@ def refuse_each(case, refuser):
         run, was_refused = run_refused(case, refuser, number + 1)
         number += was_refused
         if not case.is_right(run, was_refused):
-            return number, f"with refused allocation {number} it prints\n{transcript.printed(run)[:2_000]}"
+            printed = transcript.printed(run)[:2_000]
+            return number, f"with refused allocation {number} it prints\n{printed}"
         if not was_refused:
             return number, "" if number else "no allocation could be refused"
 
@@ -79,7 +89,11 @@ def answers(known):
 
 
 def is_right_test(run, was_refused):
-    return run.returncode == 0 or was_refused and TEST_REFUSED.search(run.stdout + run.stderr) is not None
+    return (
+        run.returncode == 0
+        or was_refused
+        and TEST_REFUSED.search(run.stdout + run.stderr) is not None
+    )
 
 
 def program_cases(program, folder):
@@ -93,9 +107,10 @@ def program_cases(program, folder):
             yield Case(f"{each.place}: {each.command}", words, folder, answers(each.expected))
 
 
-def capture_cases(program, folder):
-    """The commands of the golden files. What the program prints without a refusal is what the captures' part judges."""
-    golden.put_captures(folder)
+def dump_cases(program, folder):
+    """The commands of the golden files. What the program prints without a refusal is what the
+    routers' part judges."""
+    golden.put_dumps(folder)
     for _, commands in golden.files():
         for command in commands:
             words = [program, *command.split()]
@@ -110,7 +125,9 @@ def tests_of(crate):
 def is_current(crate):
     """The crate's tests were built after the last change of a source."""
     tests, sources = tests_of(crate), TOP.glob("crates/*/src/**/*.rt")
-    return tests.is_file() and all(source.stat().st_mtime < tests.stat().st_mtime for source in sources)
+    return tests.is_file() and all(
+        source.stat().st_mtime < tests.stat().st_mtime for source in sources
+    )
 
 
 def test_cases(crate, folder):
@@ -124,7 +141,8 @@ def test_cases(crate, folder):
 def cases(program, folder, tally, long):
     yield from program_cases(program, folder)
     for crate in CRATES:
-        what, why = f"the tests of {crate}", "they are not built, or older than the sources; ./check gate builds them"
+        what = f"the tests of {crate}"
+        why = "they are not built, or older than the sources; ./check gate builds them"
         if is_current(crate):
             yield from test_cases(crate, folder)
         elif long:
@@ -132,15 +150,19 @@ def cases(program, folder, tally, long):
         else:
             print(f"not run: {what}: {why}")
     if long:
-        yield from capture_cases(program, folder)
+        yield from dump_cases(program, folder)
 
 
 def check(tally, long):
     program = built_program()
-    with tempfile.TemporaryDirectory() as folder, concurrent.futures.ThreadPoolExecutor(os.cpu_count()) as pool:
+    pools = concurrent.futures.ThreadPoolExecutor(os.cpu_count())
+    with tempfile.TemporaryDirectory() as folder, pools as pool:
         folder = pathlib.Path(folder)
         refuser = build_refuser(folder)
-        tried = [(case, pool.submit(refuse_each, case, refuser)) for case in cases(program, folder, tally, long)]
+        tried = [
+            (case, pool.submit(refuse_each, case, refuser))
+            for case in cases(program, folder, tally, long)
+        ]
         refusals = 0
         for case, trial in tried:
             number, problem = trial.result()

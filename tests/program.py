@@ -11,8 +11,10 @@ import signal
 import subprocess
 import tempfile
 
+import capture_files
+import extract
 import transcript
-from checks import CAPTURES, TOP, built_program
+from checks import ROUTERS, TOP, built_program
 
 import agree
 
@@ -34,38 +36,59 @@ def packet(body):
 
 
 def update(address, length, metric):
-    """An Update for an IPv4 prefix: address encoding 1, no flags, interval 1600, sequence number 1."""
+    """An Update for an IPv4 prefix: address encoding 1, no flags, interval 1600, seqno 1."""
     octets = address.to_bytes(4, "big")[: (length + 7) // 8]
-    return bytes((8, 10 + len(octets), 1, 0, length, 0)) + bytes.fromhex("06400001") + metric.to_bytes(2, "big") + octets
+    return (
+        bytes((8, 10 + len(octets), 1, 0, length, 0))
+        + bytes.fromhex("06400001")
+        + metric.to_bytes(2, "big")
+        + octets
+    )
 
 
 def routes(count):
-    """So many hosts from 10.0.0.0 on, at the metrics 256 and 512 in turn, so that no two of them are one pair."""
-    updates = [update((10 << 24) + place, 32, 256 if place % 2 == 0 else 512) for place in range(count)]
+    """So many hosts from 10.0.0.0 on, at the metrics 256 and 512 in turn, so that no two of them
+    are one pair."""
+    updates = [
+        update((10 << 24) + place, 32, 256 if place % 2 == 0 else 512) for place in range(count)
+    ]
     starts = range(0, count, IN_A_PACKET)
-    return b"".join(packet(ROUTER_ID + b"".join(updates[start : start + IN_A_PACKET])) for start in starts)
+    return b"".join(
+        packet(ROUTER_ID + b"".join(updates[start : start + IN_A_PACKET])) for start in starts
+    )
 
 
 def hosts(tlv_before):
     """A thousand and one hosts from 10.0.0.0 on, each after such a TLV of its own."""
-    return packet(ROUTER_ID + b"".join(tlv_before(place) + update((10 << 24) + place, 32, 256) for place in range(MANY)))
+    return packet(
+        ROUTER_ID
+        + b"".join(tlv_before(place) + update((10 << 24) + place, 32, 256) for place in range(MANY))
+    )
 
 
 def large_dumps():
-    """Dumps at the limits of the program, and past them; and such as have many of what others have few."""
+    """Dumps at the limits of the program, and past them; and such as have many of what others have
+    few."""
     yield "most-routes", routes(ROWS)
     yield "too-many-routes", routes(ROWS + 1)
-    # The addresses outside 10.0.0.0/8 have the metric 768, which makes more pairs than there are rows.
+    # The addresses outside 10.0.0.0/8 have the metric 768, which makes more pairs than there are
+    # rows.
     yield "too-many-pairs", routes(ROWS - 1) + packet(ROUTER_ID + update(0, 0, 768))
     longest = packet(bytes(65_535)) * (OCTETS // 65_539)
     yield "longest", longest + packet(bytes(OCTETS - len(longest) - 4))
-    yield "many-router-ids", hosts(lambda place: bytes.fromhex("060a0000") + ((2 << 56) + place).to_bytes(8, "big"))
-    yield "many-next-hops", hosts(lambda place: bytes.fromhex("07060100") + ((198 << 24) + place).to_bytes(4, "big"))
+    yield "many-router-ids", hosts(
+        lambda place: bytes.fromhex("060a0000") + ((2 << 56) + place).to_bytes(8, "big")
+    )
+    yield "many-next-hops", hosts(
+        lambda place: bytes.fromhex("07060100") + ((198 << 24) + place).to_bytes(4, "big")
+    )
 
 
 def run(program, words, stdin=subprocess.DEVNULL, stdout=subprocess.PIPE, **how):
     """The status of a run, and what it writes on standard error."""
-    done = subprocess.run([program, *words], stdin=stdin, stdout=stdout, stderr=subprocess.PIPE, **how)
+    done = subprocess.run(
+        [program, *words], stdin=stdin, stdout=stdout, stderr=subprocess.PIPE, **how
+    )
     return done.returncode, done.stderr
 
 
@@ -74,18 +97,26 @@ def expect(tally, what, found, wanted):
 
 
 def check_closed_pipe(program, tally):
-    """Nobody reads what is written: it ends in silence, started with the signal of a closed pipe on or off."""
-    for words, disposition in itertools.product(([*SHOW, ONE_ROUTE], ["--help"], ["show", "--help"]), (signal.SIG_DFL, signal.SIG_IGN)):
+    """Nobody reads what is written: it ends in silence, started with the signal of a closed pipe on
+    or off."""
+    for words, disposition in itertools.product(
+        ([*SHOW, ONE_ROUTE], ["--help"], ["show", "--help"]), (signal.SIG_DFL, signal.SIG_IGN)
+    ):
         reader, writer = os.pipe()
         os.close(reader)
         ready = lambda: signal.signal(signal.SIGPIPE, disposition)
         found = run(program, words, stdout=writer, preexec_fn=ready, restore_signals=False)
         os.close(writer)
-        expect(tally, f"{' '.join(map(str, words))} into a closed pipe, the signal {disposition.name}", found, (141, b""))
+        expect(
+            tally,
+            f"{' '.join(map(str, words))} into a closed pipe, the signal {disposition.name}",
+            found,
+            (141, b""),
+        )
 
 
 def check_failed_read(program, tally):
-    """Standard input gives some octets, and then an error: nothing is there, and it does not wait."""
+    """Standard input gives some octets, and then an error: nothing is there, and it can't wait."""
     reader, writer = os.pipe()
     os.set_blocking(reader, False)
     os.write(writer, ONE_ROUTE.read_bytes()[:20])
@@ -97,8 +128,9 @@ def check_failed_read(program, tally):
 
 
 def check_failed_write(program, tally):
-    """Standard output takes what a pipe holds, and then fails: what it took is the start of the text."""
-    words = ["pairs", "--from", agree.SENDERS["babeld-retract"], CAPTURES / "babeld-retract.dump"]
+    """Standard output takes what a pipe holds, and then fails: what it took is the start of the
+    text."""
+    words = ["pairs", "--from", agree.SENDERS["babeld-retract"], ROUTERS / "babeld-retract.dump"]
     text = subprocess.run([program, *words], check=True, capture_output=True).stdout
     reader, writer = os.pipe()
     os.set_blocking(writer, False)
@@ -112,7 +144,8 @@ def check_failed_write(program, tally):
 
 
 def check_full_file(program, tally):
-    """A file that may have ten octets takes those of a longer write, and no more: the text is not whole, and it says so."""
+    """A file that may have ten octets takes those of a longer write, and no more: the text is not
+    whole, and it says so."""
     words = ["normalise", "--hex", "--from", "192.0.2.1", ONE_ROUTE]
 
     def ready():
@@ -128,7 +161,7 @@ def check_full_file(program, tally):
 
 
 def check_little_memory(program, folder, tally):
-    """Each command answers that memory is wanting, and writes nothing."""
+    """Each command answers that it is out of memory, and writes nothing."""
     dump, sent = folder / "most-routes.dump", ["--from", "192.0.2.1"]
     lookup = ["--to", "10.0.0.1", "--src", "0.0.0.0"]
     ready = lambda: resource.setrlimit(resource.RLIMIT_AS, (LITTLE_MEMORY, LITTLE_MEMORY))
@@ -145,7 +178,12 @@ def check_little_memory(program, folder, tally):
         with tempfile.TemporaryFile() as output:
             found = run(program, words, stdout=output, preexec_fn=ready)
             written = output.tell()
-        expect(tally, f"{' '.join(map(str, words))} in little memory", (*found, written), (5, other + b"out of memory\n", 0))
+        expect(
+            tally,
+            f"{' '.join(map(str, words))} in little memory",
+            (*found, written),
+            (5, other + b"out of memory\n", 0),
+        )
 
 
 def words_of(text):
@@ -153,38 +191,67 @@ def words_of(text):
     return set(re.findall(r"--[a-z][a-z-]*", text))
 
 
+def help_of(program, *words):
+    how = {"check": True, "capture_output": True, "text": True}
+    return subprocess.run([program, *words, "--help"], **how).stdout
+
+
 def check_manual(program, tally):
     """The manual page and the completions have each command and each option, and no other."""
-    help_of = lambda *words: subprocess.run([program, *words, "--help"], check=True, capture_output=True, text=True).stdout
     manual = (TOP / "docs/babel-dump.1").read_text().replace("\\-", "-")
     completions = (TOP / "docs/babel-dump.bash").read_text()
-    options = words_of(help_of()) | {"--version"}
+    options = words_of(help_of(program)) | {"--version"}
     for command in COMMANDS:
-        options |= words_of(help_of(command))
+        options |= words_of(help_of(program, command))
         expect(tally, f"{command} in the manual page", f"\n.B {command}\n" in manual, True)
     expect(tally, "the options in the manual page", words_of(manual), options)
     expect(tally, "the options in the completions", words_of(completions), options)
     if shutil.which("groff"):
-        page = subprocess.run(["groff", "-ww", "-man", "-Tutf8", TOP / "docs/babel-dump.1"], capture_output=True)
+        page = subprocess.run(
+            ["groff", "-ww", "-man", "-Tutf8", TOP / "docs/babel-dump.1"], capture_output=True
+        )
         expect(tally, "what groff says of the manual page", page.stderr, b"")
 
 
-def check_examples(program, tally):
-    """The examples of the help texts work as printed, where `babel-dump` is on the PATH: they write, and nothing goes wrong."""
-    path = f"{program.parent}{os.pathsep}{os.environ['PATH']}"
+def example_captures():
+    """The captures that help texts name: what fe80::1 and fe80::2 sent, and what changed in it."""
+    network = TOP / "examples/network"
+    both = [(ROUTERS / "babeld-basic-a", "fe80::1"), (ROUTERS / "frr-basic", "fe80::2")]
+    yield "x.pcap", both
+    yield "before.pcap", [(network / "north-before", "fe80::1")]
+    yield "now.pcap", [(network / "north-after", "fe80::1")]
+
+
+def put_example_files(folder):
+    for name, sent in example_captures():
+        records = []
+        for dump, sender in sent:
+            records += extract.records_of(dump.with_suffix(".dump").read_bytes(), sender)
+        (folder / name).write_bytes(capture_files.pcap(records))
+    shutil.copy(TOP / "examples/pairs.txt", folder)
+    shutil.copy(ONE_ROUTE, folder / "x.dump")
+
+
+def check_examples(program, folder, tally):
+    """The examples of the help texts work as printed: they write, and nothing goes wrong."""
+    put_example_files(folder)
     for words in [], *([command] for command in COMMANDS):
-        text = subprocess.run([program, *words, "--help"], check=True, capture_output=True, text=True).stdout
+        text = help_of(program, *words)
         for example in re.findall(r"^  (babel-dump .*)$", text, re.MULTILINE):
-            done = subprocess.run(example, shell=True, cwd=TOP, env={**os.environ, "PATH": path}, capture_output=True, text=True)
-            faults = [line for line in done.stderr.splitlines() if not line.startswith("note: ")]
-            expect(tally, f"an example: {example}", (done.returncode in (0, 1), done.stdout != "", faults), (True, True, []))
+            done = transcript.shell(example, folder, capture_output=True)
+            errors = done.stderr.decode().splitlines()
+            faults = [line for line in errors if not line.startswith("note: ")]
+            found = done.returncode in (0, 1), done.stdout != b"", faults
+            expect(tally, f"an example: {example}", found, (True, True, []))
 
 
 def text_of(line):
     """What `show` and `pairs` write as text where they write this line as JSON."""
     said = json.loads(line)
     if "tlvs" in said:
-        ignored = ["ignored {reason} {count} first {first}\n".format(**each) for each in said["ignored"]]
+        ignored = [
+            "ignored {reason} {count} first {first}\n".format(**each) for each in said["ignored"]
+        ]
         return f"tlvs {said['tlvs']}\n" + "".join(ignored)
     answer = said["answer"]
     if answer != "unreachable":
@@ -196,8 +263,11 @@ def check_json(program, tally):
     """Python reads in the JSON of each capture what is in its text."""
     for name, sender in agree.SENDERS.items():
         for command in "show", "pairs":
-            words = [program, command, "--hold", "--from", sender, CAPTURES / f"{name}.dump"]
-            text, lines = (subprocess.run(words + more, check=True, capture_output=True, text=True).stdout for more in ([], ["--json"]))
+            words = [program, command, "--hold", "--from", sender, ROUTERS / f"{name}.dump"]
+            text, lines = (
+                subprocess.run(words + more, check=True, capture_output=True, text=True).stdout
+                for more in ([], ["--json"])
+            )
             found = "".join(map(text_of, lines.splitlines()))
             tally.check(f"{command} --json of {name}", transcript.difference(text, found))
 
@@ -206,8 +276,12 @@ def check_install(folder, tally):
     """What is installed runs without the repository."""
     subprocess.run([TOP / "install", folder / "usr"], check=True, stdout=subprocess.DEVNULL)
     words = [*SHOW, ONE_ROUTE]
-    found = subprocess.run([folder / "usr/bin/babel-dump", *words], env={"PATH": ""}, capture_output=True)
-    wanted = b"10.0.0.0/8 from 0.0.0.0/0 via 192.0.2.1 id 0200000000000001 seqno 1 metric 256\ntlvs 2\n"
+    found = subprocess.run(
+        [folder / "usr/bin/babel-dump", *words], env={"PATH": ""}, capture_output=True
+    )
+    wanted = (
+        b"10.0.0.0/8 from 0.0.0.0/0 via 192.0.2.1 id 0200000000000001 seqno 1 metric 256\ntlvs 2\n"
+    )
     expect(tally, "the installed program", found.stdout, wanted)
     for name in "man/man1/babel-dump.1", "bash-completion/completions/babel-dump":
         expect(tally, f"{name} is installed", (folder / "usr/share" / name).is_file(), True)
@@ -228,6 +302,6 @@ def check(tally, _long):
         check_full_file(program, tally)
         check_little_memory(program, folder, tally)
         check_manual(program, tally)
-        check_examples(program, tally)
+        check_examples(program, folder, tally)
         check_json(program, tally)
         check_install(folder, tally)

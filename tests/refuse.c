@@ -1,5 +1,6 @@
-/* Loaded into a program by LD_PRELOAD, refuses one of its allocations: the one whose number, from 1, the variable REFUSE has.
-   It then writes an octet to the descriptor whose number the variable REFUSED_TO has. */
+/* Loaded into a program by LD_PRELOAD, refuses one of its allocations: the one whose number, from
+   1, the variable REFUSE has. It then writes an octet to the descriptor whose number the variable
+   REFUSED_TO has. */
 
 #include <stdlib.h>
 #include <unistd.h>

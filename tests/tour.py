@@ -1,4 +1,8 @@
-"""The tour: each command in the README, and in that of examples/, prints what stands below it there."""
+"""The tour: each command in the README, and in that of examples/, prints what stands below it
+there.
+
+They run in a clone with an installed program.
+"""
 
 import pathlib
 import re
@@ -12,7 +16,7 @@ DOCUMENTS = ["README.md", "examples/README.md"]
 
 
 def steps(file):
-    """The commands of a document's blocks of code, each with the lines below it. A \\ joins two lines."""
+    """The commands of a document's blocks of code, each with the lines below it. A \\ joins two."""
     found, lines = [], None
     for number, line in enumerate(file.read_text().splitlines(), 1):
         code = re.fullmatch(r" {4}(.*)", line)
@@ -29,15 +33,18 @@ def steps(file):
 
 
 def check_step(each, folder, tally):
-    run = transcript.shell(each.command, folder, stdout=subprocess.PIPE, stderr=subprocess.STDOUT)
-    tally.check(f"{each.place}: {each.command}", transcript.difference(each.expected, run.stdout.decode()))
+    streams = {"stdout": subprocess.PIPE, "stderr": subprocess.STDOUT}
+    run = transcript.shell(each.command, folder, **streams)
+    problem = transcript.difference(each.expected, run.stdout.decode())
+    tally.check(f"{each.place}: {each.command}", problem)
 
 
 def check(tally, _long):
-    built_program()
+    program = built_program()
     for name in DOCUMENTS:
         with tempfile.TemporaryDirectory() as folder:
             folder = pathlib.Path(folder)
+            transcript.link(program, folder)
             for part in "babel-dump", "examples":
                 (folder / part).symlink_to(TOP / part)
             for each in steps(TOP / name):

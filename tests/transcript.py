@@ -2,13 +2,14 @@
 
     # a comment
     dump NAME
-        2a020019        the octets of NAME.dump in hexadecimal digits, and after two spaces what they mean
+        2a020019        octets of NAME.dump in hexadecimal digits; after two spaces what they mean
     $ COMMAND           which sh runs in a folder with the dumps; babel-dump is on its PATH
     what it writes on standard output
     ! what it writes on standard error
     ? its status, where that is not 0
 
-Empty lines are no output where a command, a comment, a dump or the end of the file comes after them.
+Empty lines are no output where a command, a comment, a dump or the end of the file comes after
+them.
 """
 
 import difflib
@@ -65,7 +66,9 @@ def is_whole(text):
 
 def printed(run):
     """What a run printed, as a transcript has it."""
-    output, errors = (stream.decode(errors="backslashreplace") for stream in (run.stdout, run.stderr))
+    output, errors = (
+        stream.decode(errors="backslashreplace") for stream in (run.stdout, run.stderr)
+    )
     text = output if is_whole(output) else output + "(no end of line)\n"
     text += "".join(f"! {line}\n" for line in errors.splitlines())
     text += "" if is_whole(errors) else "! (no end of line)\n"
@@ -76,7 +79,9 @@ def shell(command, folder, seconds=SECONDS, **how):
     """Runs a command by sh in a folder whose folder `tools` is on the PATH."""
     environment = {**os.environ, "PATH": f"{folder / 'tools'}:{os.environ['PATH']}", "LC_ALL": "C"}
     words = ["sh", "-c", command]
-    return subprocess.run(words, cwd=folder, env=environment, stdin=subprocess.DEVNULL, timeout=seconds, **how)
+    return subprocess.run(
+        words, cwd=folder, env=environment, stdin=subprocess.DEVNULL, timeout=seconds, **how
+    )
 
 
 def difference(expected, found):
@@ -114,7 +119,8 @@ def without_notes(text):
 
 
 def play(file, folder, tally, of_output=str):
-    """Puts the dumps of a transcript into a folder, and checks of each of its steps there, in turn, this part of what it prints."""
+    """Puts the dumps of a transcript into a folder, and checks of each of its steps there, in turn,
+    this part of what it prints."""
     dumps, steps = read(file)
     put(dumps, folder)
     for each in steps:

@@ -56,7 +56,7 @@ say() {
 build() {
     command -v rt >/dev/null 2>&1 ||
         fail 127 "cannot build: there is no command rt on the PATH (the Rattle kit)"
-    echo "babel-dump: building the proved program, once, in an hour to an hour and a half" >&2
+    echo "babel-dump: building (once; it takes an hour to an hour and a half)" >&2
     begun=$(date +%s)
     : >"$log"
     : >"$log.begun"

@@ -34,7 +34,7 @@ MOST_INPUT = 64 << 20
 # The names that `rt try` has for itself in the program's folder.
 TAKEN = {"program", "stdin", "stdout", "stderr"}
 
-# Its last lines where the program ended, behind all that the program wrote on standard error.
+# Its last lines where the program ended, after all that the program wrote on standard error.
 ENDED = re.compile(
     rb"^((interpreter|checked|races): .*\n)+run=ended status=(?P<status>\d+) .*proved=no\n\Z",
     re.MULTILINE,
@@ -63,7 +63,7 @@ def failed(what, error):
 
 
 def reads_standard_input(words):
-    """Whether the words name standard input: by a -, or by no file behind the command."""
+    """Whether the words name standard input: by a -, or by no file after the command."""
     if not words or words[0].startswith("-") or words[0] == "help" or {"-h", "--help"} & {*words}:
         return False
     files, rest = [], iter(words[1:])
@@ -152,7 +152,7 @@ def answer(words):
     except OSError as error:
         return failed("write", error)
     errors = re.sub(rb"\A(rt: .*\n)+", b"", said[: ended.start()])
-    # Behind an output without an end of line the kit writes that end, on standard error.
+    # After an output without an end of line the kit writes that end, on standard error.
     if errors != b"\n":
         tell(errors)
     return int(ended["status"])
@@ -164,8 +164,8 @@ def main(words):
     state = "older than its sources" if PROGRAM.exists() else "not built yet"
     tell(
         f"babel-dump: the proved program is {state}; `rt try` runs the code before any proof, each"
-        " time in about 2 minutes on two free cores; ./install or ./check makes the proved one,"
-        " once, in an hour to an hour and a half\n".encode()
+        " time in one to three minutes; ./install or ./check makes the proved one, once, in an"
+        " hour to an hour and a half\n".encode()
     )
     try:
         return answer(words)

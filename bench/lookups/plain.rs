@@ -1,10 +1,11 @@
-//! The lookups of main.rt.txt as a plain Rust program makes them: std alone, no proofs. It takes the rows as `show` prints them.
+//! The lookups of main.rt.txt as a plain Rust program makes them: std alone, no proofs. It takes
+//! the rows as `show` prints them.
 //!
 //!     rustc -O --edition 2021 plain.rs
 //!     plain ROWS PAIRS
 //!
-//! The rows stand in a sorted `Vec`. A lookup tries the destination's lengths from long to short, and for one that has rows
-//! the source's, each by a binary search.
+//! The rows stand in a sorted `Vec`. A lookup tries the destination's lengths from long to short,
+//! and for one that has rows the source's, each by a binary search.
 
 use std::net::Ipv4Addr;
 

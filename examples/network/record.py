@@ -1,10 +1,12 @@
 #!/usr/bin/env python3
-"""Records the dumps of this folder: runs five routers in network namespaces, and writes what two of them send to a third.
+"""Records the dumps of this folder: runs five routers in network namespaces, and writes what two of
+them send to a third.
 
     record.py BABELD FOLDER
 
-BABELD is the program babeld (1.12 or later), FOLDER is where the dumps go. It takes four minutes, and needs root and iproute2.
-Nothing outside its namespaces changes. The README.md of examples/ says what the network is and what happens to it.
+BABELD is the program babeld (1.12 or later), FOLDER is where the dumps go. It takes four minutes,
+and needs root and iproute2. Nothing outside its namespaces changes. The README.md of examples/ says
+what the network is and what happens to it.
 """
 
 import os
@@ -34,8 +36,13 @@ SETTINGS = {
     "branch": ["interface to-south rxcost 256"],
     "north": ["out if to-collector ip 10.3.0.0/16 deny"],
 }
-# What is kept of whom, and from which second to which; the link fails at the second 60 and is back at the second 100.
-DUMPS = {"north-before": ("north", 20, 60), "north-after": ("north", 200, 240), "south-after": ("south", 200, 240)}
+# What is kept of whom, and from which second to which; the link fails at the second 60 and is back
+# at the second 100.
+DUMPS = {
+    "north-before": ("north", 20, 60),
+    "north-after": ("north", 200, 240),
+    "south-after": ("south", 200, 240),
+}
 FAILS, IS_BACK, END = 60, 100, 242
 BABEL_PORT, HEADERS = 6696, 14 + 40 + 8
 # The last word of the run in namespaces of its own.
@@ -54,7 +61,8 @@ def build():
     run("mount -t tmpfs tmpfs /run")
     for router in ROUTERS:
         run(f"ip netns add {router}")
-        run(f"ip netns exec {router} sysctl -qw net.ipv4.ip_forward=1 net.ipv6.conf.all.forwarding=1")
+        forwarding = "net.ipv4.ip_forward=1 net.ipv6.conf.all.forwarding=1"
+        run(f"ip netns exec {router} sysctl -qw {forwarding}")
     for place, (one, other) in enumerate(LINKS):
         ends = [
             f"to-{to} netns {own} address 02:00:00:00:{number(own):02x}:{number(to):02x}"
@@ -70,7 +78,8 @@ def build():
         run(f"ip -n {router} link set stub up")
         run(f"ip -n {router} address add 203.0.113.{number(router)}/32 dev stub")
         for network in networks:
-            run(f"ip -n {router} {'-6' if ':' in network else '-4'} route add {network} dev stub proto static")
+            family = "-6" if ":" in network else "-4"
+            run(f"ip -n {router} {family} route add {network} dev stub proto static")
 
 
 def start(babeld, router):
@@ -85,7 +94,20 @@ def start(babeld, router):
     configuration = pathlib.Path(f"/run/{router}.conf")
     configuration.write_text("\n".join(lines) + "\n")
     interfaces = [f"to-{to}" for link in LINKS if router in link for to in link if to != router]
-    return subprocess.Popen(["ip", "netns", "exec", router, babeld, "-c", configuration, "-L", f"/run/{router}.log", *interfaces])
+    return subprocess.Popen(
+        [
+            "ip",
+            "netns",
+            "exec",
+            router,
+            babeld,
+            "-c",
+            configuration,
+            "-L",
+            f"/run/{router}.log",
+            *interfaces,
+        ]
+    )
 
 
 LISTENER = """
@@ -112,7 +134,9 @@ def packets(router, first, end):
     for line in pathlib.Path(f"/run/{router}.frames").read_text().splitlines():
         second, frame = line.split()
         frame = bytes.fromhex(frame)
-        is_babel = frame[20] == socket.IPPROTO_UDP and struct.unpack_from(">H", frame, 56)[0] == BABEL_PORT
+        is_babel = (
+            frame[20] == socket.IPPROTO_UDP and struct.unpack_from(">H", frame, 56)[0] == BABEL_PORT
+        )
         if is_babel and first <= float(second) < end:
             found.append(frame[HEADERS:])
     return b"".join(found)
@@ -139,7 +163,10 @@ def main():
     if sys.argv[3:] == [INSIDE]:
         record(sys.argv[1], pathlib.Path(sys.argv[2]))
     else:
-        os.execvp("unshare", ["unshare", "--net", "--mount", sys.executable, __file__, *sys.argv[1:3], INSIDE])
+        os.execvp(
+            "unshare",
+            ["unshare", "--net", "--mount", sys.executable, __file__, *sys.argv[1:3], INSIDE],
+        )
 
 
 if __name__ == "__main__":

@@ -145,7 +145,7 @@ fn listed(
     Ok(list.list)
 }
 
-/// All that two tables answer differently: the longest blocks of destinations and sources on which
+/// All that two tables answer differently: the largest blocks of destinations and sources on which
 /// the two answers are one pair, by family, IPv4 first, then by destination, then by source.
 /// `TooManyPairs` if they are more than the entries of the limits, which is known before any of
 /// them is made; else `Memory`, if there is too little.

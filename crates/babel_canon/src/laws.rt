@@ -34,7 +34,7 @@ pub fn boxes_are_fewest()
 {}
 
 /// Two dumps give every destination and source the same answer exactly if their canonical octets are equal; and these, read
-/// with any sender, give those answers again, and are their own canonical form, from which nothing but want of memory keeps them.
+/// with any sender, give those answers again, and are their own canonical form, from which only running out of memory keeps them.
 pub fn canonical_octets_tell_answers()
     ensures { Headline }
 {}
@@ -53,7 +53,7 @@ pub fn answers_are_seen()
     ensures { AnswersAreSeen }
 {}
 
-/// A dump has at most one canonical text for each size of a body; want of memory aside, at most one fault that keeps it from
+/// A dump has at most one canonical text for each size of a body; out of memory aside, at most one fault that keeps it from
 /// one; and never both.
 pub fn normal_form_is_one()
     ensures text { NormalFormIsOne }

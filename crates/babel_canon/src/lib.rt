@@ -1,4 +1,4 @@
-//! The canonical dump: the longest blocks of addresses on which what a table answers is one, as
+//! The canonical dump: the largest blocks of addresses that share one answer of a table, as
 //! pairs, and the octets that say them; and how the answers of two tables compare. It knows nothing
 //! of files, of texts, or of a command line.
 #![tactic(auto)]

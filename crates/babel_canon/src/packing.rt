@@ -60,7 +60,7 @@ impl Text {
         Ok(())
     }
 
-    /// Puts a group behind the others of the packet.
+    /// Puts a group after the others of the packet.
     fn append(&mut self, group: &[u8]) -> Result<(), AllocError>
         requires { self.old.len + length group.now ≤ 65535 }
         ensures octets { OnOk result ((front body : List ℕ) → length front ≡ self.old.at
@@ -77,7 +77,7 @@ impl Text {
         Ok(())
     }
 
-    /// Puts the group of a pair behind the others, in a new packet where the last one has no room for it.
+    /// Puts the group of a pair after the others, in a new packet where the last one has no room for it.
     pub(crate) fn push(&mut self, key: &Key, held: &Held) -> Result<(), AllocError>
         ensures { OnOk result ((body : ℕ) (pairs : List Pair) → IsTextOf body self.old pairs
             → IsTextOf body self.new (pairs ++ (key.now, held.now) ∷ [])) }

@@ -3,7 +3,7 @@
 //!
 //!     rustc -O --edition 2021 capture_limit.rs
 //!     capture_limit senders [--json] [--accept-cut] [--max-octets N] [CAPTURE]
-//!     capture_limit extract --from A [--interface N] [--hex] [--strict] [--accept-cut] [--max-octets N] [CAPTURE]
+//!     capture_limit extract --from A [--interface PLACE] [--hex] [--strict] [--accept-cut] [--max-octets N] [CAPTURE]
 //!
 //! It reads blocks where they lie in one buffer, and each header of a frame where it lies in its block. Of a frame that has
 //! no Babel it reads some 20 octets; of one that has, its packet is copied once, into the dump. It writes no notes and no
@@ -25,8 +25,10 @@ const LONGEST_PACKET: u32 = 262_144;
 const LONGEST_BLOCK: u32 = 16_777_216;
 const MOST_TAGS: usize = 4;
 const MOST_EXTENSIONS: usize = 8;
+const LISTED_PLACES: usize = 16;
 const BABEL_PORT: u16 = 6_696;
 const UDP: u8 = 17;
+const UPDATE: u8 = 8;
 
 // ---- addresses
 
@@ -44,6 +46,14 @@ impl Addr {
         let addr = text.parse::<Ipv6Addr>().ok()?;
         // RFC 4291, 2.2: forms 1 and 2 alone, so no dotted ending.
         (!text.contains('.')).then_some(Addr::V6(addr.into()))
+    }
+
+    /// Whether routers read what it sends: RFC 8966, 4; RFC 4291, 2.5.6.
+    fn may_send(self) -> bool {
+        match self {
+            Addr::V4(_) => true,
+            Addr::V6(bits) => bits >> 118 == 0x3fa,
+        }
     }
 }
 
@@ -102,10 +112,11 @@ enum Fault {
     CutShort(u64),
     BadLength(u64),
     BadOrder(u64),
+    Version(u64, u16, u16),
     NoInterface(u64),
     UnreadLink(u64, u32),
     TooManyInterfaces(u64),
-    Snapped(u64),
+    Lacking(u64, Lack),
     TooManySenders(u64),
     TooLong(u64),
 }
@@ -117,10 +128,17 @@ impl fmt::Display for Fault {
             Fault::CutShort(at) => write!(f, "capture cut short at {at}"),
             Fault::BadLength(at) => write!(f, "bad length at {at}"),
             Fault::BadOrder(at) => write!(f, "bad byte order at {at}"),
+            Fault::Version(at, major, minor) => {
+                write!(f, "version {major}.{minor} not read at {at}")
+            }
             Fault::NoInterface(at) => write!(f, "no such interface at {at}"),
             Fault::UnreadLink(at, number) => write!(f, "link type {number} not read at {at}"),
             Fault::TooManyInterfaces(at) => write!(f, "too many interfaces at {at}"),
-            Fault::Snapped(at) => write!(f, "datagram cut by the recorder at {at}"),
+            Fault::Lacking(at, Lack::Fragment) => write!(f, "datagram in fragments at {at}"),
+            Fault::Lacking(at, Lack::CutShort) => write!(f, "datagram cut short at {at}"),
+            Fault::Lacking(at, Lack::Snapped) => {
+                write!(f, "datagram cut by the recorder at {at}")
+            }
             Fault::TooManySenders(at) => write!(f, "too many senders at {at}"),
             Fault::TooLong(at) => write!(f, "capture too long at {at}"),
         }
@@ -151,6 +169,7 @@ struct Reader {
     layout: Layout,
     first: usize,
     interfaces: Vec<Interface>,
+    names: Vec<Vec<u8>>,
     found: Found,
 }
 
@@ -174,6 +193,41 @@ fn total_len(order: Order, header: &[u8], least: u32, at: u64) -> Result<u32, Fa
         return Err(Fault::BadLength(at));
     }
     Ok(len)
+}
+
+/// The version in four octets here is one of major number and minor numbers that are read.
+fn check_version(
+    order: Order,
+    block: &[u8],
+    place: usize,
+    major: u16,
+    minors: &[u16],
+    at: u64,
+) -> Result<(), Fault> {
+    let said = (order.u16_at(block, place), order.u16_at(block, place + 2));
+    if said.0 != major || !minors.contains(&said.1) {
+        return Err(Fault::Version(at, said.0, said.1));
+    }
+    Ok(())
+}
+
+/// The name among the options of an interface, the first that is not empty; nothing if an option runs past their end.
+fn name_in(order: Order, mut options: &[u8]) -> Option<&[u8]> {
+    let mut name: &[u8] = &[];
+    while options.len() >= 4 {
+        let len = usize::from(order.u16_at(options, 2));
+        let value = options[4..].get(..len);
+        match order.u16_at(options, 0) {
+            0 => break,
+            2 if name.is_empty() => name = value?,
+            _ => {
+                value?;
+            }
+        }
+        let used = 4 + len.next_multiple_of(4);
+        options = options.get(used..).unwrap_or_default();
+    }
+    Some(name)
 }
 
 impl Reader {
@@ -218,7 +272,9 @@ impl Reader {
                 let Some(order) = pcap_order(block) else {
                     return self.take_pcapng(Order::Big, block, at);
                 };
+                check_version(order, block, 4, 2, &[4], at)?;
                 self.layout = Layout::Pcap(order);
+                self.names.push(Vec::new());
                 self.interfaces.push(Interface {
                     link: order.u32_at(block, 20) & 0xffff,
                     snap_len: order.u32_at(block, 16),
@@ -239,13 +295,15 @@ impl Reader {
         }
         match kind {
             SECTION => {
+                check_version(order, block, 12, 1, &[0, 2], at)?;
                 self.layout = Layout::Section(order);
                 self.first = self.interfaces.len();
                 Ok(())
             }
             1 => self.take_interface(order, block, at),
+            2 => self.take_numbered(order, block, order.u16_at(block, 8).into(), at),
             3 => self.take_simple(order, block, at),
-            6 => self.take_enhanced(order, block, at),
+            6 => self.take_numbered(order, block, order.u32_at(block, 8) as usize, at),
             _ => Ok(()),
         }
     }
@@ -257,6 +315,8 @@ impl Reader {
         if self.interfaces.len() == MOST_INTERFACES {
             return Err(Fault::TooManyInterfaces(at));
         }
+        let name = name_in(order, &block[16..block.len() - 4]);
+        self.names.push(name.ok_or(Fault::BadLength(at))?.to_vec());
         self.interfaces.push(Interface {
             link: order.u16_at(block, 8).into(),
             snap_len: order.u32_at(block, 12),
@@ -264,15 +324,21 @@ impl Reader {
         Ok(())
     }
 
-    fn take_enhanced(&mut self, order: Order, block: &[u8], at: u64) -> Result<(), Fault> {
+    /// An enhanced packet block, or the packet block that it replaced, of the section's interface with this number.
+    fn take_numbered(
+        &mut self,
+        order: Order,
+        block: &[u8],
+        number: usize,
+        at: u64,
+    ) -> Result<(), Fault> {
         if block.len() < 32 {
             return Err(Fault::BadLength(at));
         }
         let kept = order.u32_at(block, 20) as usize;
         let frame = block[28..block.len() - 4].get(..kept);
         let frame = frame.ok_or(Fault::BadLength(at))?;
-        let interface = self.first + order.u32_at(block, 8) as usize;
-        self.take_packet(interface, frame, order.u32_at(block, 24), at)
+        self.take_packet(self.first + number, frame, order.u32_at(block, 24), at)
     }
 
     fn take_simple(&mut self, order: Order, block: &[u8], at: u64) -> Result<(), Fault> {
@@ -338,17 +404,46 @@ impl<'a> Part<'a> {
     }
 }
 
-/// A datagram of Babel, with the interface that its frame names.
+/// A datagram from or to the port of Babel, with what its frame says of its place.
 struct Seen<'a> {
     sender: Addr,
-    interface: Option<u32>,
+    link: Option<u32>,
+    vlans: Vlans,
     what: What<'a>,
 }
 
 enum What<'a> {
-    Fragment,
-    Cut,
+    /// It is none that routers read.
+    Unread(Reason),
+    Lacking(Lack),
     Payload(&'a [u8]),
+}
+
+/// Why a datagram is not all there.
+#[derive(Clone, Copy)]
+enum Lack {
+    Fragment,
+    CutShort,
+    Snapped,
+}
+
+impl Lack {
+    fn reason(self) -> Reason {
+        match self {
+            Lack::Fragment => Reason::Fragment,
+            Lack::CutShort => Reason::CutShort,
+            Lack::Snapped => Reason::Snapped,
+        }
+    }
+}
+
+/// The numbers of VLANs, 16 bits each, the outer one highest; 0 where there are no more.
+type Vlans = u64;
+
+/// With one number more. A tag of number 0 names no VLAN.
+fn with_vlan(vlans: Vlans, number: u16) -> Vlans {
+    let used = (u64::BITS - vlans.trailing_zeros()).div_ceil(16);
+    vlans | u64::from(number) << (48 - 16 * used)
 }
 
 /// The link type is not read.
@@ -373,27 +468,31 @@ fn look(link: u32, frame: Part<'_>) -> Result<Option<Seen<'_>>, Unread> {
         229 => look_into_ipv6(frame),
         276 if octets.len() < 20 => None,
         276 => look_by_type(u16_at(octets, 0), frame.after(20)).map(|seen| Seen {
-            interface: Some(u32::from_be_bytes(octets_at(octets, 4))),
+            link: Some(u32::from_be_bytes(octets_at(octets, 4))),
             ..seen
         }),
         _ => return Err(Unread),
     })
 }
 
+/// After up to four VLAN tags: IEEE 802.1Q, 9.
 #[inline(always)]
 fn look_by_type(mut ether_type: u16, mut part: Part<'_>) -> Option<Seen<'_>> {
+    let mut vlans = 0;
     for _ in 0..MOST_TAGS {
-        if !matches!(ether_type, 0x8100 | 0x88a8) || part.octets.len() < 4 {
+        if !matches!(ether_type, 0x8100 | 0x88a8 | 0x9100 | 0x9200) || part.octets.len() < 4 {
             break;
         }
+        vlans = with_vlan(vlans, u16_at(part.octets, 0) & 0x0fff);
         ether_type = u16_at(part.octets, 2);
         part = part.after(4);
     }
-    match ether_type {
+    let seen = match ether_type {
         0x0800 => look_into_ipv4(part),
         0x86dd => look_into_ipv6(part),
         _ => None,
-    }
+    }?;
+    Some(Seen { vlans, ..seen })
 }
 
 fn look_by_family(frame: Part<'_>) -> Option<Seen<'_>> {
@@ -415,18 +514,15 @@ fn look_into_ipv4(packet: Part<'_>) -> Option<Seen<'_>> {
     if header[0] >> 4 != 4 || header[9] != UDP || fragment & 0x1fff != 0 {
         return None;
     }
-    if header_len < 20 || packet.whole < total_len {
+    if header_len < 20 || total_len < header_len {
         return None;
     }
-    let what = look_into_udp(
-        packet.first(total_len).after(header_len),
-        fragment & 0x2000 != 0,
-    )?;
-    Some(Seen {
+    let ip = Ip {
         sender: Addr::V4(u32::from_be_bytes(octets_at(header, 12))),
-        interface: None,
-        what,
-    })
+        is_fragment: fragment & 0x2000 != 0,
+        is_cut: packet.whole < total_len,
+    };
+    look_into_udp(ip, packet.first(total_len).after(header_len))
 }
 
 /// RFC 8200, 3, 4.
@@ -434,7 +530,7 @@ fn look_into_ipv4(packet: Part<'_>) -> Option<Seen<'_>> {
 fn look_into_ipv6(packet: Part<'_>) -> Option<Seen<'_>> {
     let header = packet.octets.first_chunk::<40>()?;
     let len = usize::from(u16_at(header, 4));
-    if header[0] >> 4 != 6 || packet.whole < 40 + len {
+    if header[0] >> 4 != 6 {
         return None;
     }
     let mut part = packet.after(40).first(len);
@@ -458,55 +554,142 @@ fn look_into_ipv6(packet: Part<'_>) -> Option<Seen<'_>> {
     if number != UDP {
         return None;
     }
-    let what = look_into_udp(part, is_fragment)?;
-    Some(Seen {
+    let ip = Ip {
         sender: Addr::V6(u128::from_be_bytes(octets_at(header, 8))),
-        interface: None,
-        what,
-    })
+        is_fragment,
+        is_cut: packet.whole < 40 + len,
+    };
+    look_into_udp(ip, part)
+}
+
+/// What IP says of what it carries: whether it is the first of several fragments, and whether there should be more of it than
+/// its frame had.
+struct Ip {
+    sender: Addr,
+    is_fragment: bool,
+    is_cut: bool,
 }
 
 /// RFC 768; RFC 8966, 4.
 #[inline(always)]
-fn look_into_udp(part: Part<'_>, is_fragment: bool) -> Option<What<'_>> {
+fn look_into_udp(ip: Ip, part: Part<'_>) -> Option<Seen<'_>> {
     let octets = part.octets;
-    if octets.len() < 4 || u16_at(octets, 0) != BABEL_PORT && u16_at(octets, 2) != BABEL_PORT {
+    if octets.len() < 4 {
         return None;
     }
-    if is_fragment {
-        return Some(What::Fragment);
-    }
-    if part.whole < 8 {
+    let ports = [u16_at(octets, 0), u16_at(octets, 2)];
+    if !ports.contains(&BABEL_PORT) {
         return None;
     }
-    if octets.len() < 8 {
-        return Some(What::Cut);
+    let what = if ports != [BABEL_PORT; 2] {
+        What::Unread(Reason::OtherPort)
+    } else if !ip.sender.may_send() {
+        What::Unread(Reason::NotLinkLocal)
+    } else if ip.is_fragment {
+        What::Lacking(Lack::Fragment)
+    } else if ip.is_cut {
+        What::Lacking(Lack::CutShort)
+    } else {
+        look_by_len(part)?
+    };
+    Some(Seen {
+        sender: ip.sender,
+        link: None,
+        vlans: 0,
+        what,
+    })
+}
+
+/// What a datagram has by its length, if that is one.
+#[inline(always)]
+fn look_by_len(part: Part<'_>) -> Option<What<'_>> {
+    let octets = part.octets;
+    if part.whole < 6 {
+        return None;
+    }
+    if octets.len() < 6 {
+        return Some(What::Lacking(Lack::Snapped));
     }
     let len = u16_at(octets, 4).into();
-    if len < 8 || part.whole < len {
+    if part.whole < len {
+        return Some(What::Lacking(Lack::CutShort));
+    }
+    if len < 8 {
         return None;
     }
-    Some(octets.get(8..len).map_or(What::Cut, What::Payload))
+    let payload = octets.get(8..len);
+    Some(payload.map_or(What::Lacking(Lack::Snapped), What::Payload))
 }
 
 // ---- what is found
 
+/// All that tells links apart.
+#[derive(Clone, Copy, PartialEq, Eq, PartialOrd, Ord, Hash)]
+struct Place {
+    interface: u64,
+    link: Option<u32>,
+    vlans: Vlans,
+}
+
+impl Place {
+    /// As `--interface` asks for it.
+    fn parse(text: &str) -> Option<Place> {
+        let (text, vlans) = text.split_once(':').unwrap_or((text, ""));
+        let (interface, link) = match text.split_once('/') {
+            Some((interface, link)) => (interface, Some(link.parse().ok()?)),
+            None => (text, None),
+        };
+        let numbers: Vec<u16> = vlans
+            .split_terminator('.')
+            .map(|number| {
+                number
+                    .parse()
+                    .ok()
+                    .filter(|number| (1..4_096).contains(number))
+            })
+            .collect::<Option<_>>()?;
+        (numbers.len() <= MOST_TAGS).then_some(Place {
+            interface: interface.parse().ok()?,
+            link,
+            vlans: numbers.into_iter().fold(0, with_vlan),
+        })
+    }
+
+    fn vlan_numbers(self) -> Vec<u64> {
+        let numbers = [48, 32, 16, 0].map(|shift| self.vlans >> shift & 0xffff);
+        numbers.into_iter().filter(|number| *number > 0).collect()
+    }
+
+    fn asked(self) -> String {
+        let link = self.link.map_or(String::new(), |link| format!("/{link}"));
+        let vlans = joined(&self.vlan_numbers(), ".");
+        let colon = if vlans.is_empty() { "" } else { ":" };
+        format!("{}{link}{colon}{vlans}", self.interface)
+    }
+}
+
+fn joined(numbers: &[u64], between: &str) -> String {
+    let numbers: Vec<_> = numbers.iter().map(u64::to_string).collect();
+    numbers.join(between)
+}
+
 #[derive(Clone, Copy, PartialEq, Eq, PartialOrd, Ord, Hash)]
 struct Origin {
-    interface: u64,
+    place: Place,
     sender: Addr,
 }
 
-#[derive(Clone, Copy)]
+#[derive(Clone, Copy, Default)]
 struct Tally {
     packets: u64,
     octets: u64,
+    updates: u64,
 }
 
 #[derive(Clone, Copy)]
 struct Wanted {
     sender: Addr,
-    interface: Option<u64>,
+    place: Option<Place>,
 }
 
 #[derive(Clone, Copy)]
@@ -516,14 +699,20 @@ enum Reason {
     BadVersion,
     Fragment,
     Snapped,
+    CutShort,
+    OtherPort,
+    NotLinkLocal,
 }
 
-const REASONS: [&str; 5] = [
+const REASONS: [&str; 8] = [
     "truncated",
     "bad-magic",
     "bad-version",
     "fragment",
     "snapped",
+    "cut-short",
+    "other-port",
+    "not-link-local",
 ];
 
 /// A hash of senders whose key is drawn for each run.
@@ -579,7 +768,7 @@ impl Hasher for Mixed {
 struct Found {
     wanted: Option<Wanted>,
     packets: u64,
-    left_out: [Option<(u64, u64)>; 5],
+    left_out: [Option<(u64, u64)>; 8],
     dump: Vec<u8>,
     /// The sender found last, and its tally, which is not among the others yet.
     last: Option<(Origin, Tally)>,
@@ -592,7 +781,7 @@ impl Found {
         Found {
             wanted,
             packets: 0,
-            left_out: [None; 5],
+            left_out: [None; 8],
             dump: Vec::new(),
             last: None,
             tallies: HashMap::with_hasher(seed),
@@ -600,27 +789,36 @@ impl Found {
     }
 
     fn take(&mut self, interface: u64, seen: Seen<'_>, at: u64) -> Result<(), Fault> {
-        let interface = seen.interface.map_or(interface, u64::from);
         let sender = seen.sender;
+        let place = Place {
+            interface,
+            link: seen.link,
+            vlans: seen.vlans,
+        };
         if let Some(wanted) = self.wanted {
-            if sender != wanted.sender || wanted.interface.is_some_and(|on| on != interface) {
+            if sender != wanted.sender || wanted.place.is_some_and(|on| on != place) {
                 return Ok(());
             }
         }
         let packet = match seen.what {
-            What::Fragment => return Ok(self.leave_out(Reason::Fragment)),
-            What::Cut if self.wanted.is_some() => return Err(Fault::Snapped(at)),
-            What::Cut => return Ok(self.leave_out(Reason::Snapped)),
+            What::Unread(reason) => return Ok(self.leave_out(reason)),
+            What::Lacking(lack) if self.wanted.is_some() => return Err(Fault::Lacking(at, lack)),
+            What::Lacking(lack) => return Ok(self.leave_out(lack.reason())),
             What::Payload(payload) => match packet_of(payload) {
                 Ok(packet) => packet,
                 Err(reason) => return Ok(self.leave_out(reason)),
             },
         };
-        self.count(Origin { interface, sender }, packet.len() as u64, at)?;
-        if self.wanted.is_some() {
-            self.dump.extend_from_slice(packet);
+        let mut sent = Tally {
+            packets: 1,
+            octets: packet.len() as u64,
+            updates: 0,
+        };
+        match self.wanted {
+            Some(_) => self.dump.extend_from_slice(packet),
+            None => sent.updates = updates_in(packet),
         }
-        Ok(())
+        self.count(Origin { place, sender }, sent, at)
     }
 
     fn leave_out(&mut self, reason: Reason) {
@@ -628,38 +826,39 @@ impl Found {
         counted.get_or_insert((0, self.packets)).0 += 1;
     }
 
-    fn count(&mut self, origin: Origin, octets: u64, at: u64) -> Result<(), Fault> {
+    fn count(&mut self, origin: Origin, sent: Tally, at: u64) -> Result<(), Fault> {
         if let Some((last, tally)) = &mut self.last {
             if *last == origin {
-                tally.packets += 1;
-                tally.octets += octets;
+                tally.add(sent);
                 return Ok(());
             }
             self.tallies.insert(*last, *tally);
         }
         let count = self.tallies.len();
-        let tally = match self.tallies.entry(origin) {
+        let mut tally = match self.tallies.entry(origin) {
             Entry::Occupied(entry) => *entry.get(),
             Entry::Vacant(_) if count >= MOST_SENDERS => return Err(Fault::TooManySenders(at)),
-            Entry::Vacant(_) => Tally {
-                packets: 0,
-                octets: 0,
-            },
+            Entry::Vacant(_) => Tally::default(),
         };
-        let tally = Tally {
-            packets: tally.packets + 1,
-            octets: tally.octets + octets,
-        };
+        tally.add(sent);
         self.last = Some((origin, tally));
         Ok(())
     }
 
-    /// The tallies, by interface, then by address.
+    /// The tallies, by place, then by address.
     fn senders(&mut self) -> Vec<(Origin, Tally)> {
         self.tallies.extend(self.last.take());
         let mut senders: Vec<_> = self.tallies.drain().collect();
         senders.sort_unstable_by_key(|(origin, _)| *origin);
         senders
+    }
+}
+
+impl Tally {
+    fn add(&mut self, sent: Tally) {
+        self.packets += sent.packets;
+        self.octets += sent.octets;
+        self.updates += sent.updates;
     }
 }
 
@@ -676,6 +875,23 @@ fn packet_of(payload: &[u8]) -> Result<&[u8], Reason> {
     }
     let len = 4 + usize::from(u16::from_be_bytes([high, low]));
     payload.get(..len).ok_or(Reason::Truncated)
+}
+
+/// How many Updates a packet has, whatever they hold; none if a TLV runs past its end: RFC 8966, 4.3, 4.6.9.
+fn updates_in(packet: &[u8]) -> u64 {
+    let (mut at, mut count) = (4, 0);
+    while let Some(&kind) = packet.get(at) {
+        at += match (kind, packet.get(at + 1)) {
+            (0, _) => 1,
+            (_, Some(&len)) => 2 + usize::from(len),
+            (_, None) => return 0,
+        };
+        count += u64::from(kind == UPDATE);
+    }
+    match at == packet.len() {
+        true => count,
+        false => 0,
+    }
 }
 
 // ---- a whole capture
@@ -719,12 +935,13 @@ fn read_capture(
     limit: u64,
     wanted: Option<Wanted>,
     accept_cut: bool,
-) -> Result<Found, Failure> {
+) -> Result<Reader, Failure> {
     let mut reader = Reader {
         limit,
         layout: Layout::Start,
         first: 0,
         interfaces: Vec::new(),
+        names: Vec::new(),
         found: Found::new(wanted),
     };
     let mut octets = vec![0; BUFFER];
@@ -760,7 +977,7 @@ fn read_capture(
     if end > 0 && !accept_cut {
         return Err(Fault::CutShort(at).into());
     }
-    Ok(reader.found)
+    Ok(reader)
 }
 
 // ---- the program
@@ -809,16 +1026,26 @@ impl Words {
         }
     }
 
+    fn place(&self) -> Result<Option<Place>, Failure> {
+        let Some(word) = self.options.get("interface") else {
+            return Ok(None);
+        };
+        match Place::parse(word) {
+            Some(place) => Ok(Some(place)),
+            None => Err(Failure::Usage(format!("not an interface: {word}"))),
+        }
+    }
+
     fn sender(&self) -> Result<Addr, Failure> {
         let word = self.options.get("from");
         let word = word.ok_or_else(|| Failure::Usage("no --from".to_string()))?;
         Addr::parse(word).ok_or_else(|| Failure::Usage(format!("not an address: {word}")))
     }
 
-    fn found(&self, wanted: Option<Wanted>) -> Result<Found, Failure> {
+    fn read(&self, wanted: Option<Wanted>) -> Result<Reader, Failure> {
         let limit = self.number("max-octets")?.unwrap_or(USUAL_OCTETS);
         let accept_cut = self.has("accept-cut");
-        let found = match &self.file {
+        let reader = match &self.file {
             None => read_capture(io::stdin().lock(), limit, wanted, accept_cut),
             Some(name) if name == "-" => {
                 read_capture(io::stdin().lock(), limit, wanted, accept_cut)
@@ -829,14 +1056,14 @@ impl Words {
             },
         }?;
         if self.has("strict") {
-            let firsts = REASONS.iter().zip(found.left_out);
+            let firsts = REASONS.iter().zip(reader.found.left_out);
             let first = firsts.filter_map(|(name, counted)| Some((counted?.1, name)));
             if let Some((number, name)) = first.min() {
                 let text = format!("datagram left out at packet {number}: {name}");
                 return Err(Failure::Refused(text));
             }
         }
-        Ok(found)
+        Ok(reader)
     }
 }
 
@@ -848,42 +1075,96 @@ fn run(words: &Words) -> Result<u8, Failure> {
     }
 }
 
+/// The text of a name: letters, digits and three marks stand for themselves, and others as this, before their two digits.
+fn name_text(name: &[u8], other: &str) -> String {
+    let mut text = String::new();
+    for &octet in name {
+        if octet.is_ascii_alphanumeric() || b".-_".contains(&octet) {
+            text.push(char::from(octet));
+        } else {
+            text += &format!("{other}{octet:02x}");
+        }
+    }
+    text
+}
+
+fn place_text(place: Place, name: &[u8]) -> String {
+    let mut text = format!("interface {}", place.interface);
+    if !name.is_empty() {
+        text += &format!(" ({})", name_text(name, "\\x"));
+    }
+    if let Some(link) = place.link {
+        text += &format!(" link {link}");
+    }
+    if place.vlans > 0 {
+        text += &format!(" vlan {}", joined(&place.vlan_numbers(), "."));
+    }
+    text
+}
+
+fn place_json(place: Place, name: &[u8]) -> String {
+    let link = place.link.map(|link| link.to_string());
+    let link = link.as_deref().unwrap_or("null");
+    let vlans = joined(&place.vlan_numbers(), ",");
+    let name = match name {
+        [] => "null".to_string(),
+        _ => format!("\"{}\"", name_text(name, "\\\\x")),
+    };
+    let interface = place.interface;
+    format!("\"interface\":{interface},\"link\":{link},\"vlans\":[{vlans}],\"name\":{name}")
+}
+
 fn senders(words: &Words) -> Result<u8, Failure> {
-    let senders = words.found(None)?.senders();
+    let mut reader = words.read(None)?;
+    let senders = reader.found.senders();
     let mut out = io::BufWriter::with_capacity(1 << 16, io::stdout().lock());
-    for (Origin { interface, sender }, Tally { packets, octets }) in &senders {
+    for (Origin { place, sender }, tally) in &senders {
+        let Tally {
+            packets,
+            octets,
+            updates,
+        } = tally;
+        let name = &reader.names[place.interface as usize];
         if words.has("json") {
+            let place = place_json(*place, name);
             writeln!(
                 out,
-                "{{\"address\":\"{sender}\",\"interface\":{interface},\"packets\":{packets},\"octets\":{octets}}}"
+                "{{\"address\":\"{sender}\",{place},\"packets\":{packets},\"octets\":{octets},\"updates\":{updates}}}"
             )?;
         } else {
+            let place = place_text(*place, name);
             writeln!(
                 out,
-                "{sender} interface {interface} packets {packets} octets {octets}"
+                "{sender} {place} packets {packets} octets {octets} updates {updates}"
             )?;
         }
     }
     out.flush()?;
+    if senders.is_empty() {
+        eprintln!("no Babel packets");
+    }
     Ok(u8::from(senders.is_empty()))
 }
 
 fn extract(words: &Words) -> Result<u8, Failure> {
     let sender = words.sender()?;
-    let interface = words.number("interface")?;
-    let mut found = words.found(Some(Wanted { sender, interface }))?;
+    let place = words.place()?;
+    let mut found = words.read(Some(Wanted { sender, place }))?.found;
     let senders = found.senders();
     if senders.is_empty() {
         eprintln!("no packets from {sender}");
         return Ok(1);
     }
     if senders.len() > 1 {
-        let numbers: Vec<_> = senders
-            .iter()
-            .map(|(origin, _)| origin.interface.to_string())
-            .collect();
-        let numbers = numbers.join(", ");
-        let text = format!("packets from this sender on several interfaces: {numbers}");
+        let listed = senders.iter().take(LISTED_PLACES);
+        let places: Vec<_> = listed.map(|(origin, _)| origin.place.asked()).collect();
+        let mut text = format!(
+            "packets from this sender on several interfaces: {}",
+            places.join(", ")
+        );
+        if senders.len() > LISTED_PLACES {
+            text += &format!(", and {} more", senders.len() - LISTED_PLACES);
+        }
         return Err(Failure::Refused(text));
     }
     let mut out = io::stdout().lock();

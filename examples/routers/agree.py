@@ -1,13 +1,14 @@
 #!/usr/bin/env python3
-"""Compares what babel-dump reads in a capture with what the neighbouring router held.
+"""Compares what babel-dump reads in a dump with what the neighbouring router held.
 
     agree.py [PROGRAM]
 
-For each capture of this folder: the rows of `PROGRAM show --hold` (default ../../babel-dump) against the table that the
-neighbouring babeld had when the capture ended: routes by destination, source, router-id, seqno, announced metric and
-next hop, and unreachable rows against the neighbour's retracted ones by destination and source. An IPv4 row that came
-by address encoding 4 (an IPv6 next hop) is counted by babel-dump and not read, so it is left out. Exits 1 where
-a row differs.
+For each dump of this folder: the rows of `PROGRAM show --hold` (default ../../babel-dump)
+against the table that the neighbouring babeld had when the capture ended: routes by destination,
+source, router-id, seqno, announced metric and next hop, and unreachable rows against the
+neighbour's retracted ones by destination and source. An IPv4 row that came by address encoding 4
+(an IPv6 next hop) is counted by babel-dump and not read, so it is left out. Exits 1 where a row
+differs.
 """
 import ipaddress
 import pathlib
@@ -25,7 +26,8 @@ SENDERS = {
     "babeld-v4-via-v6": "fe80::5eff:fe00:1a01",
 }
 VIEW = re.compile(
-    r"(?P<dst>\S+) from (?P<src>\S+) metric \d+ \(\d+\) refmetric (?P<metric>\d+) id (?P<id>\S+) seqno (?P<seqno>\d+)"
+    r"(?P<dst>\S+) from (?P<src>\S+) metric \d+ \(\d+\) refmetric (?P<metric>\d+)"
+    r" id (?P<id>\S+) seqno (?P<seqno>\d+)"
     r" .*neigh (?P<neigh>\S+)(?: nexthop (?P<hop>\S+))?"
 )
 ROW = re.compile(r"(\S+) from (\S+) (?:via (\S+) id (\S+) seqno (\d+) metric (\d+)|unreachable)")

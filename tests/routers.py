@@ -1,4 +1,4 @@
-"""The captures of examples/captures: the neighbour's tables, the canonical dumps, and the golden files."""
+"""The dumps of examples/routers: the neighbours' tables, the canonical dumps, the golden files."""
 
 import concurrent.futures
 import os
@@ -15,7 +15,7 @@ from agree import SENDERS
 
 
 def check_tables(program, tally):
-    """The rows are those of the router that heard the capture."""
+    """The rows are those of the router that heard the packets."""
     for name, sender in SENDERS.items():
         theirs, _ = agree.neighbour_rows(name, sender)
         differing = sorted(map(str, theirs ^ agree.program_rows(program, name, sender)))
@@ -23,8 +23,10 @@ def check_tables(program, tally):
 
 
 def check_canonical(program, folder, tally):
-    """The canonical dumps are normalised to themselves and answer as the captures do."""
-    cases = [(name, sender, mode.split()) for name, sender in SENDERS.items() for mode in golden.MODES]
+    """The canonical dumps are normalised to themselves and answer as the dumps do."""
+    cases = [
+        (name, sender, mode.split()) for name, sender in SENDERS.items() for mode in golden.MODES
+    ]
 
     def wrong(case):
         name, sender, hold = case
@@ -45,4 +47,4 @@ def check(tally, _long):
         check_canonical(program, folder, tally)
         transcript.link(program, folder)
         golden.play(folder, tally)
-        print("the golden files were made by the plain program of bench/; tests/golden.py makes them anew")
+        print("the golden files are of the plain program of reference/, by tests/golden.py")

@@ -1,12 +1,13 @@
 #!/usr/bin/env python3
-"""Runs a built program and the plain Rust program over captures with octets changed at random.
+"""Runs a built program and the plain Rust program over dumps with octets changed at random.
 
     changed.py PROGRAM [--dumps N] [--seed N]
 
-Each dump is one of examples/captures, with one to four octets changed, and in one of eight dumps the end cut off. Both
-programs must write the same octets and texts and give the same status in each run: `show`, `pairs`, also with `--count`,
-`normalise` at some size of a packet's body, two lookups, and `compare` with the capture as it was, each with and without
-`--hold`. Exits 1 where they do not. The same seed makes the same dumps.
+Each dump is one of examples/routers, with one to four octets changed, and in one of eight dumps the
+end cut off. Both programs must write the same octets and texts and give the same status in each
+run: `show`, `pairs`, also with `--count`, `normalise` at some size of a packet's body, two lookups,
+and `compare` with the dump as it was, each with and without `--hold`. Exits 1 where they do not.
+The same seed makes the same dumps.
 """
 
 import argparse
@@ -18,10 +19,10 @@ import random
 import sys
 import tempfile
 
-from run import HERE, PLAIN, build, outcome
+from plain import HERE, PLAIN, build, outcome
 
-CAPTURES = HERE.parent / "examples" / "captures"
-sys.path.append(str(CAPTURES))
+ROUTERS = HERE.parent / "examples" / "routers"
+sys.path.append(str(ROUTERS))
 from agree import SENDERS  # noqa: E402
 
 BODIES = (128, 129, 255, 1_024, 65_535)
@@ -36,7 +37,7 @@ def changed(rng, octets):
     return bytes(octets)
 
 
-def runs(sender, capture, dump, body):
+def runs(sender, original, dump, body):
     """The words of each run over a changed dump."""
     for hold in [], ["--hold"]:
         sent = [*hold, "--from", sender]
@@ -46,21 +47,23 @@ def runs(sender, capture, dump, body):
         yield ["normalise", *sent, "--body", str(body), "--hex", dump]
         yield ["lookup", *sent, "--to", "10.0.0.1", "--src", "192.0.2.7", dump]
         yield ["lookup", *sent, "--to", "2001:db8::1", "--src", "2001:db8::2", dump]
-        yield ["compare", *sent, "--other-from", sender, dump, capture]
+        yield ["compare", *sent, "--other-from", sender, dump, original]
 
 
 def compared(program, plain, folder, dumps, seed):
-    """For each run over so many changed dumps: its command, its status, and how the two programs differ, if they do."""
+    """For each run over so many changed dumps: its command, its status, and how the two programs
+    differ, if they do."""
 
     def compare(turn):
         rng = random.Random(f"{seed} {turn}")
         name, sender = rng.choice(sorted(SENDERS.items()))
-        dump, capture = folder / f"changed-{turn}.dump", CAPTURES / f"{name}.dump"
-        dump.write_bytes(changed(rng, capture.read_bytes()))
+        dump, original = folder / f"changed-{turn}.dump", ROUTERS / f"{name}.dump"
+        dump.write_bytes(changed(rng, original.read_bytes()))
         found = []
-        for words in runs(sender, capture, dump, rng.choice(BODIES)):
+        for words in runs(sender, original, dump, rng.choice(BODIES)):
             ours, theirs = (outcome([side, *words]) for side in (program, plain))
-            told = f"dump {turn}, {name}, {' '.join(map(str, words))}: {ours[0]} {ours[2]!r}, {theirs[0]} {theirs[2]!r}"
+            told = f"dump {turn}, {name}, {' '.join(map(str, words))}: "
+            told += f"{ours[0]} {ours[2]!r}, {theirs[0]} {theirs[2]!r}"
             found.append((words[0], ours[0], "" if ours == theirs else told))
         dump.unlink()
         return found
@@ -71,7 +74,9 @@ def compared(program, plain, folder, dumps, seed):
 
 
 def main():
-    parser = argparse.ArgumentParser(description=__doc__, formatter_class=argparse.RawDescriptionHelpFormatter)
+    parser = argparse.ArgumentParser(
+        description=__doc__, formatter_class=argparse.RawDescriptionHelpFormatter
+    )
     parser.add_argument("program", type=pathlib.Path)
     parser.add_argument("--dumps", type=int, default=400)
     parser.add_argument("--seed", type=int, default=1)
@@ -80,7 +85,9 @@ def main():
     with tempfile.TemporaryDirectory() as folder:
         folder = pathlib.Path(folder)
         plain = build(PLAIN, folder)
-        for command, status, difference in compared(options.program.resolve(), plain, folder, options.dumps, options.seed):
+        for command, status, difference in compared(
+            options.program.resolve(), plain, folder, options.dumps, options.seed
+        ):
             statuses[command, status] += 1
             if difference:
                 differing += 1

@@ -1,13 +1,13 @@
 #!/usr/bin/env python3
-"""Checks the canonical dump of each capture.
+"""Checks the canonical dump of each dump here.
 
     canonical.py [PROGRAM]
 
-For each capture of this folder, with and without `--hold` (PROGRAM is ../../babel-dump unless it is given): the canonical
-dump, read with several senders, is normalised to itself; the capture compares as `same` with itself and with its
-canonical dump; both have the same canonical pairs; and `lookup` answers the same in both at the addresses of the
-neighbour's table: for each destination and source prefix there its first and its last address. Exits 1 where one of
-these does not hold.
+For each dump of this folder, with and without `--hold` (PROGRAM is ../../babel-dump unless it is
+given): the canonical dump, read with several senders, is normalised to itself; the dump compares
+as `same` with itself and with its canonical dump; both have the same canonical pairs; and `lookup`
+answers the same in both at the addresses of the neighbour's table: for each destination and source
+prefix there its first and its last address. Exits 1 where one of these does not hold.
 """
 import ipaddress
 import pathlib
@@ -44,7 +44,7 @@ def questions(name):
 
 
 def check(program, name, sender, hold, folder):
-    """What was seen of one capture in one mode, and what does not hold of it."""
+    """What was seen of one dump in one mode, and what does not hold of it."""
     dump = HERE / f"{name}.dump"
     canon = pathlib.Path(folder) / f"{name}.canonical"
     octets = run(program, "normalise", *hold, "--from", sender, dump)[1]
@@ -56,7 +56,9 @@ def check(program, name, sender, hold, folder):
         words = ["compare", *hold, "--from", sender, "--other-from", any_sender, dump, canon]
         if run(program, *words) != (0, b"same\n"):
             wrong.append(f"differs from its canonical dump from {any_sender}")
-    if run(program, "compare", *hold, "--from", sender, "--other-from", sender, dump, dump) != (0, b"same\n"):
+    if run(program, "compare", *hold, "--from", sender, "--other-from", sender, dump, dump) != (
+        0, b"same\n"
+    ):
         wrong.append("differs from itself")
     pairs = run(program, "pairs", *hold, "--from", sender, dump)[1]
     if run(program, "pairs", *hold, "--from", "::1", canon)[1] != pairs:
@@ -80,7 +82,8 @@ def main():
         for name, sender in SENDERS.items():
             for hold in [], ["--hold"]:
                 seen, wrong = check(program, name, sender, hold, folder)
-                print(f"{name}{''.join(' ' + word for word in hold)}: {seen}: {'WRONG' if wrong else 'ok'}")
+                verdict = "WRONG" if wrong else "ok"
+                print(f"{' '.join([name, *hold])}: {seen}: {verdict}")
                 for line in wrong:
                     print("  " + line)
                 failed = failed or bool(wrong)

@@ -1,5 +1,5 @@
-//! The limit that babel-dump is measured against: a plain Rust program of the same words and texts, as fast as we can
-//! write one. Std alone, safe, single-threaded, one file.
+//! The limit that babel-dump is measured against: a plain Rust program of the same words and texts,
+//! as fast as we can write one. Std alone, safe, single-threaded, one file.
 //!
 //!     rustc -O --edition 2021 limit.rs
 //!     limit show [--hold] --from A [FILE]
@@ -8,9 +8,10 @@
 //!     limit normalise [--hold] [--hex] [--body N] --from A [FILE]
 //!     limit compare [--hold] --from A --other-from B FILE OTHER
 //!
-//! It reads packets where they lie in one buffer into rows, which it sorts once. Sorted rows are a tree whose brackets are
-//! the destination prefixes: one pass over them gives runs of destinations with one function of the source. The canonical
-//! pairs are the largest aligned blocks of the runs, and a comparison is two such passes side by side.
+//! It reads packets where they lie in one buffer into rows, which it sorts once. Sorted rows are a
+//! tree whose brackets are the destination prefixes: one pass over them gives runs of destinations
+//! with one function of the source. The canonical pairs are the largest aligned blocks of the runs,
+//! and a comparison is two such passes side by side.
 
 use std::cmp::Ordering;
 use std::collections::hash_map::RandomState;
@@ -360,7 +361,8 @@ impl Seed {
     }
 }
 
-/// From hashes to numbers: each slot has a number and one more in its low bits, and some bits of the hash above them.
+/// From hashes to numbers: each slot has a number and one more in its low bits, and some bits of
+/// the hash above them.
 struct Index {
     slots: Vec<u32>,
     seed: Seed,
@@ -500,13 +502,15 @@ impl<A: Address> Hashed for Prefix<A> {
 
 // ---- the rows of one family
 
-/// What is said of an unreachable key: no owner and no sequence number, and the metric that no route has.
+/// What is said of an unreachable key: no owner and no sequence number, and the metric that no
+/// route has.
 const UNREACHABLE: u64 = INFINITY as u64;
 
 /// Where there is no row. No owner has so great a number.
 const NOTHING: u64 = FORK - 1;
 
-/// A route's destination and source. The tag has the destination's length above, the number of the source below.
+/// A route's destination and source. The tag has the destination's length above, the number of the
+/// source below.
 #[derive(Clone, Copy, PartialEq, Eq)]
 struct Key<A> {
     bits: A,
@@ -787,7 +791,8 @@ const FEW: usize = 48;
 /// By so many bits at most are rows counted at once, for the sake of the caches.
 const MOST_DIGITS: u32 = 12;
 
-/// Sorts the rows into as much room, by the highest bits in which their addresses differ, and then each part of them.
+/// Sorts the rows into as much room, by the highest bits in which their addresses differ, and then
+/// each part of them.
 fn sort_into<A: Address>(rows: &mut [Row<A>], sorted: &mut [Row<A>]) {
     let (all, any) = rows.iter().fold((A::MAX, A::ZERO), |(all, any), row| {
         (all & row.key.bits, any | row.key.bits)
@@ -977,8 +982,8 @@ impl fmt::Display for Fault {
     }
 }
 
-/// What is looked at of a TLV at once: type, length, the fixed part of an Update, and the longest prefix. Behind a
-/// packet stands as much room, so that no length is asked for before it is needed.
+/// What is looked at of a TLV at once: type, length, the fixed part of an Update, and the longest
+/// prefix. After a packet there is as much room, so that no length is asked for too early.
 const WINDOW: usize = 28;
 const FIXED: usize = 12;
 
@@ -1014,8 +1019,9 @@ impl Reader {
         }
     }
 
-    /// Takes the body of a packet, which ends `WINDOW` octets or more before the octets do; the first of the octets is at
-    /// this offset of the dump. A TLV past the end comes before the faults of those before it.
+    /// Takes the body of a packet, which ends `WINDOW` octets or more before the octets do; the
+    /// first of the octets is at this offset of the dump. A TLV past the end comes before the
+    /// faults of those before it.
     fn take_body(&mut self, octets: &[u8], end: usize, offset: u64) -> Result<(), Fault> {
         self.shared.router_id = None;
         self.v4.begin_packet();
@@ -1049,7 +1055,7 @@ impl Reader {
     /// Takes a TLV of so many octets, the first of these.
     fn take_tlv(&mut self, octets: &[u8], len: usize) -> Result<(), Stop> {
         let Some(tlv) = octets.first_chunk::<WINDOW>() else {
-            unreachable!("there is room behind a packet");
+            unreachable!("there is room after a packet");
         };
         match tlv[0] {
             6 => self.take_router_id(&octets[..len]),
@@ -1345,7 +1351,8 @@ fn read_some(reader: &mut impl Read, buffer: &mut [u8]) -> Result<usize, ReadFau
     }
 }
 
-/// Reads a dump to its end. The numbers of owners go on from those of another table, so that values of both compare.
+/// Reads a dump to its end. The numbers of owners go on from those of another table, so that values
+/// of both compare.
 fn read_dump(
     mut input: impl Read,
     sender: Addr,
@@ -1416,8 +1423,8 @@ impl Function {
     }
 }
 
-/// A block whose halves differ, and one value around it. Where the block is all of what the function speaks of, nothing is
-/// around it, and the value does not count.
+/// A block whose halves differ, and one value around it. Where the block is all of what the
+/// function speaks of, nothing is around it, and the value does not count.
 #[derive(Clone, Copy)]
 struct Fork<A> {
     block: Block<A>,
@@ -1676,7 +1683,8 @@ impl<A: Address> Forks<A> {
 
 // ---- runs of destinations
 
-/// Destinations with one function of the source, from the first to the last; those beside them have another.
+/// Destinations with one function of the source, from the first to the last; those beside them have
+/// another.
 #[derive(Clone, Copy)]
 struct Run<A> {
     first: A,
@@ -1684,7 +1692,8 @@ struct Run<A> {
     function: Function,
 }
 
-/// A destination prefix around the place where the pass is: where it ends, and what its rows and those around it answer.
+/// A destination prefix around the place where the pass is: where it ends, and what its rows and
+/// those around it answer.
 struct Open<A> {
     last: A,
     function: Function,
@@ -1720,8 +1729,8 @@ impl<'a, A: Address> Sweep<'a, A> {
         }
     }
 
-    /// The pass behind so many rows, of which only the ones matter whose destinations reach this address. What is said of
-    /// lower addresses is of no consequence.
+    /// The pass after so many rows, of which only the ones matter whose destinations reach this
+    /// address. What is said of lower addresses is of no consequence.
     fn behind(table: &'a Rows<A>, front: usize, at: A, forks: &mut Forks<A>) -> Sweep<'a, A> {
         let mut sweep = Sweep::new(table);
         let (passed, rest) = table.rows.split_at(front);
@@ -1843,8 +1852,8 @@ fn block_count<A: Address>(first: A, last: A) -> u32 {
     if first.trailing_zeros() >= differing && (!last).trailing_zeros() >= differing {
         return 1;
     }
-    // Below the middle, where the two part, the sizes are the ones of what is missing up to it; from there on those of what
-    // is there.
+    // Below the middle, where the two part, the sizes are the ones of what is missing up to it;
+    // from there on those of what is there.
     let middle = last & A::top(A::WIDTH - (differing - 1));
     middle.distance_from(first).count_ones() + last.distance_from(middle.previous()).count_ones()
 }
@@ -1872,8 +1881,8 @@ fn each_block<A: Address>(
     }
 }
 
-/// The runs of a family that have sources with a value. Where a function is not constant, it is a number of `parts`, which
-/// says where its sources stand.
+/// The runs of a family that have sources with a value. Where a function is not constant, it is a
+/// number of `parts`, which says where its sources stand.
 struct Canon<A> {
     runs: Vec<Run<A>>,
     parts: Vec<Range<usize>>,
@@ -1996,7 +2005,7 @@ fn first_difference<A: Address>(left: &Rows<A>, right: &Rows<A>) -> Option<Diffe
 
 const DIGITS: [u8; 16] = *b"0123456789abcdef";
 
-/// Each octet in decimal digits, a dot behind them, and how many octets these are.
+/// Each octet in decimal digits, a dot after them, and how many octets these are.
 static OCTETS: [([u8; 4], usize); 256] = {
     let mut texts = [([b'.'; 4], 0); 256];
     let mut octet = 0;

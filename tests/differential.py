@@ -1,0 +1,32 @@
+"""The plain programs of reference/ beside the proved one: over dumps changed at random and the
+golden files; of captures, over those of extract.py."""
+
+import pathlib
+import tempfile
+
+import extract
+import golden
+import transcript
+from checks import built_program, need
+
+from changed import compared
+from plain import PLAIN, PLAIN_OF_CAPTURES, build
+
+SEED = 1
+DUMPS = 600
+DUMPS_LONG = 6_000
+
+
+def check(tally, long):
+    program = built_program()
+    need("rustc", f"it has to build reference/{PLAIN.name}, the plain program")
+    with tempfile.TemporaryDirectory() as folder:
+        folder = pathlib.Path(folder)
+        plain = build(PLAIN, folder)
+        transcript.link(plain, folder)
+        golden.play(folder, tally)
+        dumps = DUMPS_LONG if long else DUMPS
+        for command, _, difference in compared(program, plain, folder, dumps, SEED):
+            tally.check(f"the plain program beside {command}", difference)
+        plain = build(PLAIN_OF_CAPTURES, folder)
+        extract.check_cases(plain, extract.cases_of(tally), tally, extract.without_notes)
