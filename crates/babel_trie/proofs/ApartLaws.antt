@@ -7,8 +7,7 @@ use Rattle.babel_trie.specs.Boxes.{Answers, SameAnswers}
 use Rattle.babel_trie.specs.Runs.{said_at, AreRuns, StartBehind, run_answers}
 use Rattle.babel_trie.specs.Spans.{start_or}
 use Rattle.babel_trie.specs.Differs.{AgreeBelow, DifferFirst, AgreeBelowBoth, DifferFirstAt, IsFirstPair}
-use Rattle.babel_trie.specs.Held.{sources_at}
-use Rattle.babel_trie.specs.Interned.{HasTrie}
+use Rattle.babel_trie.specs.Held.{sources_at, HasTrie}
 use Rattle.babel_trie.specs.Shape.{value_at}
 use Rattle.babel_trie.specs.declared.table.Node.{Node}
 use Rattle.babel_trie.specs.declared.table.Sources.{Sources}

@@ -1,18 +1,19 @@
 -- The first difference of two tries, from those of their halves.
-use Rattle.std.proofs.Common.{◌≡◌, ◌≢◌, inl, inr, ℕ, ◌+◌, ◌-◌, ◌*◌, ◌^◌, ◌<◌, ◌≤◌, List, sym, ◌∙◌, ap, subst, arith}
+use Rattle.std.proofs.Common.{◌≡◌, ◌≢◌, inl, inr, ℕ, ◌+◌, ◌-◌, ◌*◌, ◌^◌, ◌<◌, ◌≤◌, List, Option, Some, None, sym, ◌∙◌, ap, subst, arith}
 use Rattle.std.proofs.lemmas.Bool.{cases_lt}
-use Rattle.std.proofs.Math.Pow.{pow_mono}
 use Rattle.std.proofs.lemmas.Nat.{pow_pos}
 use Rattle.babel_trie.specs.Boxes.{Answers, IsLeastDifference}
-use Rattle.babel_trie.specs.Differs.{AgreeBelow, DifferFirst, DifferFirstAt}
+use Rattle.babel_trie.specs.Differs.{AgreeBelow, DifferFirst, DifferFirstAt, IsFirstFrom, IsFirstDifference}
 use Rattle.babel_trie.specs.declared.table.Loose.{Loose}
 use Rattle.babel_trie.specs.declared.table.Loose.TheVariants.{Same}
-use Rattle.babel_trie.specs.Shape.{Shape, leaf, fork, height, value_at}
-use Rattle.babel_trie.specs.Interned.{Stands, IsTrie, IsHalved}
+use Rattle.babel_trie.specs.Shape.{Shape, leaf, height, value_at}
+use Rattle.babel_trie.specs.Interned.{middle_of, StandsIn, HasOneForm, IsLooseIn, IsNormalLoose}
+use Rattle.babel_trie.specs.Rows.{IsPlace}
 use Rattle.babel_trie.specs.declared.table.Node.{Node}
 use Rattle.babel_trie.proofs.BitLaws.{pow_twice}
 use Rattle.babel_trie.proofs.NumberLaws.{one_shape}
 use Rattle.babel_trie.proofs.Reduced.{value_at-low, value_at-high}
+use Rattle.babel_trie.proofs.TrieLaws.{IsHalved, fits_any}
 
 -- two tries of a block of some bits with their halves
 pub record SideBySide {V U : Type 0} (bits : ℕ) (t low high : Shape V) (u low' high' : Shape U) : Type 1 where
@@ -22,9 +23,9 @@ pub record SideBySide {V U : Type 0} (bits : ℕ) (t low high : Shape V) (u low'
       R (value_at t bits (2 ^ (bits - 1) + a)) (value_at u bits (2 ^ (bits - 1) + a))
 
 module _ {V U : Type 0} where
-  pub side_by_side : (nodes : List (Node V)) (others : List (Node U)) (bits : ℕ) (t : Shape V) (u : Shape U) (l h : Loose V) (l' h' : Loose U) → height t ≤ bits → height u ≤ bits → 0 < bits →
-      (p : IsHalved nodes t l h) → (q : IsHalved others u l' h') → SideBySide bits t p.low_half p.high_half u q.low_half q.high_half
-  side_by_side nodes others bits t u l h l' h' fits fits' some p q =
+  pub side_by_side : {nothing : V} {nothing' : U} {nodes : List (Node V)} {others : List (Node U)} {bits start : ℕ} {t : Shape V} {u : Shape U} {l h : Loose V} {l' h' : Loose U} → height t ≤ bits → height u ≤ bits → 0 < bits →
+      (p : IsHalved nothing nodes bits start t l h) → (q : IsHalved nothing' others bits start u l' h') → SideBySide bits t p.low_half p.high_half u q.low_half q.high_half
+  side_by_side {bits} {t} {u} fits fits' some p q =
       let m : ℕ = 2 ^ (bits - 1) in
       record {
         some = some;
@@ -83,58 +84,45 @@ module _ {V : Type 0} {bits : ℕ} {t low high u low' high' : Shape V} (s : Side
         agree_below = below_high s (λ x y. x ≡ y) at (omega arith) in_low d.agree_below;
       }
 
-module _ {V : Type 0} where
-  -- the halves of a reduced trie are reduced tries of one bit fewer
-  pub halves_are_tries : (bits : ℕ) (nodes : List (Node V)) (n l h : Loose V) → (t : IsTrie bits nodes n) → 0 < bits → IsHalved nodes t.trie l h → IsTrie (bits - 1) nodes l × IsTrie (bits - 1) nodes h
-  halves_are_tries bits nodes n l h t some p =
-      let fits : height t.trie ≤ bits = t.fits in
-      let both = p.reduced t.reduced in (
-        record { trie = p.low_half; stands = p.low_stands; fits = omega (arith, p.low_lower); reduced = both.0 },
-        record { trie = p.high_half; stands = p.high_stands; fits = omega (arith, p.high_lower); reduced = both.1 },
-      )
+  -- the first difference of the upper halves, where the lower ones agree
+  pub first_high : (start : ℕ) (found : Option ℕ) → AgreeBelow (2 ^ (bits - 1)) (value_at low (bits - 1)) (value_at low' (bits - 1)) →
+      IsFirstFrom (middle_of bits start) (2 ^ (bits - 1)) (value_at high (bits - 1)) (value_at high' (bits - 1)) found → IsFirstFrom start (2 ^ bits) (value_at t bits) (value_at u bits) found
+  first_high start None in_low none = in_both s (λ x y. x ≡ y) in_low none
+  first_high start (Some at) in_low some =
+      let there = differ_high (at - middle_of bits start) in_low some.1 in
+      let at_is : 2 ^ (bits - 1) + (at - middle_of bits start) ≡ at - start = omega (arith, some.0) in
+      (omega (arith, some.0), subst (DifferFirst (2 ^ bits) (value_at t bits) (value_at u bits)) at_is there)
 
-  -- the height of whatever trie the sources stand for
-  pub fits_any : (bits : ℕ) (nodes : List (Node V)) (n : Loose V) → IsTrie bits nodes n → (u : Shape V) → Stands nodes n u → height u ≤ bits
-  fits_any bits nodes n t u p = subst (λ x. height x ≤ bits) (one_shape nodes n t.trie u t.stands p) t.fits
+-- the halves of two tries of which not both are single values
+pub sides : {V : Type 0} (nothing : V) (nodes others : List (Node V)) (bits start : ℕ) (n m : Loose V) {l h l' h' : Loose V} {t u : Shape V} → HasOneForm nothing nodes → HasOneForm nothing others → IsPlace 128 bits start →
+    IsLooseIn nothing nodes bits start n → IsNormalLoose nothing nodes n → IsLooseIn nothing others bits start m → IsNormalLoose nothing others m →
+    ((b s : ℕ) (ns ms : List (Node V)) → IsLooseIn nothing ns b s n → IsNormalLoose nothing ns n → IsLooseIn nothing ms b s m → IsNormalLoose nothing ms m → 0 < b) →
+    StandsIn nothing nodes bits start n t → StandsIn nothing others bits start m u → (p : IsHalved nothing nodes bits start t l h) → (q : IsHalved nothing others bits start u l' h') → SideBySide bits t p.low_half p.high_half u q.low_half q.high_half
+sides nothing nodes others bits start n m {t} {u} form form' place i k i' k' some stands stands' p q =
+    side_by_side (fits_any nothing nodes form 128 bits start place n i k t stands) (fits_any nothing others form' 128 bits start place m i' k' u stands') (some bits start nodes others i k i' k') p q
 
-  -- the halves of two tries of which not both are leaves
-  pub sides : {bits : ℕ} {nodes others : List (Node V)} {n m l h l' h' : Loose V} {t u : Shape V} → IsTrie bits nodes n → IsTrie bits others m → ((b : ℕ) → IsTrie b nodes n → IsTrie b others m → 0 < b) →
-      Stands nodes n t → Stands others m u → (p : IsHalved nodes t l h) → (q : IsHalved others u l' h') → SideBySide bits t p.low_half p.high_half u q.low_half q.high_half
-  sides {bits} {nodes} {others} {n} {m} {l} {h} {l'} {h'} {t} {u} own theirs some stands stands' p q =
-      side_by_side nodes others bits t u l h l' h' (fits_any bits nodes n own t stands) (fits_any bits others m theirs u stands') (some bits own theirs) p q
-
-  -- where there is no constant some bit is left
-  pub some_without_leaf : (bits : ℕ) (nodes : List (Node V)) (n : Loose V) → ((v : V) → n ≡ Same v → ⊥) → IsTrie bits nodes n → 0 < bits
-  some_without_leaf bits nodes n none h = by h.trie h.stands h.fits
-    where
-      by : (t : Shape V) → Stands nodes n t → height t ≤ bits → 0 < bits
-      by (leaf v) p fits = absurd (none v p)
-      by (fork l k) p fits = omega arith
-
--- an address of a block of at most 128 bits fits
-pub in_width : (bits at : ℕ) → 0 < bits → bits ≤ 128 → at < 2 ^ (bits - 1) → 2 ^ (bits - 1) + at < 2 ^ 128
-in_width bits at some width half = omega (arith, pow_twice bits some, pow_mono {i = bits} {j = 128} width)
-
-module _ {V : Type 0} (nodes others : List (Node V)) (n m : Loose V) (bits : ℕ) (v w : V) (p : Stands nodes n (leaf v)) (q : Stands others m (leaf w)) (t u : Shape V)
-    (stands : Stands nodes n t) (stands' : Stands others m u) where
+module _ {V : Type 0} (nothing : V) (nodes others : List (Node V)) (n m : Loose V) (bits start : ℕ) (v w : V) (p : n ≡ Same v) (q : m ≡ Same w) (t u : Shape V)
+    (stands : StandsIn nothing nodes bits start n t) (stands' : StandsIn nothing others bits start m u) where
   pub agree_at_leaves : v ≡ w → AgreeBelow (2 ^ bits) (value_at t bits) (value_at u bits)
   agree_at_leaves e a a_in =
-      ap (λ x. value_at x bits a) (one_shape nodes n t (leaf v) stands p) ∙ e ∙ ap (λ x. value_at x bits a) (one_shape others m (leaf w) u q stands')
+      ap (λ x. value_at x bits a) (one_shape nothing nodes bits start n t (leaf v) stands p) ∙ e ∙ ap (λ x. value_at x bits a) (one_shape nothing others bits start m (leaf w) u q stands')
 
   pub differ_at_leaves : v ≢ w → DifferFirst (2 ^ bits) (value_at t bits) (value_at u bits) 0
   differ_at_leaves apart =
-      let left : value_at t bits 0 ≡ v = ap (λ x. value_at x bits 0) (one_shape nodes n t (leaf v) stands p) in
-      let right : value_at u bits 0 ≡ w = ap (λ x. value_at x bits 0) (one_shape others m u (leaf w) stands' q) in
+      let left : value_at t bits 0 ≡ v = ap (λ x. value_at x bits 0) (one_shape nothing nodes bits start n t (leaf v) stands p) in
+      let right : value_at u bits 0 ≡ w = ap (λ x. value_at x bits 0) (one_shape nothing others bits start m u (leaf w) stands' q) in
       record { in_range = pow_pos bits; differ = λ e. apart (sym left ∙ e ∙ right); agree_below = λ a none. absurd (omega arith) }
 
--- in one table sources stand for one trie
-module _ {V : Type 0} where
-  pub same_trie : (nodes others : List (Node V)) (n m : Loose V) (t u : Shape V) → nodes ≡ others → n ≡ m → Stands nodes n t → Stands others m u → t ≡ u
-  same_trie nodes others n m t u one same p q =
-      one_shape others m t u (subst (λ k. Stands others k t) same (subst (λ ns. Stands ns n t) one p)) q
+-- in one table what is the same stands for one trie
+pub agree_in_one : {V : Type 0} (nothing : V) (nodes others : List (Node V)) (n m : Loose V) (bits start : ℕ) (t u : Shape V) → nodes ≡ others → n ≡ m → StandsIn nothing nodes bits start n t → StandsIn nothing others bits start m u →
+    AgreeBelow (2 ^ bits) (value_at t bits) (value_at u bits)
+agree_in_one nothing nodes others n m bits start t u one same p q a a_in =
+    ap (λ x. value_at x bits a) (one_shape nothing others bits start m t u (subst (λ k. StandsIn nothing others bits start k t) same (subst (λ ns. StandsIn nothing ns bits start n t) one p)) q)
 
-  pub agree_in_one : (nodes others : List (Node V)) (n m : Loose V) (bits : ℕ) (t u : Shape V) → nodes ≡ others → n ≡ m → Stands nodes n t → Stands others m u → AgreeBelow (2 ^ bits) (value_at t bits) (value_at u bits)
-  agree_in_one nodes others n m bits t u one same p q a a_in = ap (λ x. value_at x bits a) (same_trie nodes others n m t u one same p q)
+-- from the first number of all
+pub from_first : {X : Type 0} (n : ℕ) (f g : ℕ → X) (found : Option ℕ) → IsFirstFrom 0 n f g found → IsFirstDifference n f g found
+from_first n f g None p = p
+from_first n f g (Some at) p = let is : at - 0 ≡ at = omega arith in subst (DifferFirst n f g) is p.1
 
 -- the first pair by destination, then source, is the least
 pub least_from_first : {V : Type 0} (w : ℕ) (f g : Answers V) (at : ℕ × ℕ) → DifferFirstAt (2 ^ w) (2 ^ w) f g at → IsLeastDifference w f g at.0 at.1

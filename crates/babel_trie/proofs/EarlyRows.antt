@@ -5,8 +5,7 @@ use Rattle.babel_prefix.specs.Best.{Row}
 use Rattle.babel_prefix.specs.Covers.{BlockCovers}
 use Rattle.babel_prefix.proofs.Members.{Listed, Contains-from_Listed, Listed-from_Contains, Listed-append_left, Listed-append_right}
 use Rattle.babel_trie.specs.Boxes.{Answers, IsBefore, IsBox, IsBoxList}
-use Rattle.babel_trie.specs.Held.{sources_at}
-use Rattle.babel_trie.specs.Interned.{HasOneForm, HasTrie}
+use Rattle.babel_trie.specs.Held.{sources_at, HasTrie}
 use Rattle.babel_trie.specs.Nested.{rows_of}
 use Rattle.babel_trie.specs.Runs.{said_at, AreRuns, StartBelow, HasRuns}
 use Rattle.babel_trie.specs.Shape.{value_at}
@@ -67,7 +66,7 @@ no_row_before : {V : Type 0} (row : Row V) → IsBefore row row → ⊥
 no_row_before row (inl lt) = omega arith
 no_row_before row (inr lt) = omega (arith, lt.1)
 
-module _ {V : Type 0} (w : ℕ) (nodes : List (Node (Option V))) (form : HasOneForm nodes) (front : List (Change (Sources (Option V)))) (last : Change (Sources (Option V)))
+module _ {V : Type 0} (w : ℕ) (nodes : List (Node (Option V))) (front : List (Change (Sources (Option V)))) (last : Change (Sources (Option V)))
     (f g : Answers V) (p : HasRuns w nodes (front ++ last ∷ []) g) where
   abbrev early : List (Row V)
   early = span_rows w nodes (spans last.start front)
@@ -83,7 +82,7 @@ module _ {V : Type 0} (w : ℕ) (nodes : List (Node (Option V))) (form : HasOneF
       ∙ rows_of-append w (span_blocks w value (spans last.start front)) (span_blocks w value (last_span (2 ^ w) last ∷ []))
 
   is_box : (row : Row V) → Listed early row → IsBox w g row
-  is_box row t = ((run_boxes w nodes (front ++ last ∷ []) g p form).exact row).0 (Contains-from_Listed _ row (subst (λ rows. Listed rows row) (sym rows_split) (Listed-append_left early late row t)))
+  is_box row t = ((run_boxes w nodes (front ++ last ∷ []) g p).exact row).0 (Contains-from_Listed _ row (subst (λ rows. Listed rows row) (sym rows_split) (Listed-append_left early late row t)))
 
   below_last : (row : Row V) → Listed early row → (d : ℕ) → d < 2 ^ w → BlockCovers w row.dst d → d < last.start
   below_last row t d d_in cd =
@@ -108,7 +107,7 @@ module _ {V : Type 0} (w : ℕ) (nodes : List (Node (Option V))) (form : HasOneF
   -- there are no more of them than of the boxes of what answers the same up to the last change
   pub early_rows : ((d s : ℕ) → d ≤ last.start → s < 2 ^ w → f d s ≡ g d s) → (boxes : List (Row V)) → IsBoxList w f boxes → length early ≤ length boxes
   early_rows same boxes are =
-      let in_order = subst (λ rows. AllPairs IsBefore rows) rows_split (run_boxes w nodes (front ++ last ∷ []) g p form).in_order in
+      let in_order = subst (λ rows. AllPairs IsBefore rows) rows_split (run_boxes w nodes (front ++ last ∷ []) g p).in_order in
       no_more (λ row box. row ≡ box) (λ row other box is other_is. is ∙ sym other_is) early boxes
       (distinct-front early late (Distinct-from_order IsBefore no_row_before (early ++ late) in_order))
       (λ row t.

@@ -8,8 +8,8 @@ use Rattle.babel_prefix.specs.Entries.{Entry, row_of}
 use Rattle.babel_prefix.proofs.Members.{Listed}
 use Rattle.babel_trie.specs.Boxes.{Answers, SameAnswers}
 use Rattle.babel_trie.specs.Early.{AgreeUpTo, HasMoreBoxes}
-use Rattle.babel_trie.specs.Held.{sources_at}
-use Rattle.babel_trie.specs.Interned.{HasTrie}
+use Rattle.babel_trie.specs.Held.{sources_at, HasTrie}
+use Rattle.babel_trie.specs.Interned.{HasOneForm}
 use Rattle.babel_trie.specs.Runs.{said_at, AreRuns, StartBelow, HasRuns}
 use Rattle.babel_trie.specs.Shape.{value_at}
 use Rattle.babel_trie.specs.declared.runs.Change.{Change}
@@ -33,7 +33,7 @@ pub some_below : {F : Type 0} (at : ℕ) (list : List (Change F)) → StartBelow
 some_below at [] below some = absurd (omega arith)
 some_below at (x ∷ xs) below some = omega (arith, below x (inl refl))
 
-module _ {V : Type 0} (w at : ℕ) (rows : List (Entry V)) (nodes : List (Node (Option V))) (list : List (Change (Sources (Option V)))) (runs : AreRuns list) (below : StartBelow at list) where
+module _ {V : Type 0} (w at : ℕ) (rows : List (Entry V)) (nodes : List (Node (Option V))) (list : List (Change (Sources (Option V)))) (form : HasOneForm None nodes) (runs : AreRuns list) (below : StartBelow at list) where
   -- what the rows answer for the destinations below the address, and from there on for the last of them
   abbrev pub so_far : Answers V
   so_far d = answer w (map row_of rows) (min d (at - 1))
@@ -48,6 +48,7 @@ module _ {V : Type 0} (w at : ℕ) (rows : List (Entry V)) (nodes : List (Node (
       record {
         runs = runs;
         below = λ x t. omega (arith, below x t);
+        form = form;
         each = λ none d d_in. subst (HasTrie w nodes) (sym (same none d)) (says none (min d (at - 1)) (omega arith)).held;
         answers = λ none d s d_in s_in.
             let e : ℕ = min d (at - 1) in

@@ -1,57 +1,76 @@
 -- What sources stand for.
-use Rattle.std.proofs.Common.{◌≡◌, inl, inr, ℕ, zero, suc, ◌-◌, ◌%◌, ◌^◌, ◌<◌, cond, true, false, List, Option, None, refl, sym, ◌∙◌, ap, subst, arith}
-use Rattle.babel_trie.specs.Held.{along, node_trie, trie_at, sources_at}
-use Rattle.babel_trie.specs.Interned.{inner, Stands, Represents, HasTrie}
-use Rattle.babel_trie.specs.Shape.{Shape, leaf, fork, is_low, height}
+use Rattle.std.proofs.Common.{◌≡◌, ◌⊎◌, inl, inr, ℕ, zero, suc, ◌+◌, ◌-◌, ◌^◌, ◌<◌, ◌≤◌, nat_lt, cond, true, false, List, Option, None, sym, ◌∙◌, ap, subst, arith}
+use Rattle.std.proofs.lemmas.Bool.{eq-eqb, ne_eqb}
+use Rattle.babel_trie.specs.Held.{opened, split_or, trie_at, sources_at, HasTrie}
+use Rattle.babel_trie.specs.Interned.{Opens, StandsIn, IsIn, HasOneForm, inside_of}
+use Rattle.babel_trie.specs.Shape.{Shape, leaf, fork}
+use Rattle.babel_trie.specs.Sound.{KeepsNodes}
 use Rattle.babel_trie.specs.declared.table.Loose.{Loose}
-use Rattle.babel_trie.specs.declared.table.Loose.TheVariants.{Split}
+use Rattle.babel_trie.specs.declared.table.Loose.TheVariants.{Same, Split}
 use Rattle.babel_trie.specs.declared.table.Node.{Node}
 use Rattle.babel_trie.specs.declared.table.Sources.{Sources}
 use Rattle.babel_trie.specs.declared.table.Sources.TheVariants.{Constant, Stored}
-use Rattle.babel_trie.proofs.NumberLaws.{inner-more, one_shape}
+use Rattle.babel_trie.proofs.NumberLaws.{Represents-grows, In-grows}
 
-module _ {V : Type 0} (nodes : List (Node V)) (trie : Sources V → Shape V) where
-  beside_inner : (node : Node V) (k path : ℕ) (inside : Shape V) → node.skip - 1 ≡ k → along k path (trie (inner node).outside) inside ≡ along k path (trie node.outside) inside
-  beside_inner node zero path inside e = refl
-  beside_inner node (suc k) path inside e = ap (λ (s : Sources V). along (suc k) path (trie s) inside) (inner-more node (λ one. omega arith))
+module _ {V : Type 0} (other : V) (nodes : List (Node V)) where
+  opened_is : (s : Sources V) (x : Loose V) → Opens nodes s x → opened other nodes s ≡ x
+  opened_is (Constant v) x p = sym p
+  opened_is (Stored n) x p = ap (split_or other nodes) p.1 ∙ sym p.2
 
-  -- what a node stands for, by the tries of what it names
-  along-stands : (t : Shape V) (node : Node V) → Stands nodes (Split node) t → ((s : Sources V) (u : Shape V) → Represents nodes s u → height u < height t → trie s ≡ u) →
-      along node.skip node.path (trie node.outside) (fork (trie node.low) (trie node.high)) ≡ t
-  along-stands (leaf v) node p known = absurd (cc)
-  along-stands (fork low high) node (l, h, inl e, p, q) known =
-      ap (λ k. along k node.path (trie node.outside) (fork (trie node.low) (trie node.high))) e.0
-      ∙ ap (λ x. fork x (trie node.high)) (known node.low low (l, e.1, p) (omega arith)) ∙ ap (fork low) (known node.high high (h, e.2, q) (omega arith))
-  along-stands (fork low high) node (l, h, inr (inl e), p, q) known =
-      let k : ℕ = node.skip - 1 in
-      let inside : Shape V = fork (trie node.low) (trie node.high) in
-      let o : Shape V = trie node.outside in
-      let rest : Shape V = along k (node.path % 2 ^ k) o inside in
-      let next : node.skip ≡ suc k = omega (arith, e.0) in
-      let first : is_low (suc k) node.path ≡ true = ap (λ n. is_low n node.path) (sym next) ∙ e.1 in
-      let within = along-stands low (inner node) (subst (λ (x : Loose V). Stands nodes x low) e.2 p) (λ s u r lt. known s u r (omega arith)) in
-      ap (λ n. along n node.path o inside) next ∙ ap (λ b. cond b (fork rest o) (fork o rest)) first
-      ∙ ap (λ x. fork x o) (sym (beside_inner node k (node.path % 2 ^ k) inside refl) ∙ within) ∙ ap (fork low) (known node.outside high (h, e.3, q) (omega arith))
-  along-stands (fork low high) node (l, h, inr (inr e), p, q) known =
-      let k : ℕ = node.skip - 1 in
-      let inside : Shape V = fork (trie node.low) (trie node.high) in
-      let o : Shape V = trie node.outside in
-      let rest : Shape V = along k (node.path % 2 ^ k) o inside in
-      let next : node.skip ≡ suc k = omega (arith, e.0) in
-      let first : is_low (suc k) node.path ≡ false = ap (λ n. is_low n node.path) (sym next) ∙ e.1 in
-      let within = along-stands high (inner node) (subst (λ (x : Loose V). Stands nodes x high) e.3 q) (λ s u r lt. known s u r (omega arith)) in
-      ap (λ n. along n node.path o inside) next ∙ ap (λ b. cond b (fork rest o) (fork o rest)) first
-      ∙ ap (λ x. fork x rest) (known node.outside low (l, e.2, p) (omega arith)) ∙ ap (fork low) (sym (beside_inner node k (node.path % 2 ^ k) inside refl) ∙ within)
+  -- the halves of a block of one more bit than this
+  abbrev AreHalves : ℕ → ℕ → ℕ → Node V → Loose V → Loose V → Type 0
+  AreHalves bits n start node l h =
+      ((node.bits ≡ bits) × Opens nodes node.low l × Opens nodes node.high h)
+      ⊎ ((node.bits < bits) × (node.start < start + 2 ^ n) × (l ≡ Split (inside_of other n node)) × (h ≡ Same node.outside))
+      ⊎ ((node.bits < bits) × (start + 2 ^ n ≤ node.start) × (l ≡ Same node.outside) × (h ≡ Split (inside_of other n node)))
 
-module _ {V : Type 0} where
-  -- what sources stand for, as far down as it goes
-  trie_at-stands : (other : V) (nodes : List (Node V)) (rest : ℕ) (s : Sources V) (t : Shape V) → Represents nodes s t → height t < rest → trie_at other nodes rest s ≡ t
-  trie_at-stands other nodes zero s t p lt = absurd (omega arith)
-  trie_at-stands other nodes (suc rest) (Constant v) t (x, is, p) lt = one_shape nodes x (leaf v) t is p
-  trie_at-stands other nodes (suc rest) (Stored number) t (x, (node, at, is), p) lt =
-      ap (node_trie other (trie_at other nodes rest)) at
-      ∙ along-stands nodes (trie_at other nodes rest) t node (subst (λ (y : Loose V). Stands nodes y t) is p) (λ s u r less. trie_at-stands other nodes rest s u r (omega arith))
+  -- the trie of a node, from those of its halves
+  trie_at-fork : (b start : ℕ) (node : Node V) (l h : Loose V) (low high : Shape V) → AreHalves (suc b) b start node l h →
+      trie_at other nodes b start l ≡ low → trie_at other nodes b (start + 2 ^ b) h ≡ high → trie_at other nodes (suc b) start (Split node) ≡ fork low high
+  trie_at-fork b start node l h low high halves is_low is_high = by halves
+    where
+      own : Shape V
+      own = fork (trie_at other nodes b start (opened other nodes node.low)) (trie_at other nodes b (start + 2 ^ b) (opened other nodes node.high))
+
+      lower : Shape V
+      lower = fork (trie_at other nodes b start (Split (inside_of other b node))) (leaf node.outside)
+
+      upper : Shape V
+      upper = fork (leaf node.outside) (trie_at other nodes b (start + 2 ^ b) (Split (inside_of other b node)))
+
+      by : AreHalves (suc b) b start node l h → trie_at other nodes (suc b) start (Split node) ≡ fork low high
+      by (inl p) =
+          ap (λ t. cond t own (cond (nat_lt node.start (start + 2 ^ b)) lower upper)) (eq-eqb node.bits (suc b) p.0)
+          ∙ ap (λ x. fork (trie_at other nodes b start x) (trie_at other nodes b (start + 2 ^ b) (opened other nodes node.high))) (opened_is node.low l p.1)
+          ∙ ap (λ x. fork (trie_at other nodes b start l) (trie_at other nodes b (start + 2 ^ b) x)) (opened_is node.high h p.2)
+          ∙ ap (λ t. fork t (trie_at other nodes b (start + 2 ^ b) h)) is_low ∙ ap (fork low) is_high
+      by (inr (inl p)) =
+          let below : nat_lt node.start (start + 2 ^ b) ≡ true = grind (arith, p.1) in
+          ap (λ t. cond t own (cond (nat_lt node.start (start + 2 ^ b)) lower upper)) (ne_eqb node.bits (suc b) (λ e. omega (arith, p.0)))
+          ∙ ap (λ t. cond t lower upper) below
+          ∙ ap (λ t. fork t (leaf node.outside)) (ap (trie_at other nodes b start) (sym p.2) ∙ is_low)
+          ∙ ap (fork low) (sym (ap (trie_at other nodes b (start + 2 ^ b)) p.3) ∙ is_high)
+      by (inr (inr p)) =
+          let above : nat_lt node.start (start + 2 ^ b) ≡ false = grind (arith, p.1) in
+          ap (λ t. cond t own (cond (nat_lt node.start (start + 2 ^ b)) lower upper)) (ne_eqb node.bits (suc b) (λ e. omega (arith, p.0)))
+          ∙ ap (λ t. cond t lower upper) above
+          ∙ ap (λ t. fork t (trie_at other nodes b (start + 2 ^ b) (Split (inside_of other b node)))) (sym (ap (trie_at other nodes b start) p.2) ∙ is_low)
+          ∙ ap (fork low) (ap (trie_at other nodes b (start + 2 ^ b)) (sym p.3) ∙ is_high)
+
+  -- what a thing stands for in a block
+  trie_at-stands : (bits start : ℕ) (x : Loose V) (t : Shape V) → StandsIn other nodes bits start x t → trie_at other nodes bits start x ≡ t
+  trie_at-stands bits start x (leaf v) p = ap (trie_at other nodes bits start) p
+  trie_at-stands bits start (Same v) (fork low high) p = absurd p.2
+  trie_at-stands zero start (Split node) (fork low high) p = absurd (let some : 0 < 0 = p.2.0 in omega arith)
+  trie_at-stands (suc b) start (Split node) (fork low high) (l, h, at, p, q) =
+      let e : suc b - 1 ≡ b = omega arith in
+      trie_at-fork b start node l h low high (subst (λ n. AreHalves (suc b) n start node l h) e at.1)
+      (trie_at-stands b start l low (subst (λ n. StandsIn other nodes n start l low) e p)) (trie_at-stands b (start + 2 ^ b) h high (subst (λ n. StandsIn other nodes n (start + 2 ^ n) h high) e q))
 
 module _ {V : Type 0} where
   pub sources_at-stands : (w : ℕ) (nodes : List (Node (Option V))) (s : Sources (Option V)) → (h : HasTrie w nodes s) → sources_at w nodes s ≡ h.trie
-  sources_at-stands w nodes s h = trie_at-stands None nodes (suc w) s h.trie h.stands (omega (arith, h.fits))
+  sources_at-stands w nodes s h = ap (trie_at None nodes w 0) (opened_is None nodes s h.stands.0 h.stands.1) ∙ trie_at-stands None nodes w 0 h.stands.0 h.trie h.stands.2
+
+  abbrev pub HasTrie-grows : (old new : List (Node (Option V))) → KeepsNodes old new → (w : ℕ) (s : Sources (Option V)) → HasTrie w old s → HasTrie w new s
+  HasTrie-grows old new keeps w s h =
+      record { trie = h.trie; stands = Represents-grows None old new keeps w 0 s h.trie h.stands; fits = h.fits; reduced = h.reduced; inside = In-grows None old new keeps w 0 s h.inside }

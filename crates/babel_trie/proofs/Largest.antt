@@ -12,7 +12,7 @@ use Rattle.babel_trie.specs.Rows.{IsPlace}
 use Rattle.babel_trie.proofs.Cuts.{IsCutTo, largest_from_cover}
 use Rattle.babel_trie.proofs.Lists.{InOrder, InOrder-append}
 use Rattle.babel_trie.proofs.OneList.{largest_are_one_list}
-use Rattle.babel_trie.proofs.PlaceLaws.{place_low, place_high}
+use Rattle.babel_trie.proofs.NumberLaws.{half_place, upper_place}
 use Rattle.babel_trie.proofs.Ranges.{size, covers_range, range_covers, inside_range, range_inside, parent_is, start_covered}
 
 -- a place is a prefix
@@ -137,8 +137,8 @@ module _ (w from last : ℕ) where
   blocks_are_in (suc bits) start place none =
       let twice : 2 ^ suc bits ≡ 2 ^ bits * 2 = pow-suc 2 bits in
       let one_less : suc bits - 1 ≡ bits = omega arith in
-      let low : IsPlace w bits start = subst (λ n. IsPlace w n start) one_less (place_low w (suc bits) start place (omega arith)) in
-      let high : IsPlace w bits (start + 2 ^ bits) = subst (λ n. IsPlace w n (start + 2 ^ n)) one_less (place_high w (suc bits) start place (omega arith)) in
+      let low : IsPlace w bits start = subst (λ n. IsPlace w n start) one_less (half_place w (suc bits) start (omega arith) place) in
+      let high : IsPlace w bits (start + 2 ^ bits) = subst (λ n. IsPlace w n (start + 2 ^ n)) one_less (upper_place w (suc bits) start (omega arith) place) in
       chosen (suc bits) start (blocks_in w from last bits start ++ blocks_in w from last bits (start + 2 ^ bits)) place none (λ apart.
       halves_in bits start (blocks_in w from last bits start) (blocks_in w from last bits (start + 2 ^ bits))
       (blocks_are_in bits start low (none_larger bits start start place none apart (omega arith) (omega arith)))

@@ -17,6 +17,12 @@ sources_cmp cmp (Constant v) (Stored m) = Less
 sources_cmp cmp (Stored k) (Constant w) = Greater
 sources_cmp cmp (Stored k) (Stored m) = nat_cmp k.0 m.0
 
+abbrev node : {V : Type 0} → ℕ → ℕ → V → Sources V → Sources V → Node V
+node n s o l h = record { bits = n; start = s; outside = o; low = l; high = h }
+
 -- a table is sound by each order that compares the same
-pub sound_by : {V : Type 0} {cmp other : Sources V → Sources V → Ordering} {mark : Sources V → ℕ} (nodes : List (Node V)) (numbers : Index (Node V)) → ((r s : Sources V) → cmp r s ≡ other r s) → IsSound cmp mark nodes numbers → IsSound other mark nodes numbers
-sound_by {mark} nodes numbers same sound = subst (λ c. IsSound c mark nodes numbers) (fun_ext (λ r. fun_ext (same r))) sound
+pub sound_by : {V : Type 0} {nothing : V} {cmp other : Node V → Node V → Ordering} {mark : Node V → ℕ} (nodes : List (Node V)) (numbers : Index (Node V)) →
+    ((n s : ℕ) (o : V) (n' s' : ℕ) (o' : V) (l l' h h' : Sources V) → cmp (node n s o l h) (node n' s' o' l' h') ≡ other (node n s o l h) (node n' s' o' l' h')) →
+    IsSound nothing cmp mark nodes numbers → IsSound nothing other mark nodes numbers
+sound_by {nothing} {mark} nodes numbers same sound =
+    subst (λ c. IsSound nothing c mark nodes numbers) (fun_ext (λ a. fun_ext (λ b. same a.bits a.start a.outside b.bits b.start b.outside a.low b.low a.high b.high))) sound

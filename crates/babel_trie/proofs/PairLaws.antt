@@ -5,7 +5,7 @@ use Rattle.babel_prefix.specs.Address.{block_of}
 use Rattle.babel_prefix.specs.Best.{answer}
 use Rattle.babel_prefix.specs.Entries.{Entry, row_of}
 use Rattle.babel_trie.specs.Differs.{AgreeBelow, DifferFirst, AgreeBelowBoth, DifferFirstAt}
-use Rattle.babel_trie.specs.Interned.{HasTrie}
+use Rattle.babel_trie.specs.Held.{HasTrie}
 use Rattle.babel_trie.specs.Pass.{IsLaidAt, IsUnderWay, StartRowsFrom, AreQuietUpTo}
 use Rattle.babel_trie.specs.Shape.{value_at}
 use Rattle.babel_trie.specs.declared.pass.Reached.{Reached}

@@ -13,8 +13,8 @@ use Rattle.babel_prefix.specs.Covers.{BlockCovers, IsBlock}
 use Rattle.babel_prefix.specs.Entries.{Entry, row_of}
 use Rattle.babel_prefix.proofs.BlockLaws.{within_shorter, same_block}
 use Rattle.babel_prefix.proofs.Members.{Listed, Listed-append_left, Listed-append_right, Listed-append_cases, Contains-from_Listed}
-use Rattle.babel_trie.specs.Held.{RowOrder}
-use Rattle.babel_trie.specs.Interned.{Represents, HasTrie}
+use Rattle.babel_trie.specs.Held.{RowOrder, Represents, HasTrie}
+use Rattle.babel_trie.specs.Interned.{IsIn, HasOneForm}
 use Rattle.babel_trie.specs.Laid.{HasOneDestination, IsOverlaid}
 use Rattle.babel_trie.specs.Pass.{IsFilled, StartInOrder, IsLaidAt, IsReachedAt, AreLaid, IsUnderWay, AreQuietUpTo}
 use Rattle.babel_trie.specs.Rows.{InOrder, IsNoLater, InBlock, Overlays, source_block}
@@ -24,9 +24,11 @@ use Rattle.babel_trie.specs.Sound.{KeepsNodes}
 use Rattle.babel_trie.specs.declared.pass.Reached.{Reached}
 use Rattle.babel_trie.specs.declared.runs.Change.{Change}
 use Rattle.babel_trie.specs.declared.table.Node.{Node}
+use Rattle.babel_trie.specs.declared.table.Loose.TheVariants.{Same}
 use Rattle.babel_trie.specs.declared.table.Sources.{Sources}
-use Rattle.babel_trie.proofs.HeldLaws.{sources_at-stands}
-use Rattle.babel_trie.proofs.NumberLaws.{Represents-grows, slice_get-take, slice_get-taken}
+use Rattle.babel_trie.specs.declared.table.Sources.TheVariants.{Constant}
+use Rattle.babel_trie.proofs.HeldLaws.{sources_at-stands, HasTrie-grows}
+use Rattle.babel_trie.proofs.NumberLaws.{slice_get-take, slice_get-taken}
 use Rattle.babel_trie.proofs.OverlayLaws.{overlays_left, overlays_then, answer-overlays}
 use Rattle.babel_trie.proofs.PartLaws.{from_map, to_map}
 use Rattle.babel_trie.proofs.PlaceLaws.{InOrder-left, InOrder-right}
@@ -141,7 +143,7 @@ module _ {V : Type 0} where
   laid-grows : (w d : ℕ) (rows : List (Entry V)) (nodes more : List (Node (Option V))) (s : Sources (Option V)) → KeepsNodes nodes more → IsLaidAt w d rows nodes s → IsLaidAt w d rows more s
   laid-grows w d rows nodes more s keeps l =
       let h = l.held in
-      record { held = record { trie = h.trie; stands = Represents-grows nodes more keeps s h.trie h.stands; fits = h.fits; reduced = h.reduced }; values = l.values }
+      record { held = HasTrie-grows nodes more keeps w s h; values = l.values }
 
   -- what the sources stand for is what the rows answer
   pub laid-answers : (w d : ℕ) (rows : List (Entry V)) (nodes : List (Node (Option V))) (s : Sources (Option V)) → IsTable w (map row_of rows) → IsLaidAt w d rows nodes s → (h : HasTrie w nodes s) →
@@ -165,16 +167,15 @@ module _ {V : Type 0} where
         }
 
     -- rows of one destination that has the address are laid over
-    laid-own : (x : Sources (Option V)) → ((t : Shape (Option V)) → Represents nodes n t → IsOverlaid w w 0 (map row_of own) more x t) → ((x : Entry V) → Listed own x → BlockCovers w (block_of x.0) d) →
+    laid-own : (x : Sources (Option V)) → IsIn None more w 0 x → ((t : Shape (Option V)) → Represents w nodes n t → IsOverlaid w (map row_of own) more x t) → ((x : Entry V) → Listed own x → BlockCovers w (block_of x.0) d) →
         ((x y : Row V) → Listed (map row_of gone) x → Listed (map row_of own) y → (s : ℕ) → Matches w d s x → Matches w d s y → IsNoLonger x y) → IsLaidAt w d (gone ++ own) more x
-    laid-own x overlaid covers shorter =
+    laid-own x inside overlaid covers shorter =
         let o = overlaid l.held.trie l.held.stands in
         record {
-          held = record { trie = o.new; stands = o.stands; fits = o.fits l.held.fits; reduced = o.reduced l.held.reduced };
+          held = record { trie = o.new; stands = o.stands; fits = o.fits l.held.fits; reduced = o.reduced l.held.reduced; inside = inside };
           values = λ s s_in.
-              let e : 0 + s ≡ s = omega arith in
               let all : (row : Row V) → Listed (map row_of own) row → BlockCovers w row.dst d = λ row t. let f = from_map row_of own row t in subst (λ (r : Row V). BlockCovers w r.dst d) f.2 (covers f.0 f.1) in
-              let here = subst (λ k. Overlays w (map row_of own) d k (value_at l.held.trie w s) (value_at o.new w s)) e (o.values d s all s_in) in
+              let here = o.values d s all s_in in
               subst (λ r. Overlays w r d s None (value_at o.new w s)) (sym both)
               (overlays_then w (map row_of gone) (map row_of own) d s None (value_at l.held.trie w s) (value_at o.new w s) (λ a b t u. shorter a b t u s) (l.values s s_in) here);
         }
@@ -246,8 +247,8 @@ module _ {V : Type 0} where
 
   -- no row is gone yet
   pub way-first : (w : ℕ) (rows left : List (Entry V)) (nodes : List (Node (Option V))) (now : Change (Reached V)) (ahead : List (Change (Reached V))) → IsTable w (map row_of rows) → InOrder RowOrder rows → rows ≡ left →
-      now.start ≡ 0 → now.sources.made ≡ 0 → Represents [] now.sources.trie (leaf None) → ahead ≡ [] → IsUnderWay w rows nodes now (reverse ahead) left
-  way-first w rows left nodes now [] table order whole start made stands none =
+      now.start ≡ 0 → now.sources.made ≡ 0 → now.sources.trie ≡ Constant None → ahead ≡ [] → IsUnderWay w rows nodes now (reverse ahead) left
+  way-first w rows left nodes now [] table order whole start made is none =
       record {
         table = table;
         rows_in_order = order;
@@ -255,12 +256,13 @@ module _ {V : Type 0} where
         whole = whole;
         in_order = ((λ x t. elim t [ ]), tt);
         below = λ x t. elim t [ inl here ↦ let e : now.start ≡ x.start = ap (λ (c : Change (Reached V)). c.start) here in omega (arith, pow_pos w) | inr never ↦ elim never [ ] ];
-        laid = λ d low d_in. record { held = record { trie = leaf None; stands = subst (λ n. Represents (take n nodes) now.sources.trie (leaf None)) (sym made) stands; fits = omega arith; reduced = tt }; values = λ s s_in. inr (λ row t m. elim t [ ], refl) };
+        laid = λ d low d_in. subst (IsLaidAt w d [] (take now.sources.made nodes)) (sym is)
+            (record { held = record { trie = leaf None; stands = (Same None, refl, refl); fits = omega arith; reduced = tt; inside = tt }; values = λ s s_in. inr (λ row t m. elim t [ ], refl) });
         made = omega (arith, made);
         from = λ y t. omega arith;
         nested = λ x t. elim t [ ];
       }
-  way-first w rows left nodes now (x ∷ ahead) table order whole start made stands none = cc
+  way-first w rows left nodes now (x ∷ ahead) table order whole start made is none = cc
 
   -- the next change ahead is come to
   pub way-back : (w : ℕ) (rows left : List (Entry V)) (nodes : List (Node (Option V))) (now next : Change (Reached V)) (ahead : List (Change (Reached V))) → ((y : Entry V) → Listed left y → next.start ≤ (block_of y.0).start) →
@@ -406,7 +408,7 @@ module _ {V : Type 0} where
           let here = order-no_longer w d s fx.0 fy.0 (prefixes p fx.0 x_in) (prefixes p fy.0 (own_in fy.0 fy.1)) before (subst (Matches w d s) (sym fx.2) at_x) (subst (Matches w d s) (sym fy.2) at_y) in
           subst (λ r. IsNoLonger r y) fx.2 (subst (IsNoLonger (row_of fx.0)) fy.2 here)
 
-      module _ (more : List (Node (Option V))) (here : Sources (Option V)) (keeps : KeepsNodes nodes more) (overlaid : (t : Shape (Option V)) → Represents nodes now.sources.trie t → IsOverlaid w w 0 (map row_of own) more here t)
+      module _ (more : List (Node (Option V))) (here : Sources (Option V)) (keeps : KeepsNodes nodes more) (here_in : IsIn None more w 0 here) (overlaid : (t : Shape (Option V)) → Represents w nodes now.sources.trie t → IsOverlaid w (map row_of own) more here t)
           (new : Change (Reached V)) (start_is : new.start ≡ b.start) (new_is : here ≡ new.sources.trie) (made_is : new.sources.made ≡ length more) where
         -- inside the block the rows of the destination are laid over what the pass had come to
         inside : (d : ℕ) → b.start ≤ d → d < b.start + size w b → IsReachedAt w d (p.gone ++ own) more new.sources
@@ -414,7 +416,7 @@ module _ {V : Type 0} where
             let le : b.start + size w b ≤ 2 ^ w = block_ends w b block in
             let l = are_laid-here w p.gone nodes now ahead p.laid d (omega (arith, starts_before)) (omega arith) (λ x t. omega (arith, ends_ahead x t)) in
             subst (λ xs. IsLaidAt w d (p.gone ++ own) xs new.sources.trie) (sym (take_all new.sources.made more (omega (arith, made_is)))) (subst (IsLaidAt w d (p.gone ++ own) more) new_is
-            (laid-own w d p.gone own nodes more now.sources.trie l here overlaid (λ x t. subst (λ a. BlockCovers w a d) (sym (n.one x t)) (range_covers w b d block low high)) (shorter d)))
+            (laid-own w d p.gone own nodes more now.sources.trie l here here_in overlaid (λ x t. subst (λ a. BlockCovers w a d) (sym (n.one x t)) (range_covers w b d block low high)) (shorter d)))
 
         -- behind the block they change nothing
         never : (d : ℕ) → b.start + size w b ≤ d → (x : Entry V) → Listed own x → BlockCovers w (block_of x.0) d → ⊥
@@ -487,12 +489,13 @@ module _ {V : Type 0} where
       ]
 
   -- a list that says it of all addresses has the answers of the rows
-  pub says-all : (w : ℕ) (rows : List (Entry V)) (nodes : List (Node (Option V))) (list : List (Change (Sources (Option V)))) → IsTable w (map row_of rows) → AreRuns list → StartBelow (2 ^ w) list → Says w (2 ^ w) rows nodes list →
+  pub says-all : (w : ℕ) (rows : List (Entry V)) (nodes : List (Node (Option V))) (list : List (Change (Sources (Option V)))) → HasOneForm None nodes → IsTable w (map row_of rows) → AreRuns list → StartBelow (2 ^ w) list → Says w (2 ^ w) rows nodes list →
       HasRuns w nodes list (answer w (map row_of rows))
-  says-all w rows nodes list table runs below says =
+  says-all w rows nodes list form table runs below says =
       record {
         runs = runs;
         below = below;
+        form = form;
         each = λ none d d_in. (says none d d_in).held;
         answers = λ none d s d_in s_in.
             let l = says none d d_in in

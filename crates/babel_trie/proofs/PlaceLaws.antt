@@ -1,20 +1,20 @@
 -- Rows of a block: those of the whole block come first, and those of its lower half before those of its upper.
-use Rattle.std.proofs.Common.{◌≡◌, ◌⊎◌, inl, inr, ℕ, zero, suc, ◌+◌, ◌-◌, ◌*◌, ◌/◌, ◌%◌, ◌^◌, ◌<◌, ◌≤◌, ◌==◌, true, nat_lt, List, [], ◌∷◌, ◌++◌, length, get_or, refl, sym, ◌∙◌, ap, subst, arith, eqb-true, eq-eqb}
+use Rattle.std.proofs.Common.{◌≡◌, ◌⊎◌, inl, inr, ℕ, zero, suc, ◌+◌, ◌-◌, ◌*◌, ◌/◌, ◌^◌, ◌<◌, ◌≤◌, true, nat_lt, List, [], ◌∷◌, ◌++◌, length, get_or, refl, sym, ◌∙◌, ap, subst, arith}
 use Rattle.std.specs.List.Sorted.{IsPartitionedBy}
 use Rattle.std.proofs.lemmas.Nat.{pow_pos, shr_high}
 use Rattle.std.proofs.lemmas.Bool.{ltb-true, lt-ltb, cases_order}
-use Rattle.std.proofs.Math.Nat.{div-lt_iff_lt-mul, le-div_iff_mul-le, div-add-mod'}
+use Rattle.std.proofs.Math.Nat.{div-lt_iff_lt-mul, le-div_iff_mul-le}
 use Rattle.babel_prefix.specs.Block.{Block}
-use Rattle.babel_prefix.specs.Covers.{BlockCovers, IsBlock}
+use Rattle.babel_prefix.specs.Covers.{BlockCovers}
 use Rattle.babel_prefix.proofs.Members.{Listed}
 use Rattle.babel_trie.specs.Rows.{InOrder, IsNoLater, IsPlace, InBlock}
 use Rattle.babel_trie.proofs.BitLaws.{pow_twice}
 use Rattle.babel_prefix.proofs.BlockLaws.{fewer_bits}
-use Rattle.babel_prefix.proofs.Members.{Listed-append_left, Listed-append_right, Listed-get_or}
+use Rattle.babel_prefix.proofs.Members.{Listed-append_left, Listed-append_right}
 use Rattle.babel_trie.proofs.Lists.{AllPairs-from_order}
 
 module _ {X : Type 0} where
-  Listed-from_within : (P : X → Type 0) (xs : List X) → ((k : ℕ) (d : X) → k < length xs → P (get_or xs k d)) → (x : X) → Listed xs x → P x
+  pub Listed-from_within : (P : X → Type 0) (xs : List X) → ((k : ℕ) (d : X) → k < length xs → P (get_or xs k d)) → (x : X) → Listed xs x → P x
   Listed-from_within P [] all x none = elim none [ ]
   Listed-from_within P (y ∷ ys) all x (inl e) = subst P e (all 0 y (omega arith))
   Listed-from_within P (y ∷ ys) all x (inr t) = Listed-from_within P ys (λ k d k_in. all (suc k) d (omega arith)) x t
@@ -52,24 +52,8 @@ module _ {X : Type 0} where
   InOrder-right R [] b o = o
   InOrder-right R (x ∷ a) b o = InOrder-right R a b o.1
 
--- the halves of a place
-pub place_low : (w bits start : ℕ) → IsPlace w bits start → 0 < bits → IsPlace w (bits - 1) start
-place_low w bits start p some =
-    let twice = pow_twice bits some in
-    let room : start + 2 ^ bits ≤ 2 ^ w = p.room in
-    let le : bits ≤ w = p.bits_in in
-    record { bits_in = omega arith; index = p.index * 2; start_is = p.start_is ∙ ap (λ n. p.index * n) twice ∙ omega arith; room = omega arith }
-
-pub place_high : (w bits start : ℕ) → IsPlace w bits start → 0 < bits → IsPlace w (bits - 1) (start + 2 ^ (bits - 1))
-place_high w bits start p some =
-    let twice = pow_twice bits some in
-    let room : start + 2 ^ bits ≤ 2 ^ w = p.room in
-    let le : bits ≤ w = p.bits_in in
-    let is : start ≡ p.index * (2 * 2 ^ (bits - 1)) = p.start_is ∙ ap (λ n. p.index * n) twice in
-    record { bits_in = omega arith; index = p.index * 2 + 1; start_is = omega arith; room = omega arith }
-
 -- an address of a block
-in_place : (w bits start a : ℕ) → (p : IsPlace w bits start) → start ≤ a → a < start + 2 ^ bits → a / 2 ^ bits ≡ p.index
+pub in_place : (w bits start a : ℕ) → (p : IsPlace w bits start) → start ≤ a → a < start + 2 ^ bits → a / 2 ^ bits ≡ p.index
 in_place w bits start a p low high =
     let k = p.index in
     let e : a ≡ k * 2 ^ bits + (a - start) = omega (arith, p.start_is) in
@@ -82,16 +66,6 @@ whole_covers w bits start b p low high len a a_in =
     let all : bits ≡ w - b.len = omega arith in
     let P : ℕ → Type 0 = λ n. (start + a) / 2 ^ n ≡ b.start / 2 ^ n in
     subst P all (in_place w bits start (start + a) p (omega arith) (omega arith) ∙ sym (in_place w bits start b.start p low high))
-
--- a prefix of the whole block starts where the block does
-pub whole_start : (w bits start : ℕ) (b : Block) → IsPlace w bits start → IsBlock w b → start ≤ b.start → b.start < start + 2 ^ bits → b.len ≡ w - bits → b.start ≡ start
-whole_start w bits start b p q low high len =
-    let le : bits ≤ w = p.bits_in in
-    let all : w - b.len ≡ bits = omega arith in
-    let P : ℕ → Type 0 = λ n. b.start % 2 ^ n ≡ 0 in
-    let none : b.start % 2 ^ bits ≡ 0 = subst P all q.rest_is_zero in
-    let quotient = in_place w bits start b.start p low high in
-    sym (div-add-mod' b.start (2 ^ bits)) ∙ ap (λ n. n * 2 ^ bits + b.start % 2 ^ bits) quotient ∙ ap (λ n. p.index * 2 ^ bits + n) none ∙ omega (arith, p.start_is)
 
 -- two addresses on two sides of a multiple of a block's size are in no common block of that size
 two_sides : (bits j x y : ℕ) → x < j * 2 ^ bits → j * 2 ^ bits ≤ y → x / 2 ^ bits ≡ y / 2 ^ bits → ⊥
@@ -124,31 +98,8 @@ outside_misses w bits start b a p len from before (inr ge) c =
     two_sides bits (suc p.index) b.start a (omega (arith, p.start_is, before)) (omega (arith, p.start_is, ge)) (sym (covered_agrees w bits b a p.bits_in len c))
 
 module _ {X : Type 0} (key : X → Block) where
-  pairs_of : (w bits start : ℕ) (rows : List X) → InBlock key w bits start rows → (i j : ℕ) (d : X) → i < j → j < length rows → IsNoLater (key (get_or rows i d)) (key (get_or rows j d))
+  pub pairs_of : (w bits start : ℕ) (rows : List X) → InBlock key w bits start rows → (i j : ℕ) (d : X) → i < j → j < length rows → IsNoLater (key (get_or rows i d)) (key (get_or rows j d))
   pairs_of w bits start rows b i j d lt j_in = AllPairs-from_order (λ x y. IsNoLater (key x) (key y)) rows b.in_order i j d lt j_in
-
-  -- the rows of the whole block come first
-  pub whole_first : (w bits start : ℕ) (rows : List X) → IsPlace w bits start → InBlock key w bits start rows → (len : ℕ) → len ≡ w - bits → IsPartitionedBy (λ x. (key x).len == len) rows
-  whole_first w bits start rows p b len len_is i j d le j_in test =
-      elim (cases_order i j) [
-        | inl e ↦ subst (λ k. (key (get_or rows k d)).len == len ≡ true) (sym e) test
-        | inr either ↦ elim either [
-          | inl lt ↦
-              let x = get_or rows i d in
-              let y = get_or rows j d in
-              let x_in = Listed-get_or rows i d (omega arith) in
-              let y_in = Listed-get_or rows j d j_in in
-              let y_len : (key y).len ≡ len = eqb-true _ _ test in
-              let y_start : (key y).start ≡ start = whole_start w bits start (key y) p (b.prefixes y y_in) (b.from_start y y_in) (b.before_end y y_in) (y_len ∙ len_is) in
-              let x_from : start ≤ (key x).start = b.from_start x x_in in
-              let x_len : w - bits ≤ (key x).len = b.no_shorter x x_in in
-              elim (pairs_of w bits start rows b i j d lt j_in) [
-                | inl below ↦ absurd (omega arith)
-                | inr same ↦ let shorter : (key x).len ≤ (key y).len = same.1 in eq-eqb _ _ (omega arith)
-              ]
-          | inr gt ↦ absurd (omega arith)
-        ]
-      ]
 
   -- the rows that start below an address come first
   pub lower_first : (w bits start : ℕ) (rows : List X) → InBlock key w bits start rows → (middle : ℕ) → IsPartitionedBy (λ x. nat_lt (key x).start middle) rows
@@ -174,16 +125,6 @@ module _ {X : Type 0} (key : X → Block) where
         no_shorter = λ x t. c.no_shorter x (Listed-append_right own rest x t);
         in_order = InOrder-right (λ x y. IsNoLater (key x) (key y)) own rest c.in_order;
       }
-
-  -- where other rows are left some bit is left
-  pub some_bit : (w bits start len : ℕ) (rows : List X) → IsPlace w bits start → InBlock key w bits start rows → len ≡ w - bits → ((x : X) → Listed rows x → (key x).len ≡ len → ⊥) → (x : X) → Listed rows x → 0 < bits
-  some_bit w bits start len rows p b len_is longer x x_in =
-      let le : (key x).len ≤ w = (b.prefixes x x_in).len_in_range in
-      let ge : w - bits ≤ (key x).len = b.no_shorter x x_in in
-      elim (cases_order bits 0) [
-        | inl none ↦ absurd (longer x x_in (omega arith))
-        | inr either ↦ elim either [ inl lt ↦ absurd (omega arith) | inr gt ↦ gt ]
-      ]
 
   -- those of them in the lower half
   pub block_low : (w bits start len : ℕ) (rows low high : List X) → 0 < bits → IsPlace w bits start → InBlock key w bits start rows → rows ≡ low ++ high → len ≡ w - bits →

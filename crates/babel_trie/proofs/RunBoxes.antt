@@ -1,5 +1,5 @@
 -- The rows of a list of changes are the boxes of what it answers.
-use Rattle.std.proofs.Common.{◌≡◌, inl, inr, ℕ, ◌^◌, ◌<◌, ◌≤◌, List, [], ◌∷◌, length, Option, Some, sym, ◌∙◌, ap, subst, arith}
+use Rattle.std.proofs.Common.{◌≡◌, inl, inr, ℕ, ◌^◌, ◌<◌, ◌≤◌, List, [], ◌∷◌, length, Option, Some, None, sym, ◌∙◌, ap, subst, arith}
 use Rattle.std.proofs.lemmas.Bool.{cases_lt}
 use Rattle.std.proofs.lemmas.Nat.{pow_pos}
 use Rattle.babel_prefix.specs.Block.{Block}
@@ -8,8 +8,7 @@ use Rattle.babel_prefix.specs.Best.{Row, answer}
 use Rattle.babel_prefix.proofs.Members.{Listed, Listed-from_Contains}
 use Rattle.babel_trie.specs.Boxes.{Answers, SameAnswers, IsUniform, IsBoxList}
 use Rattle.babel_trie.specs.Cut.{largest_in}
-use Rattle.babel_trie.specs.Held.{sources_at}
-use Rattle.babel_trie.specs.Interned.{Represents, HasTrie, HasOneForm}
+use Rattle.babel_trie.specs.Held.{sources_at, Represents, HasTrie}
 use Rattle.babel_trie.specs.Runs.{said_at, HasRuns}
 use Rattle.babel_trie.specs.Shape.{height, value_at, IsReduced}
 use Rattle.babel_trie.specs.Sound.{IsBelow}
@@ -24,7 +23,7 @@ use Rattle.babel_trie.proofs.HeldLaws.{sources_at-stands}
 use Rattle.babel_trie.proofs.Largest.{largest_are_in, largest_cover}
 use Rattle.babel_trie.proofs.Leaves.{leaves_longest}
 use Rattle.babel_trie.proofs.NumberLaws.{one_form}
-use Rattle.babel_trie.proofs.FormLaws.{Represents-in}
+use Rattle.babel_trie.proofs.TrieLaws.{In-below, whole_place}
 use Rattle.babel_trie.proofs.Pairs.{AreBlocksOf, rows_are_boxes, rows_from, stands_whole}
 use Rattle.babel_trie.proofs.Reduced.{reduced_same}
 use Rattle.babel_trie.proofs.SpanLaws.{IsRising, IsRunList, Says, HasOneValue, rising_runs, neighbours_differ, span_of, largest_uniform_in_runs, in_runs_largest_uniform}
@@ -44,7 +43,7 @@ module _ {V : Type 0} (w : ℕ) (sources : List (Node (Option V))) (list : List 
         | inl later ↦
             let nothing : said_at no_node list 0 ≡ no_node = said-before no_node list 0 (λ x t. omega (arith, starts_from (2 ^ w) list rising x t)) in
             let h = p.each no_node 0 (pow_pos w) in
-            let in_table : length sources < length sources = subst (IsBelow (length sources)) nothing (Represents-in sources (said_at no_node list 0) h.trie h.stands) in
+            let in_table : length sources < length sources = subst (IsBelow (length sources)) nothing (In-below None sources w 0 (said_at no_node list 0) h.inside) in
             absurd (omega arith)
         | inr here ↦ omega arith
       ]
@@ -88,70 +87,69 @@ module _ {V : Type 0} (w : ℕ) (sources : List (Node (Option V))) (list : List 
   run_list : IsRunList w list
   run_list = record { from_zero = from_zero; rising = rising; neighbours_differ = neighbours_differ list p.runs }
 
-  module _ (form : HasOneForm sources) where
-    -- two destinations with the same answers have equal sources
-    one_said : (d e : ℕ) → (d_in : d < 2 ^ w) → (e_in : e < 2 ^ w) → ((s : ℕ) → s < 2 ^ w → f d s ≡ f e s) → said d ≡ said e
-    one_said d e d_in e_in same =
-        let h = p.each no_node d d_in in
-        let k = p.each no_node e e_in in
-        let one : h.trie ≡ k.trie = reduced_same w h.trie k.trie h.fits k.fits h.reduced k.reduced (λ s s_in. trie_answers d s d_in s_in ∙ same s s_in ∙ sym (trie_answers e s e_in s_in)) in
-        one_form sources form k.trie (said d) (said e) (subst (Represents sources (said d)) one h.stands) k.stands
+  -- two destinations with the same answers have equal sources
+  one_said : (d e : ℕ) → (d_in : d < 2 ^ w) → (e_in : e < 2 ^ w) → ((s : ℕ) → s < 2 ^ w → f d s ≡ f e s) → said d ≡ said e
+  one_said d e d_in e_in same =
+      let h = p.each no_node d d_in in
+      let k = p.each no_node e e_in in
+      let one : h.trie ≡ k.trie = reduced_same w h.trie k.trie h.fits k.fits h.reduced k.reduced (λ s s_in. trie_answers d s d_in s_in ∙ same s s_in ∙ sym (trie_answers e s e_in s_in)) in
+      one_form None sources p.form w w 0 (whole_place w) k.trie (said d) (said e) h.inside k.inside (subst (Represents w sources (said d)) one h.stands) k.stands
 
-    -- the blocks with equal sources are the uniform ones
-    one_value : (b : Block) → IsUniform w f b → HasOneValue w said b
-    one_value b uniform d e d_in e_in in_d in_e = one_said d e d_in e_in (λ s s_in. uniform d e s d_in e_in s_in in_d in_e)
+  -- the blocks with equal sources are the uniform ones
+  one_value : (b : Block) → IsUniform w f b → HasOneValue w said b
+  one_value b uniform d e d_in e_in in_d in_e = one_said d e d_in e_in (λ s s_in. uniform d e s d_in e_in s_in in_d in_e)
 
-    uniform_value : (b : Block) → HasOneValue w said b → IsUniform w f b
-    uniform_value b one d e s d_in e_in s_in in_d in_e =
-        let same : said d ≡ said e = one d e d_in e_in in_d in_e in
-        sym (p.answers no_node d s d_in s_in) ∙ ap (λ (n : Sources (Option V)). value_at (sources_at w sources n) w s) same ∙ p.answers no_node e s e_in s_in
+  uniform_value : (b : Block) → HasOneValue w said b → IsUniform w f b
+  uniform_value b one d e s d_in e_in s_in in_d in_e =
+      let same : said d ≡ said e = one d e d_in e_in in_d in_e in
+      sym (p.answers no_node d s d_in s_in) ∙ ap (λ (n : Sources (Option V)). value_at (sources_at w sources n) w s) same ∙ p.answers no_node e s e_in s_in
 
-    -- the largest blocks of the spans are the longest uniform ones
-    pub are_blocks : AreBlocksOf w f (span_blocks w (sources_at w sources) (spans (2 ^ w) list))
-    are_blocks =
-        record {
-          in_order = blocks_in_order w (sources_at w sources) (2 ^ w) (omega arith) list rising;
-          each = λ b q t.
-              let from = from_span w (sources_at w sources) (spans (2 ^ w) list) b q t in
-              let s : Span (Sources (Option V)) = from.0 in
-              let range = span_range (2 ^ w) list rising s from.1 in
-              let is = largest_of w (sources_at w sources) s range.1 b from.2 in
-              let h = span_trie s from.1 in
-              let trie_is : h.trie ≡ q = sym (sources_at-stands w sources s.sources h) ∙ from.3 in
-              record {
-                is_prefix = is.is_prefix;
-                longest = λ some uniform. (in_runs_largest_uniform w list said run_list says b (s, from.1, is)).largest some (one_value (parent w b) uniform);
-                fits = subst (λ t. height t ≤ w) trie_is h.fits;
-                reduced = subst IsReduced trie_is h.reduced;
-                answers = λ d a d_in a_in in_b.
-                    let inside = is.inside d d_in in_b in
-                    sym (p.answers no_node d a d_in a_in) ∙ ap (λ (n : Sources (Option V)). value_at (sources_at w sources n) w a) (says s from.1 d inside.0 inside.1) ∙ ap (λ t. value_at t w a) from.3;
-              };
-          found = λ b is uniform longest.
-              let at = largest_uniform_in_runs w list said run_list says b (record {
-                is_prefix = is;
-                uniform = one_value b uniform;
-                largest = λ some one. longest some (uniform_value (parent w b) one);
-              }) in
-              let s : Span (Sources (Option V)) = at.0 in
-              let range = span_range (2 ^ w) list rising s at.1 in
-              let listed = Listed-from_Contains (largest_in w s.from s.last) b (((largest_are_in w s.from s.last range.1).exact b).1 at.2) in
-              (sources_at w sources s.sources, in_span w (sources_at w sources) (spans (2 ^ w) list) s b at.1 listed);
-          covered = λ d d_in.
-              let at = span_of (2 ^ w) list rising run_list.neighbours_differ d (omega (arith, from_zero)) d_in in
-              let s : Span (Sources (Option V)) = at.span in
-              let range = span_range (2 ^ w) list rising s at.listed in
-              let c = largest_cover w s.from s.last range.1 d at.from_in at.last_in in
-              (c.0, sources_at w sources s.sources, in_span w (sources_at w sources) (spans (2 ^ w) list) s c.0 at.listed c.1, c.2);
-        }
+  -- the largest blocks of the spans are the longest uniform ones
+  pub are_blocks : AreBlocksOf w f (span_blocks w (sources_at w sources) (spans (2 ^ w) list))
+  are_blocks =
+      record {
+        in_order = blocks_in_order w (sources_at w sources) (2 ^ w) (omega arith) list rising;
+        each = λ b q t.
+            let from = from_span w (sources_at w sources) (spans (2 ^ w) list) b q t in
+            let s : Span (Sources (Option V)) = from.0 in
+            let range = span_range (2 ^ w) list rising s from.1 in
+            let is = largest_of w (sources_at w sources) s range.1 b from.2 in
+            let h = span_trie s from.1 in
+            let trie_is : h.trie ≡ q = sym (sources_at-stands w sources s.sources h) ∙ from.3 in
+            record {
+              is_prefix = is.is_prefix;
+              longest = λ some uniform. (in_runs_largest_uniform w list said run_list says b (s, from.1, is)).largest some (one_value (parent w b) uniform);
+              fits = subst (λ t. height t ≤ w) trie_is h.fits;
+              reduced = subst IsReduced trie_is h.reduced;
+              answers = λ d a d_in a_in in_b.
+                  let inside = is.inside d d_in in_b in
+                  sym (p.answers no_node d a d_in a_in) ∙ ap (λ (n : Sources (Option V)). value_at (sources_at w sources n) w a) (says s from.1 d inside.0 inside.1) ∙ ap (λ t. value_at t w a) from.3;
+            };
+        found = λ b is uniform longest.
+            let at = largest_uniform_in_runs w list said run_list says b (record {
+              is_prefix = is;
+              uniform = one_value b uniform;
+              largest = λ some one. longest some (uniform_value (parent w b) one);
+            }) in
+            let s : Span (Sources (Option V)) = at.0 in
+            let range = span_range (2 ^ w) list rising s at.1 in
+            let listed = Listed-from_Contains (largest_in w s.from s.last) b (((largest_are_in w s.from s.last range.1).exact b).1 at.2) in
+            (sources_at w sources s.sources, in_span w (sources_at w sources) (spans (2 ^ w) list) s b at.1 listed);
+        covered = λ d d_in.
+            let at = span_of (2 ^ w) list rising run_list.neighbours_differ d (omega (arith, from_zero)) d_in in
+            let s : Span (Sources (Option V)) = at.span in
+            let range = span_range (2 ^ w) list rising s at.listed in
+            let c = largest_cover w s.from s.last range.1 d at.from_in at.last_in in
+            (c.0, sources_at w sources s.sources, in_span w (sources_at w sources) (spans (2 ^ w) list) s c.0 at.listed c.1, c.2);
+      }
 
-    -- the rows are the boxes
-    pub run_boxes : IsBoxList w f (run_rows w sources list)
-    run_boxes = rows_are_boxes w f (span_blocks w (sources_at w sources) (spans (2 ^ w) list)) are_blocks
+  -- the rows are the boxes
+  pub run_boxes : IsBoxList w f (run_rows w sources list)
+  run_boxes = rows_are_boxes w f (span_blocks w (sources_at w sources) (spans (2 ^ w) list)) are_blocks
 
-    -- and have the answers
-    pub run_rows_answer : SameAnswers w (answer w (run_rows w sources list)) f
-    run_rows_answer = answer-rows_of w f (span_blocks w (sources_at w sources) (spans (2 ^ w) list)) are_blocks
+  -- and have the answers
+  pub run_rows_answer : SameAnswers w (answer w (run_rows w sources list)) f
+  run_rows_answer = answer-rows_of w f (span_blocks w (sources_at w sources) (spans (2 ^ w) list)) are_blocks
 
   -- a row has two prefixes
   pub rows_prefixes : (row : Row V) → Listed (run_rows w sources list) row → IsBlock w row.dst × IsBlock w row.src

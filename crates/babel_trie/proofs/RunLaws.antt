@@ -1,18 +1,17 @@
 -- What a list of changes says.
-use Rattle.std.proofs.Common.{◌≡◌, ◌≢◌, inl, inr, ℕ, suc, ◌-◌, ◌^◌, ◌<◌, ◌≤◌, true, false, cond, List, [], ◌∷◌, ◌++◌, nat_le, length, Option, Some, refl, sym, ◌∙◌, ap, subst, arith}
+use Rattle.std.proofs.Common.{◌≡◌, ◌≢◌, inl, inr, ℕ, suc, ◌-◌, ◌^◌, ◌<◌, ◌≤◌, true, false, cond, List, [], ◌∷◌, ◌++◌, nat_le, length, Option, Some, None, refl, sym, ◌∙◌, ap, subst, arith}
 use Rattle.std.specs.List.{slice_get}
 use Rattle.babel_prefix.proofs.Members.{Listed}
 use Rattle.babel_trie.specs.Boxes.{Answers, SameAnswers}
-use Rattle.babel_trie.specs.Interned.{HasTrie}
+use Rattle.babel_trie.specs.Held.{HasTrie}
+use Rattle.babel_trie.specs.Interned.{HasOneForm}
 use Rattle.babel_trie.specs.Runs.{said_at, AreRuns, StartBelow, HasRuns}
 use Rattle.babel_trie.specs.Shape.{value_at}
 use Rattle.babel_trie.specs.Sound.{KeepsNodes}
 use Rattle.babel_trie.specs.declared.runs.Change.{Change}
 use Rattle.babel_trie.specs.declared.table.Node.{Node}
 use Rattle.babel_trie.specs.declared.table.Sources.{Sources}
-use Rattle.babel_trie.proofs.HeldLaws.{sources_at-stands}
-use Rattle.babel_trie.proofs.NumberLaws.{Represents-grows}
-use Rattle.babel_trie.proofs.FormLaws.{HasTrie-grows}
+use Rattle.babel_trie.proofs.HeldLaws.{sources_at-stands, HasTrie-grows}
 
 module _ {F : Type 0} where
   pub reached : (x : Change F) (d : ℕ) → x.start ≤ d → nat_le x.start d ≡ true
@@ -51,19 +50,19 @@ module _ {V : Type 0} where
   -- a list with the answers of one function has those of one that agrees
   pub runs-same : (w : ℕ) (sources : List (Node (Option V))) (list : List (Change (Sources (Option V)))) (f g : Answers V) → SameAnswers w f g → HasRuns w sources list f → HasRuns w sources list g
   runs-same w sources list f g same p =
-      record { runs = p.runs; below = p.below; each = p.each; answers = λ none d s d_in s_in. p.answers none d s d_in s_in ∙ same d s d_in s_in }
+      record { runs = p.runs; below = p.below; form = p.form; each = p.each; answers = λ none d s d_in s_in. p.answers none d s d_in s_in ∙ same d s d_in s_in }
 
   -- a table that grows keeps the answers
-  pub runs-grow : (w : ℕ) (sources more : List (Node (Option V))) (list : List (Change (Sources (Option V)))) (f : Answers V) → KeepsNodes sources more → HasRuns w sources list f → HasRuns w more list f
-  runs-grow w sources more list f keeps p =
+  pub runs-grow : (w : ℕ) (sources more : List (Node (Option V))) (list : List (Change (Sources (Option V)))) (f : Answers V) → KeepsNodes sources more → HasOneForm None more → HasRuns w sources list f → HasRuns w more list f
+  runs-grow w sources more list f keeps form p =
       let each : (none : Sources (Option V)) (d : ℕ) → d < 2 ^ w → HasTrie w more (said_at none list d) = λ none d d_in. HasTrie-grows sources more keeps w (said_at none list d) (p.each none d d_in) in
       record {
         runs = p.runs;
         below = p.below;
+        form = form;
         each = each;
         answers = λ none d s d_in s_in.
             let n = said_at none list d in
             let h = p.each none d d_in in
-            let h' : HasTrie w more n = record { trie = h.trie; stands = Represents-grows sources more keeps n h.trie h.stands; fits = h.fits; reduced = h.reduced } in
-            ap (λ t. value_at t w s) (sources_at-stands w more n h' ∙ sym (sources_at-stands w sources n h)) ∙ p.answers none d s d_in s_in;
+            ap (λ t. value_at t w s) (sources_at-stands w more n (HasTrie-grows sources more keeps w n h) ∙ sym (sources_at-stands w sources n h)) ∙ p.answers none d s d_in s_in;
       }

@@ -5,8 +5,7 @@ use Rattle.babel_prefix.specs.Block.{Block}
 use Rattle.babel_trie.specs.Nested.{leaves, rows_at, rows_of}
 use Rattle.babel_trie.specs.Shape.{Shape, leaf}
 use Rattle.babel_trie.specs.Cut.{largest_in}
-use Rattle.babel_trie.specs.Held.{sources_at}
-use Rattle.babel_trie.specs.Interned.{Represents, HasTrie}
+use Rattle.babel_trie.specs.Held.{sources_at, Represents, HasTrie}
 use Rattle.babel_trie.specs.Spans.{start_or, spans, each_with, span_blocks, span_rows}
 use Rattle.babel_trie.specs.declared.runs.Change.{Change}
 use Rattle.babel_trie.specs.declared.table.Loose.TheVariants.{Same}
@@ -49,6 +48,6 @@ module _ {V : Type 0} (w : ℕ) where
       before ++ span_rows w sources (spans end (run ∷ later)) ≡ all → before ++ span_rows w sources (spans end later) ≡ all
   rows_none sources end run later before all h nothing q =
       let t : Shape (Option V) = sources_at w sources run.sources in
-      let is : t ≡ leaf None = sources_at-stands w sources run.sources h ∙ one_trie sources run.sources h.trie (leaf None) h.stands (subst (λ (s : Sources (Option V)). Represents sources s (leaf None)) (sym nothing) (Same None, refl, refl)) in
+      let is : t ≡ leaf None = sources_at-stands w sources run.sources h ∙ one_trie None sources w 0 run.sources h.trie (leaf None) h.stands (subst (λ (s : Sources (Option V)). Represents w sources s (leaf None)) (sym nothing) (Same None, refl, refl)) in
       let none = no_rows t is (largest_in w run.start (start_or end later - 1)) in
       rows_more sources end (start_or end later - 1) run later before before all refl (sym (append_none before) ∙ ap (λ rows. before ++ rows) (sym none)) q

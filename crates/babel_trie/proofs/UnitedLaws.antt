@@ -1,6 +1,6 @@
 -- What has two halves of a block without a node of its own.
-use Rattle.std.proofs.Common.{◌≡◌, ◌⊎◌, inl, inr, ℕ, ◌+◌, ◌-◌, ◌^◌, ◌<◌, ◌≤◌, ◌==◌, cond, Bool, true, false, length, List, refl, sym, ◌∙◌, ap, subst, arith}
-use Rattle.babel_trie.specs.Interned.{Opens, middle_of, with_outside, inside_of, HalvesAt, IsNodeIn, IsLooseIn, IsNormal, IsNormalLoose, IsIn, IsNoLarger, IsBesideNode, AreApart, AreUnited}
+use Rattle.std.proofs.Common.{◌≡◌, ◌⊎◌, inl, inr, ℕ, ◌-◌, ◌<◌, cond, length, List, refl, sym, ◌∙◌, ap, subst, arith}
+use Rattle.babel_trie.specs.Interned.{Opens, middle_of, with_outside, inside_of, IsNodeIn, IsLooseIn, IsNormal, IsNormalLoose, IsIn, IsNoLarger, IsBesideNode, AreApart, AreUnited}
 use Rattle.babel_trie.specs.Rows.{IsPlace}
 use Rattle.babel_trie.specs.Sound.{IsBelow, IsLooseBelow}
 use Rattle.babel_trie.specs.declared.table.Loose.{Loose}
@@ -13,11 +13,11 @@ use Rattle.babel_trie.proofs.NumberLaws.{node_is, inside_bits, inside_start, ins
 use Rattle.std.proofs.lemmas.Bool.{cases_lt, eq-eqb}
 
 module _ {V : Type 0} (nothing : V) (nodes : List (Node V)) where
-  with_own : (v : V) (node : Node V) → node.outside ≡ v → with_outside v node ≡ node
+  pub with_own : (v : V) (node : Node V) → node.outside ≡ v → with_outside v node ≡ node
   with_own v node e = node_is (with_outside v node) node refl refl (sym e) refl refl
 
   -- in a block a node in it is itself
-  inside_same : (k at : ℕ) (node : Node V) → IsNodeIn nothing nodes k at node → inside_of nothing k node ≡ node
+  pub inside_same : (k at : ℕ) (node : Node V) → IsNodeIn nothing nodes k at node → inside_of nothing k node ≡ node
   inside_same k at node p = elim (cases_lt node.bits k) [
     | inl smaller ↦ inside_larger nothing k node (λ e. omega arith)
     | inr no_smaller ↦
@@ -31,7 +31,7 @@ module _ {V : Type 0} (nothing : V) (nodes : List (Node V)) where
       node_is (inside_of nothing k n) node (inside_bits nothing k n) (inside_start nothing k n) (inside_own nothing k n all ∙ sym (p.nothing_beside all)) (inside_low nothing k n) (inside_high nothing k n)
   taken_back k at v node p (inr same) = ap (inside_of nothing k) (with_own v node same) ∙ inside_same k at node p
 
-  beside_normal : (v : V) (node : Node V) → IsNormal nothing nodes node → IsNormal nothing nodes (with_outside v node)
+  pub beside_normal : (v : V) (node : Node V) → IsNormal nothing nodes node → IsNormal nothing nodes (with_outside v node)
   beside_normal v node p = record {
     some = p.some;
     place = p.place;
@@ -48,9 +48,11 @@ module _ {V : Type 0} (nothing : V) (nodes : List (Node V)) where
   united_high bits start v node some p n takes =
       let twice = pow_twice bits some in
       let back = ap (λ (m : Node V). let x : Loose V = Split m in x) (sym (taken_back (bits - 1) (middle_of bits start) v node p takes)) in
-      inr ((some, inr (inr (omega (arith, p.bits_in), p.from_start, refl, back))),
+      inr (
+        (some, inr (inr (omega (arith, p.bits_in), p.from_start, refl, back))),
         record { bits_in = omega (arith, p.bits_in); from_start = omega (arith, p.from_start); before_end = omega (arith, p.before_end, twice); nothing_beside = λ e. absurd (omega (arith, p.bits_in, e)) },
-        beside_normal v node n)
+        beside_normal v node n,
+      )
 
   -- a node in the lower half
   pub united_low : (bits start : ℕ) (v : V) (node : Node V) → 0 < bits → IsNodeIn nothing nodes (bits - 1) start node → IsNormal nothing nodes node →
@@ -58,33 +60,14 @@ module _ {V : Type 0} (nothing : V) (nodes : List (Node V)) where
   united_low bits start v node some p n low takes =
       let twice = pow_twice bits some in
       let back = ap (λ (m : Node V). let x : Loose V = Split m in x) (sym (taken_back (bits - 1) start v node p takes)) in
-      inr ((some, inr (inl (omega (arith, p.bits_in), low, back, refl))),
+      inr (
+        (some, inr (inl (omega (arith, p.bits_in), low, back, refl))),
         record { bits_in = omega (arith, p.bits_in); from_start = p.from_start; before_end = omega (arith, p.before_end, twice); nothing_beside = λ e. absurd (omega (arith, p.bits_in, e)) },
-        beside_normal v node n)
+        beside_normal v node n,
+      )
 
   abbrev pub fork_node : ℕ → ℕ → Sources V → Sources V → Node V
   fork_node bits start low high = record { bits = bits; start = start; outside = nothing; low = low; high = high }
-
-  -- two values
-  pub united_values : (bits start : ℕ) (v w : V) → 0 < bits → IsPlace 128 bits start → (v ≡ w → ⊥) →
-      AreUnited nothing nodes bits start (Same v) (Same w) (Split (fork_node bits start (Constant v) (Constant w)))
-  united_values bits start v w some place differ =
-      inr ((some, inl (refl, refl, refl)),
-        record { bits_in = omega arith; from_start = omega arith; before_end = omega arith; nothing_beside = λ _. refl },
-        record {
-          some = some;
-          place = place;
-          low_in = tt;
-          high_in = tt;
-          halves_differ = λ u e f. differ (one u v w e f);
-          low_no_larger = λ u n e f. absurd (no_number w n f);
-          high_no_larger = λ u n e f. absurd (no_number v n f);
-        })
-    where
-      one : (u v w : V) → (let s : Sources V = Constant v in s) ≡ Constant u → (let s : Sources V = Constant w in s) ≡ Constant u → v ≡ w
-      one u v w e f = cc
-      no_number : (v : V) (n : _) → (let s : Sources V = Constant v in s) ≡ Stored n → ⊥
-      no_number v n e = cc
 
   -- what stands in its one form has its halves in the table
   pub loose_below : (x : Loose V) → IsNormalLoose nothing nodes x → IsLooseBelow (length nodes) x
@@ -96,7 +79,7 @@ module _ {V : Type 0} (nothing : V) (nodes : List (Node V)) where
       below bits start (Stored n) p = slice_get_in nodes n.0 p.0 p.1
 
   -- what is stored lies where it did
-  stored_in : (bits start : ℕ) (s : Sources V) (x : Loose V) → Opens nodes s x → IsLooseIn nothing nodes bits start x → IsIn nothing nodes bits start s
+  pub stored_in : (bits start : ℕ) (s : Sources V) (x : Loose V) → Opens nodes s x → IsLooseIn nothing nodes bits start x → IsIn nothing nodes bits start s
   stored_in bits start (Constant v) x p i = tt
   stored_in bits start (Stored n) x p i = (p.0, p.1, subst (IsLooseIn nothing nodes bits start) p.2 i)
 
@@ -115,7 +98,8 @@ module _ {V : Type 0} (nothing : V) (nodes : List (Node V)) where
       IsLooseIn nothing nodes (bits - 1) start x → IsLooseIn nothing nodes (bits - 1) (middle_of bits start) y → AreApart (bits - 1) x y →
       AreUnited nothing nodes bits start x y (Split (fork_node bits start s r))
   united_stored bits start s r x y some place p q i j apart =
-      inr ((some, inl (refl, p, q)),
+      inr (
+        (some, inl (refl, p, q)),
         record { bits_in = omega arith; from_start = omega arith; before_end = omega arith; nothing_beside = λ _. refl },
         record {
           some = some;
@@ -125,4 +109,5 @@ module _ {V : Type 0} (nothing : V) (nodes : List (Node V)) where
           halves_differ = λ v e f. apart.0 v v (constant_is s x v p e) (constant_is r y v q f);
           low_no_larger = no_larger (bits - 1) (middle_of bits start) s r x y p q j apart.1;
           high_no_larger = no_larger (bits - 1) start r s y x q p i apart.2;
-        })
+        },
+      )

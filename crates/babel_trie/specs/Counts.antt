@@ -3,6 +3,7 @@ use Rattle.std.specs.Prelude.{◌≡◌, ℕ, ◌+◌, ◌*◌, ◌-◌, ◌^◌
 use Rattle.std.specs.Prelude.{None}
 use Rattle.babel_trie.specs.Shape.{Shape, leaf, fork}
 use Rattle.babel_trie.specs.Interned.{IsIn, RepresentsIn}
+use Rattle.babel_trie.specs.Rows.{IsPlace}
 use Rattle.babel_trie.specs.Sound.{IsBelow}
 use Rattle.babel_trie.specs.declared.table.Node.{Node}
 use Rattle.babel_trie.specs.declared.table.Sources.{Sources}
@@ -40,6 +41,7 @@ module _ {V : Type 0} where
   -- the counts of the nodes up to a number
   pub record AreCounted (nodes : List (Node (Option V))) (n : ℕ) (counts : List ℕ) : Type 0 where
     pub len : length counts ≡ n
-    pub each : (bits start : ℕ) (s : Sources (Option V)) (t : Shape (Option V)) → IsBelow n s →
-        IsIn None nodes bits start s → RepresentsIn None nodes bits start s t →
+    pub each : (w bits start : ℕ) → IsPlace w bits start → (s : Sources (Option V))
+        (t : Shape (Option V)) → IsBelow n s → IsIn None nodes bits start s →
+        RepresentsIn None nodes bits start s t →
         sources_count nodes counts bits s ≡ capped (value_count t)

@@ -1,12 +1,12 @@
 -- The trie that sources stand for, and the order of rows: this project's own.
-use Rattle.std.specs.Prelude.{◌≡◌, ℕ, suc, zero, ◌+◌, ◌^◌, ◌==◌, nat_lt, cond, List, Option, Some}
+use Rattle.std.specs.Prelude.{◌≡◌, ℕ, suc, zero, ◌+◌, ◌^◌, ◌≤◌, ◌==◌, nat_lt, cond, List, Option, Some}
 use Rattle.std.specs.Prelude.{None}
 use Rattle.std.specs.List.{slice_get}
 use Rattle.babel_prefix.specs.Address.{block_of}
 use Rattle.babel_prefix.specs.Entries.{Entry}
 use Rattle.babel_trie.specs.Rows.{IsNoLater}
-use Rattle.babel_trie.specs.Interned.{inside_of, RepresentsIn, HasTrieIn}
-use Rattle.babel_trie.specs.Shape.{Shape, leaf, fork}
+use Rattle.babel_trie.specs.Interned.{inside_of, RepresentsIn, IsIn}
+use Rattle.babel_trie.specs.Shape.{Shape, leaf, fork, height, IsReduced}
 use Rattle.babel_trie.specs.declared.table.Loose.{Loose}
 use Rattle.babel_trie.specs.declared.table.Loose.TheVariants.{Same, Split}
 use Rattle.babel_trie.specs.declared.table.Node.{Node}
@@ -46,9 +46,14 @@ module _ {V : Type 0} where
       Type 0
   Represents w nodes = RepresentsIn None nodes w 0
 
-  -- they stand for a reduced trie of all sources of this width
-  abbrev pub HasTrie : ℕ → List (Node (Option V)) → Sources (Option V) → Type 0
-  HasTrie w nodes = HasTrieIn None nodes w 0
+  -- they stand for a reduced trie of all sources of this width, and lie in the block of all
+  pub record HasTrie (w : ℕ) (nodes : List (Node (Option V))) (s : Sources (Option V)) : Type 0
+    where
+      pub trie : Shape (Option V)
+      pub stands : Represents w nodes s trie
+      pub fits : height trie ≤ w
+      pub reduced : IsReduced trie
+      pub inside : IsIn None nodes w 0 s
 
   -- the place of a row by the starts and lengths of its destination and its source
   abbrev pub row_place : Entry V → (ℕ × ℕ) × (ℕ × ℕ)

@@ -4,7 +4,7 @@ use Rattle.std.specs.Prelude.{◌≡◌, ◌↔◌, ◌⊎◌, ℕ, ◌+◌, ◌
 use Rattle.std.specs.Prelude.{max, List, Some}
 use Rattle.std.specs.Prelude.{slice_get}
 use Rattle.babel_trie.specs.Rows.{IsPlace}
-use Rattle.babel_trie.specs.Shape.{Shape, leaf, fork, height, HasHalves, IsReduced}
+use Rattle.babel_trie.specs.Shape.{Shape, leaf, fork}
 use Rattle.babel_trie.specs.declared.table.Loose.{Loose}
 use Rattle.babel_trie.specs.declared.table.Loose.TheVariants.{Same, Split}
 use Rattle.babel_trie.specs.declared.table.Node.{Node}
@@ -115,39 +115,6 @@ module _ {V : Type 0} (nothing : V) (nodes : List (Node V)) where
   AreUnited bits start low high x =
       ((v : V) × (low ≡ Same v) × (high ≡ Same v) × (x ≡ Same v))
       ⊎ (HalvesAt bits start x low high × IsLooseIn bits start x × IsNormalLoose x)
-
-  -- it stands for the trie that has these halves
-  pub record IsJoined (bits start : ℕ) (x : Loose V) (low high : Shape V) : Type 0 where
-    pub whole : Shape V
-    pub stands : StandsIn bits start x whole
-    pub halves : HasHalves whole low high
-    pub lower : height whole ≤ max (height low) (height high) + 1
-    pub reduced : IsReduced low → IsReduced high → IsReduced whole
-
-  -- it stands for a reduced trie that looks at no more than the bits of the block
-  pub record IsTrie (bits start : ℕ) (x : Loose V) : Type 0 where
-    pub trie : Shape V
-    pub stands : StandsIn bits start x trie
-    pub fits : height trie ≤ bits
-    pub reduced : IsReduced trie
-
-  -- they stand for a reduced trie that looks at no more than the bits of the block
-  pub record HasTrieIn (bits start : ℕ) (s : Sources V) : Type 0 where
-    pub trie : Shape V
-    pub stands : RepresentsIn bits start s trie
-    pub fits : height trie ≤ bits
-    pub reduced : IsReduced trie
-
-  -- the two stand for the halves of the trie
-  pub record IsHalved (bits start : ℕ) (t : Shape V) (low high : Loose V) : Type 0 where
-    pub low_half : Shape V
-    pub high_half : Shape V
-    pub low_stands : StandsIn (bits - 1) start low low_half
-    pub high_stands : StandsIn (bits - 1) (middle_of bits start) high high_half
-    pub halves : HasHalves t low_half high_half
-    pub low_lower : height low_half ≤ height t - 1
-    pub high_lower : height high_half ≤ height t - 1
-    pub reduced : IsReduced t → IsReduced low_half × IsReduced high_half
 
 module _ {V : Type 0} where
   -- no value beside which it has no larger block is beside a node, and not both are one value

@@ -1,10 +1,10 @@
 -- Blocks of addresses by the first of them and the bits in which they differ: this project's own.
-use Rattle.std.specs.Prelude.{◌≡◌, ℕ, ◌+◌, ◌-◌, ◌*◌, ◌/◌, ◌^◌, ◌<◌, ◌≤◌, ◌==◌, Bool}
-use Rattle.std.specs.Prelude.{cond, List, Option, None}
+use Rattle.std.specs.Prelude.{◌≡◌, ◌⊎◌, ℕ, ◌+◌, ◌-◌, ◌*◌, ◌/◌, ◌^◌, ◌<◌, ◌≤◌, ◌==◌, Bool}
+use Rattle.std.specs.Prelude.{List, Option, None}
 use Rattle.babel_prefix.specs.Block.{Block}
 use Rattle.babel_trie.specs.Rows.{IsPlace}
-use Rattle.babel_trie.specs.Interned.{StandsIn}
-use Rattle.babel_trie.specs.Shape.{Shape, height, value_at, IsReduced}
+use Rattle.babel_trie.specs.Interned.{StandsIn, AreUnited, middle_of}
+use Rattle.babel_trie.specs.Shape.{Shape, value_at}
 use Rattle.babel_trie.specs.declared.block.SourceBlock.{SourceBlock}
 use Rattle.babel_trie.specs.declared.table.Loose.{Loose}
 use Rattle.babel_trie.specs.declared.table.Loose.TheVariants.{Same, Split}
@@ -31,16 +31,42 @@ pub record IsSmallestAround (a b around : SourceBlock) : Type 0 where
   pub smallest : (other : SourceBlock) → IsInside a other → IsInside b other →
       around.bits ≤ other.bits
 
--- in a block it stands for the trie inside a smaller one, with this value beside that
+-- the address is none of the block
+abbrev pub IsBeside : SourceBlock → ℕ → Type 0
+IsBeside block a = (a < block.start) ⊎ (block.start + 2 ^ block.bits ≤ a)
+
+-- the address is one of the block
+abbrev pub IsAmong : SourceBlock → ℕ → Type 0
+IsAmong block a = (block.start ≤ a) × (a < block.start + 2 ^ block.bits)
+
+-- in a block a trie says what another one says inside a smaller block, and beside that this value
+pub record IsAround {V : Type 0} (block inner : SourceBlock) (outside : V)
+    (inside whole : Shape V) : Type 0 where
+  pub inside_value : (a : ℕ) → IsAmong block a → IsAmong inner a →
+      value_at whole block.bits a ≡ value_at inside inner.bits a
+  pub beside_value : (a : ℕ) → IsAmong block a → IsBeside inner a →
+      value_at whole block.bits a ≡ outside
+
+-- in a block it stands for a trie around one inside a smaller block
 pub record IsWidened {V : Type 0} (nodes : List (Node (Option V))) (block inner : SourceBlock)
     (outside : Option V) (inside : Shape (Option V)) (x : Loose (Option V)) : Type 0 where
   pub whole : Shape (Option V)
   pub stands : StandsIn None nodes block.bits block.start x whole
-  pub fits : height inside ≤ inner.bits → height whole ≤ block.bits
-  pub reduced : IsReduced inside → IsReduced whole
-  pub values : (a : ℕ) → a < 2 ^ block.bits → value_at whole block.bits a
-      ≡ cond (lies_in inner.bits inner.start (block.start + a))
-      (value_at inside inner.bits (block.start + a - inner.start)) outside
+  pub around : IsAround block inner outside inside whole
+
+-- the block of which this one is a half
+abbrev pub parent_of : SourceBlock → SourceBlock
+parent_of half = record { bits = half.bits + 1; start = cleared half.start (half.bits + 1) }
+
+-- of the block of which this one is a half, it has the one here, and this value in the other half
+abbrev pub IsDoubled : {V : Type 0} → List (Node (Option V)) → SourceBlock → Option V →
+    Loose (Option V) → Loose (Option V) → Type 0
+IsDoubled nodes half other here x =
+    let block = parent_of half in
+    ((half.start ≡ block.start)
+    × AreUnited None nodes block.bits block.start here (Same other) x)
+    ⊎ ((half.start ≡ middle_of block.bits block.start)
+    × AreUnited None nodes block.bits block.start (Same other) here x)
 
 -- what a trie says beside its block
 abbrev pub beside_of : {V : Type 0} → Loose V → V

@@ -1,6 +1,6 @@
 -- Sorted rows inside a block, and what they make of an answer by the best match of RFC 9079, 4.
-use Rattle.std.specs.Prelude.{◌≡◌, ◌⊎◌, ℕ, ◌+◌, ◌-◌, ◌*◌, ◌^◌, ◌<◌, ◌≤◌, List, [], ◌∷◌, ◌++◌}
-use Rattle.std.specs.Prelude.{Option, Some, Bool, true, false}
+use Rattle.std.specs.Prelude.{◌≡◌, ◌⊎◌, ℕ, ◌+◌, ◌-◌, ◌*◌, ◌^◌, ◌<◌, ◌≤◌, List, [], ◌∷◌}
+use Rattle.std.specs.Prelude.{Option, Some}
 use Rattle.babel_prefix.specs.Entries.{Entry}
 use Rattle.babel_prefix.specs.Block.{Block}
 use Rattle.babel_prefix.specs.Covers.{IsBlock}
@@ -33,24 +33,6 @@ pub record InBlock {X : Type 0} (key : X → Block) (w bits start : ℕ) (rows :
   pub before_end : (x : X) → Listed rows x → (key x).start < start + 2 ^ bits
   pub no_shorter : (x : X) → Listed rows x → w - bits ≤ (key x).len
   pub in_order : InOrder (λ x y. IsNoLater (key x) (key y)) rows
-
--- rows of a block: those of the whole block come first, then those of its lower and then those of
--- its upper half
-pub record AreParted {X : Type 0} (key : X → Block) (w bits start : ℕ)
-    (rows own low high : List X) : Type 0 where
-  pub some : 0 < bits
-  pub place : IsPlace w bits start
-  pub rows_in : InBlock key w bits start rows
-  pub whole : rows ≡ own ++ (low ++ high)
-  pub own_len : (x : X) → Listed own x → (key x).len ≡ w - bits
-  pub longer : (x : X) → Listed (low ++ high) x → w - bits < (key x).len
-  pub low_in : InBlock key w (bits - 1) start low
-  pub high_in : InBlock key w (bits - 1) (start + 2 ^ (bits - 1)) high
-
--- one half has all rows of the two, and starts there
-abbrev pub IsOnlyHalf : {X : Type 0} → List X → List X → ℕ → ℕ → Bool → List X → ℕ → Type 0
-IsOnlyHalf low high start middle true rows at = (high ≡ []) × (rows ≡ low) × (at ≡ start)
-IsOnlyHalf low high start middle false rows at = (low ≡ []) × (rows ≡ high) × (at ≡ middle)
 
 module _ {V : Type 0} where
   -- the source prefix of a row

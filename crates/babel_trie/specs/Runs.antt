@@ -1,9 +1,10 @@
 -- What is answered from an address on, as a list of the addresses at which that changes: this
 -- project's own, over the best match of RFC 9079, 4.
-use Rattle.std.specs.Prelude.{◌≡◌, ◌≢◌, ℕ, ◌^◌, ◌<◌, ◌≤◌, cond, nat_le, List, [], ◌∷◌, Option}
+use Rattle.std.specs.Prelude.{◌≡◌, ◌≢◌, ℕ, ◌^◌, ◌<◌, ◌≤◌, cond, nat_le, List, [], ◌∷◌, Option, None}
 use Rattle.babel_prefix.specs.Members.{Listed}
 use Rattle.babel_trie.specs.Boxes.{Answers, SameAnswers}
 use Rattle.babel_trie.specs.Held.{sources_at, HasTrie}
+use Rattle.babel_trie.specs.Interned.{HasOneForm}
 use Rattle.babel_trie.specs.Shape.{value_at}
 use Rattle.babel_trie.specs.declared.runs.Change.{Change}
 use Rattle.babel_trie.specs.declared.table.Node.{Node}
@@ -33,28 +34,20 @@ module _ {F : Type 0} where
   abbrev pub StartFrom : ℕ → List (Change F) → Type 0
   StartFrom at list = (x : Change F) → Listed list x → at ≤ x.start
 
-  -- the lists say these two different things at this address, and the same below it
-  pub record AreFirstApart (none : F) (left right : List (Change F)) (last at : ℕ)
-      (here there : F) : Type 0 where
-    pub in_range : at ≤ last
-    pub here_is : here ≡ said_at none left at
-    pub there_is : there ≡ said_at none right at
-    pub apart : here ≢ there
-    pub same_below : (d : ℕ) → d < at → said_at none left d ≡ said_at none right d
-
 module _ {V : Type 0} where
   -- the answers of a list of changes
   abbrev pub run_answers : ℕ → List (Node (Option V)) → Sources (Option V) →
       List (Change (Sources (Option V))) → Answers V
   run_answers w nodes none list d = value_at (sources_at w nodes (said_at none list d)) w
 
-  -- the list says at each address sources that stand for a trie, and all together have these
-  -- answers
+  -- each node has its one form; the list says at each address sources that stand for a trie, and
+  -- all together have these answers
   pub record HasRuns (w : ℕ) (nodes : List (Node (Option V)))
       (list : List (Change (Sources (Option V))))
       (f : Answers V) : Type 0 where
     pub runs : AreRuns list
     pub below : StartBelow (2 ^ w) list
+    pub form : HasOneForm None nodes
     pub each : (none : Sources (Option V)) (d : ℕ) → d < 2 ^ w →
         HasTrie w nodes (said_at none list d)
     pub answers : (none : Sources (Option V)) → SameAnswers w (run_answers w nodes none list) f

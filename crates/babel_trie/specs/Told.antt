@@ -16,6 +16,11 @@ use Rattle.babel_trie.specs.declared.table.Loose.TheVariants.{Same, Split}
 use Rattle.babel_trie.specs.declared.table.Node.{Node}
 use Rattle.babel_trie.specs.declared.table.Sources.{Sources}
 
+-- it is one value, or a node of a block of so many bits
+abbrev pub HasBits : {V : Type 0} → ℕ → Loose V → Type 0
+HasBits bits (Same v) = Unit {0}
+HasBits bits (Split node) = node.bits ≡ bits
+
 module _ {V : Type 0} where
   -- a trie that tells the values of two others apart, and is no higher than they are
   pub record TellsTriesApart (t u : Shape (Option V))

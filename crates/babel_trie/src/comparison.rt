@@ -1,8 +1,7 @@
 //! What two lists of changes answer differently, as a list of changes.
 ghost use Rattle.std.specs.Prelude.{◌≡◌, ℕ, ◌≤◌, List, Option, None, IfOk, OnOk};
 ghost use Rattle.babel_trie.specs.Boxes.{Answers};
-ghost use Rattle.babel_trie.specs.Interned.{IsTrie, IsIn, IsLooseIn, IsNormalLoose, HasOneForm};
-ghost use Rattle.babel_trie.specs.Held.{HasTrie};
+ghost use Rattle.babel_trie.specs.Interned.{IsIn, IsLooseIn, IsNormalLoose, HasOneForm};
 ghost use Rattle.babel_trie.specs.Rows.{IsPlace};
 ghost use Rattle.babel_trie.specs.Runs.{HasRuns};
 ghost use Rattle.babel_trie.specs.Sound.{IsSound, KeepsNodes};
@@ -64,8 +63,8 @@ impl<V: LawfulOrd> Comparison<V> {
         requires known { KnowsTold table.now.nodes.items self.old.differences.nodes.items
             self.old.known.found }
         requires form { HasOneForm None table.now.nodes.items }
-        requires left { IsTrie None table.now.nodes.items block.bits block.start both.left }
-        requires right { IsTrie None table.now.nodes.items block.bits block.start both.right }
+        requires left { IsNormalLoose None table.now.nodes.items both.left }
+        requires right { IsNormalLoose None table.now.nodes.items both.right }
         requires left_in { IsLooseIn None table.now.nodes.items block.bits block.start both.left }
         requires right_in { IsLooseIn None table.now.nodes.items block.bits block.start
             both.right }
@@ -125,10 +124,8 @@ impl<V: LawfulOrd> Comparison<V> {
         requires known { KnowsTold table.now.nodes.items self.old.differences.nodes.items
             self.old.known.found }
         requires form { HasOneForm None table.now.nodes.items }
-        requires left { HasTrie bits table.now.nodes.items left }
-        requires right { HasTrie bits table.now.nodes.items right }
-        requires left_in { IsIn None table.now.nodes.items bits 0 left }
-        requires right_in { IsIn None table.now.nodes.items bits 0 right }
+        requires left { IsIn None table.now.nodes.items bits 0 left }
+        requires right { IsIn None table.now.nodes.items bits 0 right }
         requires width { bits ≤ 128 }
         ensures sound { OnOk result (IsSound None ⟦<Node<Option<Differing<V>>> as Ord>⟧.cmp
             ⟦<Node<Option<Differing<V>>> as LawfulOrd>⟧.mark
@@ -164,7 +161,6 @@ impl<V: LawfulOrd> Comparison<V> {
             self.old.differences.nodes.items self.old.differences.numbers }
         requires known { KnowsTold table.now.nodes.items self.old.differences.nodes.items
             self.old.known.found }
-        requires form { HasOneForm None table.now.nodes.items }
         requires left { (f : Answers V) × HasRuns width table.now.nodes.items left.now f }
         requires right { (g : Answers V) × HasRuns width table.now.nodes.items right.now g }
         requires width { width ≤ 128 }

@@ -1,8 +1,8 @@
 //! Where two tries first differ.
 ghost use Rattle.std.specs.Prelude.{◌≡◌, ℕ, ◌+◌, ◌-◌, ◌^◌, ◌<◌, ◌≤◌, List, Option, None, IsTrue, IfSome, IfNone};
 ghost use Rattle.babel_trie.specs.Differs.{IsFirstDifference, IsFirstFrom};
-ghost use Rattle.babel_trie.specs.Interned.{StandsIn, IsTrie, IsIn, IsLooseIn, HasOneForm};
-ghost use Rattle.babel_trie.specs.Held.{Represents, HasTrie};
+ghost use Rattle.babel_trie.specs.Interned.{StandsIn, IsIn, IsLooseIn, IsNormalLoose, HasOneForm};
+ghost use Rattle.babel_trie.specs.Held.{Represents};
 ghost use Rattle.babel_trie.specs.Rows.{IsPlace};
 ghost use Rattle.babel_trie.specs.Shape.{Shape, value_at};
 ghost use Rattle.babel_trie.specs.declared.difference.Tables.TheVariants.{One};
@@ -48,8 +48,10 @@ pub fn are_one<V: LawfulOrd>(whole: Loose<V>, other: Loose<V>) -> bool
 /// The two values, where both are one value for all sources.
 pub fn both_same<V: Copy>(whole: Loose<V>, other: Loose<V>) -> Option<(V, V)>
     ensures constants { IfSome result (λ p. (whole ≡ Same p.0) × (other ≡ Same p.1)) }
+    ensures node { IfNone result ((v w : V) → whole ≡ Same v → other ≡ Same w → ⊥) }
     ensures fork { IfNone result ((nothing : V) (bits start : ℕ) (nodes others : List (Node V))
-        → IsTrie nothing nodes bits start whole → IsTrie nothing others bits start other
+        → IsLooseIn nothing nodes bits start whole → IsNormalLoose nothing nodes whole
+        → IsLooseIn nothing others bits start other → IsNormalLoose nothing others other
         → 0 < bits) }
 {
     match (whole, other) {
@@ -68,12 +70,11 @@ impl<V: LawfulOrd> Table<Option<V>> {
         tables: Tables,
         block: SourceBlock,
     ) -> Option<u128>
-        requires trie { IsTrie None self.now.nodes.items block.bits block.start whole }
-        requires other_trie { IsTrie None other.now.nodes.items block.bits block.start
-            other_whole }
         requires inside { IsLooseIn None self.now.nodes.items block.bits block.start whole }
         requires other_inside { IsLooseIn None other.now.nodes.items block.bits block.start
             other_whole }
+        requires normal { IsNormalLoose None self.now.nodes.items whole }
+        requires other_normal { IsNormalLoose None other.now.nodes.items other_whole }
         requires form { HasOneForm None self.now.nodes.items }
         requires other_form { HasOneForm None other.now.nodes.items }
         requires one { tables ≡ One → self.now.nodes.items ≡ other.now.nodes.items }
@@ -111,8 +112,6 @@ impl<V: LawfulOrd> Table<Option<V>> {
         tables: Tables,
         width: u8,
     ) -> Option<u128>
-        requires trie { HasTrie width self.now.nodes.items sources }
-        requires other_trie { HasTrie width other.now.nodes.items other_sources }
         requires inside { IsIn None self.now.nodes.items width 0 sources }
         requires other_inside { IsIn None other.now.nodes.items width 0 other_sources }
         requires form { HasOneForm None self.now.nodes.items }

@@ -1,9 +1,10 @@
 //! What was found for two tries that were compared, so that it is not looked for again. Of two
 //! tries of which one has a smaller block than is compared nothing is remembered: they soon come to
 //! two that have not.
-ghost use Rattle.std.specs.Prelude.{◌≡◌, ◌⊎◌, IfSome, OnOk};
+ghost use Rattle.std.specs.Prelude.{◌≡◌, ◌⊎◌, true, IfSome, OnOk};
 ghost use Rattle.std.specs.BTreeMap.{IsEmpty};
 ghost use Rattle.babel_prefix.specs.Members.{Listed};
+ghost use Rattle.babel_trie.specs.Told.{HasBits};
 ghost use Rattle.babel_trie.specs.declared.table.Loose.{Loose};
 
 use crate::lawful::{LawfulOrd, stirred};
@@ -64,7 +65,9 @@ impl<T: LawfulOrd, R: Copy> Known<T, R> {
 }
 
 /// Whether a trie is one value, or a node of this block.
-fn is_at_block<V: Copy>(trie: Loose<V>, bits: u8) -> bool {
+fn is_at_block<V: Copy>(trie: Loose<V>, bits: u8) -> bool
+    ensures { result ≡ true → HasBits bits trie }
+{
     match trie {
         Loose::Same(_) => true,
         Loose::Split(node) => node.bits == bits,
@@ -72,14 +75,17 @@ fn is_at_block<V: Copy>(trie: Loose<V>, bits: u8) -> bool {
 }
 
 /// Whether two tries of a block are one value, or nodes of this block.
-fn are_at_block<V: Copy>(both: Both<Loose<V>>, bits: u8) -> bool {
+fn are_at_block<V: Copy>(both: Both<Loose<V>>, bits: u8) -> bool
+    ensures { result ≡ true → HasBits bits both.left × HasBits bits both.right }
+{
     is_at_block(both.left, bits) && is_at_block(both.right, bits)
 }
 
 impl<V: LawfulOrd, R: Copy> Known<Loose<V>, R> {
     /// What was found for two tries of a block of so many bits, if it is remembered.
     pub fn recall(&self, both: Both<Loose<V>>, bits: u8) -> Option<R>
-        ensures { IfSome result (λ r. Listed self.now.found.entries (both, r)) }
+        ensures found { IfSome result (λ r. Listed self.now.found.entries (both, r)) }
+        ensures at { IfSome result (λ _. HasBits bits both.left × HasBits bits both.right) }
     {
         if are_at_block(both, bits) {
             self.get(both)
@@ -91,7 +97,8 @@ impl<V: LawfulOrd, R: Copy> Known<Loose<V>, R> {
     /// Remembers what was found for two tries, where their nodes are of this block.
     pub fn remember(&mut self, both: Both<Loose<V>>, bits: u8, found: R) -> Result<(), AllocError>
         ensures { OnOk result ((k : Both (Loose V)) (r : R) → Listed self.new.found.entries (k, r)
-            → ((k ≡ both) × (r ≡ found)) ⊎ Listed self.old.found.entries (k, r)) }
+            → ((k ≡ both) × (r ≡ found) × HasBits bits both.left × HasBits bits both.right)
+            ⊎ Listed self.old.found.entries (k, r)) }
     {
         if are_at_block(both, bits) {
             self.keep(both, found)?;

@@ -1,5 +1,5 @@
 //! The rows of a list of changes.
-ghost use Rattle.std.specs.Prelude.{◌≡◌, ◌+◌, ◌-◌, ◌*◌, ◌/◌, ◌^◌, ◌<◌, ◌≤◌, ◌++◌, List, map, length, OnOk, OnErr, Option, None, true, false};
+ghost use Rattle.std.specs.Prelude.{◌≡◌, ◌+◌, ◌-◌, ◌*◌, ◌/◌, ◌^◌, ◌<◌, ◌≤◌, ◌++◌, List, map, length, OnOk, OnErr, MatchOption, Option, None, true, false};
 ghost use Rattle.babel_prefix.specs.Address.{block_of};
 ghost use Rattle.babel_prefix.specs.Covers.{IsAddressPrefix, IsBlock};
 ghost use Rattle.babel_prefix.specs.Entries.{Entry};
@@ -7,7 +7,7 @@ ghost use Rattle.babel_prefix.specs.Members.{Listed};
 ghost use Rattle.babel_prefix.specs.Width.{width_of};
 ghost use Rattle.babel_trie.specs.Cut.{block_from, largest_in};
 ghost use Rattle.babel_trie.specs.Held.{sources_at, HasTrie};
-ghost use Rattle.babel_trie.specs.Interned.{StandsIn, RepresentsIn, IsTrie, HasTrieIn, IsIn, IsNodeIn, IsNormal, HasOneForm, inside_of};
+ghost use Rattle.babel_trie.specs.Interned.{StandsIn, RepresentsIn, IsIn, IsNodeIn, IsNormal, HasOneForm, inside_of};
 ghost use Rattle.babel_trie.specs.Nested.{entry_at, leaves, rows_at, rows_of};
 ghost use Rattle.babel_trie.specs.Rows.{IsPlace};
 ghost use Rattle.babel_trie.specs.Runs.{AreRuns, StartBelow};
@@ -49,6 +49,18 @@ fn answers_nothing<V: Copy>(sources: Sources<Option<V>>) -> bool
     match sources {
         Sources::Constant(None) => true,
         _ => false,
+    }
+}
+
+/// The block of a node, or one around it where something is answered beside it.
+fn answered_block<V: LawfulOrd>(node: &Node<Option<V>>, block: SourceBlock) -> SourceBlock
+    ensures { MatchOption node.now.outside
+        (result ≡ record { bits = node.now.bits; start = node.now.start })
+        (λ _. result ≡ block) }
+{
+    match node.outside {
+        None => node.block(),
+        Some(_) => block,
     }
 }
 
@@ -95,19 +107,20 @@ impl<V: LawfulOrd> Table<Option<V>> {
         out: &mut S,
     ) -> Result<(), S::Error>
         requires form { HasOneForm None self.now.nodes.items }
-        requires sources { HasTrieIn None self.now.nodes.items block.bits block.start sources }
         requires inside { IsIn None self.now.nodes.items block.bits block.start sources }
         requires dst_family { dst.address.family ≡ family }
         requires place { IsPlace (width_of family) block.bits block.start }
         requires can { S.can_put out.old }
         ensures can { OnOk result (S.can_put out.new) }
         ensures ok { OnOk result ((t : Shape (Option V)) (start : S) (rows : List (Entry V))
-            → RepresentsIn None self.now.nodes.items block.bits block.start sources t → S.has start out.old rows
+            → RepresentsIn None self.now.nodes.items block.bits block.start sources t
+            → S.has start out.old rows
             → S.has start out.new (rows ++ map (entry_at family)
             (rows_at (block_of dst) (leaves (width_of family) block.bits
             (block.start / 2 ^ block.bits) t)))) }
         ensures err { OnErr result ((t : Shape (Option V)) (start : S) (rows : List (Entry V))
-            → RepresentsIn None self.now.nodes.items block.bits block.start sources t → S.has start out.old rows
+            → RepresentsIn None self.now.nodes.items block.bits block.start sources t
+            → S.has start out.old rows
             → StopsAmong (S.stopped start out.new) rows (map (entry_at family)
             (rows_at (block_of dst) (leaves (width_of family) block.bits
             (block.start / 2 ^ block.bits) t)))) }
@@ -116,10 +129,7 @@ impl<V: LawfulOrd> Table<Option<V>> {
             Sources::Constant(constant) => push_constant(constant, family, dst, block, out),
             Sources::Stored(number) => {
                 let node = &self.nodes()[number.index()];
-                let block = match node.outside {
-                    None => node.block(),
-                    Some(_) => block,
-                };
+                let block = answered_block(node, block);
                 self.push_node(node, family, dst, block, out)
             }
         }
@@ -136,8 +146,6 @@ impl<V: LawfulOrd> Table<Option<V>> {
         out: &mut S,
     ) -> Result<(), S::Error>
         requires form { HasOneForm None self.now.nodes.items }
-        requires node { IsTrie None self.now.nodes.items block.bits block.start
-            (Split (inside_of None block.bits node.now)) }
         requires inside { IsNodeIn None self.now.nodes.items block.bits block.start
             (inside_of None block.bits node.now) }
         requires normal { IsNormal None self.now.nodes.items node.now }
@@ -182,7 +190,6 @@ impl<V: LawfulOrd> Table<Option<V>> {
     ) -> Result<(), S::Error>
         requires form { HasOneForm None self.now.nodes.items }
         requires trie { HasTrie (width_of family) self.now.nodes.items sources }
-        requires inside { IsIn None self.now.nodes.items (width_of family) 0 sources }
         requires some { from ≤ last }
         requires fits { last < 2 ^ width_of family }
         requires can { S.can_put out.old }

@@ -1,16 +1,16 @@
 //! The rows of one destination, laid over a trie of sources.
-ghost use Rattle.std.specs.Prelude.{◌≡◌, ℕ, ◌-◌, ◌<◌, ◌≤◌, ◌∷◌, List, map, IfOk, OnOk, Option, None};
+ghost use Rattle.std.specs.Prelude.{◌≡◌, ◌-◌, ◌<◌, ◌≤◌, ◌∷◌, List, map, IfOk, OnOk, Option, None};
 ghost use Rattle.babel_prefix.specs.Covers.{IsBlock};
-ghost use Rattle.babel_prefix.specs.Entries.{row_of};
+ghost use Rattle.babel_prefix.specs.Entries.{Entry, row_of};
 ghost use Rattle.babel_prefix.specs.Members.{Listed};
 ghost use Rattle.babel_trie.specs.Shape.{Shape};
 ghost use Rattle.babel_trie.specs.declared.block.SourceBlock.{SourceBlock};
 ghost use Rattle.babel_trie.specs.declared.table.Node.{Node};
-ghost use Rattle.babel_trie.specs.Interned.{StandsIn, IsIn, IsNormalLoose, IsLooseIn};
-ghost use Rattle.babel_trie.specs.Held.{Represents, HasTrie};
-ghost use Rattle.babel_trie.specs.Laid.{HasOneDestination, IsLaid, IsOverlaid};
+ghost use Rattle.babel_trie.specs.Interned.{IsIn, IsNormalLoose, IsLooseIn};
+ghost use Rattle.babel_trie.specs.Held.{Represents};
+ghost use Rattle.babel_trie.specs.Laid.{HasOneDestination, AreOver, IsLaid, IsOverlaid};
 ghost use Rattle.babel_trie.specs.Places.{IsBlockAround, beside_of};
-ghost use Rattle.babel_trie.specs.Rows.{source_block, InBlock, IsPlace};
+ghost use Rattle.babel_trie.specs.Rows.{source_block, InBlock};
 ghost use Rattle.babel_trie.specs.Sound.{IsSound, KeepsNodes};
 
 use crate::block::SourceBlock;
@@ -78,29 +78,49 @@ impl<V: LawfulOrd> Table<Option<V>> {
     ) -> Result<Loose<Option<V>>, AllocError>
         requires sound { IsSound None ⟦<Node<Option<V>> as Ord>⟧.cmp
             ⟦<Node<Option<V>> as LawfulOrd>⟧.mark self.old.nodes.items self.old.numbers }
-        requires trie { IsLooseIn None self.old.nodes.items block.bits block.start trie.now }
-        requires normal { IsNormalLoose None self.old.nodes.items trie.now }
-        requires place { IsPlace width block.bits block.start }
-        requires rows { InBlock source_block width block.bits block.start rows.now }
-        requires one { HasOneDestination rows.now }
-        requires width { width ≤ 128 }
+        requires over { AreOver width block rows.now self.old.nodes.items trie.now }
         requires longer { (row : _) → Listed rows.now row
             → width - block.bits < (source_block row).len }
         requires some { 0 < block.bits }
         ensures sound { OnOk result (IsSound None ⟦<Node<Option<V>> as Ord>⟧.cmp
             ⟦<Node<Option<V>> as LawfulOrd>⟧.mark self.new.nodes.items self.new.numbers) }
         ensures keeps { OnOk result (KeepsNodes self.old.nodes.items self.new.nodes.items) }
-        ensures within { IfOk result (IsLooseIn None self.new.nodes.items block.bits block.start) }
-        ensures normal { IfOk result (IsNormalLoose None self.new.nodes.items) }
-        ensures laid { IfOk result (λ x. (t : Shape (Option V))
-            → StandsIn None self.old.nodes.items block.bits block.start trie.now t
-            → IsLaid width block.bits block.start (map row_of rows.now) self.new.nodes.items x t) }
+        ensures laid { IfOk result (IsLaid width block rows.now self.old.nodes.items trie.now
+            self.new.nodes.items) }
     {
         let (below, above) = low_and_high(rows, block.middle());
         let (low, high) = self.halves(block, trie);
         let low = self.lay(below, width, block.low(), low)?;
         let high = self.lay(above, width, block.high(), high)?;
         self.join(block, &low, &high)
+    }
+
+    /// Lays rows over the trie of a block that is the smallest with all of them: the first row may
+    /// be from all its sources.
+    #[cycle(lay)]
+    fn lay_inside(
+        &mut self,
+        first: &Row<V>,
+        rows: &[Row<V>],
+        width: u8,
+        block: SourceBlock,
+        trie: &Loose<Option<V>>,
+    ) -> Result<Loose<Option<V>>, AllocError>
+        requires sound { IsSound None ⟦<Node<Option<V>> as Ord>⟧.cmp
+            ⟦<Node<Option<V>> as LawfulOrd>⟧.mark self.old.nodes.items self.old.numbers }
+        requires over { AreOver width block rows.now self.old.nodes.items trie.now }
+        requires first { (rest : List (Entry V)) × (rows.now ≡ first.now ∷ rest) }
+        ensures sound { OnOk result (IsSound None ⟦<Node<Option<V>> as Ord>⟧.cmp
+            ⟦<Node<Option<V>> as LawfulOrd>⟧.mark self.new.nodes.items self.new.numbers) }
+        ensures keeps { OnOk result (KeepsNodes self.old.nodes.items self.new.nodes.items) }
+        ensures laid { IfOk result (IsLaid width block rows.now self.old.nodes.items trie.now
+            self.new.nodes.items) }
+    {
+        if block_of(first, width).bits == block.bits {
+            self.lay(&rows[1..], width, block, Loose::Same(Some(first.2)))
+        } else {
+            self.lay_halves(rows, width, block, trie)
+        }
     }
 
     /// Lays rows of one destination over the trie of a block: in the smallest block with all of them
@@ -115,32 +135,19 @@ impl<V: LawfulOrd> Table<Option<V>> {
     ) -> Result<Loose<Option<V>>, AllocError>
         requires sound { IsSound None ⟦<Node<Option<V>> as Ord>⟧.cmp
             ⟦<Node<Option<V>> as LawfulOrd>⟧.mark self.old.nodes.items self.old.numbers }
-        requires trie { IsLooseIn None self.old.nodes.items block.bits block.start trie }
-        requires normal { IsNormalLoose None self.old.nodes.items trie }
-        requires place { IsPlace width block.bits block.start }
-        requires rows { InBlock source_block width block.bits block.start rows.now }
-        requires one { HasOneDestination rows.now }
-        requires width { width ≤ 128 }
+        requires over { AreOver width block rows.now self.old.nodes.items trie }
         ensures sound { OnOk result (IsSound None ⟦<Node<Option<V>> as Ord>⟧.cmp
             ⟦<Node<Option<V>> as LawfulOrd>⟧.mark self.new.nodes.items self.new.numbers) }
         ensures keeps { OnOk result (KeepsNodes self.old.nodes.items self.new.nodes.items) }
-        ensures within { IfOk result (IsLooseIn None self.new.nodes.items block.bits block.start) }
-        ensures normal { IfOk result (IsNormalLoose None self.new.nodes.items) }
-        ensures laid { IfOk result (λ x. (t : Shape (Option V))
-            → StandsIn None self.old.nodes.items block.bits block.start trie t
-            → IsLaid width block.bits block.start (map row_of rows.now) self.new.nodes.items x t) }
+        ensures laid { IfOk result (IsLaid width block rows.now self.old.nodes.items trie
+            self.new.nodes.items) }
     {
         let (Some(first), Some(last)) = (rows.first(), rows.last()) else {
             return Ok(trie);
         };
         let inner = block_around(first, last, width, &trie);
-        let outside = beside(&trie);
-        let new = if block_of(first, width).bits == inner.bits {
-            self.lay(&rows[1..], width, inner, Loose::Same(Some(first.2)))?
-        } else {
-            self.lay_halves(rows, width, inner, &trie.inside(inner.bits))?
-        };
-        self.widened(new, inner, block, outside)
+        let new = self.lay_inside(first, rows, width, inner, &trie.inside(inner.bits))?;
+        self.widened(new, inner, block, beside(&trie))
     }
 
     /// The trie with rows of one destination laid over it. Of one row from all sources nothing is
@@ -153,7 +160,6 @@ impl<V: LawfulOrd> Table<Option<V>> {
     ) -> Result<Sources<Option<V>>, AllocError>
         requires sound { IsSound None ⟦<Node<Option<V>> as Ord>⟧.cmp
             ⟦<Node<Option<V>> as LawfulOrd>⟧.mark self.old.nodes.items self.old.numbers }
-        requires trie { HasTrie width self.old.nodes.items old }
         requires inside { IsIn None self.old.nodes.items width 0 old }
         requires rows { InBlock source_block width width 0 rows.now }
         requires one { HasOneDestination rows.now }

@@ -1,22 +1,16 @@
 -- The changes of both lists, in one table, have the changes of their difference, whose rows are its boxes.
-use Rattle.std.proofs.Common.{ℕ, List, Option, refl, sym, subst, arith}
-use Rattle.std.specs.Option.{option_cmp}
-use Rattle.std.specs.declared.cmp.Ordering.{Ordering}
+use Rattle.std.proofs.Common.{List, Option, None, sym, subst, arith}
 use Rattle.babel_prefix.specs.Entries.{answers_in}
 use Rattle.babel_prefix.specs.Width.{width_of}
 use Rattle.babel_trie.specs.Runs.{HasRuns}
-use Rattle.babel_trie.specs.Marks.{option_mark, differing_mark, sources_mark}
-use Rattle.babel_trie.specs.Sound.{IsSound}
 use Rattle.babel_trie.specs.Told.{HasDifference}
 use Rattle.babel_trie.specs.declared.differing.Differing.{Differing}
 use Rattle.babel_trie.specs.declared.runs.Change.{Change}
 use Rattle.babel_trie.specs.declared.table.Sources.{Sources}
-use Rattle.babel_trie.specs.declared.table.Sources.TheVariants.{Constant, Stored}
 use Rattle.babel_trie.specs.declared.table.Table.{Table}
-use Rattle.babel_trie.proofs.HalfLaws.{width_most}
-use Rattle.babel_trie.proofs.NodeLaws.{sources_cmp, sound_by}
+use Rattle.babel_trie.proofs.ListLaws.{width_le}
+use Rattle.babel_trie.proofs.NumberLaws.{form_from_sound}
 use Rattle.babel_trie.proofs.RunLaws.{runs-grow}
-use Rattle.babel_trie.proofs.TellLaws.{differing_cmp}
 use Rattle.babel_trie.proofs.every_difference.differences_of.Goals as goal
 
 pub runs-requires-clause-known : goal.runs-requires-clause-known
@@ -27,7 +21,7 @@ runs-requires-clause-left g c =
     let w = width_of c.args.family in
     let nodes = c.all_runs-2.new.self.nodes.items in
     let f = answers_in c.args.family (g.L.Rows.rows c.args.left) in
-    let grown = runs-grow w c.all_runs.new.self.nodes.items nodes c.in_ok-left.left.items f c.in_ok-right.ensures.keeps c.in_ok-left.ensures.runs in
+    let grown = runs-grow w c.all_runs.new.self.nodes.items nodes c.in_ok-left.left.items f c.in_ok-right.ensures.keeps (form_from_sound None _ nodes c.all_runs-2.new.self.numbers c.in_ok-right.ensures.sound) c.in_ok-left.ensures.runs in
     let list = subst (λ (xs : List (Change (Sources (Option g.row.V.Denot)))). HasRuns w nodes xs f) (sym c.deref.ensures.value) grown in
     let left = subst (λ n. HasRuns n nodes c.deref.result.now f) (sym c.width.ensures) list in
     (f, left)
@@ -42,23 +36,17 @@ runs-requires-clause-right g c =
     (f', right)
 
 pub runs-requires-clause-width : goal.runs-requires-clause-width
-runs-requires-clause-width g c = omega (arith, c.width.ensures, width_most c.args.family)
+runs-requires-clause-width g c = omega (arith, c.width.ensures, width_le c.args.family)
 
 pub of_runs-requires-clause-sound : goal.of_runs-requires-clause-sound
-of_runs-requires-clause-sound g c =
-    let told = c.runs.new.self.differences in
-    let made = c.into_differences.result in
-    let order : Sources (Option (Differing g.row.V.Denot)) → Sources (Option (Differing g.row.V.Denot)) → Ordering = sources_cmp (option_cmp (differing_cmp g.V.Ord.cmp)) in
-    let mark : Sources (Option (Differing g.row.V.Denot)) → ℕ = sources_mark (option_mark (differing_mark (option_mark g.V.LawfulOrd.mark))) in
-    let sound : IsSound order mark told.nodes.items told.numbers = sound_by told.nodes.items told.numbers (elim [ Constant v ↦ elim [ Constant u ↦ refl | Stored m ↦ refl ] | Stored k ↦ elim [ Constant v ↦ refl | Stored m ↦ refl ] ]) c.in_ok-runs.ensures.sound in
-    sound_by made.nodes.items made.numbers (elim [ Constant v ↦ elim [ Constant u ↦ refl | Stored m ↦ refl ] | Stored k ↦ elim [ Constant v ↦ refl | Stored m ↦ refl ] ]) (subst (λ (t : Table (Option (Differing g.row.V.Denot))). IsSound order mark t.nodes.items t.numbers) (sym c.into_differences.ensures) sound)
+of_runs-requires-clause-sound g c = rw c.into_differences.ensures c.in_ok-runs.ensures.sound
 
 pub of_runs-requires-clause-runs : goal.of_runs-requires-clause-runs
 of_runs-requires-clause-runs g c =
     let w = width_of c.args.family in
     let nodes = c.all_runs-2.new.self.nodes.items in
     let f = answers_in c.args.family (g.L.Rows.rows c.args.left) in
-    let grown = runs-grow w c.all_runs.new.self.nodes.items nodes c.in_ok-left.left.items f c.in_ok-right.ensures.keeps c.in_ok-left.ensures.runs in
+    let grown = runs-grow w c.all_runs.new.self.nodes.items nodes c.in_ok-left.left.items f c.in_ok-right.ensures.keeps (form_from_sound None _ nodes c.all_runs-2.new.self.numbers c.in_ok-right.ensures.sound) c.in_ok-left.ensures.runs in
     let list = subst (λ (xs : List (Change (Sources (Option g.row.V.Denot)))). HasRuns w nodes xs f) (sym c.deref.ensures.value) grown in
     let left = subst (λ n. HasRuns n nodes c.deref.result.now f) (sym c.width.ensures) list in
     let f' = answers_in c.args.family (g.R.Rows.rows c.args.right) in
@@ -74,7 +62,7 @@ returns-clause-boxes g c =
     let w = width_of c.args.family in
     let nodes = c.all_runs-2.new.self.nodes.items in
     let f = answers_in c.args.family (g.L.Rows.rows c.args.left) in
-    let grown = runs-grow w c.all_runs.new.self.nodes.items nodes c.in_ok-left.left.items f c.in_ok-right.ensures.keeps c.in_ok-left.ensures.runs in
+    let grown = runs-grow w c.all_runs.new.self.nodes.items nodes c.in_ok-left.left.items f c.in_ok-right.ensures.keeps (form_from_sound None _ nodes c.all_runs-2.new.self.numbers c.in_ok-right.ensures.sound) c.in_ok-left.ensures.runs in
     let list = subst (λ (xs : List (Change (Sources (Option g.row.V.Denot)))). HasRuns w nodes xs f) (sym c.deref.ensures.value) grown in
     let left = subst (λ n. HasRuns n nodes c.deref.result.now f) (sym c.width.ensures) list in
     let f' = answers_in c.args.family (g.R.Rows.rows c.args.right) in

@@ -13,7 +13,7 @@ loop-other-init g c =
     let w = c.args.width in
     let table = c.new-table.result in
     record {
-      sound = sound_by table.nodes.items table.numbers (elim [ Constant v ↦ elim [ Constant u ↦ refl | Stored m ↦ refl ] | Stored k ↦ elim [ Constant v ↦ refl | Stored m ↦ refl ] ]) c.new-table.ensures.sound;
+      sound = sound_by table.nodes.items table.numbers (λ n s o n' s' o'. elim [ Constant _ ↦ elim [ Constant _ ↦ elim [ Constant _ ↦ elim [ Constant _ ↦ refl | Stored _ ↦ refl ] | Stored _ ↦ elim [ Constant _ ↦ refl | Stored _ ↦ refl ] ] | Stored _ ↦ elim [ Constant _ ↦ elim [ Constant _ ↦ refl | Stored _ ↦ refl ] | Stored _ ↦ elim [ Constant _ ↦ refl | Stored _ ↦ refl ] ] ] | Stored _ ↦ elim [ Constant _ ↦ elim [ Constant _ ↦ elim [ Constant _ ↦ refl | Stored _ ↦ refl ] | Stored _ ↦ elim [ Constant _ ↦ refl | Stored _ ↦ refl ] ] | Stored _ ↦ elim [ Constant _ ↦ elim [ Constant _ ↦ refl | Stored _ ↦ refl ] | Stored _ ↦ elim [ Constant _ ↦ refl | Stored _ ↦ refl ] ] ] ]) c.new-table.ensures.sound;
       pass = c.new-pass.ensures.pass w table.nodes.items c.requires.left_order c.requires.left_table;
       other = c.new-other.ensures.pass w table.nodes.items c.requires.right_order c.requires.right_table;
       reached = omega (arith, c.new-pass.ensures.start);
@@ -26,21 +26,21 @@ loop-other-init g c =
 
 pub reach_both-requires-clause-sound : goal.reach_both-requires-clause-sound
 reach_both-requires-clause-sound g c =
-    sound_by c.loop-other.table.nodes.items c.loop-other.table.numbers (elim [ Constant v ↦ elim [ Constant u ↦ refl | Stored m ↦ refl ] | Stored k ↦ elim [ Constant v ↦ refl | Stored m ↦ refl ] ]) c.loop-other.invariant.sound
+    sound_by c.loop-other.table.nodes.items c.loop-other.table.numbers (λ n s o n' s' o'. elim [ Constant _ ↦ elim [ Constant _ ↦ elim [ Constant _ ↦ elim [ Constant _ ↦ refl | Stored _ ↦ refl ] | Stored _ ↦ elim [ Constant _ ↦ refl | Stored _ ↦ refl ] ] | Stored _ ↦ elim [ Constant _ ↦ elim [ Constant _ ↦ refl | Stored _ ↦ refl ] | Stored _ ↦ elim [ Constant _ ↦ refl | Stored _ ↦ refl ] ] ] | Stored _ ↦ elim [ Constant _ ↦ elim [ Constant _ ↦ elim [ Constant _ ↦ refl | Stored _ ↦ refl ] | Stored _ ↦ elim [ Constant _ ↦ refl | Stored _ ↦ refl ] ] | Stored _ ↦ elim [ Constant _ ↦ elim [ Constant _ ↦ refl | Stored _ ↦ refl ] | Stored _ ↦ elim [ Constant _ ↦ refl | Stored _ ↦ refl ] ] ] ]) c.loop-other.invariant.sound
 
-pub first_difference-requires-clause-trie : goal.first_difference-requires-clause-trie
-first_difference-requires-clause-trie g c =
+pub first_difference-requires-clause-inside : goal.first_difference-requires-clause-inside
+first_difference-requires-clause-inside g c =
     let i = c.loop-other.invariant in
     let at = c.loop-other.at in
     let reach = c.in_ok-next.ensures in
-    (come (reach.pass _ i.pass) at reach.reached i.within ((reach.next at).0 reach.behind).0 c.sources-here.result c.sources-here.ensures).held
+    (come (reach.pass _ i.pass) at reach.reached i.within ((reach.next at).0 reach.behind).0 c.sources-here.result c.sources-here.ensures).held.inside
 
-pub first_difference-requires-clause-other_trie : goal.first_difference-requires-clause-other_trie
-first_difference-requires-clause-other_trie g c =
+pub first_difference-requires-clause-other_inside : goal.first_difference-requires-clause-other_inside
+first_difference-requires-clause-other_inside g c =
     let i = c.loop-other.invariant in
     let at = c.loop-other.at in
     let reach = c.in_ok-next.ensures in
-    (come (reach.other _ i.other) at reach.other_reached i.within ((reach.next at).0 reach.behind).1 c.sources-there.result c.sources-there.ensures).held
+    (come (reach.other _ i.other) at reach.other_reached i.within ((reach.next at).0 reach.behind).1 c.sources-there.result c.sources-there.ensures).held.inside
 
 pub returns-in-Some : goal.returns-in-Some
 returns-in-Some g c =
@@ -79,7 +79,7 @@ loop-other-preserved g c =
     let behind : at < start = subst (λ (o : Option ℕ). IfSome o (λ next. at < next)) c.in-Some-next.is reach.behind in
     let within : start < 2 ^ c.args.width = subst (λ (o : Option ℕ). IfSome o (λ next. next < 2 ^ c.args.width)) c.in-Some-next.is reach.within in
     record {
-      sound = sound_by table.nodes.items table.numbers (elim [ Constant v ↦ elim [ Constant u ↦ refl | Stored m ↦ refl ] | Stored k ↦ elim [ Constant v ↦ refl | Stored m ↦ refl ] ]) reach.sound;
+      sound = sound_by table.nodes.items table.numbers (λ n s o n' s' o'. elim [ Constant _ ↦ elim [ Constant _ ↦ elim [ Constant _ ↦ elim [ Constant _ ↦ refl | Stored _ ↦ refl ] | Stored _ ↦ elim [ Constant _ ↦ refl | Stored _ ↦ refl ] ] | Stored _ ↦ elim [ Constant _ ↦ elim [ Constant _ ↦ refl | Stored _ ↦ refl ] | Stored _ ↦ elim [ Constant _ ↦ refl | Stored _ ↦ refl ] ] ] | Stored _ ↦ elim [ Constant _ ↦ elim [ Constant _ ↦ elim [ Constant _ ↦ refl | Stored _ ↦ refl ] | Stored _ ↦ elim [ Constant _ ↦ refl | Stored _ ↦ refl ] ] | Stored _ ↦ elim [ Constant _ ↦ elim [ Constant _ ↦ refl | Stored _ ↦ refl ] | Stored _ ↦ elim [ Constant _ ↦ refl | Stored _ ↦ refl ] ] ] ]) reach.sound;
       pass = reach.pass _ i.pass;
       other = reach.other _ i.other;
       reached = omega (arith, reach.reached);

@@ -1,8 +1,8 @@
 -- One value beside a node that takes it.
-use Rattle.std.proofs.Common.{◌-◌, ◌^◌, ◌+◌, sym, subst, arith}
+use Rattle.std.proofs.Common.{◌-◌, sym, subst, arith}
 use Rattle.std.specs.Prelude.{Option, None}
 use Rattle.std.proofs.lemmas.Nat.{pow_pos}
-use Rattle.babel_trie.specs.Interned.{IsNodeIn, IsNormal, IsNormalLoose, IsLooseIn, AreUnited, middle_of}
+use Rattle.babel_trie.specs.Interned.{IsNormalLoose, IsLooseIn, AreUnited, middle_of}
 use Rattle.babel_trie.specs.declared.table.Loose.{Loose}
 use Rattle.babel_trie.specs.declared.table.Loose.TheVariants.{Same, Split}
 use Rattle.babel_trie.specs.declared.table.Node.{Node}

@@ -1,7 +1,7 @@
 -- From one change of either list to the next both say one thing each.
 use Rattle.std.proofs.Common.{◌≡◌, ℕ, ◌+◌, ◌-◌, ◌^◌, ◌<◌, ◌≤◌, Some, None, ◌∙◌, subst, arith, Option}
 use Rattle.std.proofs.Math.Pow.{pow_mono}
-use Rattle.babel_trie.specs.Interned.{HasTrie}
+use Rattle.babel_trie.specs.Held.{HasTrie}
 use Rattle.babel_trie.specs.Runs.{said_at, StartBehind, run_answers}
 use Rattle.babel_trie.specs.declared.table.Sources.{Sources}
 use Rattle.babel_trie.proofs.ApartLaws.{no_sources, said-step, said-first, answers-agree, answers-first, first-same}
@@ -50,8 +50,8 @@ loop-src-init g c =
       right_from = λ x t. omega arith;
     }
 
-pub first_difference-requires-clause-trie : goal.first_difference-requires-clause-trie
-first_difference-requires-clause-trie g c =
+pub first_difference-requires-clause-inside : goal.first_difference-requires-clause-inside
+first_difference-requires-clause-inside g c =
     let a = c.args in
     let i = c.loop-src.invariant in
     let w = a.width in
@@ -69,10 +69,10 @@ first_difference-requires-clause-trie g c =
     said-step no_sources c.loop-src.there there right c.loop-src.rights.now c.behind-in-loop-src.result.0.now at d i.right_same c.behind-in-loop-src.ensures.same ahead le in
     let h : HasTrie w sources here = subst (λ (n : Sources (Option g.row.V.Denot)). HasTrie w sources n) (here_is at (omega arith) c.behind.ensures.behind) (c.requires.left.1.each no_sources at at_in) in
     let k : HasTrie w others there = subst (λ (n : Sources (Option g.row.V.Denot)). HasTrie w others n) (there_is at (omega arith) c.behind-in-loop-src.ensures.behind) (c.requires.right.1.each no_sources at at_in) in
-    h
+    h.inside
 
-pub first_difference-requires-clause-other_trie : goal.first_difference-requires-clause-other_trie
-first_difference-requires-clause-other_trie g c =
+pub first_difference-requires-clause-other_inside : goal.first_difference-requires-clause-other_inside
+first_difference-requires-clause-other_inside g c =
     let a = c.args in
     let i = c.loop-src.invariant in
     let w = a.width in
@@ -90,7 +90,7 @@ first_difference-requires-clause-other_trie g c =
     said-step no_sources c.loop-src.there there right c.loop-src.rights.now c.behind-in-loop-src.result.0.now at d i.right_same c.behind-in-loop-src.ensures.same ahead le in
     let h : HasTrie w sources here = subst (λ (n : Sources (Option g.row.V.Denot)). HasTrie w sources n) (here_is at (omega arith) c.behind.ensures.behind) (c.requires.left.1.each no_sources at at_in) in
     let k : HasTrie w others there = subst (λ (n : Sources (Option g.row.V.Denot)). HasTrie w others n) (there_is at (omega arith) c.behind-in-loop-src.ensures.behind) (c.requires.right.1.each no_sources at at_in) in
-    k
+    k.inside
 
 pub returns-in-Some : goal.returns-in-Some
 returns-in-Some g c f f' p q =

@@ -1,5 +1,5 @@
 -- The bits are the most of the three.
-use Rattle.std.proofs.Common.{rules, ℕ, sym, subst, arith}
+use Rattle.std.proofs.Common.{ℕ, sym, subst, arith}
 use Rattle.babel_trie.specs.Places.{IsSmallestAround}
 use Rattle.babel_trie.proofs.BlockLaws.{around_two}
 use Rattle.babel_trie.proofs.block.SourceBlock.joined.Goals as goal

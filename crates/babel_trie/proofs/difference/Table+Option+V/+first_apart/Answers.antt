@@ -1,95 +1,89 @@
 -- Two constants differ at the first address or nowhere; else the lower halves are looked at before the upper.
-use Rattle.std.proofs.Common.{◌≡◌, ◌-◌, ◌^◌, ◌<◌, sym, ◌∙◌, subst, arith, rules}
+use Rattle.std.proofs.Common.{◌≡◌, ◌-◌, ◌^◌, ◌<◌, sym, ◌∙◌, ap, subst, arith, rules}
 use Rattle.std.proofs.lemmas.Bool.{false≢true}
-use Rattle.babel_trie.specs.Differs.{DifferFirst, IsFirstDifference}
-use Rattle.babel_trie.specs.Interned.{IsTrie}
+use Rattle.babel_trie.specs.Differs.{DifferFirst}
 use Rattle.babel_trie.specs.Shape.{value_at}
-use Rattle.babel_trie.proofs.DifferLaws.{agree_at_leaves, agree_in_one, differ_at_leaves, sides, in_both, differ_low, differ_high, halves_are_tries, in_width}
-use Rattle.babel_trie.proofs.HalfLaws.{halved}
+use Rattle.babel_trie.specs.declared.block.SourceBlock.{SourceBlock}
+use Rattle.std.specs.Prelude.{None}
+use Rattle.babel_trie.specs.Interned.{IsLooseIn, IsNormalLoose}
+use Rattle.babel_trie.specs.Rows.{IsPlace}
+use Rattle.babel_trie.proofs.DifferLaws.{agree_at_leaves, agree_in_one, differ_at_leaves, sides, differ_low, first_high}
+use Rattle.babel_trie.proofs.NumberLaws.{half_place, upper_place}
+use Rattle.babel_trie.proofs.TrieLaws.{halved, halved_normal}
 use Rattle.babel_trie.proofs.difference.Table+Option+V.+first_apart.Goals as goal
 
-pub halves-requires : goal.halves-requires
-halves-requires g t c = (c.args.bits, c.requires.width, c.requires.trie)
+pub halves-requires-clause-some : goal.halves-requires-clause-some
+halves-requires-clause-some g t c =
+    c.in_default.ensures.fork None c.args.block.bits c.args.block.start c.args.self.now.nodes.items c.args.other.now.nodes.items c.requires.inside c.requires.normal c.requires.other_inside c.requires.other_normal
 
-pub halves-requires-2 : goal.halves-requires-2
-halves-requires-2 g t c = (c.args.bits, c.requires.width, c.requires.other_trie)
+pub halves-requires-2-clause-some : goal.halves-requires-2-clause-some
+halves-requires-2-clause-some g t c =
+    c.in_default.ensures.fork None c.args.block.bits c.args.block.start c.args.self.now.nodes.items c.args.other.now.nodes.items c.requires.inside c.requires.normal c.requires.other_inside c.requires.other_normal
 
-pub overflow_sub-bits : goal.overflow_sub-bits
-overflow_sub-bits g t c = c.in_default.ensures.fork c.args.bits c.args.self.now.nodes.items c.args.other.now.nodes.items c.requires.trie c.requires.other_trie
+pub low-requires : goal.low-requires
+low-requires g t c = record { some = c.in_default.ensures.fork None c.args.block.bits c.args.block.start c.args.self.now.nodes.items c.args.other.now.nodes.items c.requires.inside c.requires.normal c.requires.other_inside c.requires.other_normal }
 
 pub first_apart-requires : goal.first_apart-requires
 first_apart-requires g t c κs within =
-    let a = c.args in
-    let some : 0 < a.bits = c.in_default.ensures.fork a.bits a.self.now.nodes.items a.other.now.nodes.items c.requires.trie c.requires.other_trie in
-    let falls : a.bits - 1 < t = omega (arith, c.decreases) in
-    let own = halves_are_tries a.bits a.self.now.nodes.items a.whole c.halves.result.0 c.halves.result.1 c.requires.trie some (halved c.args.self.now.nodes.items c.args.whole c.halves.result.0 c.halves.result.1 c.halves.ensures.one c.halves.ensures.node c.requires.trie.trie c.requires.trie.stands) in
-    let theirs = halves_are_tries a.bits a.other.now.nodes.items a.other_whole c.halves-2.result.0 c.halves-2.result.1 c.requires.other_trie some (halved c.args.other.now.nodes.items c.args.other_whole c.halves-2.result.0 c.halves-2.result.1 c.halves-2.ensures.one c.halves-2.ensures.node c.requires.other_trie.trie c.requires.other_trie.stands) in
-    let left : IsTrie (a.bits - 1) a.self.now.nodes.items c.halves.result.0 = own.0 in
-    let right : IsTrie (a.bits - 1) a.other.now.nodes.items c.halves-2.result.0 = theirs.0 in
+    let some : 0 < c.args.block.bits = c.in_default.ensures.fork None c.args.block.bits c.args.block.start c.args.self.now.nodes.items c.args.other.now.nodes.items c.requires.inside c.requires.normal c.requires.other_inside c.requires.other_normal in
+    let at = c.low.ensures in
+    let falls : c.low.result.bits < t = omega (arith, c.decreases, ap (λ (b : SourceBlock). b.bits) at) in
+    let inside : IsLooseIn None c.args.self.now.nodes.items c.low.result.bits c.low.result.start c.halves.result.0 = subst (λ (b : SourceBlock). IsLooseIn None c.args.self.now.nodes.items b.bits b.start c.halves.result.0) (sym at) c.halves.ensures.low in
+    let other_inside : IsLooseIn None c.args.other.now.nodes.items c.low.result.bits c.low.result.start c.halves-2.result.0 = subst (λ (b : SourceBlock). IsLooseIn None c.args.other.now.nodes.items b.bits b.start c.halves-2.result.0) (sym at) c.halves-2.ensures.low in
+    let normal : IsNormalLoose None c.args.self.now.nodes.items c.halves.result.0 = (halved_normal None c.args.self.now.nodes.items c.requires.form c.args.block.bits c.args.block.start c.args.whole c.halves.result.0 c.halves.result.1 some c.halves.ensures.one c.halves.ensures.node c.requires.normal).0 in
+    let other_normal : IsNormalLoose None c.args.other.now.nodes.items c.halves-2.result.0 = (halved_normal None c.args.other.now.nodes.items c.requires.other_form c.args.block.bits c.args.block.start c.args.other_whole c.halves-2.result.0 c.halves-2.result.1 some c.halves-2.ensures.one c.halves-2.ensures.node c.requires.other_normal).0 in
+    let place : IsPlace 128 c.low.result.bits c.low.result.start = subst (λ (b : SourceBlock). IsPlace 128 b.bits b.start) (sym at) (half_place 128 c.args.block.bits c.args.block.start some c.requires.place) in
     search rules
 
-pub overflow_sub-bits-2 : goal.overflow_sub-bits-2
-overflow_sub-bits-2 g t c = c.in_default.ensures.fork c.args.bits c.args.self.now.nodes.items c.args.other.now.nodes.items c.requires.trie c.requires.other_trie
+pub returns-in-Some-first_apart : goal.returns-in-Some-first_apart
+returns-in-Some-first_apart g t c u v stands stands' =
+    let some : 0 < c.args.block.bits = c.in_default.ensures.fork None c.args.block.bits c.args.block.start c.args.self.now.nodes.items c.args.other.now.nodes.items c.requires.inside c.requires.normal c.requires.other_inside c.requires.other_normal in
+    let p = halved None c.args.self.now.nodes.items c.args.block.bits c.args.block.start c.args.whole c.halves.result.0 c.halves.result.1 some c.halves.ensures.one c.halves.ensures.node u stands in
+    let q = halved None c.args.other.now.nodes.items c.args.block.bits c.args.block.start c.args.other_whole c.halves-2.result.0 c.halves-2.result.1 some c.halves-2.ensures.one c.halves-2.ensures.node v stands' in
+    let found = (rw c.low.ensures at c.in-Some-first_apart.ensures) p.low_half q.low_half p.low_stands q.low_stands in
+    (found.0, differ_low (sides None c.args.self.now.nodes.items c.args.other.now.nodes.items c.args.block.bits c.args.block.start c.args.whole c.args.other_whole c.requires.form c.requires.other_form c.requires.place c.requires.inside c.requires.normal c.requires.other_inside c.requires.other_normal (c.in_default.ensures.fork None) stands stands' p q) (c.in-Some-first_apart.at - c.args.block.start) found.1)
+
+pub high-requires-clause-some : goal.high-requires-clause-some
+high-requires-clause-some g t c =
+    c.in_default.ensures.fork None c.args.block.bits c.args.block.start c.args.self.now.nodes.items c.args.other.now.nodes.items c.requires.inside c.requires.normal c.requires.other_inside c.requires.other_normal
 
 pub first_apart-requires-2 : goal.first_apart-requires-2
 first_apart-requires-2 g t c κs within =
-    let a = c.args in
-    let some : 0 < a.bits = c.in_default.ensures.fork a.bits a.self.now.nodes.items a.other.now.nodes.items c.requires.trie c.requires.other_trie in
-    let falls : a.bits - 1 < t = omega (arith, c.decreases) in
-    let own = halves_are_tries a.bits a.self.now.nodes.items a.whole c.halves.result.0 c.halves.result.1 c.requires.trie some (halved c.args.self.now.nodes.items c.args.whole c.halves.result.0 c.halves.result.1 c.halves.ensures.one c.halves.ensures.node c.requires.trie.trie c.requires.trie.stands) in
-    let theirs = halves_are_tries a.bits a.other.now.nodes.items a.other_whole c.halves-2.result.0 c.halves-2.result.1 c.requires.other_trie some (halved c.args.other.now.nodes.items c.args.other_whole c.halves-2.result.0 c.halves-2.result.1 c.halves-2.ensures.one c.halves-2.ensures.node c.requires.other_trie.trie c.requires.other_trie.stands) in
-    let left : IsTrie (a.bits - 1) a.self.now.nodes.items c.halves.result.1 = own.1 in
-    let right : IsTrie (a.bits - 1) a.other.now.nodes.items c.halves-2.result.1 = theirs.1 in
+    let some : 0 < c.args.block.bits = c.in_default.ensures.fork None c.args.block.bits c.args.block.start c.args.self.now.nodes.items c.args.other.now.nodes.items c.requires.inside c.requires.normal c.requires.other_inside c.requires.other_normal in
+    let at = c.high.ensures in
+    let falls : c.high.result.bits < t = omega (arith, c.decreases, ap (λ (b : SourceBlock). b.bits) at) in
+    let inside : IsLooseIn None c.args.self.now.nodes.items c.high.result.bits c.high.result.start c.halves.result.1 = subst (λ (b : SourceBlock). IsLooseIn None c.args.self.now.nodes.items b.bits b.start c.halves.result.1) (sym at) c.halves.ensures.high in
+    let other_inside : IsLooseIn None c.args.other.now.nodes.items c.high.result.bits c.high.result.start c.halves-2.result.1 = subst (λ (b : SourceBlock). IsLooseIn None c.args.other.now.nodes.items b.bits b.start c.halves-2.result.1) (sym at) c.halves-2.ensures.high in
+    let normal : IsNormalLoose None c.args.self.now.nodes.items c.halves.result.1 = (halved_normal None c.args.self.now.nodes.items c.requires.form c.args.block.bits c.args.block.start c.args.whole c.halves.result.0 c.halves.result.1 some c.halves.ensures.one c.halves.ensures.node c.requires.normal).1 in
+    let other_normal : IsNormalLoose None c.args.other.now.nodes.items c.halves-2.result.1 = (halved_normal None c.args.other.now.nodes.items c.requires.other_form c.args.block.bits c.args.block.start c.args.other_whole c.halves-2.result.0 c.halves-2.result.1 some c.halves-2.ensures.one c.halves-2.ensures.node c.requires.other_normal).1 in
+    let place : IsPlace 128 c.high.result.bits c.high.result.start = subst (λ (b : SourceBlock). IsPlace 128 b.bits b.start) (sym at) (upper_place 128 c.args.block.bits c.args.block.start some c.requires.place) in
     search rules
 
-pub in_upper_half-requires-clause-some : goal.in_upper_half-requires-clause-some
-in_upper_half-requires-clause-some g t c = c.in_default.ensures.fork c.args.bits c.args.self.now.nodes.items c.args.other.now.nodes.items c.requires.trie c.requires.other_trie
-
-pub in_upper_half-requires-clause-room : goal.in_upper_half-requires-clause-room
-in_upper_half-requires-clause-room g t c =
-    let a = c.args in
-    let p = halved c.args.self.now.nodes.items c.args.whole c.halves.result.0 c.halves.result.1 c.halves.ensures.one c.halves.ensures.node c.requires.trie.trie c.requires.trie.stands in
-    let q = halved c.args.other.now.nodes.items c.args.other_whole c.halves-2.result.0 c.halves-2.result.1 c.halves-2.ensures.one c.halves-2.ensures.node c.requires.other_trie.trie c.requires.other_trie.stands in
-    let above : DifferFirst (2 ^ (a.bits - 1)) (value_at p.high_half (a.bits - 1)) (value_at q.high_half (a.bits - 1)) c.in_ok-at.at =
-    c.in_ok-at.ensures p.high_half q.high_half p.high_stands q.high_stands in
-    in_width a.bits c.in_ok-at.at (c.in_default.ensures.fork a.bits a.self.now.nodes.items a.other.now.nodes.items c.requires.trie c.requires.other_trie) c.requires.width above.in_range
+pub returns : goal.returns
+returns g t c u v stands stands' =
+    let some : 0 < c.args.block.bits = c.in_default.ensures.fork None c.args.block.bits c.args.block.start c.args.self.now.nodes.items c.args.other.now.nodes.items c.requires.inside c.requires.normal c.requires.other_inside c.requires.other_normal in
+    let p = halved None c.args.self.now.nodes.items c.args.block.bits c.args.block.start c.args.whole c.halves.result.0 c.halves.result.1 some c.halves.ensures.one c.halves.ensures.node u stands in
+    let q = halved None c.args.other.now.nodes.items c.args.block.bits c.args.block.start c.args.other_whole c.halves-2.result.0 c.halves-2.result.1 some c.halves-2.ensures.one c.halves-2.ensures.node v stands' in
+    let below = (rw c.low.ensures at c.in_default-first_apart.ensures) p.low_half q.low_half p.low_stands q.low_stands in
+    first_high (sides None c.args.self.now.nodes.items c.args.other.now.nodes.items c.args.block.bits c.args.block.start c.args.whole c.args.other_whole c.requires.form c.requires.other_form c.requires.place c.requires.inside c.requires.normal c.requires.other_inside c.requires.other_normal (c.in_default.ensures.fork None) stands stands' p q) c.args.block.start c.first_apart-2.result below
+    ((rw c.high.ensures at c.first_apart-2.ensures) p.high_half q.high_half p.high_stands q.high_stands)
 
 pub returns-then-are_one_trie : goal.returns-then-are_one_trie
 returns-then-are_one_trie g t c u v p q =
     let a = c.args in
-    agree_in_one a.self.now.nodes.items a.other.now.nodes.items a.whole a.other_whole a.bits u v (c.requires.one (c.are_one_trie.ensures.one c.if-are_one_trie.true)) (c.are_one_trie.ensures.same c.if-are_one_trie.true) p q
+    agree_in_one None a.self.now.nodes.items a.other.now.nodes.items a.whole a.other_whole a.block.bits a.block.start u v (c.requires.one (c.are_one_trie.ensures.one c.if-are_one_trie.true)) (c.are_one_trie.ensures.same c.if-are_one_trie.true) p q
 
 pub returns-then-are_same : goal.returns-then-are_same
 returns-then-are_same g t c u v p q =
     let a = c.args in
-    agree_at_leaves a.self.now.nodes.items a.other.now.nodes.items a.whole a.other_whole a.bits _ _ c.in-Some.ensures.constants.0 c.in-Some.ensures.constants.1 u v p q (c.are_same.ensures.0 c.if-are_same.true)
+    agree_at_leaves None a.self.now.nodes.items a.other.now.nodes.items a.whole a.other_whole a.block.bits a.block.start _ _ c.in-Some.ensures.constants.0 c.in-Some.ensures.constants.1 u v p q (c.are_same.ensures.0 c.if-are_same.true)
 
 pub returns-else-are_same : goal.returns-else-are_same
 returns-else-are_same g t c u v p q =
     let a = c.args in
-    differ_at_leaves a.self.now.nodes.items a.other.now.nodes.items a.whole a.other_whole a.bits _ _ c.in-Some.ensures.constants.0 c.in-Some.ensures.constants.1 u v p q
-    (λ e. false≢true (sym c.if-are_same.false ∙ c.are_same.ensures.1 e))
-
-pub returns-in-Some-first_apart : goal.returns-in-Some-first_apart
-returns-in-Some-first_apart g t c u v stands stands' =
-    let p = halved c.args.self.now.nodes.items c.args.whole c.halves.result.0 c.halves.result.1 c.halves.ensures.one c.halves.ensures.node u stands in
-    let q = halved c.args.other.now.nodes.items c.args.other_whole c.halves-2.result.0 c.halves-2.result.1 c.halves-2.ensures.one c.halves-2.ensures.node v stands' in
-    differ_low (sides c.requires.trie c.requires.other_trie (λ b. c.in_default.ensures.fork b c.args.self.now.nodes.items c.args.other.now.nodes.items) stands stands' p q) c.in-Some-first_apart.at (c.in-Some-first_apart.ensures p.low_half q.low_half p.low_stands q.low_stands)
-
-pub returns-in_err-at : goal.returns-in_err-at
-returns-in_err-at g t c u v stands stands' =
-    let a = c.args in
-    let p = halved c.args.self.now.nodes.items c.args.whole c.halves.result.0 c.halves.result.1 c.halves.ensures.one c.halves.ensures.node u stands in
-    let q = halved c.args.other.now.nodes.items c.args.other_whole c.halves-2.result.0 c.halves-2.result.1 c.halves-2.ensures.one c.halves-2.ensures.node v stands' in
-    subst (IsFirstDifference (2 ^ a.bits) (value_at u a.bits) (value_at v a.bits)) (sym c.from_residual.ensures)
-    (in_both (sides c.requires.trie c.requires.other_trie (λ b. c.in_default.ensures.fork b c.args.self.now.nodes.items c.args.other.now.nodes.items) stands stands' p q) (λ x y. x ≡ y)
-    (c.in_default-first_apart.ensures p.low_half q.low_half p.low_stands q.low_stands) (c.in_err-at.ensures p.high_half q.high_half p.high_stands q.high_stands))
-
-pub returns : goal.returns
-returns g t c u v stands stands' =
-    let a = c.args in
-    let p = halved c.args.self.now.nodes.items c.args.whole c.halves.result.0 c.halves.result.1 c.halves.ensures.one c.halves.ensures.node u stands in
-    let q = halved c.args.other.now.nodes.items c.args.other_whole c.halves-2.result.0 c.halves-2.result.1 c.halves-2.ensures.one c.halves-2.ensures.node v stands' in
-    subst (DifferFirst (2 ^ a.bits) (value_at u a.bits) (value_at v a.bits)) (sym c.in_upper_half.ensures)
-    (differ_high (sides c.requires.trie c.requires.other_trie (λ b. c.in_default.ensures.fork b c.args.self.now.nodes.items c.args.other.now.nodes.items) stands stands' p q) c.in_ok-at.at
-    (c.in_default-first_apart.ensures p.low_half q.low_half p.low_stands q.low_stands) (c.in_ok-at.ensures p.high_half q.high_half p.high_stands q.high_stands))
+    let none : a.block.start - a.block.start ≡ 0 = omega arith in (
+      omega arith,
+      subst (DifferFirst (2 ^ a.block.bits) (value_at u a.block.bits) (value_at v a.block.bits)) (sym none)
+          (differ_at_leaves None a.self.now.nodes.items a.other.now.nodes.items a.whole a.other_whole a.block.bits a.block.start _ _ c.in-Some.ensures.constants.0 c.in-Some.ensures.constants.1 u v p q
+          (λ e. false≢true (sym c.if-are_same.false ∙ c.are_same.ensures.1 e))),
+    )

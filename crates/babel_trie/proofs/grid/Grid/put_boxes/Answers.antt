@@ -21,6 +21,9 @@ push_runs-requires-clause-each g c x t =
     let list = inside.runs.items in
     change_trie w sources list (answer w (run_rows w sources list)) c.self.invariant.runs x (subst (λ (xs : List (Change (Sources (Option g.row.V.Denot)))). Listed xs x) c.deref.ensures.value t)
 
+pub push_runs-requires-clause-form : goal.push_runs-requires-clause-form
+push_runs-requires-clause-form g c = c.self.invariant.runs.form
+
 pub push_runs-requires-clause-runs : goal.push_runs-requires-clause-runs
 push_runs-requires-clause-runs g c = subst AreRuns (sym c.deref.ensures.value) c.self.invariant.runs.runs
 

@@ -1,28 +1,36 @@
 -- One block's rows after another's.
-use Rattle.std.proofs.Common.{◌+◌, ◌^◌, ◌≤◌, List, [], ◌∷◌, ◌++◌, map, refl, sym, ◌∙◌, ap, subst, arith}
+use Rattle.std.proofs.Common.{ℕ, ◌+◌, ◌^◌, ◌≤◌, List, [], ◌∷◌, ◌++◌, map, Option, None, refl, sym, ◌∙◌, ap, subst, arith}
 use Rattle.std.proofs.lemmas.Result.{err_from_is_err_and}
+use Rattle.babel_prefix.specs.Address.{block_of}
 use Rattle.babel_prefix.specs.Block.{Block}
 use Rattle.babel_prefix.specs.Entries.{Entry}
 use Rattle.babel_prefix.specs.Width.{width_of}
 use Rattle.babel_trie.specs.Cut.{block_from, largest_in}
-use Rattle.babel_trie.specs.Held.{sources_at}
+use Rattle.babel_trie.specs.Held.{sources_at, Represents}
+use Rattle.babel_trie.specs.Interned.{IsIn}
 use Rattle.babel_trie.specs.Nested.{entry_at, leaves, rows_at, rows_of}
+use Rattle.babel_trie.specs.Rows.{IsPlace}
+use Rattle.babel_trie.specs.Shape.{Shape}
 use Rattle.babel_trie.specs.Sinks.{StopsAmong}
 use Rattle.babel_trie.specs.Spans.{each_with}
+use Rattle.babel_trie.specs.declared.block.SourceBlock.{SourceBlock}
 use Rattle.babel_trie.proofs.Cuts.{nothing_cut, one_more_cut, cut_to, cut_whole}
 use Rattle.babel_trie.proofs.Fits.{fit_in_width, fit_is_block}
-use Rattle.babel_trie.proofs.FormLaws.{opened_trie, opened_stands, Represents-in}
 use Rattle.babel_trie.proofs.HeldLaws.{sources_at-stands}
 use Rattle.babel_trie.proofs.Largest.{largest_is, cut_goes_on}
+use Rattle.babel_trie.proofs.PushLaws.{first_place}
 use Rattle.babel_trie.proofs.PutLaws.{put_none, put_both, stop_first, stop_then}
 use Rattle.babel_trie.proofs.SpanRows.{each_with-append, each_with-push}
+use Rattle.babel_trie.proofs.TrieLaws.{whole_place}
 use Rattle.babel_trie.proofs.listing.Table+Option+V.push_blocks.Goals as goal
 
-pub opened-whole-requires : goal.opened-whole-requires
-opened-whole-requires g c = Represents-in c.args.self.now.nodes.items c.args.sources c.requires.trie.trie c.requires.trie.stands
+pub push_sources-requires-clause-inside : goal.push_sources-requires-clause-inside
+push_sources-requires-clause-inside g c =
+    subst (λ (b : SourceBlock). IsIn None c.args.self.now.nodes.items b.bits b.start c.args.sources) (sym (c.whole-whole.ensures ∙ ap (λ (n : ℕ). let b : SourceBlock = record { bits = n; start = 0 } in b) c.width.ensures)) c.requires.trie.inside
 
-pub push_block-requires-clause-trie : goal.push_block-requires-clause-trie
-push_block-requires-clause-trie g c = opened_trie c.args.self.now.nodes.items (width_of c.args.family) c.args.sources c.opened-whole.result c.opened-whole.ensures c.requires.trie
+pub push_sources-requires-clause-place : goal.push_sources-requires-clause-place
+push_sources-requires-clause-place g c =
+    subst (λ (b : SourceBlock). IsPlace (width_of c.args.family) b.bits b.start) (sym (c.whole-whole.ensures ∙ ap (λ (n : ℕ). let b : SourceBlock = record { bits = n; start = 0 } in b) c.width.ensures)) (whole_place (width_of c.args.family))
 
 pub loop-end-init : goal.loop-end-init
 loop-end-init g c =
@@ -52,13 +60,16 @@ returns-then-end-last-clause-ok g c =
     let b : Block = block_from w at bits in
     let h = c.requires.trie in
     let t = sources_at w c.args.self.now.nodes.items c.args.sources in
-    let Has = λ (start : g.row.S.Denot). g.S.Sink.has start c.push_block.new.out in
+    let Has = λ (start : g.row.S.Denot). g.S.Sink.has start c.push_sources.new.out in
+    let whole_is = c.whole-whole.ensures ∙ ap (λ (n : ℕ). let b : SourceBlock = record { bits = n; start = 0 } in b) c.width.ensures in
+    let whole_ok = λ (u : Shape (Option g.row.V.Denot)) (start : g.row.S.Denot) (given : List (Entry g.row.V.Denot)) (p : Represents w c.args.self.now.nodes.items c.args.sources u) (has : g.S.Sink.has start c.loop-end.out given).
+    subst (λ k. Has start (given ++ map (entry_at c.args.family) (rows_at (block_of c.block_prefix-dst.result) (leaves w w k u)))) (first_place w) ((rw whole_is at c.in_ok-push_sources.ensures.ok) u start given p has) in
     let pushed = λ (start : g.row.S.Denot) (given : List (Entry g.row.V.Denot)) (has : g.S.Sink.has start c.args.out.now given).
     put_both c.args.family (Has start) given (rows_of w (each_with t so.blocks)) (rows_at b (leaves w w 0 t)) (rows_of w (each_with t (so.blocks ++ b ∷ []))) (each_with-push w t so.blocks b)
     (subst (λ rows. Has start ((given ++ map (entry_at c.args.family) (rows_of w (each_with t so.blocks))) ++ map (entry_at c.args.family) rows))
     (ap (λ (d : Block). rows_at d (leaves w w 0 h.trie)) c.block_prefix-dst.ensures.block
     ∙ ap (λ u. rows_at b (leaves w w 0 u)) (sym (sources_at-stands w c.args.self.now.nodes.items c.args.sources h)))
-    (c.in_ok-push_block.ensures.ok h.trie start (given ++ map (entry_at c.args.family) (rows_of w (each_with t so.blocks))) (opened_stands c.args.self.now.nodes.items c.args.sources c.opened-whole.result h.trie c.opened-whole.ensures h.stands) (so.put start given has))) in
+    (whole_ok h.trie start (given ++ map (entry_at c.args.family) (rows_of w (each_with t so.blocks))) h.stands (so.put start given has))) in
     let cut = cut_to w c.args.from c.args.last at bits c.last_address-end.result so.blocks so.from_in so.at_in c.requires.fits c.first_bits-bits.ensures.fit c.last_address-end.ensures so.cut in
     λ start given has. subst (λ bs. Has start (given ++ map (entry_at c.args.family) (rows_of w (each_with t bs))))
     (largest_is w c.args.from c.args.last c.requires.fits (so.blocks ++ b ∷ []) (cut_whole w c.args.from c.args.last c.last_address-end.result (so.blocks ++ b ∷ []) c.if-end-last.true cut))
@@ -73,25 +84,28 @@ loop-end-preserved g c =
     let b : Block = block_from w at bits in
     let h = c.requires.trie in
     let t = sources_at w c.args.self.now.nodes.items c.args.sources in
-    let Has = λ (start : g.row.S.Denot). g.S.Sink.has start c.push_block.new.out in
+    let Has = λ (start : g.row.S.Denot). g.S.Sink.has start c.push_sources.new.out in
+    let whole_is = c.whole-whole.ensures ∙ ap (λ (n : ℕ). let b : SourceBlock = record { bits = n; start = 0 } in b) c.width.ensures in
+    let whole_ok = λ (u : Shape (Option g.row.V.Denot)) (start : g.row.S.Denot) (given : List (Entry g.row.V.Denot)) (p : Represents w c.args.self.now.nodes.items c.args.sources u) (has : g.S.Sink.has start c.loop-end.out given).
+    subst (λ k. Has start (given ++ map (entry_at c.args.family) (rows_at (block_of c.block_prefix-dst.result) (leaves w w k u)))) (first_place w) ((rw whole_is at c.in_ok-push_sources.ensures.ok) u start given p has) in
     let pushed = λ (start : g.row.S.Denot) (given : List (Entry g.row.V.Denot)) (has : g.S.Sink.has start c.args.out.now given).
     put_both c.args.family (Has start) given (rows_of w (each_with t so.blocks)) (rows_at b (leaves w w 0 t)) (rows_of w (each_with t (so.blocks ++ b ∷ []))) (each_with-push w t so.blocks b)
     (subst (λ rows. Has start ((given ++ map (entry_at c.args.family) (rows_of w (each_with t so.blocks))) ++ map (entry_at c.args.family) rows))
     (ap (λ (d : Block). rows_at d (leaves w w 0 h.trie)) c.block_prefix-dst.ensures.block
     ∙ ap (λ u. rows_at b (leaves w w 0 u)) (sym (sources_at-stands w c.args.self.now.nodes.items c.args.sources h)))
-    (c.in_ok-push_block.ensures.ok h.trie start (given ++ map (entry_at c.args.family) (rows_of w (each_with t so.blocks))) (opened_stands c.args.self.now.nodes.items c.args.sources c.opened-whole.result h.trie c.opened-whole.ensures h.stands) (so.put start given has))) in
+    (whole_ok h.trie start (given ++ map (entry_at c.args.family) (rows_of w (each_with t so.blocks))) h.stands (so.put start given has))) in
     let room : at + 2 ^ bits ≤ c.args.last + 1 = c.first_bits-bits.ensures.fit.room in
     record {
       from_in = omega arith;
       at_in = omega arith;
       blocks = so.blocks ++ b ∷ [];
       cut = cut_to w c.args.from c.args.last at bits c.last_address-end.result so.blocks so.from_in so.at_in c.requires.fits c.first_bits-bits.ensures.fit c.last_address-end.ensures so.cut;
-      can = c.in_ok-push_block.ensures.can;
+      can = c.in_ok-push_sources.ensures.can;
       put = pushed;
     }
 
-pub returns-in_err-push_block-clause-err : goal.returns-in_err-push_block-clause-err
-returns-in_err-push_block-clause-err g c =
+pub returns-in_err-push_sources-clause-err : goal.returns-in_err-push_sources-clause-err
+returns-in_err-push_sources-clause-err g c =
     let w = width_of c.args.family in
     let so = c.loop-end.invariant in
     let at = c.loop-end.at in
@@ -99,7 +113,10 @@ returns-in_err-push_block-clause-err g c =
     let b : Block = block_from w at bits in
     let h = c.requires.trie in
     let t = sources_at w c.args.self.now.nodes.items c.args.sources in
-    let Stopped = λ (start : g.row.S.Denot). g.S.Sink.stopped start c.push_block.new.out in
+    let Stopped = λ (start : g.row.S.Denot). g.S.Sink.stopped start c.push_sources.new.out in
+    let whole_is = c.whole-whole.ensures ∙ ap (λ (n : ℕ). let b : SourceBlock = record { bits = n; start = 0 } in b) c.width.ensures in
+    let whole_err = λ (u : Shape (Option g.row.V.Denot)) (start : g.row.S.Denot) (given : List (Entry g.row.V.Denot)) (p : Represents w c.args.self.now.nodes.items c.args.sources u) (has : g.S.Sink.has start c.loop-end.out given).
+    subst (λ k. StopsAmong (Stopped start) given (map (entry_at c.args.family) (rows_at (block_of c.block_prefix-dst.result) (leaves w w k u)))) (first_place w) ((rw whole_is at c.in_err-push_sources.ensures.err) u start given p has) in
     let more = largest_in w (at + 2 ^ bits) c.args.last in
     let cut = one_more_cut w c.args.from c.args.last at bits so.blocks so.from_in so.at_in c.requires.fits c.first_bits-bits.ensures.fit so.cut in
     let exit = err_from_is_err_and c.from_residual.result c.from_residual.ensures.1 in
@@ -110,4 +127,4 @@ returns-in_err-push_block-clause-err g c =
     (subst (λ rows. StopsAmong (Stopped start) (given ++ map (entry_at c.args.family) (rows_of w (each_with t so.blocks))) (map (entry_at c.args.family) rows))
     (ap (λ (d : Block). rows_at d (leaves w w 0 h.trie)) c.block_prefix-dst.ensures.block
     ∙ ap (λ u. rows_at b (leaves w w 0 u)) (sym (sources_at-stands w c.args.self.now.nodes.items c.args.sources h)))
-    (c.in_err-push_block.ensures.err h.trie start (given ++ map (entry_at c.args.family) (rows_of w (each_with t so.blocks))) (opened_stands c.args.self.now.nodes.items c.args.sources c.opened-whole.result h.trie c.opened-whole.ensures h.stands) (so.put start given has)))))
+    (whole_err h.trie start (given ++ map (entry_at c.args.family) (rows_of w (each_with t so.blocks))) h.stands (so.put start given has)))))

@@ -5,9 +5,8 @@ use Rattle.std.proofs.lemmas.List.{append-nil, nil_from_length}
 use Rattle.std.proofs.lemmas.Result.{err_from_is_err_and}
 use Rattle.babel_prefix.specs.Width.{width_of}
 use Rattle.babel_prefix.proofs.Members.{Listed}
-use Rattle.babel_trie.specs.Interned.{HasTrie}
 use Rattle.babel_trie.specs.Cut.{largest_in}
-use Rattle.babel_trie.specs.Held.{sources_at}
+use Rattle.babel_trie.specs.Held.{sources_at, HasTrie}
 use Rattle.babel_trie.specs.Nested.{entry_at, rows_of}
 use Rattle.babel_trie.specs.Spans.{start_or, each_with, spans, span_rows, run_rows}
 use Rattle.babel_trie.specs.declared.runs.Change.{Change}

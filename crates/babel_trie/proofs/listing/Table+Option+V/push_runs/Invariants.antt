@@ -4,7 +4,7 @@ use Rattle.babel_prefix.specs.Best.{Row}
 use Rattle.babel_prefix.specs.Entries.{Entry}
 use Rattle.babel_prefix.specs.Members.{Listed}
 use Rattle.babel_prefix.specs.Width.{width_of}
-use Rattle.babel_trie.specs.Interned.{HasTrie}
+use Rattle.babel_trie.specs.Held.{HasTrie}
 use Rattle.babel_trie.specs.Nested.{entry_at}
 use Rattle.babel_trie.specs.Spans.{spans, span_rows, run_rows}
 use Rattle.babel_trie.specs.declared.runs.Change.{Change}

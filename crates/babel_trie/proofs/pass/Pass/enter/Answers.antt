@@ -32,13 +32,13 @@ last_address-end-requires g c =
     let start_is = c.bits-start.ensures.value ∙ ap (λ (x : Address). x.bits) c.addr.ensures.value in
     omega (arith, block_ends w (block_of first.0) (left_block c.requires.pass.1 first here), start_is, ap (λ k. 2 ^ (w - k)) c.len.ensures.value, pow_mono {i = w} {j = 128} c.requires.width)
 
-pub overlaid-requires-clause-trie : goal.overlaid-requires-clause-trie
-overlaid-requires-clause-trie g c =
+pub overlaid-requires-clause-inside : goal.overlaid-requires-clause-inside
+overlaid-requires-clause-inside g c =
     let p = c.requires.pass.1 in
     let first = c.args.first in
     let left = rows_left g.R.Rows.rows c.args.self.now in
     let here : Listed left first = subst (λ split. Listed (rows_of_split g.R.Rows.rows split) first) (sym c.requires.next) (inl refl) in
-    way-held p (block_of first.0).start (p.from first here) (left_block p first here).start_in_range c.requires.reached
+    (way-held p (block_of first.0).start (p.from first here) (left_block p first here).start_in_range c.requires.reached).inside
 
 pub overlaid-requires-clause-rows : goal.overlaid-requires-clause-rows
 overlaid-requires-clause-rows g c =
@@ -80,12 +80,12 @@ returns-clause-pass g c rows p =
     elim c.if-end-last_address.branch [
       | then-end-last_address+in_ok-push t ↦
           let back : Change (Reached V) = record { start = c.last_address-end.result + 1; sources = self.now.sources } in
-          let entered = way-entered n q c.requires.reached more new.sources.trie c.in_ok-trie.ensures.keeps c.in_ok-trie.ensures.overlaid new start_is refl made_is back end_is refl (omega (arith, t.if-end-last_address.true, last_is)) in
+          let entered = way-entered n q c.requires.reached more new.sources.trie c.in_ok-trie.ensures.keeps c.in_ok-trie.ensures.inside c.in_ok-trie.ensures.overlaid new start_is refl made_is back end_is refl (omega (arith, t.if-end-last_address.true, last_is)) in
           let ahead : reverse (self.ahead.items ++ back ∷ []) ≡ back ∷ reverse self.ahead.items = reverse-push self.ahead.items back in
           subst (λ (x : Pass V g.row.R.Denot). Under (reverse x.ahead.items)) (sym t.self-is)
           (subst (λ (xs : List (Change (Reached V))). Under (reverse xs)) (sym t.in_ok-push.ensures.items) (subst Under (sym ahead) entered))
       | else-end-last_address t ↦
-          let entered = way-entered_last n q c.requires.reached more new.sources.trie c.in_ok-trie.ensures.keeps c.in_ok-trie.ensures.overlaid new start_is refl made_is (omega (arith, t.if-end-last_address.false, last_is, end_is)) in
+          let entered = way-entered_last n q c.requires.reached more new.sources.trie c.in_ok-trie.ensures.keeps c.in_ok-trie.ensures.inside c.in_ok-trie.ensures.overlaid new start_is refl made_is (omega (arith, t.if-end-last_address.false, last_is, end_is)) in
           subst (λ (x : Pass V g.row.R.Denot). Under (reverse x.ahead.items)) (sym t.self-is) entered
     ]
 

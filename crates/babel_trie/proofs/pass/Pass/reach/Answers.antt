@@ -18,7 +18,7 @@ pub loop-self-init : goal.loop-self-init
 loop-self-init g c =
     let table = c.args.table.now in
     record {
-      sound = sound_by table.nodes.items table.numbers (elim [ Constant v ↦ elim [ Constant u ↦ refl | Stored m ↦ refl ] | Stored k ↦ elim [ Constant v ↦ refl | Stored m ↦ refl ] ]) c.requires.sound;
+      sound = sound_by table.nodes.items table.numbers (λ n s o n' s' o'. elim [ Constant _ ↦ elim [ Constant _ ↦ elim [ Constant _ ↦ elim [ Constant _ ↦ refl | Stored _ ↦ refl ] | Stored _ ↦ elim [ Constant _ ↦ refl | Stored _ ↦ refl ] ] | Stored _ ↦ elim [ Constant _ ↦ elim [ Constant _ ↦ refl | Stored _ ↦ refl ] | Stored _ ↦ elim [ Constant _ ↦ refl | Stored _ ↦ refl ] ] ] | Stored _ ↦ elim [ Constant _ ↦ elim [ Constant _ ↦ elim [ Constant _ ↦ refl | Stored _ ↦ refl ] | Stored _ ↦ elim [ Constant _ ↦ refl | Stored _ ↦ refl ] ] | Stored _ ↦ elim [ Constant _ ↦ elim [ Constant _ ↦ refl | Stored _ ↦ refl ] | Stored _ ↦ elim [ Constant _ ↦ refl | Stored _ ↦ refl ] ] ] ]) c.requires.sound;
       keeps = λ k node e. e;
       pass = λ rows p. p;
       reached = c.requires.order;
@@ -49,7 +49,7 @@ leave-requires-clause-rows g c row t =
 
 pub enter-requires-clause-sound : goal.enter-requires-clause-sound
 enter-requires-clause-sound g c =
-    sound_by c.loop-self.table.nodes.items c.loop-self.table.numbers (elim [ Constant v ↦ elim [ Constant u ↦ refl | Stored m ↦ refl ] | Stored k ↦ elim [ Constant v ↦ refl | Stored m ↦ refl ] ]) c.loop-self.invariant.sound
+    sound_by c.loop-self.table.nodes.items c.loop-self.table.numbers (λ n s o n' s' o'. elim [ Constant _ ↦ elim [ Constant _ ↦ elim [ Constant _ ↦ elim [ Constant _ ↦ refl | Stored _ ↦ refl ] | Stored _ ↦ elim [ Constant _ ↦ refl | Stored _ ↦ refl ] ] | Stored _ ↦ elim [ Constant _ ↦ elim [ Constant _ ↦ refl | Stored _ ↦ refl ] | Stored _ ↦ elim [ Constant _ ↦ refl | Stored _ ↦ refl ] ] ] | Stored _ ↦ elim [ Constant _ ↦ elim [ Constant _ ↦ elim [ Constant _ ↦ refl | Stored _ ↦ refl ] | Stored _ ↦ elim [ Constant _ ↦ refl | Stored _ ↦ refl ] ] | Stored _ ↦ elim [ Constant _ ↦ elim [ Constant _ ↦ refl | Stored _ ↦ refl ] | Stored _ ↦ elim [ Constant _ ↦ refl | Stored _ ↦ refl ] ] ] ]) c.loop-self.invariant.sound
 
 pub enter-requires-clause-pass : goal.enter-requires-clause-pass
 enter-requires-clause-pass g c =
@@ -64,7 +64,7 @@ loop-self-preserved g c =
     let left = ap (λ split. length (rows_of_split g.R.Rows.rows split)) c.leave.ensures.rest in
     let start_is = c.bits-start.ensures.value ∙ ap (λ (x : Address). x.bits) c.addr.ensures.value in
     record {
-      sound = sound_by table.nodes.items table.numbers (elim [ Constant v ↦ elim [ Constant u ↦ refl | Stored m ↦ refl ] | Stored k ↦ elim [ Constant v ↦ refl | Stored m ↦ refl ] ]) enter.sound;
+      sound = sound_by table.nodes.items table.numbers (λ n s o n' s' o'. elim [ Constant _ ↦ elim [ Constant _ ↦ elim [ Constant _ ↦ elim [ Constant _ ↦ refl | Stored _ ↦ refl ] | Stored _ ↦ elim [ Constant _ ↦ refl | Stored _ ↦ refl ] ] | Stored _ ↦ elim [ Constant _ ↦ elim [ Constant _ ↦ refl | Stored _ ↦ refl ] | Stored _ ↦ elim [ Constant _ ↦ refl | Stored _ ↦ refl ] ] ] | Stored _ ↦ elim [ Constant _ ↦ elim [ Constant _ ↦ elim [ Constant _ ↦ refl | Stored _ ↦ refl ] | Stored _ ↦ elim [ Constant _ ↦ refl | Stored _ ↦ refl ] ] | Stored _ ↦ elim [ Constant _ ↦ elim [ Constant _ ↦ refl | Stored _ ↦ refl ] | Stored _ ↦ elim [ Constant _ ↦ refl | Stored _ ↦ refl ] ] ] ]) enter.sound;
       keeps = λ k node e. enter.keeps k node (i.keeps k node e);
       pass = λ rows p. enter.pass rows (c.leave.ensures.pass c.args.width rows c.loop-self.table.nodes.items (i.pass rows p));
       reached = omega (arith, enter.start, start_is, c.if-at-start.false);
@@ -105,7 +105,7 @@ next_start-requires g c =
 
 pub returns-clause-sound : goal.returns-clause-sound
 returns-clause-sound g c =
-    sound_by c.loop-self.table.nodes.items c.loop-self.table.numbers (elim [ Constant v ↦ elim [ Constant u ↦ refl | Stored m ↦ refl ] | Stored k ↦ elim [ Constant v ↦ refl | Stored m ↦ refl ] ]) c.loop-self.invariant.sound
+    sound_by c.loop-self.table.nodes.items c.loop-self.table.numbers (λ n s o n' s' o'. elim [ Constant _ ↦ elim [ Constant _ ↦ elim [ Constant _ ↦ elim [ Constant _ ↦ refl | Stored _ ↦ refl ] | Stored _ ↦ elim [ Constant _ ↦ refl | Stored _ ↦ refl ] ] | Stored _ ↦ elim [ Constant _ ↦ elim [ Constant _ ↦ refl | Stored _ ↦ refl ] | Stored _ ↦ elim [ Constant _ ↦ refl | Stored _ ↦ refl ] ] ] | Stored _ ↦ elim [ Constant _ ↦ elim [ Constant _ ↦ elim [ Constant _ ↦ refl | Stored _ ↦ refl ] | Stored _ ↦ elim [ Constant _ ↦ refl | Stored _ ↦ refl ] ] | Stored _ ↦ elim [ Constant _ ↦ elim [ Constant _ ↦ refl | Stored _ ↦ refl ] | Stored _ ↦ elim [ Constant _ ↦ refl | Stored _ ↦ refl ] ] ] ]) c.loop-self.invariant.sound
 
 pub returns-clause-behind : goal.returns-clause-behind
 returns-clause-behind g c =

@@ -1,5 +1,5 @@
 -- What the pass has come to is said up to the next change.
-use Rattle.std.proofs.Common.{◌≡◌, ℕ, ◌^◌, ◌<◌, inl, inr, List, [], ◌∷◌, length, map, Option, refl, sym, subst, arith}
+use Rattle.std.proofs.Common.{◌≡◌, ℕ, ◌^◌, ◌<◌, inl, inr, List, [], ◌∷◌, length, map, Option, refl, sym, subst, arith, None}
 use Rattle.std.proofs.lemmas.Nat.{pow_pos}
 use Rattle.std.specs.Option.{IfSome}
 use Rattle.babel_prefix.specs.Best.{answer}
@@ -12,6 +12,7 @@ use Rattle.babel_trie.specs.declared.table.Node.{Node}
 use Rattle.babel_trie.specs.declared.table.Sources.{Sources}
 use Rattle.babel_trie.specs.declared.table.Sources.TheVariants.{Constant, Stored}
 use Rattle.babel_trie.proofs.NodeLaws.{sound_by}
+use Rattle.babel_trie.proofs.NumberLaws.{form_from_sound}
 use Rattle.babel_trie.proofs.BoxesExist.{boxes_exist, test_by}
 use Rattle.babel_trie.proofs.EarlyRuns.{agree_so_far, has_runs_so_far, so_far, some_below}
 use Rattle.babel_trie.proofs.PassLaws.{Says, says-more, says-all}
@@ -30,7 +31,7 @@ loop-due-init g c =
     let rows = g.R.Rows.rows a.rows in
     let none = none_said a.width rows table.nodes.items c.in_ok-list.list.items c.in_ok-list.ensures.items in
     record {
-      sound = sound_by table.nodes.items table.numbers (elim [ Constant v ↦ elim [ Constant u ↦ refl | Stored m ↦ refl ] | Stored k ↦ elim [ Constant v ↦ refl | Stored m ↦ refl ] ]) c.requires.sound;
+      sound = sound_by table.nodes.items table.numbers (λ n s o n' s' o'. elim [ Constant _ ↦ elim [ Constant _ ↦ elim [ Constant _ ↦ elim [ Constant _ ↦ refl | Stored _ ↦ refl ] | Stored _ ↦ elim [ Constant _ ↦ refl | Stored _ ↦ refl ] ] | Stored _ ↦ elim [ Constant _ ↦ elim [ Constant _ ↦ refl | Stored _ ↦ refl ] | Stored _ ↦ elim [ Constant _ ↦ refl | Stored _ ↦ refl ] ] ] | Stored _ ↦ elim [ Constant _ ↦ elim [ Constant _ ↦ elim [ Constant _ ↦ refl | Stored _ ↦ refl ] | Stored _ ↦ elim [ Constant _ ↦ refl | Stored _ ↦ refl ] ] | Stored _ ↦ elim [ Constant _ ↦ elim [ Constant _ ↦ refl | Stored _ ↦ refl ] | Stored _ ↦ elim [ Constant _ ↦ refl | Stored _ ↦ refl ] ] ] ]) c.requires.sound;
       keeps = λ k node e. e;
       pass = c.new-pass.ensures.pass a.width table.nodes.items c.requires.order c.requires.table;
       reached = omega (arith, c.new-pass.ensures.start);
@@ -44,7 +45,7 @@ loop-due-init g c =
 
 pub early_count-requires-clause-sound : goal.early_count-requires-clause-sound
 early_count-requires-clause-sound g c =
-    sound_by c.loop-due.self.nodes.items c.loop-due.self.numbers (elim [ Constant v ↦ elim [ Constant u ↦ refl | Stored m ↦ refl ] | Stored k ↦ elim [ Constant v ↦ refl | Stored m ↦ refl ] ]) c.loop-due.invariant.sound
+    sound_by c.loop-due.self.nodes.items c.loop-due.self.numbers (λ n s o n' s' o'. elim [ Constant _ ↦ elim [ Constant _ ↦ elim [ Constant _ ↦ elim [ Constant _ ↦ refl | Stored _ ↦ refl ] | Stored _ ↦ elim [ Constant _ ↦ refl | Stored _ ↦ refl ] ] | Stored _ ↦ elim [ Constant _ ↦ elim [ Constant _ ↦ refl | Stored _ ↦ refl ] | Stored _ ↦ elim [ Constant _ ↦ refl | Stored _ ↦ refl ] ] ] | Stored _ ↦ elim [ Constant _ ↦ elim [ Constant _ ↦ elim [ Constant _ ↦ refl | Stored _ ↦ refl ] | Stored _ ↦ elim [ Constant _ ↦ refl | Stored _ ↦ refl ] ] | Stored _ ↦ elim [ Constant _ ↦ elim [ Constant _ ↦ refl | Stored _ ↦ refl ] | Stored _ ↦ elim [ Constant _ ↦ refl | Stored _ ↦ refl ] ] ] ]) c.loop-due.invariant.sound
 
 pub early_count-requires-clause-runs : goal.early_count-requires-clause-runs
 early_count-requires-clause-runs g c =
@@ -54,14 +55,15 @@ early_count-requires-clause-runs g c =
     let list = c.loop-due.list.items in
     let i = c.loop-due.invariant in
     let is = c.deref.ensures.value in
+    let form = form_from_sound None _ nodes c.loop-due.self.numbers i.sound in
     let some : 0 < length list = omega (arith, c.if-due-len.true, c.len.ensures, i.due) in
     let begun = some_below c.loop-due.at list i.below some in
-    let runs = has_runs_so_far w c.loop-due.at rows nodes list i.runs i.below c.requires.table i.says begun (omega (arith, i.within)) in
-    (w, so_far w c.loop-due.at rows nodes list i.runs i.below, subst (λ (xs : List (Change (Sources (Option g.row.V.Denot)))). HasRuns w nodes xs (so_far w c.loop-due.at rows nodes list i.runs i.below)) (sym is) runs)
+    let runs = has_runs_so_far w c.loop-due.at rows nodes list form i.runs i.below c.requires.table i.says begun (omega (arith, i.within)) in
+    (so_far w c.loop-due.at rows nodes list form i.runs i.below, subst (λ (xs : List (Change (Sources (Option g.row.V.Denot)))). HasRuns w nodes xs (so_far w c.loop-due.at rows nodes list form i.runs i.below)) (sym is) runs)
 
 pub returns-then-branch-most-clause-sound : goal.returns-then-branch-most-clause-sound
 returns-then-branch-most-clause-sound g c =
-    sound_by c.loop-due.self.nodes.items c.loop-due.self.numbers (elim [ Constant v ↦ elim [ Constant u ↦ refl | Stored m ↦ refl ] | Stored k ↦ elim [ Constant v ↦ refl | Stored m ↦ refl ] ]) c.loop-due.invariant.sound
+    sound_by c.loop-due.self.nodes.items c.loop-due.self.numbers (λ n s o n' s' o'. elim [ Constant _ ↦ elim [ Constant _ ↦ elim [ Constant _ ↦ elim [ Constant _ ↦ refl | Stored _ ↦ refl ] | Stored _ ↦ elim [ Constant _ ↦ refl | Stored _ ↦ refl ] ] | Stored _ ↦ elim [ Constant _ ↦ elim [ Constant _ ↦ refl | Stored _ ↦ refl ] | Stored _ ↦ elim [ Constant _ ↦ refl | Stored _ ↦ refl ] ] ] | Stored _ ↦ elim [ Constant _ ↦ elim [ Constant _ ↦ elim [ Constant _ ↦ refl | Stored _ ↦ refl ] | Stored _ ↦ elim [ Constant _ ↦ refl | Stored _ ↦ refl ] ] | Stored _ ↦ elim [ Constant _ ↦ elim [ Constant _ ↦ refl | Stored _ ↦ refl ] | Stored _ ↦ elim [ Constant _ ↦ refl | Stored _ ↦ refl ] ] ] ]) c.loop-due.invariant.sound
 
 pub returns-then-branch-most-clause-runs : goal.returns-then-branch-most-clause-runs
 returns-then-branch-most-clause-runs g c =
@@ -72,19 +74,20 @@ returns-then-branch-most-clause-runs g c =
     let list = c.loop-due.list.items in
     let i = c.loop-due.invariant in
     let is = c.deref.ensures.value in
+    let form = form_from_sound None _ nodes c.loop-due.self.numbers i.sound in
     let f = answer w (map row_of rows) in
     let some : 0 < length list = omega (arith, c.if-due-len.true, c.len.ensures, i.due) in
     let begun = some_below c.loop-due.at list i.below some in
-    let h = so_far w c.loop-due.at rows nodes list i.runs i.below in
-    let runs = subst (λ (xs : List (Change (Sources (Option V)))). HasRuns w nodes xs h) (sym is) (has_runs_so_far w c.loop-due.at rows nodes list i.runs i.below c.requires.table i.says begun (omega (arith, i.within))) in
-    let agree = subst (λ (xs : List (Change (Sources (Option V)))). AgreeUpTo w xs f h) (sym is) (agree_so_far w c.loop-due.at rows nodes list i.runs i.below) in
+    let h = so_far w c.loop-due.at rows nodes list form i.runs i.below in
+    let runs = subst (λ (xs : List (Change (Sources (Option V)))). HasRuns w nodes xs h) (sym is) (has_runs_so_far w c.loop-due.at rows nodes list form i.runs i.below c.requires.table i.says begun (omega (arith, i.within))) in
+    let agree = subst (λ (xs : List (Change (Sources (Option V)))). AgreeUpTo w xs f h) (sym is) (agree_so_far w c.loop-due.at rows nodes list form i.runs i.below) in
     let boxes = boxes_exist (test_by g.V.Ord.cmp g.met.V.Ord.total g.met.V.LawfulOrd.exact) w f in
-    let few = c.in_ok-early_count.ensures w f h boxes.0 runs agree boxes.1 in
+    let few = c.in_ok-early_count.ensures f h boxes.0 runs agree boxes.1 in
     (boxes.0, boxes.1, omega (arith, few, c.if-branch-most.true))
 
 pub reach-requires-clause-sound : goal.reach-requires-clause-sound
 reach-requires-clause-sound g c =
-    sound_by c.loop-due.self.nodes.items c.loop-due.self.numbers (elim [ Constant v ↦ elim [ Constant u ↦ refl | Stored m ↦ refl ] | Stored k ↦ elim [ Constant v ↦ refl | Stored m ↦ refl ] ]) c.loop-due.invariant.sound
+    sound_by c.loop-due.self.nodes.items c.loop-due.self.numbers (λ n s o n' s' o'. elim [ Constant _ ↦ elim [ Constant _ ↦ elim [ Constant _ ↦ elim [ Constant _ ↦ refl | Stored _ ↦ refl ] | Stored _ ↦ elim [ Constant _ ↦ refl | Stored _ ↦ refl ] ] | Stored _ ↦ elim [ Constant _ ↦ elim [ Constant _ ↦ refl | Stored _ ↦ refl ] | Stored _ ↦ elim [ Constant _ ↦ refl | Stored _ ↦ refl ] ] ] | Stored _ ↦ elim [ Constant _ ↦ elim [ Constant _ ↦ elim [ Constant _ ↦ refl | Stored _ ↦ refl ] | Stored _ ↦ elim [ Constant _ ↦ refl | Stored _ ↦ refl ] ] | Stored _ ↦ elim [ Constant _ ↦ elim [ Constant _ ↦ refl | Stored _ ↦ refl ] | Stored _ ↦ elim [ Constant _ ↦ refl | Stored _ ↦ refl ] ] ] ]) c.loop-due.invariant.sound
 
 pub returns-in_default-clause-keeps : goal.returns-in_default-clause-keeps
 returns-in_default-clause-keeps g c k node e = c.in_ok-next.ensures.keeps k node (c.loop-due.invariant.keeps k node e)
@@ -103,7 +106,7 @@ returns-in_default-clause-runs g c =
     let quiet : (d : ℕ) → IsQuietUpTo d g.R.Rows.rows new = λ d. (reach.next d).1 (subst (λ (o : Option ℕ). IfSome o (λ start. d < start)) (sym c.in_default.is) tt) in
     let says = says-more w at (2 ^ w) rows (rows_left g.R.Rows.rows new) c.loop-due.self.nodes.items c.reach.new.table.nodes.items c.loop-due.list.items list new.now (ahead_of new) reach.keeps filled i.says (reach.pass rows i.pass) reach.reached (omega arith)
     (λ d lt. quiet d) in
-    says-all w rows c.reach.new.table.nodes.items list c.requires.table filled.runs filled.below says
+    says-all w rows c.reach.new.table.nodes.items list (form_from_sound None _ c.reach.new.table.nodes.items c.reach.new.table.numbers c.in_ok-next.ensures.sound) c.requires.table filled.runs filled.below says
 
 pub loop-due-preserved : goal.loop-due-preserved
 loop-due-preserved g c =
@@ -124,7 +127,7 @@ loop-due-preserved g c =
     let comes : IsQuietUpTo start g.R.Rows.rows new → ⊥ =
     λ q. let lt : start < start = subst (λ (o : Option ℕ). IfSome o (λ next. start < next)) c.in-Some.is ((reach.next start).0 q) in omega arith in
     record {
-      sound = sound_by table.nodes.items table.numbers (elim [ Constant v ↦ elim [ Constant u ↦ refl | Stored m ↦ refl ] | Stored k ↦ elim [ Constant v ↦ refl | Stored m ↦ refl ] ]) reach.sound;
+      sound = sound_by table.nodes.items table.numbers (λ n s o n' s' o'. elim [ Constant _ ↦ elim [ Constant _ ↦ elim [ Constant _ ↦ elim [ Constant _ ↦ refl | Stored _ ↦ refl ] | Stored _ ↦ elim [ Constant _ ↦ refl | Stored _ ↦ refl ] ] | Stored _ ↦ elim [ Constant _ ↦ elim [ Constant _ ↦ refl | Stored _ ↦ refl ] | Stored _ ↦ elim [ Constant _ ↦ refl | Stored _ ↦ refl ] ] ] | Stored _ ↦ elim [ Constant _ ↦ elim [ Constant _ ↦ elim [ Constant _ ↦ refl | Stored _ ↦ refl ] | Stored _ ↦ elim [ Constant _ ↦ refl | Stored _ ↦ refl ] ] | Stored _ ↦ elim [ Constant _ ↦ elim [ Constant _ ↦ refl | Stored _ ↦ refl ] | Stored _ ↦ elim [ Constant _ ↦ refl | Stored _ ↦ refl ] ] ] ]) reach.sound;
       keeps = λ k node e. reach.keeps k node (i.keeps k node e);
       pass = reach.pass rows i.pass;
       reached = omega (arith, reach.reached);

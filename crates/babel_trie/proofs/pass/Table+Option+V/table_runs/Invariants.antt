@@ -1,17 +1,17 @@
 -- Below the address the list says what the rows answer, and the pass has come no further.
-use Rattle.std.proofs.Common.{◌≡◌, ◌⊎◌, ◌+◌, ◌-◌, ◌*◌, ◌^◌, ◌<◌, ◌≤◌, length}
+use Rattle.std.proofs.Common.{◌≡◌, ◌⊎◌, ◌+◌, ◌-◌, ◌*◌, ◌^◌, ◌<◌, ◌≤◌, length, None}
 use Rattle.std.specs.Option.{option_cmp}
-use Rattle.babel_trie.specs.Marks.{option_mark, sources_mark}
+use Rattle.babel_trie.specs.Marks.{option_mark, sources_mark, node_mark}
 use Rattle.babel_trie.specs.Pass.{IsPassOver, IsQuietUpTo, changes_left}
 use Rattle.babel_trie.specs.Runs.{AreRuns, StartBelow}
-use Rattle.babel_trie.specs.Sound.{IsSound, KeepsNodes}
+use Rattle.babel_trie.specs.Sound.{node_cmp, IsSound, KeepsNodes}
 use Rattle.babel_trie.proofs.NodeLaws.{sources_cmp}
 use Rattle.babel_trie.proofs.PassLaws.{Says}
 use Rattle.babel_trie.proofs.pass.Table+Option+V.table_runs.Given as goal
 
 abbrev pub invariant-loop-due : goal.invariant-loop-due
 invariant-loop-due g l = record {
-  sound : IsSound (sources_cmp (option_cmp g.V.Ord.cmp)) (sources_mark (option_mark g.V.LawfulOrd.mark)) l.self.nodes.items l.self.numbers;
+  sound : IsSound None (node_cmp (option_cmp g.V.Ord.cmp) (sources_cmp (option_cmp g.V.Ord.cmp))) (node_mark (option_mark g.V.LawfulOrd.mark) (sources_mark (option_mark g.V.LawfulOrd.mark))) l.self.nodes.items l.self.numbers;
   keeps : KeepsNodes l.fn.self.nodes.items l.self.nodes.items;
   pass : IsPassOver l.width g.R.Rows.rows (g.R.Rows.rows l.fn.rows) l.self.nodes.items l.pass;
   reached : l.pass.now.start ≤ l.at;

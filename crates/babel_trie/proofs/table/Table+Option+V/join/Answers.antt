@@ -1,5 +1,5 @@
 -- What is united, or a node with the two halves stored.
-use Rattle.std.proofs.Common.{◌-◌, ◌+◌, sym, subst, arith}
+use Rattle.std.proofs.Common.{◌-◌, sym, subst}
 use Rattle.std.specs.Prelude.{Option, None}
 use Rattle.babel_trie.specs.declared.table.Node.{Node}
 use Rattle.babel_trie.specs.Interned.{AreUnited, middle_of}
