@@ -210,7 +210,7 @@ def main():
                 f"| {load} | {name} | {low * 1e3:.1f} / {mid * 1e3:.1f} "
                 f"| {low_2 * 1e3:.1f} / {mid_2 * 1e3:.1f} "
                 f"| {ratio:.2f} | {memory:.1f} | {memory_2:.1f} | {memory / memory_2:.2f} "
-                f"| {mid * 1e6 / size:.2f} | {scaled * 1e6 / size:.2f} | {answer} |"
+                f"| {mid * 1e6 / max(size, 1):.2f} | {scaled * 1e6 / max(size, 1):.2f} | {answer} |"
                 + ("" if same else " THE TWO WRITE DIFFERENT TEXTS"),
                 flush=True,
             )
