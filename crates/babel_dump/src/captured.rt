@@ -1,5 +1,5 @@
 //! The dump of a sender in a capture, which runs read as they read any dump.
-ghost use Rattle.std.specs.Prelude.{◌≡◌, ◌≤◌, ℕ, List, Some, IfOk, IfErr, length};
+ghost use Rattle.std.specs.Prelude.{◌≡◌, ◌≤◌, ℕ, List, None, Some, IfOk, IfErr, length};
 ghost use Rattle.babel_dump.specs.CapturedDump.{IsDumpIn, NoDumpCause, capture_with};
 ghost use Rattle.babel_dump.specs.Device.{HasRoomToCount};
 ghost use Rattle.babel_dump.specs.LeftOut.{first_left_out};
@@ -44,7 +44,10 @@ impl CaptureNotes {
 
 impl CapturedDump {
     /// What the notes say of the capture; `None` where it is refused.
-    pub fn notes(&self) -> Option<CaptureNotes> {
+    pub fn notes(&self) -> Option<CaptureNotes>
+        ensures some { IfOk self.now.end (λ notes. result ≡ Some notes) }
+        ensures none { IfErr self.now.end (λ fault. result ≡ None) }
+    {
         match &self.end {
             Ok(notes) => Some(*notes),
             Err(_) => None,
@@ -52,7 +55,9 @@ impl CapturedDump {
     }
 
     /// Why the capture is refused; a failed read where it is not.
-    pub fn into_refusal(self) -> InputFault {
+    pub fn into_refusal(self) -> InputFault
+        ensures { IfErr self.end (λ fault. result ≡ fault) }
+    {
         let CapturedDump { end, .. } = self;
         match end {
             Ok(_) => InputFault::Read,
