@@ -9,6 +9,7 @@ The same seed writes the same octets. No dump is past the program's limits: 33,5
 """
 
 import argparse
+import ipaddress
 import itertools
 import pathlib
 import random
@@ -336,6 +337,55 @@ def flooding_keys(count):
             yield high << 64 | fold(state, high.to_bytes(8, "little"))
 
 
+def one_tag_keys(count):
+    """IPv6 addresses of which a hash that multiplies one half and adds the other makes one
+    number."""
+    for place in range(count):
+        high = 0x2001 << 48 | place
+        yield high << 64 | -high * 0x9E37_79B9_7F4A_7C15 & 2**64 - 1
+
+
+def write_one_tag(folder, rng):
+    """Such keys, each announced three times; and such keys, each retracted and then replaced by
+    another."""
+    keys = list(one_tag_keys(2 * MAX_ROWS))
+    rng.shuffle(keys)
+    live = keys[:MAX_ROWS]
+    orders = [live, *(rng.sample(live, len(live)) for _ in range(2))]
+    again = (update(6, bits, 128) for order in orders for bits in order)
+    write_tlvs(folder / "one-tag.dump", again)
+    replaced = (
+        update(6, bits, 128, metric)
+        for old, new in zip(live, keys[MAX_ROWS:])
+        for bits, metric in ((old, INFINITY), (new, 256))
+    )
+    first = (update(6, bits, 128) for bits in live)
+    write_tlvs(folder / "one-tag-replaced.dump", itertools.chain(first, replaced))
+
+
+def nested(bits, least):
+    """The prefixes of an IPv6 address, from this length on."""
+    return [(bits >> 128 - length << 128 - length, length) for length in range(least, 129)]
+
+
+def write_nested(folder, rng):
+    """129 nested destinations, each from a source that is not asked for; and from 128 nested ones.
+    The pairs ask for destinations that share the most bits with them, or any number."""
+    dst, src = 0x2001 << 112 | rng.getrandbits(112), 0x2001 << 112 | rng.getrandbits(112)
+    ann = announcements(rng, 1)[0]
+    for name, count, pairs in (("nested", 1, 100_000), ("nested-sources", 128, 10_000)):
+        dump = Dump(folder / f"{name}.dump")
+        for bits, length in nested(dst, 0):
+            for source in nested(src, 129 - count):
+                dump.put(6, bits, length, ann, source)
+        dump.close()
+        with open(folder / f"{name}.pairs", "w", encoding="ascii") as file:
+            for place in range(pairs):
+                other = dst ^ rng.getrandbits(rng.randrange(129)) if place % 2 else dst
+                to, source = (ipaddress.IPv6Address(a) for a in (other, src ^ 1 << 127))
+                file.write(f"{to} {source}\n")
+
+
 def write_readings(folder, seed):
     """Loads that differ in the order and in the kind of their Updates alone."""
     rng = random.Random(f"{seed} readings")
@@ -418,6 +468,8 @@ def main():
     write_hosts_from_hosts(folder, random.Random(f"{seed} hosts from hosts"))
     write_default_over_hosts(folder / "default-over-hosts.dump", random.Random(f"{seed} default"))
     write_deep(folder, random.Random(f"{seed} deep"))
+    write_one_tag(folder, random.Random(f"{seed} one tag"))
+    write_nested(folder, random.Random(f"{seed} nested"))
     write_readings(folder, seed)
     for size in (1, 4, 16, 64, 256):
         rng = random.Random(f"{seed} growth {size}")

@@ -55,6 +55,7 @@ COMPARED = (
     ("deep", "deep-other"),
     ("default-over-hosts", "default-over-hosts"),
 )
+NESTED = ("nested", "nested-sources")
 SIZES = (1, 4, 16, 64, 256)
 CAPTURES = ("frames.pcap", "one-sender.pcap", "small-packets.pcapng", "many-senders.pcap")
 
@@ -67,6 +68,11 @@ def cases():
             yield load, [command, *FROM]
     yield "flooding", ["lookup", *FROM, *LOOKUP_IPV6]
     yield "flooding", ["normalise", *FROM]
+    for load in ("one-tag", "one-tag-replaced"):
+        for command in ("show", "normalise"):
+            yield load, [command, *FROM]
+    for load in NESTED:
+        yield load, ["lookup", "--each", f"{load}.pairs", *FROM]
     for load in SHARED:
         for command in (["pairs"], ["pairs", "--count"], ["normalise"]):
             yield load, [*command, *FROM]
@@ -104,6 +110,8 @@ def measure(measurer, words):
 def words_of(program, load, command, loads):
     first, *rest = command
     dump = file_of(load, loads)
+    if rest[:1] == ["--each"]:
+        rest[1] = loads / rest[1]
     if first == "compare":
         *rest, other = rest
         return [program, first, *rest, dump, loads / other]

@@ -1,13 +1,15 @@
-//! The limit that `babel-dump senders` and `babel-dump extract` are measured against: a plain Rust program of the same
-//! words and texts, as fast as we can write one. Std alone, safe, single-threaded, one file.
+//! The limit that `babel-dump senders` and `babel-dump extract` are measured against: a plain Rust
+//! program of the same words and texts, as fast as we can write one. Std alone, safe,
+//! single-threaded, one file.
 //!
 //!     rustc -O --edition 2021 capture_limit.rs
 //!     capture_limit senders [--json] [--accept-cut] [--max-octets N] [CAPTURE]
-//!     capture_limit extract --from A [--interface PLACE] [--hex] [--strict] [--accept-cut] [--max-octets N] [CAPTURE]
+//!     capture_limit extract --from A [--interface PLACE] [--hex] [--strict] [--accept-cut]
+//!         [--max-octets N] [CAPTURE]
 //!
-//! It reads blocks where they lie in one buffer, and each header of a frame where it lies in its block. Of a frame that has
-//! no Babel it reads some 20 octets; of one that has, its packet is copied once, into the dump. It writes no notes and no
-//! hints.
+//! It reads blocks where they lie in one buffer, and each header of a frame where it lies in its
+//! block. Of a frame that has no Babel it reads some 20 octets; of one that has, its packet is
+//! copied once, into the dump. It writes no notes and no hints.
 
 use std::collections::hash_map::{Entry, RandomState};
 use std::collections::HashMap;
@@ -211,7 +213,8 @@ fn check_version(
     Ok(())
 }
 
-/// The name among the options of an interface, the first that is not empty; nothing if an option runs past their end.
+/// The name among the options of an interface, the first that is not empty; nothing if an option
+/// runs past their end.
 fn name_in(order: Order, mut options: &[u8]) -> Option<&[u8]> {
     let mut name: &[u8] = &[];
     while options.len() >= 4 {
@@ -324,7 +327,8 @@ impl Reader {
         Ok(())
     }
 
-    /// An enhanced packet block, or the packet block that it replaced, of the section's interface with this number.
+    /// An enhanced packet block, or the packet block that it replaced, of the section's interface
+    /// with this number.
     fn take_numbered(
         &mut self,
         order: Order,
@@ -562,8 +566,8 @@ fn look_into_ipv6(packet: Part<'_>) -> Option<Seen<'_>> {
     look_into_udp(ip, part)
 }
 
-/// What IP says of what it carries: whether it is the first of several fragments, and whether there should be more of it than
-/// its frame had.
+/// What IP says of what it carries: whether it is the first of several fragments, and whether there
+/// should be more of it than its frame had.
 struct Ip {
     sender: Addr,
     is_fragment: bool,
@@ -877,7 +881,8 @@ fn packet_of(payload: &[u8]) -> Result<&[u8], Reason> {
     payload.get(..len).ok_or(Reason::Truncated)
 }
 
-/// How many Updates a packet has, whatever they hold; none if a TLV runs past its end: RFC 8966, 4.3, 4.6.9.
+/// How many Updates a packet has, whatever they hold; none if a TLV runs past its end: RFC 8966,
+/// 4.3, 4.6.9.
 fn updates_in(packet: &[u8]) -> u64 {
     let (mut at, mut count) = (4, 0);
     while let Some(&kind) = packet.get(at) {
@@ -1075,7 +1080,8 @@ fn run(words: &Words) -> Result<u8, Failure> {
     }
 }
 
-/// The text of a name: letters, digits and three marks stand for themselves, and others as this, before their two digits.
+/// The text of a name: letters, digits and three marks stand for themselves, and others as this,
+/// before their two digits.
 fn name_text(name: &[u8], other: &str) -> String {
     let mut text = String::new();
     for &octet in name {
@@ -1129,7 +1135,8 @@ fn senders(words: &Words) -> Result<u8, Failure> {
             let place = place_json(*place, name);
             writeln!(
                 out,
-                "{{\"address\":\"{sender}\",{place},\"packets\":{packets},\"octets\":{octets},\"updates\":{updates}}}"
+                "{{\"address\":\"{sender}\",{place},\"packets\":{packets},\"octets\":{octets},\
+                 \"updates\":{updates}}}"
             )?;
         } else {
             let place = place_text(*place, name);

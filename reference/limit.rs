@@ -4,6 +4,7 @@
 //!     rustc -O --edition 2021 limit.rs
 //!     limit show [--hold] --from A [FILE]
 //!     limit lookup [--hold] --from A --to D --src S [FILE]
+//!     limit lookup [--hold] --from A --each PAIRS [FILE]
 //!     limit pairs [--hold] [--count] --from A [FILE]
 //!     limit normalise [--hold] [--hex] [--body N] --from A [FILE]
 //!     limit compare [--hold] --from A --other-from B FILE OTHER
@@ -17,7 +18,7 @@ use std::cmp::Ordering;
 use std::collections::hash_map::RandomState;
 use std::collections::HashMap;
 use std::fmt;
-use std::fs::File;
+use std::fs::{self, File};
 use std::hash::{BuildHasher, Hasher};
 use std::io::{self, Read, Write};
 use std::mem;
@@ -892,6 +893,70 @@ impl<A: Address> Rows<A> {
             .max_by_key(|row| (row.key.dst().len, self.source(row).len))
             .map_or(NOTHING, Row::value)
     }
+
+    /// How far the rows around each sorted row reach.
+    fn nesting(&self) -> Vec<Around> {
+        let mut nesting: Vec<Around> = Vec::with_capacity(self.rows.len());
+        for (place, row) in self.rows.iter().enumerate() {
+            let dst = row.key.dst();
+            let mut to = place;
+            while to > 0 {
+                let other = self.rows[to - 1].key.dst();
+                if other != dst && other.contains(dst.bits) {
+                    break;
+                }
+                to = nesting[to - 1].to as usize;
+            }
+            let from = self.end_from(&nesting, place, dst, self.source(row).bits);
+            nesting.push(Around {
+                to: to as u32,
+                from: from as u32,
+            });
+        }
+        nesting
+    }
+
+    /// The same as `lookup`, among sorted rows.
+    fn find(&self, nesting: &[Around], dst: A, src: A) -> u64 {
+        let mut end = self.rows.partition_point(|row| row.key.bits <= dst);
+        while let Some(row) = self.rows[..end].last() {
+            let prefix = row.key.dst();
+            let Around { to, .. } = nesting[end - 1];
+            if prefix.contains(dst) {
+                let is_up_to =
+                    |row: &Row<A>| row.key.dst() < prefix || self.source(row).bits <= src;
+                let mut last = end;
+                if !is_up_to(row) {
+                    last = to as usize + self.rows[to as usize..end].partition_point(is_up_to);
+                }
+                last = self.end_from(nesting, last, prefix, src);
+                if last > 0 {
+                    return self.rows[last - 1].value();
+                }
+            }
+            end = to as usize;
+        }
+        NOTHING
+    }
+
+    /// How many of the first rows there are up to the last that leads to the destination from a
+    /// source with the address, or 0 where none does.
+    fn end_from(&self, nesting: &[Around], mut end: usize, dst: Prefix<A>, src: A) -> usize {
+        while end > 0 && self.rows[end - 1].key.dst() == dst {
+            if self.source(&self.rows[end - 1]).contains(src) {
+                return end;
+            }
+            end = nesting[end - 1].from as usize;
+        }
+        0
+    }
+}
+
+/// How far the rows around a row reach: so many at the front have those to larger prefixes around
+/// its destination, and those to its destination from larger prefixes around its source.
+struct Around {
+    to: u32,
+    from: u32,
 }
 
 // ---- packets and TLVs (RFC 8966, 4)
@@ -2425,7 +2490,52 @@ fn put_rows<A: Address>(out: &mut Out<impl Write>, table: &Rows<A>) -> io::Resul
     Ok(())
 }
 
+/// Looks up each pair of a file of lines, which have a destination and a source.
+fn lookup_each(words: &Words, name: &str) -> Result<u8, Failure> {
+    let text = fs::read_to_string(name).map_err(|_| Failure::Open(name.to_string()))?;
+    let mut table = words.only_table()?;
+    table.sort();
+    let nestings = (table.v4.nesting(), table.v6.nesting());
+    let out = &mut Out::new(io::stdout().lock(), false);
+    let mut status = 0;
+    for line in text.lines() {
+        let pair = line.split_once(' ').map(|(dst, src)| (Addr::parse(dst), Addr::parse(src)));
+        let value = match pair {
+            Some((Some(Addr::V4(dst)), Some(Addr::V4(src)))) => {
+                put_found(out, &table.v4, &nestings.0, dst, src)?
+            }
+            Some((Some(Addr::V6(dst)), Some(Addr::V6(src)))) => {
+                put_found(out, &table.v6, &nestings.1, dst, src)?
+            }
+            _ => return Err(Failure::Usage(format!("not a pair: {line}"))),
+        };
+        status |= u8::from(value == NOTHING || value == UNREACHABLE);
+    }
+    out.finish()?;
+    Ok(status)
+}
+
+fn put_found<A: Address>(
+    out: &mut Out<impl Write>,
+    table: &Rows<A>,
+    nesting: &[Around],
+    dst: A,
+    src: A,
+) -> io::Result<u64> {
+    let value = table.find(nesting, dst, src);
+    dst.print(out);
+    out.text(b" from ");
+    src.print(out);
+    out.text(b" ");
+    out.answer(&table.owners.list, value);
+    out.hand_over_if_full()?;
+    Ok(value)
+}
+
 fn lookup(words: &Words) -> Result<u8, Failure> {
+    if let Some(name) = words.options.get("each") {
+        return lookup_each(words, name);
+    }
     words.addr("from")?;
     let asked = (words.addr("to")?, words.addr("src")?);
     if matches!(

@@ -547,7 +547,8 @@ def notes_of(found):
     notes = []
     if counts:
         total = sum(map(len, found.left_out.values()))
-        notes.append(f"note: {total} datagrams left out: {', '.join(counts)}")
+        datagrams = "datagram" if total == 1 else "datagrams"
+        notes.append(f"note: {total} {datagrams} left out: {', '.join(counts)}")
     if found.cooked:
         notes.append(COOKED)
     if found.cut is not None:

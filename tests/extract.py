@@ -2,6 +2,7 @@
 reader of captures."""
 
 import concurrent.futures
+import functools
 import os
 import random
 import resource
@@ -135,7 +136,8 @@ def frames():
     )
     for order in ORDERS:
         for family in 10, 24, 28, 30, 11:
-            yield f"null, {order}, family {family}", 0, lambda packet, order=order, family=family: made.after_family(packet, order, family)
+            null = functools.partial(made.after_family, order=order, ipv6=family)
+            yield f"null, {order}, family {family}", 0, null
     yield "loop", 108, lambda packet: made.after_family(packet, "big", 24)
     for link in 12, 14, 101, 228, 229, 147:
         yield f"link type {link}", link, lambda packet: packet
@@ -189,11 +191,14 @@ def variants(dump, sender):
     for name, fragment in FRAGMENTS.items():
         yield name, records_of(dump, OVER_IPV4, fragment=fragment), OVER_IPV4
     for name, datagram in DATAGRAMS.items():
-        yield name, [made.Record(made.ethernet(made.ip(sender, datagram(packet)))) for packet in made.packets_of(dump)], sender
+        packets = map(datagram, made.packets_of(dump))
+        frames = (made.ethernet(made.ip(sender, packet)) for packet in packets)
+        yield name, [made.Record(frame) for frame in frames], sender
     yield "another protocol", records_of(dump, sender, protocol=6), sender
     for what, length in ("too long", 1_500), ("too short", 20), ("shorter than a header", 7):
         yield f"a length of IPv6 that is {what}", records_of(dump, sender, length=length), sender
-        yield f"a length of IPv4 that is {what}", records_of(dump, OVER_IPV4, total=20 + length), OVER_IPV4
+        records = records_of(dump, OVER_IPV4, total=20 + length)
+        yield f"a length of IPv4 that is {what}", records, OVER_IPV4
 
 
 NOISE = [
@@ -252,9 +257,10 @@ def option_cases():
     """Each option, over captures of several senders and places."""
     records = list(among_others(dump_of()))
     elsewhere = list(among_others(dump_of("babeld-retract"), 1))[:30]
+    in_turn = [each for pair in zip(records, elsewhere) for each in pair]
     for what, capture in (
         ("one interface", made.pcap(records)),
-        ("two interfaces", made.pcapng([each for pair in zip(records, elsewhere) for each in pair], (1, 1))),
+        ("two interfaces", made.pcapng(in_turn, (1, 1))),
         ("no packets", made.pcap([])),
         ("no interfaces", made.section()),
     ):
@@ -308,7 +314,8 @@ def places():
     yield "links of Linux cooked, version 2", made.pcap(links, 276), (
         "0/3", "0/4", f"0/{2**32 - 1}", "0/3:10"
     )
-    yield "two links of Linux cooked, version 1", made.pcap(one_sender_at(made.cooked, made.cooked), 113), ("0",)
+    links = one_sender_at(made.cooked, made.cooked)
+    yield "two links of Linux cooked, version 1", made.pcap(links, 113), ("0",)
     machine = made.pcapng(one_sender_at(linked(2)), (276,))
     yield "two machines, merged", machine + machine, ("0/2", "1/2")
     one, other = records_of(dump_of()), records_of(dump_of("babeld-retract"), SENDER, linked(0), 1)
@@ -353,9 +360,18 @@ def name_cases():
             ("an empty name, and a name", option(2, b"") + made.named(b"eth2", order)),
             ("a name after the options", end + made.named(b"eth3", order)),
             ("a name without an end of options", option(2, b"eth4")),
-            ("an option past its block", option(2, b"eth5")[:2] + made.number(5, 2, order) + b"eth5"),
-            ("a comment past its block", option(2, b"eth5") + made.number(1, 2, order) + made.number(9, 2, order) + b"long"),
-            ("an end of options with a length", option(2, b"eth6") + end[:2] + made.number(9, 2, order)),
+            (
+                "an option past its block",
+                option(2, b"eth5")[:2] + made.number(5, 2, order) + b"eth5",
+            ),
+            (
+                "a comment past its block",
+                option(2, b"eth5") + made.number(1, 2, order) + made.number(9, 2, order) + b"long",
+            ),
+            (
+                "an end of options with a length",
+                option(2, b"eth6") + end[:2] + made.number(9, 2, order),
+            ),
         ):
             capture = (
                 made.section(order)
@@ -447,9 +463,15 @@ def broken_cases():
             ("nothing", b""),
             ("a dump", dump_of()),
             ("the start of a header", made.pcap([], order=order)[:23]),
-            ("a record that is too long", made.pcap([], order=order) + number(0) * 2 + number(262_145) * 2 + bytes(262_145)),
+            (
+                "a record that is too long",
+                made.pcap([], order=order) + number(0) * 2 + number(262_145) * 2 + bytes(262_145),
+            ),
             ("a section header of neither order", head[:8] + b"\x1a\x2b\x3c\x4e" + head[12:]),
-            ("a section header that is too short", number(0x0A0D0D0A) + number(24) + head[8:20] + number(24)),
+            (
+                "a section header that is too short",
+                number(0x0A0D0D0A) + number(24) + head[8:20] + number(24),
+            ),
             ("a section header with another length at its end", head[:-4] + number(32)),
             ("a section header that is not whole", made.section(order, bytes(400))[:100]),
             ("no interface", head + packet),
@@ -459,17 +481,33 @@ def broken_cases():
             ("a description that is too short", head + made.block(1, number(1), order)),
             ("a packet that is too short", described + made.block(6, bytes(16), order)),
             ("an old packet that is too short", described + made.block(2, bytes(16), order)),
-            ("an old packet that is longer than its block", described + made.block(2, bytes(12) + number(5) + number(5) + b"abcd", order)),
-            ("an old packet of another interface", described + made.old_packet(made.Record(record.frame, 1), order)),
+            (
+                "an old packet that is longer than its block",
+                described + made.block(2, bytes(12) + number(5) + number(5) + b"abcd", order),
+            ),
+            (
+                "an old packet of another interface",
+                described + made.old_packet(made.Record(record.frame, 1), order),
+            ),
             ("a simple packet that is too short", described + made.block(3, b"", order)),
-            ("a packet that is longer than its block", described + made.block(6, bytes(12) + number(5) + number(5) + b"abcd", order)),
-            ("a simple packet that is longer than its block", described + made.block(3, number(5) + b"abcd", order)),
+            (
+                "a packet that is longer than its block",
+                described + made.block(6, bytes(12) + number(5) + number(5) + b"abcd", order),
+            ),
+            (
+                "a simple packet that is longer than its block",
+                described + made.block(3, number(5) + b"abcd", order),
+            ),
             ("a length that is no multiple of 4", described + number(5) + number(14) + bytes(10)),
             ("a length below 12", described + number(5) + number(8) + number(8)),
             ("a length over 16 MiB", described + number(5) + number((1 << 24) + 4) + bytes(8)),
             ("two lengths", described + packet[:-4] + number(len(packet) + 4)),
             ("an unread link type", head + made.interface(147, order) + packet),
-            ("an unread link type without packets", head + made.interface(147, order) + made.interface(1, order) + made.enhanced(made.Record(record.frame, 1), order)),
+            (
+                "an unread link type without packets",
+                head + made.interface(147, order) + made.interface(1, order)
+                + made.enhanced(made.Record(record.frame, 1), order),
+            ),
             ("a link type above 16 bits", made.pcap([record], 1 << 28 | 1, order)),
         ):
             yield from both_of(f"{what}, {order}", capture)
@@ -511,7 +549,9 @@ def small_captures():
     frames = [
         made.ethernet(made.ip(SENDER, made.udp(packet))),
         made.ethernet(made.ip(OTHER, made.udp(packet))),
-        made.ethernet(made.ip(SENDER, made.udp(packet + b"\x2a"), headers=[made.HOP_BY_HOP]), ((0x8100, 0),)),
+        made.ethernet(
+            made.ip(SENDER, made.udp(packet + b"\x2a"), headers=[made.HOP_BY_HOP]), ((0x8100, 0),)
+        ),
     ]
     records = [made.Record(frame) for frame in frames]
     yield "a small pcap", made.pcap(records, order="big")

@@ -102,15 +102,17 @@ def section(file, definitions):
 
 
 def page():
-    """How definitions are read, and the variants that they name; the definitions, those of each
-    file after what it is for; before those of the last file the clauses."""
+    """What is proved; the theorem, which stands in the last file, and the clauses that have it; how
+    definitions are read, and the variants that they name; and the other definitions, those of each
+    file after what it is for."""
+    *others, (last, theorem) = path().items()
+    yield promised("**What is proved**", "**For the headline alone**")
+    yield from section(last, theorem)
+    yield promised("The clauses of `normalise(", "## The headline over tables")
     yield promised("## How a definition is read", "Not needed for the headline:")
     yield promised("The variants that they name", "The clauses of `normalise(")
-    *before, (last, headline) = path().items()
-    for file, definitions in before:
+    for file, definitions in others:
         yield from section(file, definitions)
-    yield promised("The clauses of `normalise(", "## The headline over tables")
-    yield from section(last, headline)
 
 
 if __name__ == "__main__":

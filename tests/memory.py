@@ -2,8 +2,9 @@
 long form over the dumps of routers.
 
 refuse.c is loaded into a process and refuses its Nth allocation, for N = 1, 2, .. until none is
-refused. The program must print what it prints otherwise, or `out of memory` alone, with status 5. A
-test must pass, or fail with the text that it has for a refusal that was answered.
+refused. The program must print what it prints otherwise, or `out of memory` alone, with status 5;
+`key` prints that of one of its files, and of the others what it prints otherwise. A test must pass,
+or fail with the text that it has for a refusal that was answered.
 """
 
 import concurrent.futures
@@ -88,6 +89,20 @@ def answers(known):
     return is_right
 
 
+def keys(known):
+    """A judge of runs of `key` that are to print this."""
+    is_answer, lines = answers(known), set(known.splitlines())
+
+    def is_right(run, was_refused):
+        printed = transcript.printed(run).splitlines()
+        refused = [line for line in printed if re.fullmatch("! .+: out of memory", line)]
+        others = set(printed) - {*refused, "? 5"}
+        of_one = was_refused and run.returncode == 5 and len(refused) == 1 and others <= lines
+        return of_one or is_answer(run, was_refused)
+
+    return is_right
+
+
 def is_right_test(run, was_refused):
     return (
         run.returncode == 0
@@ -104,7 +119,8 @@ def program_cases(program, folder):
     for each in steps:
         if not OF_SHELL.search(each.command):
             words = [program, *shlex.split(each.command)[1:]]
-            yield Case(f"{each.place}: {each.command}", words, folder, answers(each.expected))
+            judge = keys if words[1] == "key" else answers
+            yield Case(f"{each.place}: {each.command}", words, folder, judge(each.expected))
 
 
 def dump_cases(program, folder):

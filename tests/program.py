@@ -27,7 +27,7 @@ MANY = 1_001
 # Room for the program and its libraries, and not for the rows of most-routes.dump.
 LITTLE_MEMORY = 8 << 20
 SHOW = ["show", "--from", "192.0.2.1"]
-COMMANDS = "show", "lookup", "pairs", "normalise", "compare", "senders", "extract"
+COMMANDS = "show", "lookup", "pairs", "normalise", "key", "compare", "senders", "extract"
 ONE_ROUTE = TOP / "examples/one-route.dump"
 
 
@@ -240,7 +240,7 @@ def check_examples(program, folder, tally):
         for example in re.findall(r"^  (babel-dump .*)$", text, re.MULTILINE):
             done = transcript.shell(example, folder, capture_output=True)
             errors = done.stderr.decode().splitlines()
-            faults = [line for line in errors if not line.startswith("note: ")]
+            faults = [line for line in errors if not re.match("(.+: )?note: ", line)]
             found = done.returncode in (0, 1), done.stdout != b"", faults
             expect(tally, f"an example: {example}", found, (True, True, []))
 

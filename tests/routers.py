@@ -1,4 +1,5 @@
-"""The dumps of examples/routers: the neighbours' tables, the canonical dumps, the golden files."""
+"""The dumps of examples/routers: the neighbours' tables, the canonical dumps, the golden files; and
+the routes of random tables."""
 
 import concurrent.futures
 import os
@@ -6,6 +7,7 @@ import pathlib
 import tempfile
 
 import golden
+import routes
 import transcript
 from checks import built_program
 
@@ -45,6 +47,7 @@ def check(tally, _long):
         folder = pathlib.Path(folder)
         check_tables(program, tally)
         check_canonical(program, folder, tally)
+        routes.check(program, folder, tally)
         transcript.link(program, folder)
         golden.play(folder, tally)
         print("the golden files are of the plain program of reference/, by tests/golden.py")

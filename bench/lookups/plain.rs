@@ -4,8 +4,9 @@
 //!     rustc -O --edition 2021 plain.rs
 //!     plain ROWS PAIRS
 //!
-//! The rows stand in a sorted `Vec`. A lookup tries the destination's lengths from long to short,
-//! and for one that has rows the source's, each by a binary search.
+//! The rows stand in a sorted `Vec`, and beside each stands how far the rows around it reach. A
+//! lookup is one binary search and a walk up for the destination, and for each destination that
+//! matches one of each among its sources.
 
 use std::net::Ipv4Addr;
 
@@ -27,6 +28,10 @@ impl Prefix {
             bits: bits & !host,
             len,
         }
+    }
+
+    fn contains(self, addr: u32) -> bool {
+        Prefix::new(addr, self.len) == self
     }
 
     fn read(text: &str) -> Option<Prefix> {
@@ -62,16 +67,75 @@ fn read_row(line: &str) -> Option<Row> {
     Some(((Prefix::read(dst)?, Prefix::read(src)?), route))
 }
 
-fn lookup(rows: &[Row], dst: u32, src: u32) -> Option<&Route> {
-    (0..=32).rev().find_map(|len| {
-        let dst = Prefix::new(dst, len);
-        rows.binary_search_by_key(&dst, |row| row.0 .0).ok()?;
-        (0..=32).rev().find_map(|len| {
-            let key = (dst, Prefix::new(src, len));
-            let place = rows.binary_search_by_key(&key, |row| row.0).ok()?;
-            Some(&rows[place].1)
-        })
-    })
+/// How far the rows around a row reach: so many at the front have those to larger prefixes around
+/// its destination, and those to its destination from larger prefixes around its source.
+struct Around {
+    dst: u32,
+    src: u32,
+}
+
+struct Table {
+    rows: Vec<Row>,
+    around: Vec<Around>,
+}
+
+impl Table {
+    fn of(mut rows: Vec<Row>) -> Table {
+        rows.sort_by_key(|row| row.0);
+        let around = Vec::with_capacity(rows.len());
+        let mut table = Table { rows, around };
+        for place in 0..table.rows.len() {
+            let (dst, src) = table.rows[place].0;
+            let mut end = place;
+            while end > 0 {
+                let other = table.rows[end - 1].0 .0;
+                if other != dst && other.contains(dst.bits) {
+                    break;
+                }
+                end = table.around[end - 1].dst as usize;
+            }
+            let src = table.end_from(place, dst, src.bits) as u32;
+            table.around.push(Around {
+                dst: end as u32,
+                src,
+            });
+        }
+        table
+    }
+
+    /// How many of the first rows there are up to the last that leads to the destination from a
+    /// source with the address, or 0 where none does.
+    fn end_from(&self, mut end: usize, dst: Prefix, src: u32) -> usize {
+        while end > 0 && self.rows[end - 1].0 .0 == dst {
+            if self.rows[end - 1].0 .1.contains(src) {
+                return end;
+            }
+            end = self.around[end - 1].src as usize;
+        }
+        0
+    }
+
+    fn lookup(&self, dst: u32, src: u32) -> Option<&Route> {
+        let mut end = self.rows.partition_point(|row| row.0 .0.bits <= dst);
+        while end > 0 {
+            let (prefix, source) = self.rows[end - 1].0;
+            let next = self.around[end - 1].dst as usize;
+            if prefix.contains(dst) {
+                let mut last = end;
+                if source.bits > src {
+                    let part = &self.rows[next..end];
+                    let is_up_to = |row: &Row| row.0 .0 < prefix || row.0 .1.bits <= src;
+                    last = next + part.partition_point(is_up_to);
+                }
+                last = self.end_from(last, prefix, src);
+                if last > 0 {
+                    return Some(&self.rows[last - 1].1);
+                }
+            }
+            end = next;
+        }
+        None
+    }
 }
 
 fn main() -> std::io::Result<()> {
@@ -81,8 +145,7 @@ fn main() -> std::io::Result<()> {
     };
     let text = std::fs::read_to_string(text)?;
     let pairs = std::fs::read(pairs)?;
-    let mut rows: Vec<Row> = text.lines().filter_map(read_row).collect();
-    rows.sort_by_key(|row| row.0);
+    let table = Table::of(text.lines().filter_map(read_row).collect());
     let address = |octets: &[u8]| {
         octets
             .iter()
@@ -92,13 +155,13 @@ fn main() -> std::io::Result<()> {
     let before = unsafe { clock() };
     let (mut found, mut metrics) = (0u64, 0u64);
     for pair in pairs.chunks_exact(8) {
-        if let Some(route) = lookup(&rows, address(&pair[..4]), address(&pair[4..])) {
+        if let Some(route) = table.lookup(address(&pair[..4]), address(&pair[4..])) {
             found += 1;
             metrics += u64::from(route.metric);
         }
     }
     // SAFETY: as above.
     let micros = unsafe { clock() } - before;
-    println!("{} {found} {metrics} {micros}", rows.len());
+    println!("{} {found} {metrics} {micros}", table.rows.len());
     Ok(())
 }

@@ -192,7 +192,8 @@ boxes_too rows others boxes same are = record {
     in_order = (are.exact family).in_order;
     exact = λ box. (
       (λ c. IsBox-same (width_of family) (answers_in family (entries_of rows)) (answers_in family (entries_of others)) box (same_in rows others same family) (((are.exact family).exact box).0 c)),
-      (λ b. ((are.exact family).exact box).1 (IsBox-same (width_of family) (answers_in family (entries_of others)) (answers_in family (entries_of rows)) box (same_in others rows (same_back rows others same) family) b)),
+      (λ b. ((are.exact family).exact box).1
+          (IsBox-same (width_of family) (answers_in family (entries_of others)) (answers_in family (entries_of rows)) box (same_in others rows (same_back rows others same) family) b)),
     );
   };
 }

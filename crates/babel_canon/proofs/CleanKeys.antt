@@ -1,32 +1,37 @@
 -- The prefixes of the keys that a dump tells of have zeros past their length.
-use Rattle.std.proofs.Common.{◌≡◌, ℕ, ◌+◌, ◌-◌, ◌%◌, ◌^◌, Bool, true, false, cond, not, ◌&&◌, ◌||◌}
-use Rattle.std.proofs.Common.{eqb, leb, length, take, drop, List, [], ◌∷◌, ◌++◌, Option, Some, None}
+use Rattle.std.proofs.Common.{◌≡◌, ℕ, ◌+◌, ◌-◌, ◌%◌, ◌^◌, Bool, true, false, cond, not, ◌&&◌}
+use Rattle.std.proofs.Common.{eqb, leb, length, drop, List, [], ◌∷◌, ◌++◌, Option, Some, None}
 use Rattle.std.proofs.Common.{refl, subst}
-use Rattle.std.specs.Prelude.{fold, is_none, is_some}
+use Rattle.std.specs.Prelude.{fold, is_none, IfSome}
+use Rattle.std.specs.Result.{result_ok}
 use Rattle.std.specs.List.{AllByRecursion, find}
-use Rattle.std.specs.Option.{option_map, unwrap_or}
+use Rattle.std.specs.Option.{option_map, option_or, unwrap_or}
 use Rattle.std.proofs.Math.Nat.{mul-mod_left}
 use Rattle.babel_prefix.specs.declared.family.Family.{Family}
 use Rattle.babel_prefix.specs.declared.family.Family.TheVariants.{V4, V6}
-use Rattle.babel_prefix.specs.Width.{width_of, octet_count}
+use Rattle.babel_prefix.specs.Width.{width_of}
 use Rattle.babel_prefix.specs.Block.{leading_bits}
-use Rattle.babel_prefix.specs.Address.{Address, AddressPrefix, address_of, prefix_at, whole_family}
+use Rattle.babel_prefix.specs.Address.{Address, AddressPrefix, prefix_at, whole_family}
 use Rattle.babel_tlv.specs.declared.event.Event.{Event}
 use Rattle.babel_tlv.specs.declared.event.Event.TheVariants as events
 use Rattle.babel_tlv.specs.declared.held.Held.{Held}
 use Rattle.babel_tlv.specs.declared.held.Held.TheVariants as helds
 use Rattle.babel_tlv.specs.declared.mode.Mode.{Mode}
 use Rattle.babel_tlv.specs.Framing.{TlvAt}
-use Rattle.babel_tlv.specs.Forming.{default_octets, field_len, id_of, omitted, padded, prefix_len}
-use Rattle.babel_tlv.specs.Forming.{sets_router_id, update_encoding, update_metric}
+use Rattle.babel_tlv.specs.Framing.{tlvs_of}
+use Rattle.babel_tlv.specs.Forming.{encoding, field_len, formed, update_encoding, update_metric}
+use Rattle.babel_tlv.specs.Context.{Context, context_after, next_hop_in_context, update_prefix}
+use Rattle.babel_tlv.specs.Updating.{updated}
+use Rattle.babel_tlv.specs.Says.{current_router_id}
 use Rattle.babel_tlv.specs.Route.{RouteKey, Announcement, is_reserved}
 use Rattle.babel_tlv.specs.SubTlv.{is_source, source_prefix, source_of}
-use Rattle.babel_canon.specs.Items.{are_all_of, fit_update, items_of}
-use Rattle.babel_canon.specs.Behind.{ParserState, behind, formed_in, is_update, prefix_in, start}
-use Rattle.babel_canon.specs.Told.{wildcard_tells, route_tells, update_tells, tells, told_by}
+use Rattle.babel_canon.specs.Items.{are_all_of, fit_update}
+use Rattle.babel_canon.specs.Told.{is_update, formed_in, wildcard_tells, route_tells, update_tells}
+use Rattle.babel_canon.specs.Told.{tells, told_by}
 use Rattle.babel_canon.specs.Dumps.{told}
 use Rattle.babel_canon.specs.DumpAnswers.{same_key, retracted, held_after, held_for}
 use Rattle.babel_canon.proofs.HeldFor.{same_key-decides}
+use Rattle.babel_canon.proofs.Told.{formed-holds}
 
 -- the bits past the length are zero
 abbrev pub IsClean : AddressPrefix → Type 0
@@ -47,35 +52,26 @@ prefix_at-clean : (len : ℕ) (a : Address) → IsClean (prefix_at len a)
 prefix_at-clean len a = mul-mod_left (leading_bits (width_of a.family) len a.bits)
     (2 ^ (width_of a.family - len))
 
-abbrev IsCleanIfFormed : Option AddressPrefix → Type 0
-IsCleanIfFormed None = Unit {0}
-IsCleanIfFormed (Some prefix) = IsClean prefix
-
-prefix_by : (b : Bool) (prefix : AddressPrefix) → IsClean prefix
-    → IsCleanIfFormed (cond b (Some prefix) None)
-prefix_by true prefix clean = clean
-prefix_by false prefix clean = tt
-
-prefix_in-clean : (family : Family) (default : Option Address) (body : List ℕ)
-    → IsCleanIfFormed (prefix_in family default body)
-prefix_in-clean family default body =
-    let address = address_of family (padded (octet_count family)
-    (take (omitted body) (default_octets default) ++ take (field_len body) (drop 10 body))) in
-    prefix_by (leb (prefix_len body) (width_of family) && leb (omitted body) (octet_count family) &&
-    (eqb (omitted body) 0 || is_some default) && leb (10 + field_len body) (length body))
-    (prefix_at (prefix_len body) address) (prefix_at-clean (prefix_len body) address)
-
-formed_in-clean : (state : ParserState) (body : List ℕ) → IsCleanIfFormed (formed_in state body)
-formed_in-clean state body =
-    by (eqb (update_encoding body) 1) (eqb (update_encoding body) 2)
-    (prefix_in V4 (state.default V4) body) (prefix_in V6 (state.default V6) body)
-    (prefix_in-clean V4 (state.default V4) body) (prefix_in-clean V6 (state.default V6) body)
+formed-clean : (family : Family) (default : Option Address) (tlv : TlvAt)
+    → IfSome (update_prefix family default tlv) IsClean
+formed-clean family default tlv =
+    by (eqb tlv.kind 8 && leb 10 (length tlv.body) && eqb (update_encoding tlv.body)
+    (encoding family)) (result_ok (formed family default tlv.body))
+    (formed-holds IsClean family default tlv.body (λ len octets. prefix_at-clean len _))
   where
-    by : (four six : Bool) (p q : Option AddressPrefix) → IsCleanIfFormed p → IsCleanIfFormed q
-        → IsCleanIfFormed (cond four p (cond six q None))
-    by true six p q p_clean q_clean = p_clean
-    by false true p q p_clean q_clean = q_clean
-    by false false p q p_clean q_clean = tt
+    by : (b : Bool) (p : Option AddressPrefix) → IfSome p IsClean → IfSome (cond b p None) IsClean
+    by true p clean = clean
+    by false p clean = tt
+
+formed_in-clean : (context : Context) (tlv : TlvAt) → IfSome (formed_in context tlv) IsClean
+formed_in-clean context tlv =
+    by (update_prefix V4 context.default_v4 tlv) (update_prefix V6 context.default_v6 tlv)
+    (formed-clean V4 context.default_v4 tlv) (formed-clean V6 context.default_v6 tlv)
+  where
+    by : (p q : Option AddressPrefix) → IfSome p IsClean → IfSome q IsClean
+        → IfSome (option_or p q) IsClean
+    by None q p_clean q_clean = q_clean
+    by (Some prefix) q p_clean q_clean = p_clean
 
 whole-clean : (family : Family) → IsClean (whole_family family)
 whole-clean V4 = refl
@@ -102,17 +98,17 @@ route-clean key body (Some id) (Some hop) clean = by (is_reserved id) _
     by true ann = tt
     by false ann = clean
 
-update-clean : (state : ParserState) (body : List ℕ) (prefix : Option AddressPrefix)
-    → IsCleanIfFormed prefix → IsOfClean (update_tells state body prefix)
-update-clean state body None clean = tt
-update-clean state body (Some prefix) clean =
+update-clean : (context : Context) (body : List ℕ) (prefix : Option AddressPrefix)
+    → IfSome prefix IsClean → IsOfClean (update_tells context body prefix)
+update-clean context body None clean = tt
+update-clean context body (Some prefix) clean =
     let family = prefix.address.family in
     let octets = drop (10 + field_len body) body in
-    let items = items_of octets in
+    let items = tlvs_of 0 octets in
     let key : RouteKey = record { dst = prefix; src = source_of family items } in
     let are : AreClean key = (clean, source-clean family items) in
-    let id = cond (sets_router_id body) (Some (id_of prefix.address)) state.router_id in
-    let hop = state.next_hop family in
+    let id = current_router_id context body prefix in
+    let hop = next_hop_in_context family context in
     by (not (are_all_of octets items && fit_update family items))
     (eqb (update_metric body) 65535) key are (route_tells key body id hop)
     (route-clean key body id hop are)
@@ -133,21 +129,18 @@ either_clean true wild w update w_of update_of = tt
 either_clean false true w update w_of update_of = w_of
 either_clean false false w update w_of update_of = update_of
 
-tells-clean : (state : ParserState) (tlv : TlvAt) → IsOfClean (tells state tlv)
-tells-clean state tlv =
+tells-clean : (context : Context) (tlv : TlvAt) → IsOfClean (tells context tlv)
+tells-clean context tlv =
     let body = tlv.body in
     either_clean (not (is_update tlv)) (eqb (update_encoding body) 0) (wildcard_tells body)
-    (update_tells state body (formed_in state body)) (search wildcard-clean)
-    (update-clean state body (formed_in state body) (formed_in-clean state body))
+    (update_tells context body (formed_in context tlv)) (search wildcard-clean)
+    (update-clean context body (formed_in context tlv) (formed_in-clean context tlv))
 
-told_by-clean : (state : ParserState) (tlvs : List TlvAt)
-    → AllByRecursion IsOfClean (told_by state tlvs)
-told_by-clean state [] = tt
-told_by-clean state (tlv ∷ tlvs) = (
-  tells-clean state tlv,
-  told_by-clean
-      (behind state tlv) tlvs,
-)
+told_by-clean : (context : Context) (tlvs : List TlvAt)
+    → AllByRecursion IsOfClean (told_by context tlvs)
+told_by-clean context [] = tt
+told_by-clean context (tlv ∷ tlvs) =
+    (tells-clean context tlv, told_by-clean (updated context tlv) tlvs)
 
 both_clean : (front back : List Event) → AllByRecursion IsOfClean front
     → AllByRecursion IsOfClean back → AllByRecursion IsOfClean (front ++ back)
@@ -157,8 +150,9 @@ both_clean (event ∷ front) back of of_back = (of.0, both_clean front back of.1
 told-clean : (sender : Address) (packets : List (List TlvAt))
     → AllByRecursion IsOfClean (told sender packets)
 told-clean sender [] = tt
-told-clean sender (tlvs ∷ packets) = both_clean (told_by (start sender) tlvs) (told sender packets)
-    (told_by-clean (start sender) tlvs) (told-clean sender packets)
+told-clean sender (tlvs ∷ packets) =
+    both_clean (told_by (context_after sender []) tlvs) (told sender packets)
+    (told_by-clean (context_after sender []) tlvs) (told-clean sender packets)
 
 -- ---- what is held
 

@@ -50,7 +50,8 @@ differences_are_fewest rows others differences are told is v4 v6 v4_table v6_tab
     omega (arith, ap length are.whole, differences-length are.v4 are.v6, first, second)
 
 -- no pair of a family differs below the least difference of a later family
-same_before : (rows others : List Pair) (family : Family) (dst src : Address) (left right : Option Held) → IsLeastDifference rows others dst src left right → family_rank family < family_rank dst.family → SameInFamily family rows others
+same_before : (rows others : List Pair) (family : Family) (dst src : Address) (left right : Option Held)
+    → IsLeastDifference rows others dst src left right → family_rank family < family_rank dst.family → SameInFamily family rows others
 same_before rows others family dst src left right least lower d s d_in s_in =
     least.same_below (record { family = family; bits = d }) (record { family = family; bits = s }) d_in s_in refl (inl lower)
 
@@ -67,9 +68,11 @@ least_in_family rows others dst src left right least = record {
 -- the first of two lists, end to end
 pub first_has_least : FirstHasLeast
 first_has_least rows others first rest are dst src left right least =
-    by dst.family are.v4 are.v6 are.v4_boxes are.v6_boxes are.whole (subst (λ (f : Family). IsLeastDifference rows others (record { family = dst.family; bits = dst.bits }) (record { family = f; bits = src.bits }) left right) (sym least.one_family) least) least.one_family
+    by dst.family are.v4 are.v6 are.v4_boxes are.v6_boxes are.whole (subst (λ (f : Family).
+    IsLeastDifference rows others (record { family = dst.family; bits = dst.bits }) (record { family = f; bits = src.bits }) left right) (sym least.one_family) least) least.one_family
   where
-    by : (f : Family) (v4 v6 : List (Row (Differing Held))) → AreFamilyDifferences V4 rows others v4 → AreFamilyDifferences V6 rows others v6 → first ∷ rest ≡ map (difference_at V4) v4 ++ map (difference_at V6) v6 →
+    by : (f : Family) (v4 v6 : List (Row (Differing Held))) → AreFamilyDifferences V4 rows others v4
+        → AreFamilyDifferences V6 rows others v6 → first ∷ rest ≡ map (difference_at V4) v4 ++ map (difference_at V6) v6 →
         IsLeastDifference rows others (record { family = f; bits = dst.bits }) (record { family = f; bits = src.bits }) left right → f ≡ src.family →
         ContainsBoth (record { family = f; bits = dst.bits }) (record { family = src.family; bits = src.bits }) first.key
     by V4 [] v6 v4_are v6_are whole here one =

@@ -22,7 +22,6 @@ use Rattle.babel_table.specs.Bounds.{Bounds}
 use Rattle.babel_table.specs.Rows.{Routes}
 use Rattle.babel_table.specs.TableOf.{IsTableOf}
 use Rattle.babel_table.proofs.ReadingLaws.{framed_one}
-use Rattle.babel_canon.specs.Behind.{ParserState, behind, start}
 use Rattle.babel_canon.specs.Told.{tells, told_by}
 use Rattle.babel_canon.specs.Dumps.{sets_unread_router_id, IsPacket, IsDump, told}
 use Rattle.babel_canon.proofs.NoFault.{AreFine-said}
@@ -56,11 +55,11 @@ place-octets at [] = refl
 place-octets at (tlv ∷ tlvs) = ap (λ (o : List ℕ). tlv_octets tlv ++ o)
     (place-octets (at + length (tlv_octets tlv)) tlvs)
 
-place-told : (state : ParserState) (at : ℕ) (tlvs : List TlvAt)
-    → told_by state (place at tlvs) ≡ told_by state tlvs
-place-told state at [] = refl
-place-told state at (tlv ∷ tlvs) = ap (λ (es : List Event). tells state tlv ∷ es)
-    (place-told (behind state tlv) (at + length (tlv_octets tlv)) tlvs)
+place-told : (context : Context) (at : ℕ) (tlvs : List TlvAt)
+    → told_by context (place at tlvs) ≡ told_by context tlvs
+place-told context at [] = refl
+place-told context at (tlv ∷ tlvs) = ap (λ (es : List Event). tells context tlv ∷ es)
+    (place-told (updated context tlv) (at + length (tlv_octets tlv)) tlvs)
 
 abbrev place_all : ℕ → List (List TlvAt) → List (List TlvAt)
 place_all at [] = []
@@ -93,8 +92,8 @@ place_all-told sender at [] = refl
 place_all-told sender at (tlvs ∷ packets) =
     let later = at + length (packet_octets tlvs) in
     ap (λ (es : List Event). es ++ told sender (place_all later packets))
-    (place-told (start sender) (at + 4) tlvs)
-    ∙ ap (λ (es : List Event). told_by (start sender) tlvs ++ es)
+    (place-told (context_after sender []) (at + 4) tlvs)
+    ∙ ap (λ (es : List Event). told_by (context_after sender []) tlvs ++ es)
     (place_all-told sender later packets)
 
 framed-from_dump : (octets : List ℕ) (packets : List (List TlvAt)) → IsDump octets packets

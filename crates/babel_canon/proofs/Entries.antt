@@ -27,7 +27,8 @@ pub kept : (family : Family) (rows : List Pair) (row : Pair) → row.0.dst.addre
     → filter (are_of_family family) (entries_of (rows ++ row ∷ [])) ≡ filter (are_of_family family) (entries_of rows) ++ entry_of row ∷ []
 kept family rows row here there =
     let passes : are_of_family family (entry_of row) ≡ true =
-    and_from _ _ (ap (same_family row.0.dst.address.family) (sym here) ∙ same_family-refl row.0.dst.address.family) (ap (same_family row.0.src.address.family) (sym there) ∙ same_family-refl row.0.src.address.family) in
+    and_from _ _ (ap (same_family row.0.dst.address.family) (sym here) ∙ same_family-refl row.0.dst.address.family)
+    (ap (same_family row.0.src.address.family) (sym there) ∙ same_family-refl row.0.src.address.family) in
     one_more family rows row ∙ ap (λ (b : Bool). filter (are_of_family family) (entries_of rows) ++ cond b (entry_of row ∷ []) []) passes
 
 pub passed : (family : Family) (rows : List Pair) (row : Pair) → row.0.dst.address.family ≢ family

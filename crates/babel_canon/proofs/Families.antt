@@ -165,7 +165,8 @@ moved : (key other : RouteKey) (held : Held) → other.dst.address.family ≡ ke
 moved key other (helds.Route ann) e fits = (fits.0, fits.1 ∙ sym e)
 moved key other helds.Unreachable e fits = tt
 
-box_pair : (family : Family) (rows : List Pair) → AreRows rows → (entry : Entry Held) → AreOfFamily family entry → IsBox (width_of family) (answers_in family (entries_of rows)) (row_of entry) → IsPair (pair_of entry)
+box_pair : (family : Family) (rows : List Pair) → AreRows rows → (entry : Entry Held) → AreOfFamily family entry
+    → IsBox (width_of family) (answers_in family (entries_of rows)) (row_of entry) → IsPair (pair_of entry)
 box_pair family rows are entry of_family box =
     let row = row_of entry in
     let is_answer = box.answered row.dst.start row.src.start box.dst_is_prefix.start_in_range box.src_is_prefix.start_in_range refl refl in
@@ -181,7 +182,8 @@ box_pair family rows are entry of_family box =
     }
 
 each_pair : (family : Family) (rows : List Pair) → AreRows rows → (entries : List (Entry Held)) → All (AreOfFamily family) entries
-    → ((entry : Entry Held) → Listed entries entry → IsBox (width_of family) (answers_in family (entries_of rows)) (row_of entry)) → (behind : List (Entry Held)) → AllByRecursion IsPair (map pair_of behind)
+    → ((entry : Entry Held) → Listed entries entry → IsBox (width_of family) (answers_in family (entries_of rows)) (row_of entry))
+    → (behind : List (Entry Held)) → AllByRecursion IsPair (map pair_of behind)
     → AllByRecursion IsPair (map pair_of (entries ++ behind))
 each_pair family rows are [] of_family boxes behind later = later
 each_pair family rows are (entry ∷ entries) of_family boxes behind later = (

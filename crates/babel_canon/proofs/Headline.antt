@@ -86,11 +86,11 @@ told_one sender octets ps qs one other =
 any_sender : Address
 any_sender = record { family = V4; bits = 0 }
 
-back : (mode : Mode) (body : ℕ) (pairs : List Pair) (octets : List ℕ) (sender : Address) → IsBodySize body → AreRows pairs → AreReadableIn mode pairs → IsCanonicalText body pairs octets
+pub back : (mode : Mode) (body : ℕ) (pairs : List Pair) (octets : List ℕ) (sender : Address) → IsBodySize body → AreRows pairs → AreReadableIn mode pairs → IsCanonicalText body pairs octets
     → ReadsBack mode sender octets pairs
 back mode body pairs octets sender size rows reads text = text_reads_back mode body pairs octets sender size.said rows.each (rising-apart pairs rows.rising) reads text
 
-pairs_one : (body : ℕ) (ps qs : List Pair) (octets : List ℕ) → IsBodySize body → AreRows ps → AreRows qs → IsCanonicalText body ps octets → IsCanonicalText body qs octets → ps ≡ qs
+pub pairs_one : (body : ℕ) (ps qs : List Pair) (octets : List ℕ) → IsBodySize body → AreRows ps → AreRows qs → IsCanonicalText body ps octets → IsCanonicalText body qs octets → ps ≡ qs
 pairs_one body ps qs octets size p_rows q_rows p_text q_text =
     told_one any_sender octets ps qs (back modes.Hold body ps octets any_sender size p_rows tt p_text).tells (back modes.Hold body qs octets any_sender size q_rows tt q_text).tells
 

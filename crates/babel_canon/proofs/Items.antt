@@ -1,132 +1,23 @@
 -- The sub-TLVs of an Update let it be read exactly where there is no reason to ignore it.
-use Rattle.std.proofs.Common.{◌≡◌, ℕ, zero, suc, ◌+◌, ◌≤◌, Bool, true, false, cond, not, ◌&&◌, ◌||◌}
-use Rattle.std.proofs.Common.{leb, ltb, eqb, List, [], ◌∷◌, ◌++◌, length, map, drop, take, Option}
+use Rattle.std.proofs.Common.{◌≡◌, ℕ, suc, Bool, true, false, cond, not, ◌&&◌, ◌||◌}
+use Rattle.std.proofs.Common.{leb, ltb, eqb, List, [], ◌∷◌, ◌++◌, length, Option}
 use Rattle.std.proofs.Common.{Some, None, refl, sym, ap, ◌∙◌, arith}
 use Rattle.std.specs.Prelude.{filter, is_none}
-use Rattle.std.specs.List.{find, flat_map, list_all, list_any}
-use Rattle.std.specs.Option.{option_map, option_or, unwrap_or}
+use Rattle.std.specs.List.{list_all, list_any}
+use Rattle.std.specs.Option.{option_or}
 use Rattle.std.proofs.lemmas.Bool.Decides.{nat_tests}
-use Rattle.std.proofs.lemmas.List.{length-drop}
 use Rattle.babel_prefix.specs.declared.family.Family.{Family}
-use Rattle.babel_prefix.specs.Address.{AddressPrefix, whole_family}
 use Rattle.babel_tlv.specs.declared.reason.Reason.{Reason}
 use Rattle.babel_tlv.specs.declared.reason.Reason.TheVariants as reasons
-use Rattle.babel_tlv.specs.Framing.{TlvAt, tlv_octets, tlvs_of, tlvs_past}
+use Rattle.babel_tlv.specs.Framing.{TlvAt, tlvs_of}
 use Rattle.babel_tlv.specs.SubTlv.{is_source, is_bad_source, item_reason, mandatory_reason}
-use Rattle.babel_tlv.specs.SubTlv.{first_reason, end_reason, source_of, source_prefix, sub_reason}
-use Rattle.babel_tlv.proofs.Reading.{tlvs_past-drop}
+use Rattle.babel_tlv.specs.SubTlv.{first_reason, end_reason, sub_reason}
 use Rattle.babel_tlv.proofs.SubReading.{list_any-push}
-use Rattle.babel_canon.specs.Items.{items_in, items_of, are_all_of, is_optional, fit_update}
-
--- ---- items, wherever they lie
-
-abbrev pub still : TlvAt → TlvAt
-still tlv = record { at = 0; kind = tlv.kind; body = tlv.body }
-
-items-tlvs : (most at : ℕ) (octets : List ℕ) → length octets ≤ most
-    → items_in most octets ≡ map still (tlvs_past 0 at octets)
-items-tlvs zero at [] few = refl
-items-tlvs zero at (octet ∷ octets) few = absurd (omega (arith, few))
-items-tlvs (suc most) at [] few = refl
-items-tlvs (suc most) at (zero ∷ octets) few =
-    ap (λ (items : List TlvAt). record { at = 0; kind = 0; body = [] } ∷ items)
-    (items-tlvs most (at + 1) octets (omega (arith, few)))
-items-tlvs (suc most) at (suc kind ∷ []) few = refl
-items-tlvs (suc most) at (suc kind ∷ len ∷ octets) few =
-    by (ltb (length octets) len) refl (items-tlvs most (at + (2 + len)) (drop len octets)
-    (omega (arith, length-drop len octets, few)))
-  where
-    by : (short : Bool) → ltb (length octets) len ≡ short
-        → items_in most (drop len octets) ≡ map still (tlvs_past 0 (at + (2 + len))
-        (drop len octets))
-        → cond short [] (record { at = 0; kind = suc kind; body = take len octets } ∷ items_in most
-        (drop len octets))
-        ≡ map still (cond short [] (record {
-          at = at;
-          kind = suc kind;
-          body =
-              take len octets;
-        } ∷ tlvs_past len (at + (2 + len)) octets))
-    by true is later = refl
-    by false is later =
-        let whole : len ≤ length octets = grind (arith, nat_tests) in
-        ap (λ (items : List TlvAt). record {
-          at = 0;
-          kind = suc kind;
-          body =
-              take len octets;
-        } ∷ items)
-        (later ∙ ap (map still) (sym (tlvs_past-drop len (at + (2 + len)) octets whole)))
-
-items-are : (octets : List ℕ) → items_of octets ≡ map still (tlvs_of 0 octets)
-items-are octets = items-tlvs (length octets) 0 octets (omega arith)
-
-still-octets : (items : List TlvAt) → flat_map tlv_octets (map still items)
-    ≡ flat_map tlv_octets items
-still-octets [] = refl
-still-octets (item ∷ items) = ap (λ (o : List ℕ). tlv_octets item ++ o) (still-octets items)
-
-still-all : (test : TlvAt → Bool) → ((item : TlvAt) → test (still item) ≡ test item)
-    → (items : List TlvAt) → list_all test (map still items) ≡ list_all test items
-still-all test same [] = refl
-still-all test same (item ∷ items) = ap (λ (b : Bool). b && list_all test (map still items))
-    (same item) ∙ ap (λ (b : Bool). test item && b) (still-all test same items)
-
-still-sources : (items : List TlvAt) → length (filter is_source (map still items))
-    ≡ length (filter is_source items)
-still-sources [] = refl
-still-sources (item ∷ items) = by (is_source item) (still-sources items)
-  where
-    by : (b : Bool) → length (filter is_source (map still items)) ≡ length (filter is_source items)
-        → length (cond b (still item ∷ filter is_source (map still items))
-        (filter is_source (map still items))) ≡ length
-        (cond b (item ∷ filter is_source items) (filter is_source items))
-    by true later = ap suc later
-    by false later = later
-
-abbrev source_in : Family → Option TlvAt → AddressPrefix
-source_in family found = unwrap_or (option_map (λ item. source_prefix family item.body) found)
-    (whole_family family)
-
-still-source : (family : Family) (items : List TlvAt) → source_of family (map still items)
-    ≡ source_of family items
-still-source family [] = refl
-still-source family (item ∷ items) = by (is_source item) (still-source family items)
-  where
-    by : (b : Bool) → source_of family (map still items) ≡ source_of family items
-        → source_in family (cond b (Some (still item)) (find is_source (map still items)))
-        ≡ source_in family (cond b (Some item) (find is_source items))
-    by true later = refl
-    by false later = later
-
--- the source prefix is that of the TLVs that are read
-pub source-items : (family : Family) (octets : List ℕ) → source_of family (items_of octets)
-    ≡ source_of family (tlvs_of 0 octets)
-source-items family octets = ap (source_of family) (items-are octets)
-    ∙ still-source family (tlvs_of 0 octets)
-
-all-items : (octets : List ℕ) → are_all_of octets (items_of octets)
-    ≡ are_all_of octets (tlvs_of 0 octets)
-all-items octets = ap (are_all_of octets) (items-are octets)
-    ∙ ap (λ (o : List ℕ). eqb (length o) (length octets)) (still-octets (tlvs_of 0 octets))
-
-optional-items : (octets : List ℕ) → list_all is_optional (items_of octets)
-    ≡ list_all is_optional (tlvs_of 0 octets)
-optional-items octets = ap (list_all is_optional) (items-are octets)
-    ∙ still-all is_optional (λ item. refl) (tlvs_of 0 octets)
+use Rattle.babel_canon.specs.Items.{are_all_of, is_optional, fit_update}
 
 abbrev fits_update : Family → TlvAt → Bool
 fits_update family item = is_optional item || (is_source item && not
     (is_bad_source family item.body))
-
-fit-items : (family : Family) (octets : List ℕ) → fit_update family (items_of octets)
-    ≡ fit_update family (tlvs_of 0 octets)
-fit-items family octets =
-    let tlvs = tlvs_of 0 octets in
-    ap (fit_update family) (items-are octets)
-    ∙ ap (λ (b : Bool). b && leb (length (filter is_source (map still tlvs))) 1)
-    (still-all (fits_update family) (λ item. refl) tlvs)
-    ∙ ap (λ (n : ℕ). list_all (fits_update family) tlvs && leb n 1) (still-sources tlvs)
 
 -- ---- no reason
 
@@ -246,26 +137,23 @@ and_swap false false = refl
 
 pub sub-update : (place : _) (family : Family) → ((again : Bool) (item : TlvAt)
     → item_reason place again item ≡ update_reason family again item) → (octets : List ℕ)
-    → is_none (sub_reason place octets) ≡ (are_all_of octets (items_of octets) && fit_update family
-    (items_of octets))
+    → is_none (sub_reason place octets)
+    ≡ (are_all_of octets (tlvs_of 0 octets) && fit_update family (tlvs_of 0 octets))
 sub-update place family read octets =
     let tlvs = tlvs_of 0 octets in
     none-or (first_reason place [] tlvs) (end_reason octets tlvs)
     ∙ ap (λ (b : Bool). b && is_none (end_reason octets tlvs))
-    (first-update place family read [] tlvs ∙ sym (fit-items family octets))
-    ∙ ap (λ (b : Bool). fit_update family (items_of octets) && b) (end-all octets tlvs
-    ∙ sym (all-items octets))
-    ∙ and_swap (fit_update family (items_of octets)) (are_all_of octets (items_of octets))
+    (first-update place family read [] tlvs)
+    ∙ ap (λ (b : Bool). fit_update family tlvs && b) (end-all octets tlvs)
+    ∙ and_swap (fit_update family tlvs) (are_all_of octets tlvs)
 
 pub sub-wildcard : (place : _) → ((again : Bool) (item : TlvAt)
     → item_reason place again item ≡ wildcard_reason again item) → (octets : List ℕ)
-    → is_none (sub_reason place octets) ≡ (are_all_of octets
-    (items_of octets) && list_all is_optional (items_of octets))
+    → is_none (sub_reason place octets)
+    ≡ (are_all_of octets (tlvs_of 0 octets) && list_all is_optional (tlvs_of 0 octets))
 sub-wildcard place read octets =
     let tlvs = tlvs_of 0 octets in
     none-or (first_reason place [] tlvs) (end_reason octets tlvs)
-    ∙ ap (λ (b : Bool). b && is_none (end_reason octets tlvs)) (first-wildcard place read [] tlvs
-    ∙ sym (optional-items octets))
-    ∙ ap (λ (b : Bool). list_all is_optional (items_of octets) && b) (end-all octets tlvs
-    ∙ sym (all-items octets))
-    ∙ and_swap (list_all is_optional (items_of octets)) (are_all_of octets (items_of octets))
+    ∙ ap (λ (b : Bool). b && is_none (end_reason octets tlvs)) (first-wildcard place read [] tlvs)
+    ∙ ap (λ (b : Bool). list_all is_optional tlvs && b) (end-all octets tlvs)
+    ∙ and_swap (list_all is_optional tlvs) (are_all_of octets tlvs)

@@ -15,7 +15,6 @@ mod Verdicts
 pub mod OneVerdict
 mod Normal
 pub mod Items
-pub mod Behind
 pub mod Told
 pub mod Dumps
 pub mod HeldFor
@@ -36,3 +35,6 @@ mod DifferenceLaws
 pub mod OneDifferences
 pub mod Views
 mod ManyBoxes
+mod JoinedRows
+pub mod DifferingRows
+pub mod RoutesHeadline

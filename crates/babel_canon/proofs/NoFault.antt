@@ -81,7 +81,8 @@ not_refused mode entries before told rest at event what_is fault pairs is_event 
     let here : Refuses mode entries before at (as_ok event) fault = subst (λ (r : Result Event Fault). Refuses mode entries before at r fault) is_event refuses in
     few_hold mode entries told rest (before ++ event ∷ []) pairs news parts room here.1
 
-none_refuses : (mode : Mode) (entries : ℕ) (said more : List Saying) (told : List Event) (pairs : List Pair) (fault : Fault) → map what_of (said ++ more) ≡ map as_ok told → spoken told ≡ map pair_event pairs
+none_refuses : (mode : Mode) (entries : ℕ) (said more : List Saying) (told : List Event) (pairs : List Pair) (fault : Fault)
+    → map what_of (said ++ more) ≡ map as_ok told → spoken told ≡ map pair_event pairs
     → length pairs ≤ entries → RefusedBy mode entries said fault → ⊥
 none_refuses mode entries said more told pairs fault fine news room refused =
     let front = refused.0 in

@@ -13,6 +13,7 @@ use Rattle.babel_table.specs.TableOf.{IsTableOf}
 use Rattle.babel_canon.specs.Canonical.{CanonicalFault, HasManyBoxes}
 use Rattle.babel_canon.specs.Sent.{Sent}
 use Rattle.babel_canon.specs.Normalises.{NormaliseFault}
+use Rattle.babel_canon.specs.Routes.{RoutesFault}
 
 memory_or : (fault : Fault) → (fault ≡ faults.Memory) ⊎ (fault ≢ faults.Memory)
 memory_or (faults.Truncated at) = inr (λ e. cc)
@@ -37,3 +38,9 @@ pub of_form_under : (view : View) (limits : Bounds) (mode : Mode) (one : Sent) (
 of_form_under view limits mode one table seen fault no_fault is_table seen_is (inl (is, many)) =
     inr (inl (is, no_fault, (table, is_table, subst (λ (t : Routes). HasManyBoxes limits t.rows) seen_is many)))
 of_form_under view limits mode one table seen fault no_fault is_table seen_is (inr memory) = inr (inr memory)
+
+pub of_dump_routes : (limits : Bounds) (mode : Mode) (one : Sent) (fault : Fault) → (fault ≢ faults.Memory → DumpFault limits mode one.sender one.dump fault) → RoutesFault limits mode one fault
+of_dump_routes limits mode one fault refused = elim (memory_or fault) as (λ _. RoutesFault limits mode one fault) [
+  | inl memory ↦ inr memory
+  | inr other ↦ inl (refused other)
+]

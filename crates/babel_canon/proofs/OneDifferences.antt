@@ -1,5 +1,5 @@
 -- Two tables have one list of differences.
-use Rattle.std.proofs.Common.{◌≡◌, inl, inr, ℕ, suc, List, [], ◌∷◌, ◌++◌, map, sym, ◌∙◌, ap, subst, arith}
+use Rattle.std.proofs.Common.{◌≡◌, inl, inr, ℕ, ◌<◌, suc, List, [], ◌∷◌, ◌++◌, length, map, sym, ◌∙◌, ap, subst, arith}
 use Rattle.std.specs.List.{AllPairs}
 use Rattle.babel_prefix.specs.declared.family.Family.{Family}
 use Rattle.babel_prefix.specs.declared.family.Family.TheVariants.{V4, V6}
@@ -18,7 +18,8 @@ use Rattle.babel_tlv.specs.declared.held.Held.{Held}
 use Rattle.babel_tlv.specs.Pair.{Pair}
 use Rattle.babel_table.specs.Rows.{entries_of}
 use Rattle.babel_canon.specs.Differences.{AreFamilyDifferences, difference_at}
-use Rattle.babel_canon.specs.DifferenceLaws.{DifferencesAreOne}
+use Rattle.babel_canon.specs.declared.every_difference.Difference.{Difference}
+use Rattle.babel_canon.specs.DifferenceLaws.{DifferencesAreOne, ManyAreMore}
 
 abbrev Boxes : Type 0
 Boxes = List (Row (Differing Held))
@@ -63,3 +64,10 @@ differences_are_one rows others differences too are are_too =
     ∙ ap (λ (v4 : Boxes). map (difference_at V4) v4 ++ map (difference_at V6) are.v6) (one_in_family V4 rows others are.v4 are_too.v4 are.v4_boxes are_too.v4_boxes)
     ∙ ap (λ (v6 : Boxes). map (difference_at V4) are_too.v4 ++ map (difference_at V6) v6) (one_in_family V6 rows others are.v6 are_too.v6 are.v6_boxes are_too.v6_boxes)
     ∙ sym are_too.whole
+
+pub many_are_more : ManyAreMore
+many_are_more limits rows others differences are = (
+  (λ many. subst (λ (all : List Difference). limits.entries < length all)
+      (differences_are_one rows others many.0 differences many.1 are) many.2),
+  (λ more. (differences, are, more)),
+)

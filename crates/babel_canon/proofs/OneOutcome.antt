@@ -19,7 +19,8 @@ use Rattle.babel_canon.specs.OneOutcome.{NormalFormIsOne, NormaliseFaultIsOne, N
 use Rattle.babel_canon.proofs.Boxes.{boxes_one}
 
 -- a dump has one table, and so one list of rows
-pub rows_one : (limits : Bounds) (mode : Mode) (sender : Address) (dump : List ℕ) (table other : Routes) → IsTableOf limits mode sender dump table → IsTableOf limits mode sender dump other → table.rows ≡ other.rows
+pub rows_one : (limits : Bounds) (mode : Mode) (sender : Address) (dump : List ℕ) (table other : Routes)
+    → IsTableOf limits mode sender dump table → IsTableOf limits mode sender dump other → table.rows ≡ other.rows
 rows_one limits mode sender dump table other is_table is_other = ap (λ (t : Routes). t.rows) (table_is_one limits mode sender dump table other is_table is_other)
 
 pub texts_one : (body : ℕ) (ps qs : List Pair) (octets other : List ℕ) → ps ≡ qs → IsCanonicalText body ps octets → IsCanonicalText body qs other → octets ≡ other

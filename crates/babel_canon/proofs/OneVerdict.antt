@@ -53,7 +53,8 @@ module _ (rows others : List Pair) where
   differ_there : (d s : Address) (left right : Option Held) → IsLeastDifference rows others d s left right → answer_for (entries_of rows) d s ≡ answer_for (entries_of others) d s → ⊥
   differ_there d s left right least same = least.differs (least.left_is ∙ same ∙ sym least.right_is)
 
-  not_lower : (d s e t : Address) (left right left_too right_too : Option Held) → IsLeastDifference rows others d s left right → IsLeastDifference rows others e t left_too right_too → IsLower d s e t → ⊥
+  not_lower : (d s e t : Address) (left right left_too right_too : Option Held) → IsLeastDifference rows others d s left right
+      → IsLeastDifference rows others e t left_too right_too → IsLower d s e t → ⊥
   not_lower d s e t left right left_too right_too one two lower =
       differ_there d s left right one (two.same_below d s one.dst_fits one.src_fits one.one_family lower)
 

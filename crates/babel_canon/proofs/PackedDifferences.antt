@@ -26,7 +26,8 @@ use Rattle.babel_canon.proofs.ValueLists.{entries_say, entries_still}
 
 module _ (values : List Held) where
   -- what a sink has of the boxes of a family
-  differences_of : (family : Family) (boxes : List (Row (Differing PackedValue))) → map (packed_difference values) (map (entry_at family) boxes) ≡ map (difference_at family) (map (valued_row values) boxes)
+  differences_of : (family : Family) (boxes : List (Row (Differing PackedValue)))
+      → map (packed_difference values) (map (entry_at family) boxes) ≡ map (difference_at family) (map (valued_row values) boxes)
   differences_of family [] = refl
   differences_of family (box ∷ boxes) = ap (λ (ds : List Difference). difference_at family (valued_row values box) ∷ ds) (differences_of family boxes)
 
@@ -36,7 +37,8 @@ module _ (values : List Held) where
       ∙ ap (λ (ds : List Difference). ds ++ map (packed_difference values) (map (entry_at V6) v6)) (differences_of V4 v4)
       ∙ ap (λ (ds : List Difference). map (difference_at V4) (map (valued_row values) v4) ++ ds) (differences_of V6 v6)
 
-  module _ (distinct : AreDistinct values) (w : ℕ) (g h : Answers PackedValue) (f k : Answers Held) (left : (d s : ℕ) → Says values (g d s) (f d s)) (right : (d s : ℕ) → Says values (h d s) (k d s)) where
+  module _ (distinct : AreDistinct values) (w : ℕ) (g h : Answers PackedValue) (f k : Answers Held)
+      (left : (d s : ℕ) → Says values (g d s) (f d s)) (right : (d s : ℕ) → Says values (h d s) (k d s)) where
     f_is : (d s : ℕ) → f d s ≡ option_map (value_of values) (g d s)
     f_is d s = says_map values (g d s) (f d s) (left d s)
 
@@ -82,13 +84,15 @@ module _ (values : List Held) where
     }
 
   -- what is told apart in packed values is told apart by value
-  in_family : AreDistinct values → (family : Family) (rows others : List Pair) (boxes : List (Row (Differing PackedValue))) → ArePackedDifferences family rows others values boxes → AreFamilyDifferences family rows others (map (valued_row values) boxes)
+  in_family : AreDistinct values → (family : Family) (rows others : List Pair) (boxes : List (Row (Differing PackedValue)))
+      → ArePackedDifferences family rows others values boxes → AreFamilyDifferences family rows others (map (valued_row values) boxes)
   in_family distinct family rows others boxes are =
       differences_by_value distinct (width_of family) (answers_in family are.mine) (answers_in family are.theirs) (answers_in family (entries_of rows)) (answers_in family (entries_of others))
       (entries_say values family rows are.mine are.mine_are) (entries_say values family others are.theirs are.theirs_are) boxes are.boxes_are
 
   -- the boxes of both families are the differences
-  pub are_valued : AreDistinct values → (rows others : List Pair) (v4 v6 : List (Row (Differing PackedValue))) → ArePackedDifferences V4 rows others values v4 → ArePackedDifferences V6 rows others values v6
+  pub are_valued : AreDistinct values → (rows others : List Pair) (v4 v6 : List (Row (Differing PackedValue)))
+      → ArePackedDifferences V4 rows others values v4 → ArePackedDifferences V6 rows others values v6
       → AreDifferences rows others (valued_differences values v4 v6)
   are_valued distinct rows others v4 v6 v4_are v6_are = record {
     v4 = map (valued_row values) v4;
@@ -99,7 +103,8 @@ module _ (values : List Held) where
   }
 
 -- they stay so while more values are numbered
-pub differences_still : (old new : List Held) → KeepsValues old new → (family : Family) (rows others : List Pair) (boxes : List (Row (Differing PackedValue))) → ArePackedDifferences family rows others old boxes → ArePackedDifferences family rows others new boxes
+pub differences_still : (old new : List Held) → KeepsValues old new → (family : Family) (rows others : List Pair) (boxes : List (Row (Differing PackedValue)))
+    → ArePackedDifferences family rows others old boxes → ArePackedDifferences family rows others new boxes
 differences_still old new keeps family rows others boxes are = record {
   mine = are.mine;
   theirs = are.theirs;

@@ -43,12 +43,14 @@ filtered_once family (row ∷ rows) = by (filtered_once family rows) (same_famil
     entries : List Pair → List (Entry Held)
     entries rs = filter (are_of_family family) (entries_of rs)
 
-    by : entries (family_rows family rows) ≡ entries rows → (b : Bool) → same_family row.0.dst.address.family family ≡ b → entries (cond b (row ∷ family_rows family rows) (family_rows family rows)) ≡ cond (b && same_family row.0.src.address.family family) (entry_of row ∷ entries rows) (entries rows)
+    by : entries (family_rows family rows) ≡ entries rows → (b : Bool) → same_family row.0.dst.address.family family ≡ b
+        → entries (cond b (row ∷ family_rows family rows) (family_rows family rows)) ≡ cond (b && same_family row.0.src.address.family family) (entry_of row ∷ entries rows) (entries rows)
     by later true e =
         ap (λ (b : Bool). cond (b && same_family row.0.src.address.family family) (entry_of row ∷ entries (family_rows family rows)) (entries (family_rows family rows))) e
         ∙ ap (λ (es : List (Entry Held)). cond (same_family row.0.src.address.family family) (entry_of row ∷ es) es) later
     by later false e = later
 
 -- what are the entries of the rows of a family are those of all rows
-pub of_all_rows : (family : Family) (rows : List Pair) (values : List Held) (entries : List (Entry PackedValue)) → AreNumberedEntries family (family_rows family rows) values entries → AreNumberedEntries family rows values entries
+pub of_all_rows : (family : Family) (rows : List Pair) (values : List Held) (entries : List (Entry PackedValue))
+    → AreNumberedEntries family (family_rows family rows) values entries → AreNumberedEntries family rows values entries
 of_all_rows family rows values entries are = record { of_family = are.of_family; numbers = are.numbers; items = are.items ∙ filtered_once family rows }

@@ -45,7 +45,8 @@ stands_before row later x y before x_dst x_src y_dst y_src =
     order_from_keys x y (rw (x_dst, x_src, y_dst, y_src) (ap is_lt places))
 
 -- each member is of a row
-of_row : (P : Pair → Type 0) (rows : List Pair) (values : List PackedValue) (x : Entry PackedValue) → All P rows → Listed (packed_entries rows values) x → (row : Pair) × P row × (x.0 ≡ row.0.dst) × (x.1 ≡ row.0.src)
+of_row : (P : Pair → Type 0) (rows : List Pair) (values : List PackedValue) (x : Entry PackedValue) → All P rows
+    → Listed (packed_entries rows values) x → (row : Pair) × P row × (x.0 ≡ row.0.dst) × (x.1 ≡ row.0.src)
 of_row P [] [] x all none = absurd none
 of_row P [] (v ∷ values) x all none = absurd none
 of_row P (row ∷ rows) [] x all none = absurd none

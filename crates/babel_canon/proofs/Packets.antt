@@ -5,7 +5,8 @@ use Rattle.byteorder.specs.Endian.{big_bytes}
 use borrow.Rule.Slice.PartMut.{mid_of, put_mid}
 use Rattle.babel_tlv.specs.Framing.{framed}
 use Rattle.babel_tlv.specs.Pair.{Pair}
-use Rattle.babel_tlv.specs.Group.{group, groups_behind, body_of, route_tlvs, written_id, written_hop, written_dst, update_tlv, pair_family, shared_octets, held_seqno, held_metric, ArePacked, IsCanonicalText}
+use Rattle.babel_tlv.specs.Group.{group, groups_behind, body_of, route_tlvs, written_id, written_hop, written_dst, update_tlv}
+use Rattle.babel_tlv.specs.Group.{pair_family, shared_octets, held_seqno, held_metric, ArePacked, IsCanonicalText}
 use Rattle.babel_tlv.specs.Writing.{group_in, written_after, Written}
 use Rattle.babel_tlv.proofs.WrittenLaws.{group_in-written_after}
 use Rattle.babel_tlv.proofs.TextTold.{packed}
@@ -30,7 +31,8 @@ body_more : (last : List Pair) (pair : Pair) (so_far : Written) → so_far ≡ w
 body_more last pair so_far writing = ap (λ (w : Written). body_of last ++ group_in w pair) writing
     ∙ ap (λ (o : List ℕ). body_of last ++ o) (group_in-written_after (latest_first [] last) pair) ∙ sym (body-snoc last pair)
 
-length_more : (last : List Pair) (pair : Pair) (so_far : Written) → so_far ≡ written_after (latest_first [] last) → length (body_of (last ++ pair ∷ [])) ≡ length (body_of last) + length (group_in so_far pair)
+length_more : (last : List Pair) (pair : Pair) (so_far : Written) → so_far ≡ written_after (latest_first [] last)
+    → length (body_of (last ++ pair ∷ [])) ≡ length (body_of last) + length (group_in so_far pair)
 length_more last pair so_far writing = sym (ap length (body_more last pair so_far writing)) ∙ length-append (body_of last) (group_in so_far pair)
 
 -- a header says the length of its body
@@ -51,7 +53,8 @@ Appended old new group =
 module _ (body : ℕ) (pairs : List Pair) (pair : Pair) where
   -- in the last packet
   pub in_last : (old new : Text) (so_far : Written) → IsTextOf body old pairs → so_far ≡ old.writing → new.body ≡ old.body → new.at ≡ old.at → new.len ≡ old.len + length (group_in so_far pair)
-      → ((earlier : List Pair) → so_far ≡ written_after earlier → new.writing ≡ written_after (pair ∷ earlier)) → Appended old new (group_in so_far pair) → old.len + length (group_in so_far pair) ≤ body
+      → ((earlier : List Pair) → so_far ≡ written_after earlier → new.writing ≡ written_after (pair ∷ earlier))
+      → Appended old new (group_in so_far pair) → old.len + length (group_in so_far pair) ≤ body
       → IsTextOf body new (pairs ++ pair ∷ [])
   in_last old new so_far text so_far_is same_body same_at longer after octets room =
       let last = text.last in
@@ -76,7 +79,8 @@ module _ (body : ℕ) (pairs : List Pair) (pair : Pair) where
       }
 
   -- in a new packet
-  pub in_next : (old begun new : Text) (so_far : Written) → IsBodySize body → IsTextOf body old pairs → so_far ≡ old.writing → body < old.len + length (group_in so_far pair) → length (group_in so_far pair) ≤ 96
+  pub in_next : (old begun new : Text) (so_far : Written) → IsBodySize body → IsTextOf body old pairs
+      → so_far ≡ old.writing → body < old.len + length (group_in so_far pair) → length (group_in so_far pair) ≤ 96
       → begun.octets.items ≡ old.octets.items ++ headed 0 [] → begun.at ≡ length old.octets.items → begun.len ≡ 0 → begun.body ≡ old.body
       → new.body ≡ begun.body → new.at ≡ begun.at → new.len ≡ begun.len + length (group_in (written_after []) pair) → new.writing ≡ written_after (pair ∷ [])
       → Appended begun new (group_in (written_after []) pair) → length (group_in (written_after []) pair) ≤ 96 → IsTextOf body new (pairs ++ pair ∷ [])

@@ -85,7 +85,8 @@ stands-pairs : (mode : Mode) (key : RouteKey) (old : Option Held) (pairs : List 
     → stands_from mode key old (map pair_event pairs) ≡ option_or (row_at pairs key) old
 stands-pairs mode key old [] apart readable = refl
 stands-pairs mode key old (pair ∷ pairs) apart readable =
-    ap (λ (o : Option Held). stands_from mode key o (map pair_event pairs)) (next-pair mode key pair.0 pair.1 old (readable-head mode pair pairs readable) ∙ ap (λ (b : Bool). cond b (Some pair.1) old) (same-turned key pair.0))
+    ap (λ (o : Option Held). stands_from mode key o (map pair_event pairs)) (next-pair mode key pair.0 pair.1 old (readable-head mode pair pairs readable)
+    ∙ ap (λ (b : Bool). cond b (Some pair.1) old) (same-turned key pair.0))
     ∙ stands-pairs mode key (cond (same key pair.0) (Some pair.1) old) pairs (IsDistinct-tail (eq_by_cmp key_cmp) pair.0 (keys_of pairs) apart) (readable-tail mode pair pairs readable)
     ∙ by (same key pair.0) refl
   where
@@ -162,7 +163,8 @@ held_key : (mode : Mode) (told behind first : List Event) (pairs : List Pair) (k
 held_key mode told behind first pairs key held news parts holds =
     let named = holds-named mode first key held holds in
     let in_told : Contains told named.event = subst (λ (es : List Event). Contains es named.event) (sym parts) (Contains-append_left first behind named.event named.is_said) in
-    let heard : Listed (map pair_event pairs) named.event = subst (λ (es : List Event). Listed es named.event) news (listed-spoken told key named.event named.names (Listed-from_Contains told named.event in_told)) in
+    let heard : Listed (map pair_event pairs) named.event = subst (λ (es : List Event). Listed es named.event) news
+    (listed-spoken told key named.event named.names (Listed-from_Contains told named.event in_told)) in
     Contains-from_Listed (keys_of pairs) key (listed-key pairs key named.event named.names heard)
 
 -- a key of a list is a pair's

@@ -38,11 +38,13 @@ module _ (values : List Held) where
   boxes-length v4 v6 = omega (arith, both-length (map (valued values) v4) (map (valued values) v6), length-map v4 (valued values), length-map v6 (valued values))
 
   -- the boxes of both are those of the rows
-  pub boxes_of_both : (rows : List Pair) (v4 v6 : List (Row PackedValue)) → AreRows rows → AreNumberedBoxes V4 rows values v4 → AreNumberedBoxes V6 rows values v6 → AreBoxes rows (valued_pairs values v4 v6)
+  pub boxes_of_both : (rows : List Pair) (v4 v6 : List (Row PackedValue)) → AreRows rows
+      → AreNumberedBoxes V4 rows values v4 → AreNumberedBoxes V6 rows values v6 → AreBoxes rows (valued_pairs values v4 v6)
   boxes_of_both rows v4 v6 are v4_are v6_are = both_are_boxes rows (map (valued values) v4) (map (valued values) v6) are v4_are.boxes_are v6_are.boxes_are
 
   -- the boxes of both are the canonical pairs, where they are few
-  pub boxes_canonical : (limits : Bounds) (rows : List Pair) (v4 v6 : List (Row PackedValue)) → AreBoxes rows (valued_pairs values v4 v6) → length v4 + length v6 ≤ limits.entries → AreCanonical limits rows (valued_pairs values v4 v6)
+  pub boxes_canonical : (limits : Bounds) (rows : List Pair) (v4 v6 : List (Row PackedValue)) → AreBoxes rows (valued_pairs values v4 v6)
+      → length v4 + length v6 ≤ limits.entries → AreCanonical limits rows (valued_pairs values v4 v6)
   boxes_canonical limits rows v4 v6 are few = record {
     boxes = are;
     few = omega (arith, boxes-length v4 v6, few);

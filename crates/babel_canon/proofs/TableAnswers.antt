@@ -25,7 +25,7 @@ use Rattle.babel_table.specs.Rows.{Routes, entries_of}
 use Rattle.babel_table.specs.TableOf.{IsTableOf}
 use Rattle.babel_table.proofs.HoldsLaws.{Holds-stands, stands-Holds}
 use Rattle.babel_canon.specs.DumpAnswers.{held_for, IsAnswer}
-use Rattle.babel_canon.specs.AnswersAreTold.{TableAnswers}
+use Rattle.babel_canon.specs.AnswersAreTold.{TableAnswers, AnswerIsOne}
 use Rattle.babel_canon.proofs.BestKeys.{MostSpecific, NoneMatches, clean_one, key_one, none_or_most}
 use Rattle.babel_canon.proofs.Boxes.{FromPair, entry_of, pair_of_row, row_of_pair}
 use Rattle.babel_canon.proofs.CleanKeys.{AreClean, held-clean}
@@ -247,3 +247,8 @@ table_answers limits mode one table is_table d s d_in s_in one_family answer =
             (sym (told-table limits mode one.sender one.dump table is_table)) (is.1 rows);
       }),
     )
+
+pub answer_is_one : AnswerIsOne
+answer_is_one limits mode one table is_table d s d_in s_in one_family answer other is too =
+    let answers = table_answers limits mode one table is_table d s d_in s_in one_family in
+    sym ((answers answer).0 is) ∙ (answers other).0 too

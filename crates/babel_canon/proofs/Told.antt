@@ -2,13 +2,15 @@
 use Rattle.std.proofs.Common.{◌≡◌, ℕ, zero, suc, ◌+◌, Bool, true, false, cond, not, ◌&&◌, ◌||◌}
 use Rattle.std.proofs.Common.{leb, ltb, eqb, List, [], ◌∷◌, ◌++◌, length, map, drop, Option, Some}
 use Rattle.std.proofs.Common.{None, Result, Ok, Err, refl, sym, ap, subst, ◌∙◌, arith, eqb-true}
-use Rattle.std.specs.Prelude.{is_none}
+use Rattle.std.specs.Prelude.{is_none, IfSome}
 use Rattle.std.specs.List.{list_all}
+use Rattle.std.specs.Option.{option_or}
 use Rattle.std.specs.Result.{result_ok}
 use Rattle.std.proofs.lemmas.Bool.Decides.{nat_tests}
 use Rattle.std.proofs.lemmas.List.{map-append}
 use Rattle.babel_prefix.specs.declared.family.Family.{Family}
 use Rattle.babel_prefix.specs.declared.family.Family.TheVariants.{V4, V6}
+use Rattle.babel_prefix.specs.Width.{width_of, octet_count}
 use Rattle.babel_prefix.specs.Address.{Address, AddressPrefix}
 use Rattle.babel_tlv.specs.declared.event.Event.{Event}
 use Rattle.babel_tlv.specs.declared.event.Event.TheVariants as events
@@ -18,7 +20,7 @@ use Rattle.babel_tlv.specs.declared.reason.Reason.{Reason}
 use Rattle.babel_tlv.specs.declared.reason.Reason.TheVariants as reasons
 use Rattle.babel_tlv.specs.Framing.{TlvAt, tlvs_of}
 use Rattle.babel_tlv.specs.Forming.{update_encoding, update_metric, prefix_len, omitted, field_len}
-use Rattle.babel_tlv.specs.Forming.{formed, id_of, next_hop_in, sets_router_id}
+use Rattle.babel_tlv.specs.Forming.{formed, next_hop_in, prefix_from, sets_router_id}
 use Rattle.babel_tlv.specs.Route.{RouteKey, Announcement, is_reserved}
 use Rattle.babel_tlv.specs.SubTlv.{source_of}
 use Rattle.babel_tlv.specs.Context.{Context, context_after, next_hop_in_context}
@@ -27,13 +29,10 @@ use Rattle.babel_tlv.specs.Says.{hop_event, wildcard_event, announce_event, curr
 use Rattle.babel_tlv.specs.Says.{key_event, prefix_event, update_said}
 use Rattle.babel_tlv.specs.Updating.{updated}
 use Rattle.babel_tlv.proofs.Telling.{says_in, what_of, sayings_behind-says_in}
-use Rattle.babel_canon.specs.Items.{items_of, are_all_of, is_optional, fit_update}
-use Rattle.babel_canon.specs.Behind.{ParserState, start, behind, prefix_in}
+use Rattle.babel_canon.specs.Items.{are_all_of, is_optional, fit_update}
 use Rattle.babel_canon.specs.Told.{wildcard_tells, route_tells, update_tells, tells, told_by}
 use Rattle.babel_canon.specs.Dumps.{told}
-use Rattle.babel_canon.proofs.Items.{source-items, sub-update, sub-wildcard}
-use Rattle.babel_canon.proofs.Behind.{IsLike, IsOfFamily, behind-like, formed-same}
-use Rattle.babel_canon.proofs.Behind.{prefix_in-family, start-like, tlv_at}
+use Rattle.babel_canon.proofs.Items.{sub-update, sub-wildcard}
 
 -- ---- events without reasons
 
@@ -81,7 +80,7 @@ wildcard-quiet body =
     let octets = drop 10 body in
     wildcard_by (eqb (update_metric body) 65535) (eqb (prefix_len body) 0) (ltb 0 (prefix_len body))
     (eqb (omitted body) 0) (ltb 0 (omitted body)) _
-    (are_all_of octets (items_of octets)) (list_all is_optional (items_of octets))
+    (are_all_of octets (tlvs_of 0 octets)) (list_all is_optional (tlvs_of 0 octets))
     (some-not_zero (prefix_len body)) (some-not_zero (omitted body)) (search sub-wildcard)
 
 route-quiet : (key : RouteKey) (body : List ℕ) (id : Option (List ℕ)) (hop : Option Address)
@@ -116,89 +115,77 @@ prefix_by false infinite (Some reason) key route announced event e same is = ref
 prefix_by true infinite (Some reason) key route announced event e same is = absurd cc
 prefix_by false infinite None key route announced event e same is = absurd cc
 
-abbrev key_with : AddressPrefix → AddressPrefix → RouteKey
-key_with dst src = record { dst = dst; src = src }
-
-module _ (state : ParserState) (context : Context) (like : IsLike state context) where
-  update-quiet : (body : List ℕ) (prefix : AddressPrefix) → update_tells state body (Some prefix)
+module _ (context : Context) where
+  update-quiet : (body : List ℕ) (prefix : AddressPrefix) → update_tells context body (Some prefix)
       ≡ quiet (prefix_event prefix.address.family context body (Ok prefix))
   update-quiet body prefix =
       let family = prefix.address.family in
       let octets = drop (10 + field_len body) body in
-      let stands = are_all_of octets (items_of octets) && fit_update family (items_of octets) in
-      let infinite = eqb (update_metric body) 65535 in
+      let items = tlvs_of 0 octets in
       let id = current_router_id context body prefix in
       let hop = next_hop_in_context family context in
-      let key : RouteKey = key_with prefix (source_of family (tlvs_of 0 octets)) in
-      let told_with : AddressPrefix → Option (List ℕ) → Option Address → Event = λ src r h.
-      cond (not stands) events.Nothing (cond infinite (events.Retract (key_with prefix src))
-      (route_tells (key_with prefix src) body
-      (cond (sets_router_id body) (Some (id_of prefix.address)) r) h)) in
-      ap (λ (src : AddressPrefix). told_with src state.router_id (state.next_hop family))
-      (source-items family octets)
-      ∙ ap (λ (r : Option (List ℕ)). told_with key.src r (state.next_hop family)) like.router_id
-      ∙ ap (λ (h : Option Address). told_with key.src context.router_id h) (like.next_hop family)
-      ∙ prefix_by stands infinite _ key (route_tells key body id hop)
+      let key : RouteKey = record { dst = prefix; src = source_of family items } in
+      prefix_by (are_all_of octets items && fit_update family items)
+      (eqb (update_metric body) 65535) _ key (route_tells key body id hop)
       (announce_event key body id hop) (key_event family context body prefix key)
       (search sub-update) (route-quiet key body id hop) refl
 
   -- what is formed tells what it says; what forms nothing tells nothing
-  prefix-quiet : (family : Family) (body : List ℕ) (formed_prefix : Option AddressPrefix)
-      (is : Result AddressPrefix Reason) → IsOfFamily family formed_prefix
-      → formed_prefix ≡ result_ok is
-      → update_tells state body formed_prefix ≡ quiet (prefix_event family context body is)
-  prefix-quiet family body None (Err reason) of same = refl
-  prefix-quiet family body None (Ok prefix) of same = absurd cc
-  prefix-quiet family body (Some prefix) (Err reason) of same = absurd cc
-  prefix-quiet family body (Some prefix) (Ok other) of same =
-      let is : prefix ≡ other = cc in
-      update-quiet body prefix
+  prefix-quiet : (family : Family) (body : List ℕ) (is : Result AddressPrefix Reason)
+      → IfSome (result_ok is) (λ prefix. prefix.address.family ≡ family)
+      → update_tells context body (result_ok is) ≡ quiet (prefix_event family context body is)
+  prefix-quiet family body (Err reason) of = refl
+  prefix-quiet family body (Ok prefix) of = update-quiet body prefix
       ∙ ap (λ (f : Family). quiet (prefix_event f context body (Ok prefix))) of
-      ∙ ap (λ (p : AddressPrefix). quiet (prefix_event family context body (Ok p))) is
+
+-- what holds of each prefix of a family, whatever its octets, holds of one that is formed
+pub formed-holds : (Holds : AddressPrefix → Type 0) (family : Family) (default : Option Address)
+    (body : List ℕ) → ((len : ℕ) (octets : List ℕ) → Holds (prefix_from family len octets))
+    → IfSome (result_ok (formed family default body)) Holds
+formed-holds Holds family default body each =
+    by (ltb (width_of family) (prefix_len body)) (ltb (octet_count family) (omitted body))
+    (ltb 0 (omitted body) && is_none default) (ltb (length body) (10 + field_len body)) _ (each _ _)
+  where
+    by : (above past undefined short : Bool) (prefix : AddressPrefix) → Holds prefix
+        → IfSome (result_ok (cond above (Err reasons.BadPlen) (cond past (Err reasons.BadOmitted)
+        (cond undefined (Err reasons.NoDefault) (cond short (Err reasons.ShortPrefix)
+        (Ok prefix)))))) Holds
+    by true past undefined short prefix holds = tt
+    by false true undefined short prefix holds = tt
+    by false false true short prefix holds = tt
+    by false false false true prefix holds = tt
+    by false false false false prefix holds = holds
 
 -- ---- any TLV
 
+or_none : (p : Option AddressPrefix) → option_or p None ≡ p
+or_none None = refl
+or_none (Some prefix) = refl
+
 -- which encodings are read
-encoding_by : (n : ℕ) (wild one two none : Event) (refused : Result Event Fault)
-    (wild_said one_said two_said : Event)
-    → none ≡ events.Nothing → quiet_of refused ≡ events.Nothing → wild ≡ quiet wild_said
-    → one ≡ quiet one_said → two ≡ quiet two_said
-    → cond (eqb n 0) wild (cond (eqb n 1) one (cond (eqb n 2) two none))
+encoding_by : (n : ℕ) (wild : Event) (told : Option AddressPrefix → Event)
+    (p q : Option AddressPrefix) (refused : Result Event Fault) (wild_said one_said two_said : Event)
+    → told None ≡ events.Nothing → quiet_of refused ≡ events.Nothing → wild ≡ quiet wild_said
+    → told p ≡ quiet one_said → told q ≡ quiet two_said
+    → cond (eqb n 0) wild (told (option_or (cond (eqb n 1) p None) (cond (eqb n 2) q None)))
     ≡ quiet_of (cond (leb 3 n) refused (cond (eqb n 0) (Ok wild_said)
     (cond (eqb n 1) (Ok one_said) (Ok two_said))))
-encoding_by zero wild one two none refused wild_said one_said two_said is_none r w o t = w
-encoding_by (suc zero) wild one two none refused wild_said one_said two_said is_none r w o t = o
-encoding_by (suc (suc zero)) wild one two none refused wild_said one_said two_said is_none r w o t =
-    t
-encoding_by (suc (suc (suc n))) wild one two none refused wild_said one_said two_said is_none r w o
-    t =
+encoding_by zero wild told p q refused wild_said one_said two_said none r w o t = w
+encoding_by (suc zero) wild told p q refused wild_said one_said two_said none r w o t =
+    ap told (or_none p) ∙ o
+encoding_by (suc (suc zero)) wild told p q refused wild_said one_said two_said none r w o t = t
+encoding_by (suc (suc (suc n))) wild told p q refused wild_said one_said two_said none r w o t =
     let k : ℕ = suc (suc (suc n)) in
     let zero_not : eqb k 0 ≡ false = grind (arith, nat_tests) in
     let one_not : eqb k 1 ≡ false = grind (arith, nat_tests) in
     let two_not : eqb k 2 ≡ false = grind (arith, nat_tests) in
     let unread : leb 3 k ≡ true = grind (arith, nat_tests) in
-    rw (zero_not, one_not, two_not, unread) (is_none ∙ sym r)
-
-tells-cond : (state : ParserState) (body : List ℕ) (a b : Bool) (x y : Option AddressPrefix)
-    → update_tells state body (cond a x (cond b y None))
-    ≡ cond a (update_tells state body x) (cond b (update_tells state body y) events.Nothing)
-tells-cond state body true b x y = refl
-tells-cond state body false true x y = refl
-tells-cond state body false false x y = refl
+    rw (zero_not, one_not, two_not, unread) (none ∙ sym r)
 
 unread-quiet : (sets : Bool) (at : ℕ) → quiet_of (cond sets (Err (faults.EncodingSetsRouterId at))
     (Ok (events.Ignored reasons.UnknownEncoding))) ≡ events.Nothing
 unread-quiet true at = refl
 unread-quiet false at = refl
-
-whole-long : (n : ℕ) → leb 10 n ≡ not (ltb n 10)
-whole-long n = grind (arith, nat_tests)
-
-length_by : (short : Bool) (told : Event) (says : Result Event Fault) → told ≡ quiet_of says
-    → cond (not (not short)) events.Nothing told ≡ quiet_of
-    (cond short (Ok (events.Ignored reasons.Short)) says)
-length_by true told says same = refl
-length_by false told says same = same
 
 short-quiet : (short : Bool) (event : Event) → quiet event ≡ events.Nothing
     → quiet (cond short (events.Ignored reasons.Short) event) ≡ events.Nothing
@@ -226,31 +213,38 @@ other_by true hop id_says hop_says update i h = sym i
 other_by false true id_says hop_says update i h = sym h
 other_by false false id_says hop_says update i h = refl
 
-module _ (state : ParserState) (context : Context) (like : IsLike state context) where
+abbrev tlv_at : ℕ → ℕ → List ℕ → TlvAt
+tlv_at at kind body = record { at = at; kind = kind; body = body }
+
+module _ (context : Context) where
   update-told : (at : ℕ) (body : List ℕ)
-      → tells state (tlv_at at 8 body) ≡ quiet_of (update_said context (tlv_at at 8 body))
-  update-told at body =
-      let four = prefix_in V4 (state.default V4) body in
-      let six = prefix_in V6 (state.default V6) body in
-      rw (whole-long (length body)) (length_by (ltb (length body) 10) _ _
-      (ap (λ (e : Event). cond (eqb (update_encoding body) 0) (wildcard_tells body) e)
-      (tells-cond state body (eqb (update_encoding body) 1) (eqb (update_encoding body) 2) four six)
-      ∙ encoding_by (update_encoding body) (wildcard_tells body) (update_tells state body four)
-      (update_tells state body six) events.Nothing _ (wildcard_event body) _ _
-      refl (unread-quiet (sets_router_id body) at) (wildcard-quiet body)
-      (prefix-quiet state context like V4 body four (formed V4 context.default_v4 body)
-      (prefix_in-family V4 (state.default V4) body) (formed-same state context like V4 body))
-      (prefix-quiet state context like V6 body six (formed V6 context.default_v6 body)
-      (prefix_in-family V6 (state.default V6) body) (formed-same state context like V6 body))))
+      → tells context (tlv_at at 8 body) ≡ quiet_of (update_said context (tlv_at at 8 body))
+  update-told at body = by (ltb (length body) 10) refl
+    where
+      by : (short : Bool) → ltb (length body) 10 ≡ short
+          → tells context (tlv_at at 8 body) ≡ quiet_of (update_said context (tlv_at at 8 body))
+      by true is =
+          let long : leb 10 (length body) ≡ false = grind (arith, nat_tests) in rw (long, is) refl
+      by false is =
+          let long : leb 10 (length body) ≡ true = grind (arith, nat_tests) in
+          let four = formed V4 context.default_v4 body in
+          let six = formed V6 context.default_v6 body in
+          rw (long, is) (encoding_by (update_encoding body) (wildcard_tells body)
+          (update_tells context body) (result_ok four) (result_ok six) _ (wildcard_event body) _ _
+          refl (unread-quiet (sets_router_id body) at) (wildcard-quiet body)
+          (prefix-quiet context V4 body four
+          (formed-holds (λ p. p.address.family ≡ V4) V4 context.default_v4 body (λ len octets. refl)))
+          (prefix-quiet context V6 body six
+          (formed-holds (λ p. p.address.family ≡ V6) V6 context.default_v6 body (λ len octets. refl))))
 
   -- what a TLV tells is what it says, without the reasons
-  pub tells-said : (tlv : TlvAt) → tells state tlv ≡ quiet_of (said context tlv)
+  pub tells-said : (tlv : TlvAt) → tells context tlv ≡ quiet_of (said context tlv)
   tells-said tlv = by (eqb tlv.kind 8) refl
     where
-      by : (b : Bool) → eqb tlv.kind 8 ≡ b → tells state tlv ≡ quiet_of (said context tlv)
+      by : (b : Bool) → eqb tlv.kind 8 ≡ b → tells context tlv ≡ quiet_of (said context tlv)
       by true is =
           let kind : 8 ≡ tlv.kind = sym (eqb-true tlv.kind 8 is) in
-          subst (λ (k : ℕ). tells state (tlv_at tlv.at k tlv.body)
+          subst (λ (k : ℕ). tells context (tlv_at tlv.at k tlv.body)
           ≡ quiet_of (said context (tlv_at tlv.at k tlv.body))) kind (update-told tlv.at tlv.body)
       by false is = rw is (other_by (eqb tlv.kind 6) (eqb tlv.kind 7) (router_id_event tlv.body)
           (hop_event tlv.body (next_hop_in tlv.body)) (update_said context tlv)
@@ -258,14 +252,13 @@ module _ (state : ParserState) (context : Context) (like : IsLike state context)
 
 -- ---- packets and dumps
 
-told_by-says_in : (state : ParserState) (context : Context) → IsLike state context
-    → (tlvs : List TlvAt) → told_by state tlvs ≡ map quiet_of (says_in context tlvs)
-told_by-says_in state context like [] = refl
-told_by-says_in state context like (tlv ∷ tlvs) =
-    ap (λ (e : Event). e ∷ told_by (behind state tlv) tlvs) (tells-said state context like tlv)
+told_by-says_in : (context : Context) (tlvs : List TlvAt)
+    → told_by context tlvs ≡ map quiet_of (says_in context tlvs)
+told_by-says_in context [] = refl
+told_by-says_in context (tlv ∷ tlvs) =
+    ap (λ (e : Event). e ∷ told_by (updated context tlv) tlvs) (tells-said context tlv)
     ∙ ap (λ (es : List Event). quiet_of (said context tlv) ∷ es)
-    (told_by-says_in (behind state tlv) (updated context tlv) (behind-like state context like tlv)
-    tlvs)
+    (told_by-says_in (updated context tlv) tlvs)
 
 -- what a dump tells is what its TLVs say, without the reasons
 pub told-sayings : (sender : Address) (packets : List (List TlvAt))
@@ -274,7 +267,7 @@ told-sayings sender [] = refl
 told-sayings sender (tlvs ∷ packets) =
     let here = sayings_behind sender [] tlvs in
     ap (λ (es : List Event). es ++ told sender packets)
-    (told_by-says_in (start sender) (context_after sender []) (start-like sender) tlvs
+    (told_by-says_in (context_after sender []) tlvs
     ∙ ap (map quiet_of) (sym (sayings_behind-says_in sender [] tlvs)))
     ∙ ap (λ (es : List Event). map quiet_of (map what_of here) ++ es) (told-sayings sender packets)
     ∙ sym (ap (map quiet_of) (map-append what_of here (sayings sender packets))

@@ -37,7 +37,7 @@ use Rattle.babel_canon.proofs.Numbered.{AreDistinct, Says, rows_say, boxes_by_va
 -- ---- one origin more
 
 -- the order of the type is the stated one
-held_order : ghosts.cmp ≡ held_cmp
+pub held_order : ghosts.cmp ≡ held_cmp
 held_order = fun_ext (λ a. fun_ext (λ b. one a b))
   where
     one : (a b : Held) → ghosts.cmp a b ≡ held_cmp a b
@@ -100,7 +100,8 @@ module _ (old new : List Held) (keeps : KeepsValues old new) where
         origin = there;
         seqno = is.seqno;
         metric = is.metric;
-        restores = ap (λ (o : Held). restored o n.seqno n.metric) (get_or_from_slice_get new n.origin (origin_of h) helds.Unreachable there ∙ sym (get_or_from_slice_get old n.origin (origin_of h) helds.Unreachable is.origin)) ∙ is.restores;
+        restores = ap (λ (o : Held). restored o n.seqno n.metric) (get_or_from_slice_get new n.origin (origin_of h) helds.Unreachable there
+            ∙ sym (get_or_from_slice_get old n.origin (origin_of h) helds.Unreachable is.origin)) ∙ is.restores;
       }
 
   value_still : (n : PackedValue) → HasValue old n → value_of new n ≡ value_of old n
@@ -212,7 +213,8 @@ passed_by family rows row values entries apart so_far =
 -- ---- one value packed
 
 -- what is held is packed by its origin's number
-pub packed_by : (origins : List Held) (held : Held) (value : PackedValue) → HasFiniteMetric held → slice_get origins value.origin ≡ Some (origin_of held) → value.seqno ≡ held_seqno held → value.metric ≡ held_metric held
+pub packed_by : (origins : List Held) (held : Held) (value : PackedValue) → HasFiniteMetric held
+    → slice_get origins value.origin ≡ Some (origin_of held) → value.seqno ≡ held_seqno held → value.metric ≡ held_metric held
     → IsPacked origins held value
 packed_by origins held value fits origin seqno metric = record {
   origin = origin;

@@ -159,7 +159,7 @@ seen_boxes view rows boxes are = all_seen view boxes (λ box at.
     let held : seen view from.held ≡ box.1 = from.is_seen ∙ by.fits_too in
     ap (seen view) (sym held) ∙ seen_twice_is_seen view from.held ∙ held)
 
-seen_readable : (view : View) (mode : Mode) (rows : List Pair) → AreReadableIn mode rows → AreReadableIn mode (seen_rows view rows)
+pub seen_readable : (view : View) (mode : Mode) (rows : List Pair) → AreReadableIn mode rows → AreReadableIn mode (seen_rows view rows)
 seen_readable view modes.Hold rows reads = tt
 seen_readable view modes.Plain [] reads = tt
 seen_readable view modes.Plain ((key, helds.Route ann) ∷ rows) reads = (tt, seen_readable view modes.Plain rows reads.1)
@@ -190,7 +190,8 @@ stays_itself view limits mode body bounds size it octets one any =
     let reads = readable mode (seen_rows view rows) one.boxes (seen_readable view mode rows (rows_readable limits mode it.sender it.dump one.table one.is_table)) one.are_boxes in
     let own = its_own limits mode body bounds size (seen_rows view rows) one.boxes octets one.are_boxes reads one.few one.text any in
     let stays : seen_rows view one.boxes ≡ one.boxes = seen_boxes view rows one.boxes one.are_boxes in
-    let boxes_same_seen : AnswerTheSame (seen_rows view one.boxes) (seen_rows view rows) = subst (λ (l : List Pair). AnswerTheSame l (seen_rows view rows)) (sym stays) (boxes_answer (seen_rows view rows) one.boxes one.are_boxes) in
+    let boxes_same_seen : AnswerTheSame (seen_rows view one.boxes) (seen_rows view rows) =
+    subst (λ (l : List Pair). AnswerTheSame l (seen_rows view rows)) (sym stays) (boxes_answer (seen_rows view rows) one.boxes one.are_boxes) in
     let same : AnswerTheSameUnder view one.boxes rows =
     (under_seen view one.boxes rows (record { fit = one.boxes; are_rows = one.are_boxes.are_rows; answers = λ d s d_in s_in e. ap (λ (l : List Pair). answer_for (entries_of l) d s) (sym stays) })
     (fitting view rows one.boxes one.are_boxes)).1 boxes_same_seen in

@@ -22,6 +22,15 @@ TableAnswers =
     → (d s : Address) → IsAddress d → IsAddress s → d.family ≡ s.family → (answer : Option Held)
     → DumpAnswers mode one d s answer ↔ (answer_for (entries_of table.rows) d s ≡ answer)
 
+-- a dump with a table has one answer for two addresses
+abbrev pub AnswerIsOne : Type 0
+AnswerIsOne =
+    (limits : Bounds) (mode : Mode) (one : Sent) (table : Routes)
+    → IsTableOf limits mode one.sender one.dump table
+    → (d s : Address) → IsAddress d → IsAddress s → d.family ≡ s.family
+    → (answer other : Option Held) → DumpAnswers mode one d s answer
+    → DumpAnswers mode one d s other → answer ≡ other
+
 -- canonical octets tell what dumps answer
 abbrev pub AnswersAreTold : Type 0
 AnswersAreTold =

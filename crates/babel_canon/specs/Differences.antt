@@ -29,7 +29,8 @@ abbrev pub AreFamilyDifferences :
 AreFamilyDifferences family rows others boxes =
     AreBoxesOfDifference (width_of family) (answers_of family rows) (answers_of family others) boxes
 
--- the differences are the boxes of what rows and others answer differently: IPv4 first, then by destination, then by source
+-- the differences are the boxes of what rows and others answer differently: IPv4 first, then by
+-- destination, then by source
 pub record AreDifferences (rows others : List Pair) (differences : List Difference) : Type 0 where
   pub v4 : List (Row (Differing Held))
   pub v6 : List (Row (Differing Held))
@@ -52,4 +53,5 @@ HasManyDifferences limits rows others =
 -- too many differences, or want of memory
 abbrev pub DifferencesFault : Bounds → List Pair → List Pair → Fault → Type 0
 DifferencesFault limits rows others fault =
-    ((fault ≡ faults.TooManyPairs) × HasManyDifferences limits rows others) ⊎ (fault ≡ faults.Memory)
+    ((fault ≡ faults.TooManyPairs) × HasManyDifferences limits rows others)
+    ⊎ (fault ≡ faults.Memory)

@@ -34,8 +34,8 @@ retracted modes.Hold = Some helds.Unreachable
 
 -- RFC 8966, 4.6.9: what is held for a key after an event, if this was held before it. What is said
 -- of another key changes nothing. Where nothing is held, a wildcard retraction leaves nothing in
--- both modes; a retraction of that very key makes it unreachable in mode Hold (this project's own;
--- by 3.5.3 it would be ignored), so that canonical octets can say so by one TLV.
+-- both modes; a retraction of that very key makes it unreachable in mode Hold (this project's own:
+-- by 3.5.3 it would be ignored. So canonical octets can say 'unreachable' by a retraction alone.)
 abbrev pub held_after : Mode → RouteKey → Option Held → Event → Option Held
 held_after mode key old (events.Announce other ann) =
     if same_key other key then Some (helds.Route ann) else old

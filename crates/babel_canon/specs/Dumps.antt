@@ -1,12 +1,12 @@
 -- A dump as packets, and what it tells of routes: RFC 8966, 4.2 to 4.6.
-use Rattle.std.specs.Prelude.{◌≡◌, ℕ, Bool, ◌&&◌, nat_le, List, IsFalse}
+use Rattle.std.specs.Prelude.{◌≡◌, ℕ, Bool, ◌&&◌, nat_le, List, [], IsFalse}
 use Rattle.std.specs.List.{AllByRecursion, flat_map, list_any}
 use Rattle.babel_prefix.specs.Address.{Address}
 use Rattle.babel_tlv.specs.declared.event.Event.{Event}
 use Rattle.babel_tlv.specs.Framing.{TlvAt, IsTlv, IsBody, body_octets, packet_octets}
 use Rattle.babel_tlv.specs.Forming.{update_encoding, sets_router_id}
-use Rattle.babel_canon.specs.Behind.{is_update, start}
-use Rattle.babel_canon.specs.Told.{told_by}
+use Rattle.babel_tlv.specs.Context.{context_after}
+use Rattle.babel_canon.specs.Told.{is_update, told_by}
 
 -- whether a TLV refuses the dump (this project's own): an Update sets a router-id that later TLVs
 -- may need, and its encoding is not read here, though its sender may have kept to the RFCs
@@ -20,12 +20,13 @@ pub record IsPacket (tlvs : List TlvAt) : Type 0 where
   pub each : AllByRecursion IsTlv tlvs
   pub read : IsFalse (list_any sets_unread_router_id tlvs)
 
--- RFC 8966, 4.2: the octets are these packets, one behind the other, and nothing else (this
--- project's own: a router passes over other packets, and over what is behind a body)
+-- RFC 8966, 4.2: the octets are these packets, one after the other, and nothing else. (A router
+-- drops packets that are not so, and skips what is after a body; that both refuse the dump is this
+-- project's own.)
 pub record IsDump (octets : List ℕ) (packets : List (List TlvAt)) : Type 0 where
   pub whole : octets ≡ flat_map packet_octets packets
   pub each : AllByRecursion IsPacket packets
 
 -- what the packets of a sender tell, in order; the parser state begins anew with each packet
 abbrev pub told : Address → List (List TlvAt) → List Event
-told sender packets = flat_map (told_by (start sender)) packets
+told sender packets = flat_map (told_by (context_after sender [])) packets

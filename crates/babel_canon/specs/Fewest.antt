@@ -1,5 +1,5 @@
--- Lists of pairs that have the answers of rows (RFC 9079, 4) and do not overlap, of both families together, and how short
--- they can be: this project's own.
+-- Lists of pairs that have the answers of rows (RFC 9079, 4) and do not overlap, of both families
+-- together, and how short they can be: this project's own.
 use Rattle.std.specs.Prelude.{◌≡◌, ◌⊎◌, ◌≤◌, List, length, AllPairs}
 use Rattle.std.specs.List.{AllByRecursion}
 use Rattle.babel_prefix.specs.Address.{Address, AddressPrefix, IsAddress}
@@ -20,11 +20,12 @@ abbrev pub DoNotOverlap : RouteKey → RouteKey → Type 0
 DoNotOverlap key other =
     (d s : Address) → IsAddress d → IsAddress s → ContainsBoth d s key → ContainsBoth d s other → ⊥
 
--- Any two destination prefixes are equal or have no address in common, no two pairs overlap, and the answers are those of
--- the rows.
+-- Any two destination prefixes are equal or have no address in common, no two pairs overlap, and
+-- the answers are those of the rows.
 pub record AreDisjoint (rows pairs : List Pair) : Type 0 where
   pub keys : AllByRecursion (λ pair. IsKey pair.0) pairs
-  pub destinations : AllPairs (λ pair later. (pair.0.dst ≡ later.0.dst) ⊎ AreApart pair.0.dst later.0.dst) pairs
+  pub destinations :
+      AllPairs (λ pair later. (pair.0.dst ≡ later.0.dst) ⊎ AreApart pair.0.dst later.0.dst) pairs
   pub no_overlap : AllPairs (λ pair later. DoNotOverlap pair.0 later.0) pairs
   pub answers : AnswerTheSame pairs rows
 

@@ -25,7 +25,8 @@ SameInFamily family rows others =
     SameAnswers (width_of family) (answers_of family rows) (answers_of family others)
 
 -- the least difference in one family
-pub record IsLeastInFamily (family : Family) (rows others : List Pair) (dst src : Address) : Type 0 where
+pub record IsLeastInFamily (family : Family) (rows others : List Pair) (dst src : Address) :
+    Type 0 where
   pub dst_of : dst.family ≡ family
   pub src_of : src.family ≡ family
   pub least : IsLeastPair (width_of family) (answers_of family rows) (answers_of family others)

@@ -12,7 +12,6 @@ pub mod Grids
 pub mod Canonical
 pub mod Normalises
 pub mod Items
-pub mod Behind
 pub mod Told
 pub mod Dumps
 pub mod DumpAnswers
@@ -29,3 +28,5 @@ pub mod DifferenceLaws
 pub mod PackedDifferences
 pub mod Views
 pub mod ViewsTell
+pub mod Routes
+pub mod Joined

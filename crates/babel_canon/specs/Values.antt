@@ -73,7 +73,8 @@ HasValue origins value = IsPacked origins (value_of origins value) value
 
 -- rows as entries, each with the packed value in place of its own
 abbrev pub packed_entries : List Pair → List PackedValue → List (Entry PackedValue)
-packed_entries (row ∷ rows) (value ∷ values) = (row.0.dst, row.0.src, value) ∷ packed_entries rows values
+packed_entries (row ∷ rows) (value ∷ values) =
+    (row.0.dst, row.0.src, value) ∷ packed_entries rows values
 packed_entries (row ∷ rows) [] = []
 packed_entries [] values = []
 

@@ -1,4 +1,5 @@
--- The least pair of addresses at which two tables answer (RFC 9079, 4) differently. Their order is this project's own.
+-- The least pair of addresses at which two tables answer (RFC 9079, 4) differently. Their order is
+-- this project's own.
 use Rattle.std.specs.Prelude.{◌≡◌, ◌≢◌, ◌⊎◌, ◌<◌, List, Option}
 use Rattle.babel_prefix.specs.Order.{family_rank}
 use Rattle.babel_prefix.specs.Address.{Address, IsAddress}
@@ -14,18 +15,21 @@ use Rattle.babel_canon.specs.declared.verdict.Verdict.TheVariants as verdicts
 abbrev pub IsLower : Address → Address → Address → Address → Type 0
 IsLower d s dst src =
     (family_rank d.family < family_rank dst.family)
-    ⊎ ((d.family ≡ dst.family) × ((d.bits < dst.bits) ⊎ ((d.bits ≡ dst.bits) × (s.bits < src.bits))))
+    ⊎ ((d.family ≡ dst.family)
+    × ((d.bits < dst.bits) ⊎ ((d.bits ≡ dst.bits) × (s.bits < src.bits))))
 
--- At this destination and source, of one family, the tables answer so, and differently; and at each lower pair they
--- answer the same.
-pub record IsLeastDifference (rows others : List Pair) (dst src : Address) (left right : Option Held) : Type 0 where
+-- At this destination and source, of one family, the tables answer so, and differently; and at each
+-- lower pair they answer the same.
+pub record IsLeastDifference (rows others : List Pair) (dst src : Address)
+    (left right : Option Held) : Type 0 where
   pub dst_fits : IsAddress dst
   pub src_fits : IsAddress src
   pub one_family : dst.family ≡ src.family
   pub left_is : left ≡ answer_for (entries_of rows) dst src
   pub right_is : right ≡ answer_for (entries_of others) dst src
   pub differs : left ≢ right
-  pub same_below : (d s : Address) → IsAddress d → IsAddress s → d.family ≡ s.family → IsLower d s dst src
+  pub same_below :
+      (d s : Address) → IsAddress d → IsAddress s → d.family ≡ s.family → IsLower d s dst src
       → answer_for (entries_of rows) d s ≡ answer_for (entries_of others) d s
 
 -- the same answers everywhere, or the least difference

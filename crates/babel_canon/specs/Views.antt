@@ -1,4 +1,5 @@
--- What canonical octets under a view tell of the dumps that they were made from: this project's own.
+-- What canonical octets under a view tell of the dumps that they were made from: this project's
+-- own.
 use Rattle.std.specs.Prelude.{◌≡◌, ℕ, List}
 use Rattle.babel_prefix.specs.Address.{Address, IsAddress}
 use Rattle.babel_prefix.specs.Entries.{answer_for}
@@ -27,13 +28,14 @@ abbrev pub ReadsAgainSeen : View → (see : List Pair → List Pair) → Bounds 
 ReadsAgainSeen view see limits mode body = ReadsAgain (AnswerTheSameUnder view)
     (Normalises see limits mode body) (NormaliseFault see limits mode) limits mode
 
--- The headline for every view: canonical octets under a view are equal exactly where the answers under it are the same,
--- and, read with any sender, give the answers under the view again and are their own canonical form, with it and without.
+-- The headline for every view: canonical octets under a view are equal exactly where the answers
+-- under it are the same, and, read with any sender, give the answers under the view again and are
+-- their own canonical form, with it and without.
 abbrev pub HeadlineUnder : Type 0
 HeadlineUnder =
-    (view : View) (limits : Bounds) (mode : Mode) (body : ℕ) → AreBounds limits → IsBodySize body → (one : Sent)
-    (octets : List ℕ) → Normalises (seen_rows view) limits mode body one octets
-    → TellsApart (AnswerTheSameUnder view) (Normalises (seen_rows view) limits mode body) limits mode
-    one octets
+    (view : View) (limits : Bounds) (mode : Mode) (body : ℕ) → AreBounds limits → IsBodySize body
+    → (one : Sent) (octets : List ℕ) → Normalises (seen_rows view) limits mode body one octets
+    → TellsApart (AnswerTheSameUnder view) (Normalises (seen_rows view) limits mode body)
+    limits mode one octets
     × ((any : Address) → ReadsAgainSeen view (seen_rows view) limits mode body one octets any
     × ReadsAgainSeen view as_they_are limits mode body one octets any)

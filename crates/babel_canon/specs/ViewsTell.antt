@@ -20,13 +20,15 @@ use Rattle.babel_canon.specs.Views.{AnswerTheSameUnder}
 abbrev pub AnswersAreSeen : Type 0
 AnswersAreSeen =
     (view : View) (rows : List Pair) (d s : Address)
-    → answer_for (entries_of (seen_rows view rows)) d s ≡ option_map (seen view) (answer_for (entries_of rows) d s)
+    → answer_for (entries_of (seen_rows view rows)) d s
+    ≡ option_map (seen view) (answer_for (entries_of rows) d s)
 
 -- tables answer the same under a view exactly where what the view sees of them answers the same
 abbrev pub SeenAnswersTell : Type 0
 SeenAnswersTell =
     (view : View) (rows others : List Pair) → AreRows rows → AreRows others
-    → AnswerTheSameUnder view rows others ↔ AnswerTheSame (seen_rows view rows) (seen_rows view others)
+    → AnswerTheSameUnder view rows others
+    ↔ AnswerTheSame (seen_rows view rows) (seen_rows view others)
 
 -- the view that keeps all sees rows as they are
 abbrev pub AllRowsAreSeen : Type 0
@@ -36,4 +38,5 @@ AllRowsAreSeen = (rows : List Pair) → seen_rows keeps_all rows ≡ rows
 abbrev pub AllNormalises : Type 0
 AllNormalises =
     (limits : Bounds) (mode : Mode) (body : ℕ) (one : Sent) (octets : List ℕ)
-    → Normalises (seen_rows keeps_all) limits mode body one octets ↔ Normalises as_they_are limits mode body one octets
+    → Normalises (seen_rows keeps_all) limits mode body one octets
+    ↔ Normalises as_they_are limits mode body one octets

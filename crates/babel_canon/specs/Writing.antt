@@ -12,8 +12,9 @@ abbrev pub latest_first : List Pair → List Pair → List Pair
 latest_first earlier [] = earlier
 latest_first earlier (pair ∷ pairs) = latest_first (pair ∷ earlier) pairs
 
--- The text has these pairs: packets that are closed, and behind them the last one, which can take more. Whatever pairs come
--- next, what the last packet's pairs and these are packed into makes the text of all.
+-- The text has these pairs: packets that are closed, and behind them the last one, which can take
+-- more. Whatever pairs come next, what the last packet's pairs and these are packed into makes the
+-- text of all.
 pub record IsTextOf (body : ℕ) (text : Text) (pairs : List Pair) : Type 0 where
   pub front : List ℕ
   pub last : List Pair
@@ -24,5 +25,7 @@ pub record IsTextOf (body : ℕ) (text : Text) (pairs : List Pair) : Type 0 wher
   pub fits : length (body_of last) ≤ body
   pub writing : text.writing ≡ written_after (latest_first [] last)
   pub none : last ≡ [] → (front ≡ []) × (pairs ≡ [])
-  pub goes_on : (more : List Pair) (packets : List (List Pair)) → ArePacked body (last ++ more) packets
-      → IsCanonicalText body (pairs ++ more) (front ++ flat_map (λ packet. framed (body_of packet)) packets)
+  pub goes_on :
+      (more : List Pair) (packets : List (List Pair)) → ArePacked body (last ++ more) packets
+      → IsCanonicalText body (pairs ++ more)
+      (front ++ flat_map (λ packet. framed (body_of packet)) packets)

@@ -1,5 +1,6 @@
 ghost use Rattle.std.specs.Prelude.{◌≡◌, IfOk, IfErr};
-ghost use Rattle.babel_canon.specs.Canonical.{AreCanonical, CanonicalFault, CountsCanonical, IsCanonical, SaysCanonical};
+ghost use Rattle.babel_canon.specs.Canonical.{AreCanonical, CanonicalFault, CountsCanonical};
+ghost use Rattle.babel_canon.specs.Canonical.{IsCanonical, SaysCanonical};
 ghost use Rattle.babel_canon.specs.Fewest.{AreFewest};
 
 use crate::body::Body;
@@ -41,7 +42,7 @@ impl Canon {
         &self.bytes
     }
 
-    /// The canonical octets of the pairs, which are let go.
+    /// The canonical octets of the pairs, which are dropped.
     pub fn into_bytes(self) -> Vec<u8>
         ensures { result.items ≡ self.octets }
     {

@@ -1,11 +1,14 @@
 //! All that two tables answer differently.
-ghost use Rattle.std.specs.Prelude.{◌≡◌, ◌+◌, ◌++◌, ◌∷◌, ◌≤◌, ⊤, List, Option, IfOk, IfErr, OnOk, OnErr, [], length};
+ghost use Rattle.std.specs.Prelude.{◌≡◌, ◌+◌, ◌++◌, ◌∷◌, ◌≤◌, ⊤, List, Option, IfOk};
+ghost use Rattle.std.specs.Prelude.{IfErr, OnOk, OnErr, [], length};
 ghost use Rattle.std.specs.Option.{option_map};
 ghost use Rattle.babel_prefix.specs.declared.family.Family.TheVariants.{V4, V6};
 ghost use Rattle.babel_prefix.specs.Entries.{Entry};
 ghost use Rattle.babel_trie.specs.declared.differing.Differing.{Differing};
-ghost use Rattle.babel_canon.specs.Differences.{AreDifferences, CountsDifferences, DifferencesFault};
-ghost use Rattle.babel_canon.specs.PackedDifferences.{ArePackedDifferences, HasDifferences, valued_differences};
+ghost use Rattle.babel_canon.specs.Differences.{AreDifferences, CountsDifferences};
+ghost use Rattle.babel_canon.specs.Differences.{DifferencesFault};
+ghost use Rattle.babel_canon.specs.PackedDifferences.{ArePackedDifferences, HasDifferences};
+ghost use Rattle.babel_canon.specs.PackedDifferences.{valued_differences};
 ghost use Rattle.babel_canon.specs.Values.{AreNumbered, KeepsValues, value_of};
 ghost use Rattle.babel_canon.specs.declared.values.PackedValue.{PackedValue};
 
@@ -125,7 +128,7 @@ fn counted_differences(
     Ok(grids)
 }
 
-/// The boxes of grids as differences, IPv4 first, with the values that theirs stand for.
+/// The boxes of grids as differences, IPv4 first, with their values unpacked.
 fn listed(
     alloc: Global,
     grids: Grids<Differing<PackedValue>>,
@@ -146,7 +149,7 @@ fn listed(
 }
 
 /// All that two tables answer differently: the largest blocks of destinations and sources on which
-/// the two answers are one pair, by family, IPv4 first, then by destination, then by source.
+/// the two answers are the same two, by family, IPv4 first, then by destination, then by source.
 /// `TooManyPairs` if they are more than the entries of the limits, which is known before any of
 /// them is made; else `Memory`, if there is too little.
 pub fn differences(

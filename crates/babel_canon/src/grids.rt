@@ -1,4 +1,5 @@
-ghost use Rattle.std.specs.Prelude.{◌≡◌, ◌+◌, ◌-◌, ◌^◌, ◌++◌, List, All, None, IfOk, IfSome, OnOk, OnErr, length};
+ghost use Rattle.std.specs.Prelude.{◌≡◌, ◌+◌, ◌-◌, ◌^◌, ◌++◌, List, All, None, IfOk};
+ghost use Rattle.std.specs.Prelude.{IfSome, OnOk, OnErr, length};
 ghost use Rattle.std.specs.Prelude.{map, min};
 ghost use Rattle.babel_prefix.specs.declared.family.Family.TheVariants.{V4, V6};
 ghost use Rattle.babel_prefix.specs.BestRow.{HasPrefixes, HasDistinctPrefixes};
@@ -13,7 +14,8 @@ ghost use Rattle.babel_trie.specs.Rows.{InOrder};
 ghost use Rattle.babel_trie.specs.Sinks.{StopsAmong};
 ghost use Rattle.babel_canon.specs.Boxes.{answers_of};
 ghost use Rattle.babel_canon.specs.Canonical.{HasManyBoxes};
-ghost use Rattle.babel_canon.specs.Values.{AreNumbered, AreNumberedBoxes, AreNumberedEntries, KeepsValues, entries_left, packed_entries};
+ghost use Rattle.babel_canon.specs.Values.{AreNumbered, AreNumberedBoxes, AreNumberedEntries};
+ghost use Rattle.babel_canon.specs.Values.{KeepsValues, entries_left, packed_entries};
 ghost use Rattle.babel_canon.specs.declared.values.PackedValue.{PackedValue};
 
 use crate::values::{PackedValue, Values};

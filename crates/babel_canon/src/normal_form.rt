@@ -15,14 +15,16 @@ use babel_table::{Limits, read_dump};
 use babel_tlv::{Fault, Mode, View};
 use std::alloc::Global;
 
-/// The canonical octets of a dump that this sender sent, in packets with bodies of at most this many octets.
+/// The canonical octets of a dump that this sender sent, in packets with bodies of at most this
+/// many octets.
 ///
-/// The canonical octets of two dumps, under the same limits, mode and body size, are equal exactly where the dumps give
-/// every destination and source the same answer; read with any sender, they give these answers again, and normalising them
-/// gives them back, unless memory runs out. They say the fewest pairs that do not overlap and have these answers.
+/// The canonical octets of two dumps, under the same limits, mode and body size, are equal exactly
+/// where the dumps give every destination and source the same answer; read with any sender, they
+/// give these answers again, and normalising them gives them back, unless memory runs out. They say
+/// the fewest pairs that do not overlap and have these answers.
 ///
-/// The faults are those of the dump, then `TooManyPairs` if its canonical pairs are more than the entries of
-/// the limits, and `Memory`.
+/// The faults are those of the dump, then `TooManyPairs` if its canonical pairs are more than the
+/// entries of the limits, and `Memory`.
 pub fn normalise(
     alloc: Global,
     limits: Limits,
@@ -53,14 +55,15 @@ pub fn normalise(
 
 /// The canonical octets of a dump under a view: those of what the view sees of the dump's answers.
 ///
-/// The canonical octets of two dumps under a view, with the same limits, mode and body size, are equal exactly where the
-/// dumps give every destination and source the same answer under the view: none, unreachable, or routes whose kept fields
-/// are equal. Read with any sender, they give the answers under the view again, and normalising them, with the view or
-/// without, gives them back, unless memory runs out. They say the fewest pairs that do not overlap and have what the
-/// view sees of the answers.
+/// The canonical octets of two dumps under a view, with the same limits, mode and body size, are
+/// equal exactly where the dumps give every destination and source the same answer under the view:
+/// none, unreachable, or routes whose kept fields are equal. Read with any sender, they give the
+/// answers under the view again, and normalising them, with the view or without, gives them back,
+/// unless memory runs out. They say the fewest pairs that do not overlap and have what the view
+/// sees of the answers.
 ///
-/// The faults are those of the dump, then `TooManyPairs` if its canonical pairs under the view are more than the entries
-/// of the limits, and `Memory`.
+/// The faults are those of the dump, then `TooManyPairs` if its canonical pairs under the view are
+/// more than the entries of the limits, and `Memory`.
 pub fn normalise_under(
     alloc: Global,
     limits: Limits,

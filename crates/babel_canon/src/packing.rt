@@ -1,4 +1,5 @@
-//! The canonical text of pairs, written as they come.
+//! The canonical text of pairs, written as they come. It is canonical after each pair, since the
+//! length in the last packet's header is written anew with each: nothing is left to close.
 ghost use Rattle.std.specs.Prelude.{◌≡◌, ◌+◌, ◌≤◌, ◌++◌, ◌∷◌, ℕ, List, [], length, IfOk, OnOk};
 ghost use Rattle.babel_tlv.specs.Group.{IsCanonicalText};
 ghost use Rattle.babel_tlv.specs.Writing.{written_after};
@@ -12,7 +13,8 @@ use babel_tlv::{Held, Key, MAGIC, VERSION, Writing, put_group};
 use byteorder::{ByteOrder, NetworkEndian};
 use std::alloc::{AllocError, Global};
 
-/// How many octets are kept ready for each pair: an Update with a short prefix has fewer, and a text with longer ones grows.
+/// How many octets are kept ready for each pair: an Update with a short prefix has fewer, and a
+/// text with longer ones grows.
 const ROOM: usize = 24;
 
 /// The header of a packet with an empty body.
@@ -28,7 +30,7 @@ fn set_body_len(text: &mut Vec<u8>, at: usize, len: u16)
 }
 
 impl Text {
-    /// The text of no pairs, with room for so many.
+    /// The text of no pairs, with room for this many.
     pub(crate) fn new(alloc: Global, body: Body, pairs: usize) -> Result<Text, AllocError>
         ensures { IfOk result (λ text. IsTextOf body text []) }
     {
@@ -77,7 +79,8 @@ impl Text {
         Ok(())
     }
 
-    /// Puts the group of a pair after the others, in a new packet where the last one has no room for it.
+    /// Puts the group of a pair after the others, in a new packet where the last one has no room
+    /// for it.
     pub(crate) fn push(&mut self, key: &Key, held: &Held) -> Result<(), AllocError>
         ensures { OnOk result ((body : ℕ) (pairs : List Pair) → IsTextOf body self.old pairs
             → IsTextOf body self.new (pairs ++ (key.now, held.now) ∷ [])) }

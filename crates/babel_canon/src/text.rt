@@ -3,9 +3,9 @@ ghost use Rattle.std.specs.Prelude.{◌+◌, ◌≤◌, length};
 use crate::body::Body;
 use babel_tlv::Writing;
 
-/// The canonical octets of the pairs so far, in packets with bodies of at most so many octets. The
-/// last packet, which goes on, stands at an offset, and has a body of so many octets; its header
-/// says so.
+/// The canonical octets of the pairs so far, in packets with bodies of at most `body` octets. The
+/// last packet can still grow: its offset is known, and the length of its body, which its header
+/// has.
 #[derive(Drop)]
 pub(crate) struct Text {
     pub body: Body,

@@ -10,7 +10,7 @@ use babel_prefix::Prefix;
 use babel_tlv::Key;
 use babel_trie::Sink;
 
-/// Puts rows with packed values into a sink, as pairs with the values that theirs stand for.
+/// Puts rows with packed values into a sink, as pairs with their values unpacked.
 #[derive(Drop)]
 pub(crate) struct Unpacked<'a, S> {
     pub values: &'a Values,

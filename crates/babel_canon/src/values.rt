@@ -1,7 +1,8 @@
-//! Values in eight octets: where routes come from has a number, and stands once in a list.
+//! Values in eight octets: where routes come from has a number, and is once in a list.
 ghost use Rattle.std.specs.Prelude.{◌≡◌, ◌+◌, ◌*◌, ◌^◌, ◌<◌, IfOk, OnOk, Some, slice_get, true};
 ghost use Rattle.babel_tlv.specs.Group.{held_metric, held_seqno};
-ghost use Rattle.babel_canon.specs.Values.{AreNumbered, HasFiniteMetric, IsPacked, KeepsValues, origin_of, value_of};
+ghost use Rattle.babel_canon.specs.Values.{AreNumbered, HasFiniteMetric, IsPacked};
+ghost use Rattle.babel_canon.specs.Values.{KeepsValues, origin_of, value_of};
 
 use babel_tlv::{Ann, Held};
 use babel_trie::LawfulOrd;
@@ -69,7 +70,7 @@ fn origin_of(held: &Held) -> Held
     }
 }
 
-/// Whether two values are one. Router-ids are compared as numbers, and not octet by octet.
+/// Whether two values are equal. Router-ids are compared as numbers, and not octet by octet.
 fn are_one(known: &Held, held: &Held) -> bool
     ensures { result ≡ true → known.now ≡ held.now }
 {

@@ -1,10 +1,10 @@
 -- What is seen of a frame is in the frame, layer by layer.
 use Rattle.std.proofs.Common.{◌≡◌, ℕ, zero, suc, ◌+◌, ◌-◌, ◌<◌, ◌≤◌, Bool, true, false, List, [], ◌∷◌, ◌++◌, length, take, drop, refl, sym, ap, ◌∙◌, append_assoc, arith, nat_lt, nat_le, slice_index, not, ◌&&◌, ◌||◌, ◌==◌, if◌then◌else◌}
-use Rattle.std.proofs.lemmas.List.{length-drop, length-take, take-append-drop}
+use Rattle.std.proofs.lemmas.List.{drop-take, length-drop, length-take, length-take-le, take-append-drop}
 use Rattle.std.proofs.lemmas.Bool.{cond_both}
 use Rattle.std.proofs.lemmas.Bool.Decides.{nat_tests}
 use Rattle.babel_prefix.specs.Address.{Address}
-use Rattle.babel_capture.specs.Backing.{StandIn, Backs, BacksCarried, BacksLack}
+use Rattle.babel_capture.specs.Backing.{StandIn, IsDatagram, Backs, BacksCarried, BacksLack}
 use Rattle.babel_capture.specs.declared.lack.Lack.{Lack}
 use Rattle.babel_capture.specs.declared.lack.Lack.TheVariants as lacks
 use Rattle.babel_capture.specs.declared.link.Link.{Link}
@@ -18,7 +18,8 @@ use Rattle.babel_capture.specs.Ipv6.{ipv6_sight, ipv6_carried_sight, ipv6_sender
 use Rattle.babel_capture.specs.Octets.{network_number, ip_version}
 use Rattle.babel_capture.specs.Place.{no_vlans, place_on, with_vlan}
 use Rattle.babel_capture.specs.Sight.{Sight, Carried, other, too_short, datagram, other_port, not_link_local, lacking, carries}
-use Rattle.babel_capture.specs.Udp.{udp_sight, babel_sight, len_sight, unkept_sight, udp_len, is_babel, is_of_routers, may_send}
+use Rattle.babel_capture.specs.Udp.{udp_sight, babel_sight, len_sight, unkept_sight, udp_len, source_port, destination_port, is_babel, is_of_routers, may_send}
+use Rattle.babel_capture.proofs.OctetLaws.{number-kept}
 
 -- ---- octets that stand in others
 
@@ -81,16 +82,16 @@ module _ (octets : List ℕ) (all : ℕ) (of : List ℕ) (of_all : ℕ) (part : 
   lack-part lacks.CutShort backs = tt
   lack-part lacks.Snapped backs = part.kept backs
 
-  carried-part : (carried : Carried) → BacksCarried octets all carried → BacksCarried of of_all carried
-  carried-part other_port backs = tt
-  carried-part not_link_local backs = tt
-  carried-part (lacking lack) backs = lack-part lack backs
-  carried-part (carries payload) backs = StandIn-in payload octets of backs part.inside
+  carried-part : (sender : Address) (carried : Carried) → BacksCarried sender octets all carried → BacksCarried sender of of_all carried
+  carried-part sender other_port backs = tt
+  carried-part sender not_link_local backs = tt
+  carried-part sender (lacking lack) backs = lack-part lack backs
+  carried-part sender (carries payload) (udp, is, stands) = (udp, is, StandIn-in udp octets of stands part.inside)
 
   pub Backs-part : (sight : Sight) → Backs octets all sight → Backs of of_all sight
   Backs-part other backs = tt
   Backs-part too_short backs = tt
-  Backs-part (datagram place sender carried) backs = carried-part carried backs
+  Backs-part (datagram place sender carried) backs = carried-part sender carried backs
 
 -- ---- choices
 
@@ -105,11 +106,11 @@ unless octets all true x y here backed = here
 unless octets all false x y here backed = backed refl
 
 -- snapped, where less was kept than there was
-unless_snapped : (octets : List ℕ) (all needed : ℕ) (place : Place) (sender : Address) (y : Sight) → needed ≤ all → Backs octets all y
+unless_snapped : (octets : List ℕ) (all needed : ℕ) (place : Place) (sender : Address) (y : Sight) → needed ≤ all → (nat_lt (length octets) needed ≡ false → Backs octets all y)
     → Backs octets all (if nat_lt (length octets) needed then datagram place sender (lacking lacks.Snapped) else y)
 unless_snapped octets all needed place sender y fits backed =
     let P : Sight → Type 0 = λ sight. Backs octets all sight in
-    cond_both (nat_lt (length octets) needed) (datagram place sender (lacking lacks.Snapped)) y P (λ (few : nat_lt (length octets) needed ≡ true). grind (arith, nat_tests)) (λ _. backed)
+    cond_both (nat_lt (length octets) needed) (datagram place sender (lacking lacks.Snapped)) y P (λ (few : nat_lt (length octets) needed ≡ true). grind (arith, nat_tests)) backed
 
 room : (whole needed : ℕ) → nat_lt whole needed ≡ false → needed ≤ whole
 room whole needed enough = grind (arith, nat_tests)
@@ -120,8 +121,28 @@ or_right false b neither = neither
 
 -- ---- UDP
 
-len_backed : (place : Place) (sender : Address) (octets : List ℕ) (all : ℕ) → Backs octets all (len_sight place sender octets all)
-len_backed place sender octets all =
+-- the datagram ends where its length says
+payload_backed : (sender : Address) (octets : List ℕ) → not (is_of_routers octets) ≡ false → not (may_send sender) ≡ false → 8 ≤ udp_len octets → udp_len octets ≤ length octets
+    → IsDatagram sender (take (udp_len octets) octets) (take (udp_len octets - 8) (drop 8 octets))
+payload_backed sender octets routers may header kept =
+    let len = udp_len octets in
+    let source : source_port octets ≡ 6696 = grind (arith, nat_tests, routers) in
+    let destination : destination_port octets ≡ 6696 = grind (arith, nat_tests, routers) in
+    let after : 8 + (len - 8) ≡ len = omega arith in
+    record {
+      source = number-kept 0 2 len octets (omega arith) ∙ source;
+      destination = number-kept 2 2 len octets (omega arith) ∙ destination;
+      len = number-kept 4 2 len octets (omega arith) ∙ sym (length-take-le len octets kept);
+      is_sender = sent (may_send sender) may;
+      after_header = sym (drop-take 8 (len - 8) octets) ∙ ap (λ (n : ℕ). drop 8 (take n octets)) after;
+    }
+  where
+    sent : (b : Bool) → not b ≡ false → b ≡ true
+    sent true is = refl
+    sent false is = cc
+
+len_backed : (place : Place) (sender : Address) (octets : List ℕ) (all : ℕ) → not (is_of_routers octets) ≡ false → not (may_send sender) ≡ false → Backs octets all (len_sight place sender octets all)
+len_backed place sender octets all routers may =
     let len = udp_len octets in
     let snapped : Sight = datagram place sender (lacking lacks.Snapped) in
     let payload : Sight = datagram place sender (carries (take (len - 8) (drop 8 octets))) in
@@ -129,10 +150,10 @@ len_backed place sender octets all =
     let long : Sight = if nat_lt len 8 then other else kept in
     let fitting : Sight = if nat_lt all len then datagram place sender (lacking lacks.CutShort) else long in
     let told : Sight = if nat_lt (length octets) 6 then snapped else fitting in
-    let payload_backed : Backs octets all payload = StandIn-in (take (len - 8) (drop 8 octets)) (drop 8 octets) octets (StandIn-take (len - 8) (drop 8 octets)) (StandIn-drop 8 octets) in
     let fitting_backed : Backs octets all fitting = unless octets all (nat_lt all len) (datagram place sender (lacking lacks.CutShort)) long tt (λ fits.
-    either octets all (nat_lt len 8) other kept tt (unless_snapped octets all len place sender payload (room all len fits) payload_backed)) in
-    unless octets all (nat_lt all 6) other told tt (λ fits. unless_snapped octets all 6 place sender fitting (room all 6 fits) fitting_backed)
+    unless octets all (nat_lt len 8) other kept tt (λ header. unless_snapped octets all len place sender payload (room all len fits) (λ there.
+    (take len octets, payload_backed sender octets routers may (room len 8 header) (room (length octets) len there), StandIn-take len octets)))) in
+    unless octets all (nat_lt all 6) other told tt (λ fits. unless_snapped octets all 6 place sender fitting (room all 6 fits) (λ _. fitting_backed))
 
 module _ (place : Place) (sender : Address) (is_fragment : Bool) (octets : List ℕ) (all : ℕ) where
   abbrev Port : Sight
@@ -150,9 +171,8 @@ module _ (place : Place) (sender : Address) (is_fragment : Bool) (octets : List 
       let len : Sight = len_sight place sender octets all in
       let joined : Sight = if is_fragment then Part else len in
       let local : Sight = if not (may_send sender) then NotLocal else joined in
-      either octets all (not (is_of_routers octets)) Port local tt
-      (either octets all (not (may_send sender)) NotLocal joined tt
-      (either octets all is_fragment Part len tt (len_backed place sender octets all)))
+      unless octets all (not (is_of_routers octets)) Port local tt (λ routers.
+      unless octets all (not (may_send sender)) NotLocal joined tt (λ may. either octets all is_fragment Part len tt (len_backed place sender octets all routers may)))
 
   pub udp_backed : Backs octets all (udp_sight place sender is_fragment false octets all)
   unfolding udp_sight

@@ -1,5 +1,5 @@
 -- What packets give, taken one by one.
-use Rattle.std.proofs.Common.{◌≡◌, ◌≤◌, ℕ, List, [], ◌∷◌, ◌++◌, ◌+◌, length, refl, sym, ap, subst, ◌∙◌, inl, inr}
+use Rattle.std.proofs.Common.{◌≡◌, ◌≤◌, ℕ, List, [], ◌∷◌, ◌++◌, ◌+◌, length, refl, sym, ap, subst, ◌∙◌, append_assoc, inl, inr}
 use Rattle.std.specs.Prelude.{Some, None, Result, Ok, Err, OnOk, IfErr, fold, ◌⊎◌}
 use Rattle.std.specs.List.{flat_map}
 use Rattle.babel_prefix.specs.Address.{Address}
@@ -14,13 +14,13 @@ use Rattle.babel_capture.specs.declared.lack.Lack.{Lack}
 use Rattle.babel_capture.specs.declared.place.Place.{Place}
 use Rattle.babel_capture.specs.declared.tallies.Origin.{Origin}
 use Rattle.babel_capture.specs.Blocks.{Sighting, sight_in}
-use Rattle.babel_capture.specs.Contents.{Captured}
+use Rattle.babel_capture.specs.Contents.{Captured, holds}
 use Rattle.babel_capture.specs.Counts.{Counts, Made}
 use Rattle.babel_capture.specs.Counting.{counted, counted_with, short_counted, packet_counted}
 use Rattle.babel_capture.specs.Findings.{Found, passed, untold, left, refused, found, Finds}
 use Rattle.babel_capture.specs.Lack.{lack_fault}
 use Rattle.babel_capture.specs.Sight.{Sight}
-use Rattle.babel_capture.specs.Gathering.{AreMade, IsTaken, Gathering, IsGathered, IsRefusedPacket, octets_found, dump_of, dump_with}
+use Rattle.babel_capture.specs.Gathering.{AreMade, BlockNeedsMemory, PacketNeedsMemory, IsTaken, Gathering, IsGathered, IsRefusedPacket, octets_found, dump_of, dump_with}
 use Rattle.babel_capture.specs.Tallies.{Senders, IsOneTooMany, senders_with, senders_of, tallied}
 use Rattle.babel_capture.proofs.CountLaws.{counts-push}
 
@@ -69,6 +69,11 @@ gathered-push before next old new what same dump report senders few takes gather
       report = report ∙ ap (λ (c : Counts). counted c next.link what) gathered.report ∙ sym (counts-push gathered.made one is_number);
       senders = is_senders;
     }
+
+-- octets that were taken out stand before what is added
+pub dump-after : (wanted : Wanted) (taken dump octets : List ℕ) → taken ++ dump_with wanted dump octets ≡ dump_with wanted (taken ++ dump) octets
+dump-after wanteds.Everyone taken dump octets = refl
+dump-after (wanteds.Sender sender place) taken dump octets = sym (append_assoc taken dump octets)
 
 -- what is no packet leaves the dump
 pub dump-stays : (wanted : Wanted) (dump : List ℕ) → dump ≡ dump_with wanted dump []
@@ -126,3 +131,15 @@ too-many-refused (Ok x) wanted here senders at packet origin octets finding same
 too-many-refused (Err fault) wanted here senders at packet origin octets finding same is finds (inl memory) = inl memory
 too-many-refused (Err fault) wanted here senders at packet origin octets finding same is finds (inr (told, many)) =
     inr (inr (told, (origin, octets, subst (Finds wanted (sight_in packet)) is finds, subst (λ (s : Senders). IsOneTooMany s origin) same many)))
+
+-- memory is needed for the packet that was found
+pub found-needs : {T : Type 0} (r : Result T Fault) (wanted before : Wanted) (here senders : Senders) (packet : Captured) (origin : Origin) (octets : List ℕ) (finding : Found)
+    → wanted ≡ before → here ≡ senders → finding ≡ found origin.place origin.sender octets → Finds before (sight_in packet) finding
+    → IfErr r (λ fault. fault ≡ faults.Memory → PacketNeedsMemory wanted here origin octets) → IfErr r (λ fault. fault ≡ faults.Memory → BlockNeedsMemory before senders (holds packet))
+found-needs (Ok x) wanted before here senders packet origin octets finding same are is finds needs = tt
+found-needs (Err fault) wanted before here senders packet origin octets finding same are is finds needs = λ memory. (
+  origin,
+  octets,
+  subst (Finds before (sight_in packet)) is finds,
+  subst (λ (w : Wanted). PacketNeedsMemory w senders origin octets) same (subst (λ (s : Senders). PacketNeedsMemory wanted s origin octets) are (needs memory)),
+)

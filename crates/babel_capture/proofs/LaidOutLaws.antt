@@ -4,8 +4,8 @@ use Rattle.std.proofs.Math.Seq.{drop-append_seam, drop-append-add, take-append_s
 use Rattle.std.proofs.lemmas.List.{drop_at, length-take-le, take_all}
 use Rattle.std.proofs.lemmas.Bool.Decides.{nat_tests}
 use Rattle.std.proofs.lemmas.Nat.{and_mask}
-use Rattle.byteorder.specs.Endian.{big_bytes, big_from, little_bytes}
-use Rattle.byteorder.specs.Numbers.{big_from-take, big_number-reads_back}
+use Rattle.byteorder.specs.Endian.{big_bytes, big_from, big_number, little_bytes, little_number}
+use Rattle.byteorder.specs.Numbers.{big_number-reads_back}
 use Rattle.babel_prefix.specs.Address.{Address}
 use Rattle.babel_prefix.specs.declared.family.Family.TheVariants.{V4, V6}
 use Rattle.babel_capture.specs.declared.lack.Lack.TheVariants as lacks
@@ -13,7 +13,7 @@ use Rattle.babel_capture.specs.declared.link.Link.{Link}
 use Rattle.babel_capture.specs.declared.link.Link.TheVariants as links
 use Rattle.babel_capture.specs.declared.place.Place.{Place}
 use Rattle.babel_capture.specs.declared.place.Vlans.{Vlans}
-use Rattle.std.specs.Prelude.{fold, Contains, nat_le, Some}
+use Rattle.std.specs.Prelude.{fold, Contains, min, nat_le, Some}
 use Rattle.std.specs.List.{All}
 use Rattle.std.proofs.lemmas.List.Elements.{All-head, All-tail}
 use Rattle.babel_capture.specs.Ethernet.{Payload, in_vlans, is_tag, past_tag, past_tags, ip_sight, typed_sight}
@@ -23,12 +23,12 @@ use Rattle.babel_capture.specs.Ipv4.{ipv4_sight, ipv4_header_len, total_len, car
 use Rattle.babel_capture.specs.Ipv6.{ipv6_sight, payload_len, first_header}
 use Rattle.babel_capture.specs.LaidOut.{UdpDatagram, udp_octets, udp_size, IsBabel, Ipv4Header, ipv4_header, ipv4_octets, IsIpv4, Ipv6Header, ipv6_header, ipv6_octets, IsIpv6}
 use Rattle.babel_capture.specs.LaidOut.{Extension, IsFragment, IsExtension, extensions, first_number, after_ports, IsFirstFragment, IsOverIp, HasBabel}
-use Rattle.babel_capture.specs.LinkHeaders.{Tag, IsTag, first_type, after_type, vlans_of, IsTyped, IsCooked2, IsFamily, IsHeader}
+use Rattle.babel_capture.specs.LinkHeaders.{Tag, IsTag, first_type, after_type, vlans_of, IsTyped, IsCooked2, IsFamily, HasEtherType, HasFamily, IsHeader, IsOtherType, IsOtherFamily}
 use Rattle.babel_capture.specs.Octets.{network_number, ip_version}
 use Rattle.babel_capture.specs.Place.{no_vlans, place_on, with_vlan}
-use Rattle.babel_capture.specs.Sight.{Carried, Sight, datagram, carries, lacking}
+use Rattle.babel_capture.specs.Sight.{Carried, Sight, other, datagram, carries, lacking}
 use Rattle.babel_capture.specs.Udp.{udp_sight, udp_len, source_port, destination_port, may_send}
-use Rattle.babel_capture.proofs.OctetLaws.{big_from-drop}
+use Rattle.babel_capture.proofs.OctetLaws.{big_from-drop, number-kept}
 
 -- a number reads back from where it was written
 number-back : (before : List ℕ) (n x : ℕ) (after : List ℕ) → x < 256 ^ n → network_number (length before) n (before ++ (big_bytes n x ++ after)) ≡ x
@@ -38,11 +38,6 @@ number-back before n x after fits =
     let start : length before + 0 ≡ length before = omega arith in
     ap (λ (i : ℕ). big_from i n octets) (sym start) ∙ sym (big_from-drop 0 n (length before) octets)
     ∙ ap (big_from 0 n) (drop-append_seam before (big_bytes n x ++ after)) ∙ big_number-reads_back n x after fits
-
--- and is there if its octets were kept
-number-kept : (at n kept : ℕ) (octets : List ℕ) → at + n ≤ kept → network_number at n (take kept octets) ≡ network_number at n octets
-unfolding network_number
-number-kept at n kept octets within = big_from-take at n kept octets within
 
 -- ---- UDP
 
@@ -536,6 +531,13 @@ ip_plain : (ether_type : ℕ) (octets : List ℕ) → BeginsIp ether_type octets
 ip_plain ether_type octets (inl (type, version)) = ((rw type refl), (rw type refl), (omega (arith, type)))
 ip_plain ether_type octets (inr (type, version)) = ((rw type refl), (rw type refl), (omega (arith, type)))
 
+-- after this EtherType, which is no tag's, these octets are seen so
+abbrev SeenAfter : Place → ℕ → List ℕ → ℕ → Sight → Type 0
+SeenAfter place ether_type octets all sight = (is_tag ether_type ≡ false) × (ether_type < 2 ^ 16) × (ip_at place ether_type octets all ≡ sight)
+
+seen_after : (place : Place) (ether_type : ℕ) (octets : List ℕ) (all : ℕ) (sight : Sight) → SeenIn place ether_type octets all sight → SeenAfter place ether_type octets all sight
+seen_after place ether_type octets all sight (long, begins, seen) = (let plain = ip_plain ether_type octets begins in (plain.0, plain.2, seen))
+
 past_no_tag : (payload : Payload) → is_tag payload.ether_type ≡ false → past_tag payload ≡ payload
 unfolding past_tag
 past_no_tag payload plain = rw plain refl
@@ -607,21 +609,19 @@ after-long (tag ∷ tags) ether_type = (let later = after-long tags ether_type i
 
 -- what follows an EtherType and up to four tags
 typed_seen : (place : Place) (tags : List Tag) (ether_type : ℕ) (octets : List ℕ) (all : ℕ) (sight : Sight) → length tags ≤ 4 → All IsTag tags
-    → SeenIn (in_vlans place (vlans_of tags)) ether_type octets (all - 4 * length tags) sight
+    → SeenAfter (in_vlans place (vlans_of tags)) ether_type octets (all - 4 * length tags) sight
     → typed_sight place (payload_of tags ether_type octets no_vlans all) ≡ sight
 unfolding typed_sight
-typed_seen place tags ether_type octets all sight few are (long, begins, seen) =
-    let plain = ip_plain ether_type octets begins in
-    let past = past-tags tags 4 ether_type octets no_vlans all few are plain.2 plain.0 in
+typed_seen place tags ether_type octets all sight few are (plain, fits, seen) =
+    let past = past-tags tags 4 ether_type octets no_vlans all few are fits plain in
     ap (λ (p : Payload). ip_sight (in_vlans place p.vlans) p) past ∙ seen
 
 -- a header that ends with an EtherType and tags
 typed_in : (front interface ether_type : ℕ) (place : Place) (header octets : List ℕ) (all : ℕ) (sight : Sight) → (is : IsTyped front interface ether_type place header)
-    → SeenIn place ether_type octets (all - length header) sight
+    → SeenAfter place ether_type octets (all - length header) sight
     → header_sight front (front + 2) (place_on interface) (header ++ octets) all ≡ sight
-typed_in front interface ether_type place header octets all sight is (long, begins, seen) =
+typed_in front interface ether_type place header octets all sight is (plain, fits, seen) =
     let tags = is.tags in
-    let plain = ip_plain ether_type octets begins in
     let next = big_bytes 2 (first_type tags ether_type) in
     let after = after_type tags ether_type in
     let rest = after ++ octets in
@@ -629,7 +629,7 @@ typed_in front interface ether_type place header octets all sight is (long, begi
     let frame_is : header ++ octets ≡ frame = ap (λ (h : List ℕ). h ++ octets) is.is_header ∙ append_assoc is.addresses (next ++ after) octets in
     let header_long : length header ≡ front + 2 + 4 * length tags = ap length is.is_header ∙ omega (arith, length-append is.addresses (next ++ after), is.sized, after-long tags ether_type) in
     let at_type : network_number front 2 frame ≡ first_type tags ether_type =
-    ap (λ (field : ℕ). network_number field 2 frame) (sym is.sized) ∙ number-back is.addresses 2 (first_type tags ether_type) rest (first_fits tags ether_type is.are_tags plain.2) in
+    ap (λ (field : ℕ). network_number field 2 frame) (sym is.sized) ∙ number-back is.addresses 2 (first_type tags ether_type) rest (first_fits tags ether_type is.are_tags fits) in
     let at_rest : drop (front + 2) frame ≡ rest = ap (λ (n : ℕ). drop (n + 2) frame) (sym is.sized) ∙ drop-append-add is.addresses (next ++ rest) 2 in
     let kept : nat_lt (length frame) (front + 2) ≡ false =
     let count = length-append is.addresses (next ++ rest) in
@@ -637,18 +637,17 @@ typed_in front interface ether_type place header octets all sight is (long, begi
     let same : header_sight front (front + 2) (place_on interface) frame all ≡ typed_sight (place_on interface) (payload_of tags ether_type octets no_vlans (all - (front + 2))) = rw
     (kept, at_type, at_rest) refl in
     let left : all - length header ≡ all - (front + 2) - 4 * length tags = omega arith in
-    let there : SeenIn (in_vlans (place_on interface) (vlans_of tags)) ether_type octets (all - (front + 2) - 4 * length tags) sight =
-    (long, begins, ap (λ (p : Place). ip_at p ether_type octets (all - (front + 2) - 4 * length tags)) (sym is.is_place) ∙ ap (ip_at place ether_type octets) (sym left) ∙ seen) in
+    let there : SeenAfter (in_vlans (place_on interface) (vlans_of tags)) ether_type octets (all - (front + 2) - 4 * length tags) sight =
+    (plain, fits, ap (λ (p : Place). ip_at p ether_type octets (all - (front + 2) - 4 * length tags)) (sym is.is_place) ∙ ap (ip_at place ether_type octets) (sym left) ∙ seen) in
     ap (λ (o : List ℕ). header_sight front (front + 2) (place_on interface) o all) frame_is ∙ same
     ∙ typed_seen (place_on interface) tags ether_type octets (all - (front + 2)) sight is.few is.are_tags there
 
 cooked2_in : (interface ether_type : ℕ) (place : Place) (header octets : List ℕ) (all : ℕ) (sight : Sight) → (is : IsCooked2 interface ether_type place header)
-    → SeenIn place ether_type octets (all - length header) sight
+    → leads_to_ip (first_type is.tags ether_type) ≡ true → SeenAfter place ether_type octets (all - length header) sight
     → frame_sight interface links.Cooked2 (header ++ octets) all ≡ sight
 unfolding frame_sight
-cooked2_in interface ether_type place header octets all sight is (long, begins, seen) =
+cooked2_in interface ether_type place header octets all sight is leads (plain, fits, seen) =
     let tags = is.tags in
-    let plain = ip_plain ether_type octets begins in
     let next = big_bytes 2 (first_type tags ether_type) in
     let number = big_bytes 4 is.link in
     let after = after_type tags ether_type in
@@ -664,7 +663,7 @@ cooked2_in interface ether_type place header octets all sight is (long, begins, 
     let header_long : length header ≡ 20 + 4 * length tags = ap length header_is ∙ omega (arith, length-append front after, front_long, after-long tags ether_type) in
     let octets_are = front ++ rest in
     let at_type : network_number 0 2 octets_are ≡ first_type tags ether_type =
-    ap (network_number 0 2) to_frame ∙ number-back [] 2 (first_type tags ether_type) (is.reserved ++ (number ++ (is.more ++ rest))) (first_fits tags ether_type is.are_tags plain.2) in
+    ap (network_number 0 2) to_frame ∙ number-back [] 2 (first_type tags ether_type) (is.reserved ++ (number ++ (is.more ++ rest))) (first_fits tags ether_type is.are_tags fits) in
     let at_link : network_number 4 4 octets_are ≡ is.link =
     ap (network_number 4 4) to_frame ∙ ap (λ (field : ℕ). network_number field 4 (to_link ++ (number ++ (is.more ++ rest)))) (sym four) ∙ number-back to_link 4 is.link
     (is.more ++ rest) is.link_fits in
@@ -672,11 +671,10 @@ cooked2_in interface ether_type place header octets all sight is (long, begins, 
     let count : length octets_are ≡ 20 + length rest = length-append front rest ∙ ap (λ (n : ℕ). n + length rest) front_long in
     let some : nat_lt (length octets_are) 2 ≡ false = grind (arith, nat_tests) in
     let kept : nat_lt (length octets_are) 20 ≡ false = grind (arith, nat_tests) in
-    let leads : leads_to_ip (first_type tags ether_type) ≡ true = first_leads tags ether_type is.are_tags plain.1 in
     let linked : Place = record (place_on interface) { link = Some is.link } in
     let left : all - length header ≡ all - 20 - 4 * length tags = omega arith in
-    let there : SeenIn (in_vlans linked (vlans_of tags)) ether_type octets (all - 20 - 4 * length tags) sight =
-    (long, begins, ap (λ (p : Place). ip_at p ether_type octets (all - 20 - 4 * length tags)) (sym is.is_place) ∙ ap (ip_at place ether_type octets) (sym left) ∙ seen) in
+    let there : SeenAfter (in_vlans linked (vlans_of tags)) ether_type octets (all - 20 - 4 * length tags) sight =
+    (plain, fits, ap (λ (p : Place). ip_at p ether_type octets (all - 20 - 4 * length tags)) (sym is.is_place) ∙ ap (ip_at place ether_type octets) (sym left) ∙ seen) in
     let same : frame_sight interface links.Cooked2 octets_are all ≡ typed_sight linked (payload_of tags ether_type octets no_vlans (all - 20)) = rw
     (some, at_type, leads, kept, at_link, at_rest) refl in
     ap (λ (o : List ℕ). frame_sight interface links.Cooked2 o all) frame_is ∙ same ∙ typed_seen linked tags ether_type octets (all - 20) sight is.few is.are_tags there
@@ -749,9 +747,13 @@ in_frame : (link : Link) (interface ether_type : ℕ) (place : Place) (header oc
 unfolding frame_sight
 in_frame links.Null interface ether_type place header octets all sight is seen = family_in interface ether_type place header octets all sight is seen
 in_frame links.Loop interface ether_type place header octets all sight is seen = family_in interface ether_type place header octets all sight is seen
-in_frame links.Ethernet interface ether_type place header octets all sight is seen = typed_in 12 interface ether_type place header octets all sight is seen
-in_frame links.Cooked interface ether_type place header octets all sight is seen = typed_in 14 interface ether_type place header octets all sight is seen
-in_frame links.Cooked2 interface ether_type place header octets all sight is seen = cooked2_in interface ether_type place header octets all sight is seen
+in_frame links.Ethernet interface ether_type place header octets all sight is seen =
+    typed_in 12 interface ether_type place header octets all sight is (seen_after place ether_type octets (all - length header) sight seen)
+in_frame links.Cooked interface ether_type place header octets all sight is seen =
+    typed_in 14 interface ether_type place header octets all sight is (seen_after place ether_type octets (all - length header) sight seen)
+in_frame links.Cooked2 interface ether_type place header octets all sight is seen =
+    cooked2_in interface ether_type place header octets all sight is (first_leads is.tags ether_type is.are_tags (ip_plain ether_type octets seen.1).1)
+    (seen_after place ether_type octets (all - length header) sight seen)
 in_frame links.RawIp interface ether_type place header octets all sight (is_place, none) seen =
     let left : all - length header ≡ all = omega (arith, ap length none) in
     let bare : SeenIn place ether_type octets all sight = subst (λ (n : ℕ). SeenIn place ether_type octets n sight) left seen in
@@ -775,3 +777,89 @@ pub cut_in_frame : (link : Link) (interface ether_type : ℕ) (place : Place) (s
 cut_in_frame link interface ether_type place sender udp header packet n all is babel over ports less there =
     in_frame link interface ether_type place header (take n packet) all (datagram place sender (lacking lacks.Snapped)) is
     (cut_seen place ether_type sender udp packet n (all - length header) babel over ports less (omega arith))
+
+-- ---- what is no IP
+
+other_type : (ether_type : ℕ) → IsOtherType ether_type → ((ether_type == 0x0800) ≡ false) × ((ether_type == 0x86dd) ≡ false) × (is_tag ether_type ≡ false) × (leads_to_ip ether_type ≡ false)
+other_type ether_type (fits, v4, v6, customer, service, old, other_old) =
+    let no_v4 : (ether_type == 0x0800) ≡ false = grind (arith, nat_tests, v4) in
+    let no_v6 : (ether_type == 0x86dd) ≡ false = grind (arith, nat_tests, v6) in
+    let no_tag : is_tag ether_type ≡ false = grind (arith, nat_tests, customer, service, old, other_old) in
+    (no_v4, no_v6, no_tag, rw (no_v4, no_v6) no_tag)
+
+other_after : (place : Place) (ether_type : ℕ) (octets : List ℕ) (all : ℕ) → IsOtherType ether_type → SeenAfter place ether_type octets all other
+other_after place ether_type octets all is =
+    let none = other_type ether_type is in
+    (none.2, is.0, rw (none.0, none.1, none.2) refl)
+
+-- in Linux cooked, version 2, the EtherType of a frame without tags comes first
+other_in_cooked2 : (interface ether_type : ℕ) (place : Place) (header octets : List ℕ) (all : ℕ) (is : IsCooked2 interface ether_type place header) → IsOtherType ether_type
+    → (tags : List Tag) → is.tags ≡ tags → frame_sight interface links.Cooked2 (header ++ octets) all ≡ other
+unfolding frame_sight
+other_in_cooked2 interface ether_type place header octets all is none [] same =
+    let next = big_bytes 2 (first_type is.tags ether_type) in
+    let later = is.reserved ++ (big_bytes 4 is.link ++ (is.more ++ after_type is.tags ether_type)) in
+    let frame_is : header ++ octets ≡ next ++ (later ++ octets) = ap (λ (h : List ℕ). h ++ octets) is.is_header ∙ append_assoc next later octets in
+    let type : first_type is.tags ether_type ≡ ether_type = ap (λ (t : List Tag). first_type t ether_type) same in
+    let fits : first_type is.tags ether_type < 2 ^ 16 = omega (arith, type, none.0) in
+    let at_type : network_number 0 2 (next ++ (later ++ octets)) ≡ first_type is.tags ether_type = number-back [] 2 (first_type is.tags ether_type) (later ++ octets) fits in
+    let leads : leads_to_ip (first_type is.tags ether_type) ≡ false = ap leads_to_ip type ∙ (other_type ether_type none).3 in
+    let some : nat_lt (length (next ++ (later ++ octets))) 2 ≡ false = grind (arith, nat_tests) in
+    ap (λ (o : List ℕ). frame_sight interface links.Cooked2 o all) frame_is ∙ rw (some, at_type, leads) refl
+other_in_cooked2 interface ether_type place header octets all is none (tag ∷ tags) same =
+    let kind = (All-head IsTag tag tags (subst (All IsTag) same is.are_tags)).is_kind in
+    let leads : leads_to_ip (first_type is.tags ether_type) ≡ true = ap (λ (t : List Tag). leads_to_ip (first_type t ether_type)) same ∙ tag_leads tag.kind kind in
+    cooked2_in interface ether_type place header octets all other is leads (other_after place ether_type octets (all - length header) none)
+
+pub other_in_frame : (link : Link) (interface ether_type : ℕ) (place : Place) (header octets : List ℕ) (all : ℕ) → HasEtherType link → IsHeader link interface ether_type place header
+    → IsOtherType ether_type → frame_sight interface link (header ++ octets) all ≡ other
+unfolding frame_sight
+other_in_frame link interface ether_type place header octets all has is none = by has
+  where
+    at : (l : Link) → link ≡ l → (IsHeader l interface ether_type place header → frame_sight interface l (header ++ octets) all ≡ other) → frame_sight interface link (header ++ octets) all ≡ other
+    at l same seen =
+        ap (λ (k : Link). frame_sight interface k (header ++ octets) all) same ∙ seen (subst (λ (k : Link). IsHeader k interface ether_type place header) same is)
+
+    after : SeenAfter place ether_type octets (all - length header) other
+    after = other_after place ether_type octets (all - length header) none
+
+    by : (link ≡ links.Ethernet) ⊎ (link ≡ links.Cooked) ⊎ (link ≡ links.Cooked2) → frame_sight interface link (header ++ octets) all ≡ other
+    by (inl ethernet) = at links.Ethernet ethernet (λ typed. typed_in 12 interface ether_type place header octets all other typed after)
+    by (inr (inl cooked)) = at links.Cooked cooked (λ typed. typed_in 14 interface ether_type place header octets all other typed after)
+    by (inr (inr cooked2)) = at links.Cooked2 cooked2 (λ typed. other_in_cooked2 interface ether_type place header octets all typed none typed.tags refl)
+
+-- a number of 16 bits is the lower one of those that its four octets are
+lower_big : (family : ℕ) (rest : List ℕ) → family < 2 ^ 16 → protocol_family (big_bytes 4 family ++ rest) ≡ family
+lower_big family rest fits =
+    let own : big_number 4 (big_bytes 4 family ++ rest) ≡ family = big_number-reads_back 4 family rest (omega arith) in
+    let other : family ≤ little_number 4 (big_bytes 4 family ++ rest) = omega arith in
+    ap (λ (n : ℕ). min n (little_number 4 (big_bytes 4 family ++ rest))) own ∙ omega arith
+
+lower_little : (family : ℕ) (rest : List ℕ) → family < 2 ^ 16 → protocol_family (little_bytes 4 family ++ rest) ≡ family
+lower_little family rest fits =
+    let own : little_number 4 (little_bytes 4 family ++ rest) ≡ family = omega arith in
+    let other : family ≤ big_number 4 (little_bytes 4 family ++ rest) = omega arith in
+    ap (min (big_number 4 (little_bytes 4 family ++ rest))) own ∙ omega arith
+
+other_family : (place : Place) (family : ℕ) (octets : List ℕ) (all : ℕ) → IsOtherFamily family → 4 ≤ length octets → protocol_family octets ≡ family → family_sight place octets all ≡ other
+other_family place family octets all (fits, v4, linux, netbsd, freebsd, macos) long is =
+    let kept : nat_lt (length octets) 4 ≡ false = grind (arith, nat_tests) in
+    let no_v4 : (family == 2) ≡ false = grind (arith, nat_tests, v4) in
+    let no_v6 : is_ipv6_family family ≡ false = grind (arith, nat_tests, linux, netbsd, freebsd, macos) in
+    rw (kept, is, no_v4, no_v6) refl
+
+pub other_in_family : (link : Link) (interface family : ℕ) (header octets : List ℕ) (all : ℕ) → HasFamily link → IsOtherFamily family → (header ≡ big_bytes 4 family) ⊎ (header ≡ little_bytes 4 family)
+    → frame_sight interface link (header ++ octets) all ≡ other
+unfolding frame_sight
+other_in_family link interface family header octets all has none laid = by has
+  where
+    told : (header ≡ big_bytes 4 family) ⊎ (header ≡ little_bytes 4 family) → (4 ≤ length (header ++ octets)) × (protocol_family (header ++ octets) ≡ family)
+    told (inl is) = rw is ((omega arith), lower_big family octets none.0)
+    told (inr is) = rw is ((omega arith), lower_little family octets none.0)
+
+    seen : family_sight (place_on interface) (header ++ octets) all ≡ other
+    seen = other_family (place_on interface) family (header ++ octets) all none (told laid).0 (told laid).1
+
+    by : (link ≡ links.Null) ⊎ (link ≡ links.Loop) → frame_sight interface link (header ++ octets) all ≡ other
+    by (inl null) = ap (λ (k : Link). frame_sight interface k (header ++ octets) all) null ∙ seen
+    by (inr loop) = ap (λ (k : Link). frame_sight interface k (header ++ octets) all) loop ∙ seen

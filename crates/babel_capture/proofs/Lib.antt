@@ -5,6 +5,7 @@ pub mod FindingLaws
 pub mod FramingLaws
 pub mod GatherLaws
 pub mod LaidOutLaws
+pub mod MemoryLaws
 pub mod NumberLaws
 pub mod OctetLaws
 pub mod OneCapture

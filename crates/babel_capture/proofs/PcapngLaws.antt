@@ -1,4 +1,4 @@
--- A section of a pcapng file is read as the packets of its blocks.
+-- A pcapng file is read as the packets of its blocks.
 use Rattle.std.proofs.Common.{◌≡◌, ◌≢◌, ℕ, ◌+◌, ◌-◌, ◌%◌, ◌^◌, ◌<◌, ◌≤◌, ◌⊎◌, inl, inr, true, false, List, [], ◌∷◌, ◌++◌, length, take, drop, refl, sym, ap, ◌∙◌, length-append, append_assoc, arith, nat_lt, ◌==◌, ◌||◌}
 use Rattle.std.proofs.Math.Seq.{take-append_seam}
 use Rattle.std.proofs.lemmas.Bool.Decides.{nat_tests}
@@ -10,14 +10,14 @@ use Rattle.babel_capture.specs.declared.layout.Layout.TheVariants as layouts
 use Rattle.babel_capture.specs.declared.order.Order.{Order}
 use Rattle.babel_capture.specs.declared.order.Order.TheVariants as orders
 use Rattle.babel_capture.specs.Blocks.{BlockAt, AreBlocks, IsBlock, context_behind, octets_of, start}
-use Rattle.babel_capture.specs.Contents.{Captured, section, describes, holds, nothing, block_said, kept_len, typed_said}
+use Rattle.babel_capture.specs.Contents.{Captured, section, describes, holds, nothing, block_said, kept_len, section_said, typed_said}
 use Rattle.babel_capture.specs.Context.{Before}
-use Rattle.babel_capture.specs.Lengths.{block_len, pcap_order, is_section, section_order}
+use Rattle.babel_capture.specs.Lengths.{block_len, len_within, section_len, pcap_order, is_section, section_order}
 use Rattle.babel_capture.specs.Numbers.{number_at}
 use Rattle.babel_capture.specs.Options.{all_options}
 use Rattle.babel_capture.specs.PcapFiles.{written, held_in, IsReadAs}
-use Rattle.babel_capture.specs.PcapngFiles.{block_octets, SectionHeader, section_body, PcapngBlock, described, enhanced, old, simple, another, body_of}
-use Rattle.babel_capture.specs.PcapngFiles.{octets_in, section_octets, Fits, NoneOf, IsSection, IsPacket, Hold, interface_of, packet_at}
+use Rattle.babel_capture.specs.PcapngFiles.{block_octets, SectionHeader, section_body, PcapngBlock, described, enhanced, old, simple, another, begins, body_of}
+use Rattle.babel_capture.specs.PcapngFiles.{octets_in, octets_from, pcapng_octets, Fits, NoneOf, IsSection, IsPacket, Hold, interface_of, packet_at}
 use Rattle.babel_capture.specs.Reading.{HasStarted}
 use Rattle.babel_capture.proofs.PcapLaws.{written-back}
 
@@ -58,12 +58,12 @@ front_12 : (order : Order) (kind : ℕ) (body : List ℕ)
 front_12 orders.Big kind body = refl
 front_12 orders.Little kind body = refl
 
--- within a section, where these interfaces were described
-abbrev inside : Order → ℕ → List Interface → Before
-inside order limit interfaces = record { limit = limit; layout = layouts.Section order; first = 0; interfaces = interfaces }
+-- within a section, where these interfaces were described, its own from this one on
+abbrev inside : Order → ℕ → ℕ → List Interface → Before
+inside order limit first interfaces = record { limit = limit; layout = layouts.Section order; first = first; interfaces = interfaces }
 
-module _ (order : Order) (limit at : ℕ) (interfaces : List Interface) (kind : ℕ) (body : List ℕ) (kind_fits : kind < 2 ^ 32) (none : kind ≢ 0x0a0d0d0a) (is : Fits body) where
-  block_is : at + (12 + length body) ≤ limit → IsBlock (inside order limit interfaces) at (block_octets order kind body)
+module _ (order : Order) (limit at first : ℕ) (interfaces : List Interface) (kind : ℕ) (body : List ℕ) (kind_fits : kind < 2 ^ 32) (none : kind ≢ 0x0a0d0d0a) (is : Fits body) where
+  block_is : at + (12 + length body) ≤ limit → IsBlock (inside order limit first interfaces) at (block_octets order kind body)
   block_is there =
       let octets = block_octets order kind body in
       let total = 12 + length body in
@@ -77,20 +77,20 @@ module _ (order : Order) (limit at : ℕ) (interfaces : List Interface) (kind : 
       let most : nat_lt 16777216 total ≡ false = grind (arith, nat_tests) in
       let rest : total % 4 ≡ 0 = omega arith in
       let within : nat_lt (limit - at) total ≡ false = grind (arith, nat_tests) in
-      let len : block_len (inside order limit interfaces) at (take 12 octets) ≡ Ok total = rw (plain, said, least, most, rest, within) refl in
+      let len : block_len (inside order limit first interfaces) at (take 12 octets) ≡ Ok total = rw (plain, said, least, most, rest, within) refl in
       record { header = omega (arith, long); len = len ∙ ap Ok (sym long) }
 
-  typed : block_said (inside order limit interfaces) at (block_octets order kind body) ≡ typed_said (inside order limit interfaces) at order (block_octets order kind body) kind
+  typed : block_said (inside order limit first interfaces) at (block_octets order kind body) ≡ typed_said (inside order limit first interfaces) at order (block_octets order kind body) kind
   unfolding block_said
   typed =
       let octets = block_octets order kind body in
       let long = block_long order kind body in
       let few = is.few in
-      let first : number_at order 4 octets 0 ≡ kind = at_kind order kind body kind_fits in
+      let kind_is : number_at order 4 octets 0 ≡ kind = at_kind order kind body kind_fits in
       let no : (kind == 0x0a0d0d0a) ≡ false = grind (arith, nat_tests, none) in
       let last : number_at order 4 octets (length octets - 4) ≡ length octets = at_end order kind body (omega arith) ∙ sym long in
       let same : (length octets == length octets) ≡ true = grind (arith, nat_tests) in
-      rw (first, no, last, same) refl
+      rw (kind_is, no, last, same) refl
 
 -- ---- what each holds
 
@@ -195,10 +195,10 @@ sliced octets front rest place dropped =
     let count : place + length front - place ≡ length front = omega arith in
     ap (λ (n : ℕ). take n (drop place octets)) count ∙ ap (take (length front)) dropped ∙ take-append_seam front rest
 
-module _ (order : Order) (limit at : ℕ) (interfaces : List Interface) where
+module _ (order : Order) (limit at first : ℕ) (interfaces : List Interface) where
   described_says : (number reserved snap : ℕ) (options : List ℕ) → Fits (body_of order (described number reserved snap options)) → number < 2 ^ 16 → snap < 2 ^ 32 → length interfaces < 65536
       → (all_options order options).is_cut ≡ false
-      → block_said (inside order limit interfaces) at (octets_in order (described number reserved snap options)) ≡ Ok (describes (interface_of number snap) (all_options order options).name)
+      → block_said (inside order limit first interfaces) at (octets_in order (described number reserved snap options)) ≡ Ok (describes (interface_of number snap) (all_options order options).name)
   described_says number reserved snap options is number_fits snap_fits few whole =
       let octets = octets_in order (described number reserved snap options) in
       let body = body_of order (described number reserved snap options) in
@@ -208,28 +208,27 @@ module _ (order : Order) (limit at : ℕ) (interfaces : List Interface) where
       let least : nat_lt (length octets) 20 ≡ false = grind (arith, nat_tests, long) in
       let room : nat_le 65536 (length interfaces) ≡ false = grind (arith, nat_tests) in
       let read : slice_range octets 16 (16 + length options) ≡ options = sliced octets options (written order 4 (12 + length body)) 16 fields.2 in
-      typed order limit at interfaces 1 body (omega arith) (λ (e : 1 ≡ 0x0a0d0d0a). absurd (omega (arith, e))) is ∙ rw (least, room, end, read, whole, fields.0, fields.1) refl
+      typed order limit at first interfaces 1 body (omega arith) (λ (e : 1 ≡ 0x0a0d0d0a). absurd (omega (arith, e))) is ∙ rw (least, room, end, read, whole, fields.0, fields.1) refl
 
-  enhanced_says : (number high low whole : ℕ) (frame more : List ℕ) (packets later : List Captured) → Fits (body_of order (enhanced number high low whole frame more)) →
-      (is : IsPacket interfaces number whole frame packets later)
-      → block_said (inside order limit interfaces) at (octets_in order (enhanced number high low whole frame more)) ≡ Ok (holds (packet_at number is.link frame whole))
-  enhanced_says number high low whole frame more packets later fits is =
+  enhanced_says : (number high low whole : ℕ) (frame more : List ℕ) (packets later : List Captured) → Fits (body_of order (enhanced number high low whole frame more)) → number < 2 ^ 32
+      → (is : IsPacket interfaces (first + number) whole frame packets later)
+      → block_said (inside order limit first interfaces) at (octets_in order (enhanced number high low whole frame more)) ≡ Ok (holds (packet_at (first + number) is.link frame whole))
+  enhanced_says number high low whole frame more packets later fits number_fits is =
       let octets = octets_in order (enhanced number high low whole frame more) in
       let body = body_of order (enhanced number high low whole frame more) in
       let few = fits.few in
       let sized = enhanced_long order number high low whole frame more in
-      let fields = enhanced_fields order number high low whole frame more is.number_fits is.len_fits (omega arith) in
+      let fields = enhanced_fields order number high low whole frame more number_fits is.len_fits (omega arith) in
       let long : length octets ≡ 32 + length frame + length more = block_long order 6 body ∙ omega (arith, sized) in
       let least : nat_lt (length octets) 32 ≡ false = grind (arith, nat_tests, long) in
       let room : nat_lt (length octets) (32 + length frame) ≡ false = grind (arith, nat_tests, long) in
       let read : slice_range octets 28 (28 + length frame) ≡ frame = sliced octets frame (more ++ written order 4 (12 + length body)) 28 fields.3 in
-      let own : 0 + number ≡ number = omega arith in
-      typed order limit at interfaces 6 body (omega arith) (λ (e : 6 ≡ 0x0a0d0d0a). absurd (omega (arith, e))) fits
-      ∙ rw (least, fields.0, fields.1, room, read, fields.2, own, is.is_described, is.is_link) refl
+      typed order limit at first interfaces 6 body (omega arith) (λ (e : 6 ≡ 0x0a0d0d0a). absurd (omega (arith, e))) fits
+      ∙ rw (least, fields.0, fields.1, room, read, fields.2, is.is_described, is.is_link) refl
 
   old_says : (number drops high low whole : ℕ) (frame more : List ℕ) (packets later : List Captured) → Fits (body_of order (old number drops high low whole frame more))
-      → number < 2 ^ 16 → (is : IsPacket interfaces number whole frame packets later)
-      → block_said (inside order limit interfaces) at (octets_in order (old number drops high low whole frame more)) ≡ Ok (holds (packet_at number is.link frame whole))
+      → number < 2 ^ 16 → (is : IsPacket interfaces (first + number) whole frame packets later)
+      → block_said (inside order limit first interfaces) at (octets_in order (old number drops high low whole frame more)) ≡ Ok (holds (packet_at (first + number) is.link frame whole))
   old_says number drops high low whole frame more packets later fits short is =
       let octets = octets_in order (old number drops high low whole frame more) in
       let body = body_of order (old number drops high low whole frame more) in
@@ -240,13 +239,12 @@ module _ (order : Order) (limit at : ℕ) (interfaces : List Interface) where
       let least : nat_lt (length octets) 32 ≡ false = grind (arith, nat_tests, long) in
       let room : nat_lt (length octets) (32 + length frame) ≡ false = grind (arith, nat_tests, long) in
       let read : slice_range octets 28 (28 + length frame) ≡ frame = sliced octets frame (more ++ written order 4 (12 + length body)) 28 fields.3 in
-      let own : 0 + number ≡ number = omega arith in
-      typed order limit at interfaces 2 body (omega arith) (λ (e : 2 ≡ 0x0a0d0d0a). absurd (omega (arith, e))) fits
-      ∙ rw (least, fields.0, fields.1, room, read, fields.2, own, is.is_described, is.is_link) refl
+      typed order limit at first interfaces 2 body (omega arith) (λ (e : 2 ≡ 0x0a0d0d0a). absurd (omega (arith, e))) fits
+      ∙ rw (least, fields.0, fields.1, room, read, fields.2, is.is_described, is.is_link) refl
 
-  simple_says : (whole : ℕ) (frame padding : List ℕ) (packets later : List Captured) → Fits (body_of order (simple whole frame padding)) → (is : IsPacket interfaces 0 whole frame packets later)
+  simple_says : (whole : ℕ) (frame padding : List ℕ) (packets later : List Captured) → Fits (body_of order (simple whole frame padding)) → (is : IsPacket interfaces first whole frame packets later)
       → length frame ≡ kept_len is.interface.snap_len whole
-      → block_said (inside order limit interfaces) at (octets_in order (simple whole frame padding)) ≡ Ok (holds (packet_at 0 is.link frame whole))
+      → block_said (inside order limit first interfaces) at (octets_in order (simple whole frame padding)) ≡ Ok (holds (packet_at first is.link frame whole))
   simple_says whole frame padding packets later fits is kept =
       let octets = octets_in order (simple whole frame padding) in
       let body = body_of order (simple whole frame padding) in
@@ -256,106 +254,16 @@ module _ (order : Order) (limit at : ℕ) (interfaces : List Interface) where
       let least : nat_lt (length octets) 16 ≡ false = grind (arith, nat_tests, long) in
       let room : nat_lt (length octets) (16 + length frame) ≡ false = grind (arith, nat_tests, long) in
       let read : slice_range octets 12 (12 + length frame) ≡ frame = sliced octets frame (padding ++ written order 4 (12 + length body)) 12 fields.1 in
-      typed order limit at interfaces 3 body (omega arith) (λ (e : 3 ≡ 0x0a0d0d0a). absurd (omega (arith, e))) fits
+      typed order limit at first interfaces 3 body (omega arith) (λ (e : 3 ≡ 0x0a0d0d0a). absurd (omega (arith, e))) fits
       ∙ rw (least, is.is_described, fields.0, sym kept, room, read, is.is_described, is.is_link) refl
 
-  another_says : (kind : ℕ) (body : List ℕ) → Fits body → kind < 2 ^ 32 → NoneOf kind → block_said (inside order limit interfaces) at (octets_in order (another kind body)) ≡ Ok nothing
+  another_says : (kind : ℕ) (body : List ℕ) → Fits body → kind < 2 ^ 32 → NoneOf kind → block_said (inside order limit first interfaces) at (octets_in order (another kind body)) ≡ Ok nothing
   another_says kind body fits kind_fits (no_section_type, no_description, no_old, no_simple, no_enhanced) =
       let one : (kind == 1) ≡ false = grind (arith, nat_tests, no_description) in
       let two : (kind == 2) ≡ false = grind (arith, nat_tests, no_old) in
       let three : (kind == 3) ≡ false = grind (arith, nat_tests, no_simple) in
       let six : (kind == 6) ≡ false = grind (arith, nat_tests, no_enhanced) in
-      typed order limit at interfaces kind body kind_fits no_section_type fits ∙ rw (one, two, three, six) refl
-
--- ---- blocks
-
--- octets that are blocks within a section, and hold these packets
-record Laid (order : Order) (limit at : ℕ) (interfaces : List Interface) (octets : List ℕ) (packets : List Captured) : Type 0 where
-  blocks : List BlockAt
-  whole : octets ≡ octets_of blocks
-  are_blocks : AreBlocks (inside order limit interfaces) at blocks
-  started : HasStarted (context_behind (inside order limit interfaces) blocks)
-  held : flat_map (λ (block : BlockAt). held_in block.content) blocks ≡ packets
-
-module _ (order : Order) (limit at : ℕ) (interfaces : List Interface) (octets rest : List ℕ) where
-  -- with a packet before them, or a block that holds none
-  with_packet : (packet : Captured) (packets later : List Captured) → IsBlock (inside order limit interfaces) at octets → block_said (inside order limit interfaces) at octets ≡ Ok (holds packet)
-      → packets ≡ packet ∷ later → Laid order limit (at + length octets) interfaces rest later → Laid order limit at interfaces (octets ++ rest) packets
-  with_packet packet packets later is says are laid = record {
-    blocks = record { at = at; octets = octets; content = holds packet } ∷ laid.blocks;
-    whole = ap (λ (r : List ℕ). octets ++ r) laid.whole;
-    are_blocks = (refl, is, says, laid.are_blocks);
-    started = laid.started;
-    held = ap (λ (l : List Captured). packet ∷ l) laid.held ∙ sym are;
-  }
-
-  with_another : (packets : List Captured) → IsBlock (inside order limit interfaces) at octets → block_said (inside order limit interfaces) at octets ≡ Ok nothing
-      → Laid order limit (at + length octets) interfaces rest packets → Laid order limit at interfaces (octets ++ rest) packets
-  with_another packets is says laid = record {
-    blocks = record { at = at; octets = octets; content = nothing } ∷ laid.blocks;
-    whole = ap (λ (r : List ℕ). octets ++ r) laid.whole;
-    are_blocks = (refl, is, says, laid.are_blocks);
-    started = laid.started;
-    held = laid.held;
-  }
-
-  with_interface : (interface : Interface) (name : List ℕ) (packets : List Captured) → IsBlock (inside order limit interfaces) at octets
-      → block_said (inside order limit interfaces) at octets ≡ Ok (describes interface name)
-      → Laid order limit (at + length octets) (interfaces ++ interface ∷ []) rest packets → Laid order limit at interfaces (octets ++ rest) packets
-  with_interface interface name packets is says laid = record {
-    blocks = record { at = at; octets = octets; content = describes interface name } ∷ laid.blocks;
-    whole = ap (λ (r : List ℕ). octets ++ r) laid.whole;
-    are_blocks = (refl, is, says, laid.are_blocks);
-    started = laid.started;
-    held = laid.held;
-  }
-
-blocks_laid : (order : Order) (limit at : ℕ) (interfaces : List Interface) (blocks : List PcapngBlock) (packets : List Captured) → Hold order interfaces blocks packets
-    → at + length (flat_map (octets_in order) blocks) ≤ limit → Laid order limit at interfaces (flat_map (octets_in order) blocks) packets
-blocks_laid order limit at interfaces [] packets none fits = record { blocks = []; whole = refl; are_blocks = tt; started = tt; held = sym none }
-blocks_laid order limit at interfaces (described number reserved snap options ∷ blocks) packets (is, number_fits, snap_fits, few, whole, hold) fits =
-    let body = body_of order (described number reserved snap options) in
-    let octets = octets_in order (described number reserved snap options) in
-    let rest = flat_map (octets_in order) blocks in
-    let count = length-append octets rest in
-    let block = block_is order limit at interfaces 1 body (omega arith) (λ (e : 1 ≡ 0x0a0d0d0a). absurd (omega (arith, e))) is (omega (arith, count, block_long order 1 body)) in
-    with_interface order limit at interfaces octets rest (interface_of number snap) (all_options order options).name packets block
-    (described_says order limit at interfaces number reserved snap options is number_fits snap_fits few whole)
-    (blocks_laid order limit (at + length octets) (interfaces ++ interface_of number snap ∷ []) blocks packets hold (omega (arith, count)))
-blocks_laid order limit at interfaces (enhanced number high low whole frame more ∷ blocks) packets (is, (later, packet, hold)) fits =
-    let body = body_of order (enhanced number high low whole frame more) in
-    let octets = octets_in order (enhanced number high low whole frame more) in
-    let rest = flat_map (octets_in order) blocks in
-    let count = length-append octets rest in
-    let block = block_is order limit at interfaces 6 body (omega arith) (λ (e : 6 ≡ 0x0a0d0d0a). absurd (omega (arith, e))) is (omega (arith, count, block_long order 6 body)) in
-    with_packet order limit at interfaces octets rest (packet_at number packet.link frame whole) packets later block
-    (enhanced_says order limit at interfaces number high low whole frame more packets later is packet) packet.is_packet
-    (blocks_laid order limit (at + length octets) interfaces blocks later hold (omega (arith, count)))
-blocks_laid order limit at interfaces (old number drops high low whole frame more ∷ blocks) packets (is, short, (later, packet, hold)) fits =
-    let body = body_of order (old number drops high low whole frame more) in
-    let octets = octets_in order (old number drops high low whole frame more) in
-    let rest = flat_map (octets_in order) blocks in
-    let count = length-append octets rest in
-    let block = block_is order limit at interfaces 2 body (omega arith) (λ (e : 2 ≡ 0x0a0d0d0a). absurd (omega (arith, e))) is (omega (arith, count, block_long order 2 body)) in
-    with_packet order limit at interfaces octets rest (packet_at number packet.link frame whole) packets later block
-    (old_says order limit at interfaces number drops high low whole frame more packets later is short packet) packet.is_packet
-    (blocks_laid order limit (at + length octets) interfaces blocks later hold (omega (arith, count)))
-blocks_laid order limit at interfaces (simple whole frame padding ∷ blocks) packets (is, (later, packet, kept, hold)) fits =
-    let body = body_of order (simple whole frame padding) in
-    let octets = octets_in order (simple whole frame padding) in
-    let rest = flat_map (octets_in order) blocks in
-    let count = length-append octets rest in
-    let block = block_is order limit at interfaces 3 body (omega arith) (λ (e : 3 ≡ 0x0a0d0d0a). absurd (omega (arith, e))) is (omega (arith, count, block_long order 3 body)) in
-    with_packet order limit at interfaces octets rest (packet_at 0 packet.link frame whole) packets later block
-    (simple_says order limit at interfaces whole frame padding packets later is packet kept) packet.is_packet
-    (blocks_laid order limit (at + length octets) interfaces blocks later hold (omega (arith, count)))
-blocks_laid order limit at interfaces (another kind body ∷ blocks) packets (is, kind_fits, none, hold) fits =
-    let octets = octets_in order (another kind body) in
-    let rest = flat_map (octets_in order) blocks in
-    let count = length-append octets rest in
-    let block = block_is order limit at interfaces kind body kind_fits none.0 is (omega (arith, count, block_long order kind body)) in
-    with_another order limit at interfaces octets rest packets block (another_says order limit at interfaces kind body is kind_fits none)
-    (blocks_laid order limit (at + length octets) interfaces blocks packets hold (omega (arith, count)))
+      typed order limit at first interfaces kind body kind_fits no_section_type fits ∙ rw (one, two, three, six) refl
 
 -- ---- the header of a section
 
@@ -379,6 +287,19 @@ front_told : (order : Order) (head : SectionHeader)
 unfolding number_at
 front_told orders.Big head = (refl, refl, (λ (at : ℕ). refl))
 front_told orders.Little head = (refl, refl, (λ (at : ℕ). refl))
+
+later_told : (order : Order) (head : SectionHeader) → (is_section (take 12 (header order head)) ≡ true) × ((at : ℕ) → section_order at (take 12 (header order head)) ≡ Ok order)
+unfolding number_at
+later_told orders.Big head = (refl, (λ (at : ℕ). refl))
+later_told orders.Little head = (refl, (λ (at : ℕ). refl))
+
+-- its type is one number in either order
+kind_told : (before order : Order) (head : SectionHeader) → number_at before 4 (header order head) 0 ≡ 0x0a0d0d0a
+unfolding number_at
+kind_told orders.Big orders.Big head = refl
+kind_told orders.Big orders.Little head = refl
+kind_told orders.Little orders.Big head = refl
+kind_told orders.Little orders.Little head = refl
 
 front_total : (order : Order) (head : SectionHeader) → 12 + length (section_body order head) < 2 ^ 32 → number_at order 4 (take 24 (header order head)) 4 ≡ 12 + length (section_body order head)
 front_total orders.Big head fits =
@@ -408,57 +329,194 @@ minor_read : (minor : ℕ) → (minor ≡ 0) ⊎ (minor ≡ 2) → (minor == 0 |
 minor_read minor (inl none) = rw none refl
 minor_read minor (inr two) = rw two refl
 
-module _ (order : Order) (head : SectionHeader) (limit : ℕ) (is : IsSection order head) where
-  header_is : length (header order head) ≤ limit → IsBlock (start limit) 0 (header order head)
-  header_is there =
-      let octets = header order head in
-      let total = 12 + length (section_body order head) in
-      let long = block_long order 0x0a0d0d0a (section_body order head) in
-      let sized = section_long order head in
-      let few = is.fits.few in
-      let words = is.fits.words in
-      let len_sized = is.len_sized in
-      let told = front_told order head in
-      let first = told.0 in
-      let plain = told.1 in
-      let ordered = told.2 0 in
-      let said = front_total order head (omega arith) in
-      let least : nat_lt total 28 ≡ false = grind (arith, nat_tests) in
-      let most : nat_lt 16777216 total ≡ false = grind (arith, nat_tests) in
-      let rest : total % 4 ≡ 0 = omega arith in
-      let within : nat_lt (limit - 0) total ≡ false = grind (arith, nat_tests) in
-      let len : block_len (start limit) 0 (take 24 octets) ≡ Ok total = rw (first, plain, ordered, said, least, most, rest, within) refl in
-      record { header = omega (arith, long); len = len ∙ ap Ok (sym long) }
-
-  header_says : block_said (start limit) 0 (header order head) ≡ Ok (section order)
-  unfolding block_said
-  header_says =
+module _ (order : Order) (head : SectionHeader) (is : IsSection order head) where
+  section_says : (at : ℕ) → section_said at (header order head) ≡ Ok (section order)
+  section_says at =
       let octets = header order head in
       let long = block_long order 0x0a0d0d0a (section_body order head) in
       let sized = section_long order head in
       let few = is.fits.few in
       let len_sized = is.len_sized in
       let told = header_told order head in
-      let first = told.0 in
-      let ordered = told.2 0 in
+      let ordered = told.2 at in
       let last : number_at order 4 octets (length octets - 4) ≡ length octets = at_end order 0x0a0d0d0a (section_body order head) (omega arith) ∙ sym long in
       let same : (length octets == length octets) ≡ true = grind (arith, nat_tests) in
       let least : nat_lt (length octets) 28 ≡ false = grind (arith, nat_tests, long) in
       let numbers = version order head (minor_fits head.minor is.is_minor) in
       let minor = minor_read head.minor is.is_minor in
-      rw (first, ordered, last, same, least, numbers.0, numbers.1, minor) refl
+      rw (ordered, last, same, least, numbers.0, numbers.1, minor) refl
 
-pub pcapng_is_read : (limit : ℕ) (order : Order) (head : SectionHeader) (blocks : List PcapngBlock) (packets : List Captured) → IsSection order head → Hold order [] blocks packets
-    → length (section_octets order head blocks) ≤ limit → IsReadAs limit (section_octets order head blocks) packets
+  -- by its header, in a file's first block and in a later one
+  section_total : (limit at : ℕ) (front : List ℕ) → section_order at front ≡ Ok order → number_at order 4 front 4 ≡ 12 + length (section_body order head) → at + length (header order head) ≤ limit
+      → len_within limit at (section_len at front) ≡ Ok (length (header order head))
+  section_total limit at front ordered said there =
+      let total = 12 + length (section_body order head) in
+      let long = block_long order 0x0a0d0d0a (section_body order head) in
+      let sized = section_long order head in
+      let few = is.fits.few in
+      let words = is.fits.words in
+      let len_sized = is.len_sized in
+      let least : nat_lt total 28 ≡ false = grind (arith, nat_tests) in
+      let most : nat_lt 16777216 total ≡ false = grind (arith, nat_tests) in
+      let rest : total % 4 ≡ 0 = omega arith in
+      let within : nat_lt (limit - at) total ≡ false = grind (arith, nat_tests, long) in
+      let len : len_within limit at (section_len at front) ≡ Ok total = rw (ordered, said, least, most, rest, within) refl in
+      len ∙ ap Ok (sym long)
+
+  small : 12 + length (section_body order head) < 2 ^ 32
+  small = (let few = is.fits.few in omega arith)
+
+  header_is : (limit : ℕ) → length (header order head) ≤ limit → IsBlock (start limit) 0 (header order head)
+  header_is limit there =
+      let long = block_long order 0x0a0d0d0a (section_body order head) in
+      let sized = section_long order head in
+      let len_sized = is.len_sized in
+      let told = front_told order head in
+      let none = told.0 in
+      let plain = told.1 in
+      let total = section_total limit 0 (take 24 (header order head)) (told.2 0) (front_total order head small) (omega arith) in
+      record { header = omega (arith, long); len = rw (none, plain) total }
+
+  header_says : (limit : ℕ) → block_said (start limit) 0 (header order head) ≡ Ok (section order)
+  unfolding block_said
+  header_says limit =
+      let none = (header_told order head).0 in
+      rw none (section_says 0)
+
+  module _ (before : Order) (limit at first : ℕ) (interfaces : List Interface) where
+    later_is : at + length (header order head) ≤ limit → IsBlock (inside before limit first interfaces) at (header order head)
+    later_is there =
+        let long = block_long order 0x0a0d0d0a (section_body order head) in
+        let told = later_told order head in
+        let plain = told.0 in
+        let total = section_total limit at (take 12 (header order head)) (told.1 at) (at_total order 0x0a0d0d0a (section_body order head) small) there in
+        record { header = omega (arith, long); len = rw plain total }
+
+    later_says : block_said (inside before limit first interfaces) at (header order head) ≡ Ok (section order)
+    unfolding block_said
+    later_says =
+        let kind = kind_told before order head in
+        rw kind (section_says at)
+
+-- ---- blocks
+
+-- octets that are blocks within a section, and hold these packets
+record Laid (order : Order) (limit at first : ℕ) (interfaces : List Interface) (octets : List ℕ) (packets : List Captured) : Type 0 where
+  blocks : List BlockAt
+  whole : octets ≡ octets_of blocks
+  are_blocks : AreBlocks (inside order limit first interfaces) at blocks
+  started : HasStarted (context_behind (inside order limit first interfaces) blocks)
+  held : flat_map (λ (block : BlockAt). held_in block.content) blocks ≡ packets
+
+module _ (order : Order) (limit at first : ℕ) (interfaces : List Interface) (octets rest : List ℕ) where
+  -- with a packet before them, or a block that holds none
+  with_packet : (packet : Captured) (packets later : List Captured) → IsBlock (inside order limit first interfaces) at octets → block_said (inside order limit first interfaces) at octets ≡ Ok (holds packet)
+      → packets ≡ packet ∷ later → Laid order limit (at + length octets) first interfaces rest later → Laid order limit at first interfaces (octets ++ rest) packets
+  with_packet packet packets later is says are laid = record {
+    blocks = record { at = at; octets = octets; content = holds packet } ∷ laid.blocks;
+    whole = ap (λ (r : List ℕ). octets ++ r) laid.whole;
+    are_blocks = (refl, is, says, laid.are_blocks);
+    started = laid.started;
+    held = ap (λ (l : List Captured). packet ∷ l) laid.held ∙ sym are;
+  }
+
+  with_another : (packets : List Captured) → IsBlock (inside order limit first interfaces) at octets → block_said (inside order limit first interfaces) at octets ≡ Ok nothing
+      → Laid order limit (at + length octets) first interfaces rest packets → Laid order limit at first interfaces (octets ++ rest) packets
+  with_another packets is says laid = record {
+    blocks = record { at = at; octets = octets; content = nothing } ∷ laid.blocks;
+    whole = ap (λ (r : List ℕ). octets ++ r) laid.whole;
+    are_blocks = (refl, is, says, laid.are_blocks);
+    started = laid.started;
+    held = laid.held;
+  }
+
+  with_interface : (interface : Interface) (name : List ℕ) (packets : List Captured) → IsBlock (inside order limit first interfaces) at octets
+      → block_said (inside order limit first interfaces) at octets ≡ Ok (describes interface name)
+      → Laid order limit (at + length octets) first (interfaces ++ interface ∷ []) rest packets → Laid order limit at first interfaces (octets ++ rest) packets
+  with_interface interface name packets is says laid = record {
+    blocks = record { at = at; octets = octets; content = describes interface name } ∷ laid.blocks;
+    whole = ap (λ (r : List ℕ). octets ++ r) laid.whole;
+    are_blocks = (refl, is, says, laid.are_blocks);
+    started = laid.started;
+    held = laid.held;
+  }
+
+-- with the header of a section before them
+with_section : (order next : Order) (limit at first : ℕ) (interfaces : List Interface) (octets rest : List ℕ) (packets : List Captured) → IsBlock (inside order limit first interfaces) at octets
+    → block_said (inside order limit first interfaces) at octets ≡ Ok (section next)
+    → Laid next limit (at + length octets) (length interfaces) interfaces rest packets → Laid order limit at first interfaces (octets ++ rest) packets
+with_section order next limit at first interfaces octets rest packets is says laid = record {
+  blocks = record { at = at; octets = octets; content = section next } ∷ laid.blocks;
+  whole = ap (λ (r : List ℕ). octets ++ r) laid.whole;
+  are_blocks = (refl, is, says, laid.are_blocks);
+  started = laid.started;
+  held = laid.held;
+}
+
+blocks_laid : (order : Order) (limit at first : ℕ) (interfaces : List Interface) (blocks : List PcapngBlock) (packets : List Captured) → Hold order first interfaces blocks packets
+    → at + length (octets_from order blocks) ≤ limit → Laid order limit at first interfaces (octets_from order blocks) packets
+blocks_laid order limit at first interfaces [] packets none fits = record { blocks = []; whole = refl; are_blocks = tt; started = tt; held = sym none }
+blocks_laid order limit at first interfaces (described number reserved snap options ∷ blocks) packets (is, number_fits, snap_fits, few, whole, hold) fits =
+    let body = body_of order (described number reserved snap options) in
+    let octets = octets_in order (described number reserved snap options) in
+    let rest = octets_from order blocks in
+    let count = length-append octets rest in
+    let block = block_is order limit at first interfaces 1 body (omega arith) (λ (e : 1 ≡ 0x0a0d0d0a). absurd (omega (arith, e))) is (omega (arith, count, block_long order 1 body)) in
+    with_interface order limit at first interfaces octets rest (interface_of number snap) (all_options order options).name packets block
+    (described_says order limit at first interfaces number reserved snap options is number_fits snap_fits few whole)
+    (blocks_laid order limit (at + length octets) first (interfaces ++ interface_of number snap ∷ []) blocks packets hold (omega (arith, count)))
+blocks_laid order limit at first interfaces (enhanced number high low whole frame more ∷ blocks) packets (is, number_fits, (later, packet, hold)) fits =
+    let body = body_of order (enhanced number high low whole frame more) in
+    let octets = octets_in order (enhanced number high low whole frame more) in
+    let rest = octets_from order blocks in
+    let count = length-append octets rest in
+    let block = block_is order limit at first interfaces 6 body (omega arith) (λ (e : 6 ≡ 0x0a0d0d0a). absurd (omega (arith, e))) is (omega (arith, count, block_long order 6 body)) in
+    with_packet order limit at first interfaces octets rest (packet_at (first + number) packet.link frame whole) packets later block
+    (enhanced_says order limit at first interfaces number high low whole frame more packets later is number_fits packet) packet.is_packet
+    (blocks_laid order limit (at + length octets) first interfaces blocks later hold (omega (arith, count)))
+blocks_laid order limit at first interfaces (old number drops high low whole frame more ∷ blocks) packets (is, short, (later, packet, hold)) fits =
+    let body = body_of order (old number drops high low whole frame more) in
+    let octets = octets_in order (old number drops high low whole frame more) in
+    let rest = octets_from order blocks in
+    let count = length-append octets rest in
+    let block = block_is order limit at first interfaces 2 body (omega arith) (λ (e : 2 ≡ 0x0a0d0d0a). absurd (omega (arith, e))) is (omega (arith, count, block_long order 2 body)) in
+    with_packet order limit at first interfaces octets rest (packet_at (first + number) packet.link frame whole) packets later block
+    (old_says order limit at first interfaces number drops high low whole frame more packets later is short packet) packet.is_packet
+    (blocks_laid order limit (at + length octets) first interfaces blocks later hold (omega (arith, count)))
+blocks_laid order limit at first interfaces (simple whole frame padding ∷ blocks) packets (is, (later, packet, kept, hold)) fits =
+    let body = body_of order (simple whole frame padding) in
+    let octets = octets_in order (simple whole frame padding) in
+    let rest = octets_from order blocks in
+    let count = length-append octets rest in
+    let block = block_is order limit at first interfaces 3 body (omega arith) (λ (e : 3 ≡ 0x0a0d0d0a). absurd (omega (arith, e))) is (omega (arith, count, block_long order 3 body)) in
+    with_packet order limit at first interfaces octets rest (packet_at first packet.link frame whole) packets later block
+    (simple_says order limit at first interfaces whole frame padding packets later is packet kept) packet.is_packet
+    (blocks_laid order limit (at + length octets) first interfaces blocks later hold (omega (arith, count)))
+blocks_laid order limit at first interfaces (another kind body ∷ blocks) packets (is, kind_fits, none, hold) fits =
+    let octets = octets_in order (another kind body) in
+    let rest = octets_from order blocks in
+    let count = length-append octets rest in
+    let block = block_is order limit at first interfaces kind body kind_fits none.0 is (omega (arith, count, block_long order kind body)) in
+    with_another order limit at first interfaces octets rest packets block (another_says order limit at first interfaces kind body is kind_fits none)
+    (blocks_laid order limit (at + length octets) first interfaces blocks packets hold (omega (arith, count)))
+blocks_laid order limit at first interfaces (begins next head ∷ blocks) packets (is, hold) fits =
+    let octets = header next head in
+    let rest = octets_from next blocks in
+    let count = length-append octets rest in
+    with_section order next limit at first interfaces octets rest packets (later_is next head is order limit at first interfaces (omega (arith, count))) (later_says next head is order limit at first interfaces)
+    (blocks_laid next limit (at + length octets) (length interfaces) interfaces blocks packets hold (omega (arith, count)))
+
+pub pcapng_is_read : (limit : ℕ) (order : Order) (head : SectionHeader) (blocks : List PcapngBlock) (packets : List Captured) → IsSection order head → Hold order 0 [] blocks packets
+    → length (pcapng_octets order head blocks) ≤ limit → IsReadAs limit (pcapng_octets order head blocks) packets
 pcapng_is_read limit order head blocks packets is hold there =
-    let first = header order head in
-    let later = flat_map (octets_in order) blocks in
-    let count = length-append first later in
-    let laid = blocks_laid order limit (0 + length first) [] blocks packets hold (omega (arith, count)) in
+    let octets = header order head in
+    let later = octets_from order blocks in
+    let count = length-append octets later in
+    let laid = blocks_laid order limit (0 + length octets) 0 [] blocks packets hold (omega (arith, count)) in
     record {
-      blocks = record { at = 0; octets = first; content = section order } ∷ laid.blocks;
-      whole = ap (λ (rest : List ℕ). first ++ rest) laid.whole;
-      are_blocks = (refl, header_is order head limit is (omega (arith, count)), header_says order head limit is, laid.are_blocks);
+      blocks = record { at = 0; octets = octets; content = section order } ∷ laid.blocks;
+      whole = ap (λ (rest : List ℕ). octets ++ rest) laid.whole;
+      are_blocks = (refl, header_is order head is limit (omega (arith, count)), header_says order head is limit, laid.are_blocks);
       started = laid.started;
       held = laid.held;
     }

@@ -10,9 +10,9 @@ use Rattle.babel_capture.specs.Blocks.{names_of, BlockAt, BeginsBlock, HasHeader
 use Rattle.babel_capture.specs.Contents.{Content, block_said, context_after, names_in}
 use Rattle.babel_capture.specs.Context.{Before}
 use Rattle.babel_capture.specs.Counts.{Made, Counts}
-use Rattle.babel_capture.specs.Gathering.{AreMade, AreTaken, Gathering, IsGathered}
+use Rattle.babel_capture.specs.Gathering.{AreMade, AreTaken, BlockNeedsMemory, Gathering, IsGathered, with_taken}
 use Rattle.babel_capture.specs.Lengths.{block_len}
-use Rattle.babel_capture.specs.Reading.{Progress, LeadTo, BlockFails, StopsAt, Stops}
+use Rattle.babel_capture.specs.Reading.{Account, Progress, LeadTo, BlockFails, NeedsMemory, NeedsMemoryAt, StopsAt, Stops}
 use Rattle.babel_capture.specs.Tallies.{Senders, senders_of}
 use Rattle.babel_capture.proofs.NumberLaws.{rest_is}
 
@@ -62,48 +62,69 @@ packets-are : (sightings : List Sighting) (gathering : Gathering) → IsGathered
 packets-are sightings gathering gathered =
     ap (λ (c : Counts). c.packets) gathered.report ∙ length-made gathering.wanted sightings gathered.made gathered.taken.are_made
 
-pub lead-push : (limit : ℕ) (read block : List ℕ) (old new : Progress) (content : Content) → IsBlock old.context old.at block → block_said old.context old.at block ≡ Ok content
+pub lead-push : (account : Account) (read block : List ℕ) (old new : Progress) (content : Content) → IsBlock old.context old.at block → block_said old.context old.at block ≡ Ok content
     → new.context ≡ context_after old.context content → new.at ≡ old.at + length block
-    → ((before : List Sighting) → IsGathered before old.gathering → IsGathered (before ++ sightings_in (old.gathering.report.packets + 1) old.at content) new.gathering)
+    → ((taken : List ℕ) (before : List Sighting) → IsGathered before (with_taken taken old.gathering) → IsGathered (before ++ sightings_in (old.gathering.report.packets + 1) old.at content) (with_taken taken new.gathering))
     → new.gathering.names ≡ old.gathering.names ++ names_in content
-    → LeadTo limit read old → LeadTo limit (read ++ block) new
-lead-push limit read block old new content is_block said context place gathers names lead =
+    → LeadTo account read old → LeadTo account (read ++ block) new
+lead-push account read block old new content is_block said context place gathers names lead =
     let b : BlockAt = record { at = old.at; octets = block; content = content } in
-    let count : old.gathering.report.packets ≡ length (sightings_of lead.blocks) = packets-are (sightings_of lead.blocks) old.gathering lead.gathered in
+    let count : old.gathering.report.packets ≡ length (sightings_of lead.blocks) = packets-are (sightings_of lead.blocks) (with_taken account.taken old.gathering) lead.gathered in
     let number : old.gathering.report.packets + 1 ≡ 0 + length (sightings_of lead.blocks) + 1 = omega (arith, count) in
     record {
       blocks = lead.blocks ++ b ∷ [];
       whole = ap (λ (t : List ℕ). t ++ block) lead.whole ∙ sym (octets-push lead.blocks b);
-      are_blocks = blocks-push (start limit) 0 lead.blocks b lead.are_blocks (omega (arith, lead.place, ap length lead.whole))
+      are_blocks = blocks-push (start account.limit) 0 lead.blocks b lead.are_blocks (omega (arith, lead.place, ap length lead.whole))
           (subst (λ (c : Before). IsBlock c old.at block) lead.context is_block)
           (subst (λ (c : Before). block_said c old.at block ≡ Ok content) lead.context said);
       place = omega (arith, place, lead.place, length-append read block);
-      context = context ∙ ap (λ (c : Before). context_after c content) lead.context ∙ sym (context-push (start limit) lead.blocks b);
-      gathered = subst (λ (s : List Sighting). IsGathered s new.gathering)
+      context = context ∙ ap (λ (c : Before). context_after c content) lead.context ∙ sym (context-push (start account.limit) lead.blocks b);
+      gathered = subst (λ (s : List Sighting). IsGathered s (with_taken account.taken new.gathering))
           (ap (λ (n : ℕ). sightings_of lead.blocks ++ sightings_in n old.at content) number ∙ sym (sightings-push 0 lead.blocks b))
-          (gathers (sightings_of lead.blocks) lead.gathered);
+          (gathers account.taken (sightings_of lead.blocks) lead.gathered);
       names = names ∙ ap (λ (ns : List (List ℕ)). ns ++ names_in content) lead.names ∙ sym (names-push lead.blocks b);
     }
 
 -- ---- what stops
 
-pub stops-behind : (limit : ℕ) (wanted : Wanted) (read octets : List ℕ) (used : ℕ) (now : Progress) (fault : Fault) → now.gathering.wanted ≡ wanted
-    → LeadTo limit (read ++ take used octets) now → StopsAt now.gathering.wanted now.gathering.senders now.context now.at (drop used octets) fault → Stops limit wanted (read ++ octets) fault
-stops-behind limit wanted read octets used now fault same lead stops =
-    let place : now.at ≡ length (octets_of lead.blocks) = lead.place ∙ ap length lead.whole in
-    record {
-      blocks = lead.blocks;
-      rest = drop used octets;
-      made = lead.gathered.made;
-      whole = ap (λ (t : List ℕ). read ++ t) (sym (take-append-drop used octets)) ∙ sym (append_assoc read (take used octets) (drop used octets))
-          ∙ ap (λ (t : List ℕ). t ++ drop used octets) lead.whole;
-      are_blocks = lead.are_blocks;
-      taken = subst (λ (w : Wanted). AreTaken w (sightings_of lead.blocks) lead.gathered.made) same lead.gathered.taken;
-      stops = subst (λ (w : Wanted). StopsAt w (senders_of lead.gathered.made) (context_behind (start limit) lead.blocks) (length (octets_of lead.blocks)) (drop used octets) fault) same
-          (subst (λ (s : Senders). StopsAt now.gathering.wanted s (context_behind (start limit) lead.blocks) (length (octets_of lead.blocks)) (drop used octets) fault) lead.gathered.senders
-          (subst (λ (n : ℕ). StopsAt now.gathering.wanted now.gathering.senders (context_behind (start limit) lead.blocks) n (drop used octets) fault) place
-          (subst (λ (c : Before). StopsAt now.gathering.wanted now.gathering.senders c now.at (drop used octets) fault) lead.context stops)));
-    }
+-- what holds where octets led holds where their blocks end
+where-led : (P : Senders → Before → ℕ → Type 0) (account : Account) (read : List ℕ) (now : Progress) (lead : LeadTo account read now) → P now.gathering.senders now.context now.at
+    → P (senders_of lead.gathered.made) (context_behind (start account.limit) lead.blocks) (length (octets_of lead.blocks))
+where-led P account read now lead holds =
+    subst (P (senders_of lead.gathered.made) (context_behind (start account.limit) lead.blocks)) (lead.place ∙ ap length lead.whole)
+    (subst (λ (c : Before). P (senders_of lead.gathered.made) c now.at) lead.context (subst (λ (s : Senders). P s now.context now.at) lead.gathered.senders holds))
+
+module _ (account : Account) (wanted : Wanted) (read octets : List ℕ) (used : ℕ) (now : Progress) (same : now.gathering.wanted ≡ wanted) (lead : LeadTo account (read ++ take used octets) now) where
+  whole : read ++ octets ≡ octets_of lead.blocks ++ drop used octets
+  whole = ap (λ (t : List ℕ). read ++ t) (sym (take-append-drop used octets)) ∙ sym (append_assoc read (take used octets) (drop used octets)) ∙ ap (λ (t : List ℕ). t ++ drop used octets) lead.whole
+
+  are_taken : AreTaken wanted (sightings_of lead.blocks) lead.gathered.made
+  are_taken = subst (λ (w : Wanted). AreTaken w (sightings_of lead.blocks) lead.gathered.made) same lead.gathered.taken
+
+  pub stops-behind : (fault : Fault) → StopsAt now.gathering.wanted now.gathering.senders now.context now.at (drop used octets) fault → Stops account.limit wanted (read ++ octets) fault
+  stops-behind fault stops = record {
+    blocks = lead.blocks;
+    rest = drop used octets;
+    made = lead.gathered.made;
+    whole = whole;
+    are_blocks = lead.are_blocks;
+    taken = are_taken;
+    stops = where-led (λ (s : Senders) (c : Before) (n : ℕ). StopsAt wanted s c n (drop used octets) fault) account (read ++ take used octets) now lead
+        (subst (λ (w : Wanted). StopsAt w now.gathering.senders now.context now.at (drop used octets) fault) same stops);
+  }
+
+  pub needs-behind : NeedsMemoryAt now.gathering.wanted now.gathering.senders now.context now.at (drop used octets) → NeedsMemory account.limit wanted read octets
+  needs-behind needs = record {
+    blocks = lead.blocks;
+    rest = drop used octets;
+    made = lead.gathered.made;
+    whole = whole;
+    are_blocks = lead.are_blocks;
+    taken = are_taken;
+    in_piece = omega (arith, ap length lead.whole, length-append read (take used octets));
+    needs = where-led (λ (s : Senders) (c : Before) (n : ℕ). NeedsMemoryAt wanted s c n (drop used octets)) account (read ++ take used octets) now lead
+        (subst (λ (w : Wanted). NeedsMemoryAt w now.gathering.senders now.context now.at (drop used octets)) same needs);
+  }
 
 -- ---- as the loop meets them
 
@@ -119,24 +140,31 @@ pub taken-more : (before : Before) (at used : ℕ) (octets block : List ℕ) →
 taken-more before at used octets block begins =
     ap (λ (t : List ℕ). take used octets ++ t) (begins.front ∙ ap (take (length block)) (rest_is used octets)) ∙ sym (take-add used (length block) octets)
 
-pub lead-more : (limit : ℕ) (read : List ℕ) (before : Before) (at used : ℕ) (octets block : List ℕ) (new : Progress) → BeginsBlock before at (rest_of used octets) block
-    → LeadTo limit ((read ++ take used octets) ++ block) new → LeadTo limit (read ++ take (used + length block) octets) new
-lead-more limit read before at used octets block new begins lead =
-    subst (λ (t : List ℕ). LeadTo limit t new) (append_assoc read (take used octets) block ∙ ap (λ (t : List ℕ). read ++ t) (taken-more before at used octets block begins)) lead
+pub lead-more : (account : Account) (read : List ℕ) (before : Before) (at used : ℕ) (octets block : List ℕ) (new : Progress) → BeginsBlock before at (rest_of used octets) block
+    → LeadTo account ((read ++ take used octets) ++ block) new → LeadTo account (read ++ take (used + length block) octets) new
+lead-more account read before at used octets block new begins lead =
+    subst (λ (t : List ℕ). LeadTo account t new) (append_assoc read (take used octets) block ∙ ap (λ (t : List ℕ). read ++ t) (taken-more before at used octets block begins)) lead
 
-pub header-stops : (limit : ℕ) (wanted : Wanted) (read octets : List ℕ) (used : ℕ) (now : Progress) (fault : Fault) → now.gathering.wanted ≡ wanted
+pub header-stops : (account : Account) (wanted : Wanted) (read octets : List ℕ) (used : ℕ) (now : Progress) (fault : Fault) → now.gathering.wanted ≡ wanted
     → HasHeader now.context (rest_of used octets) × (block_len now.context now.at (header_of now.context (rest_of used octets)) ≡ Err fault)
-    → LeadTo limit (read ++ take used octets) now → Stops limit wanted (read ++ octets) fault
-header-stops limit wanted read octets used now fault same header lead =
-    stops-behind limit wanted read octets used now fault same lead
+    → LeadTo account (read ++ take used octets) now → Stops account.limit wanted (read ++ octets) fault
+header-stops account wanted read octets used now fault same header lead =
+    stops-behind account wanted read octets used now same lead fault
     (subst (λ (t : List ℕ). StopsAt now.gathering.wanted now.gathering.senders now.context now.at t fault) (rest_is used octets) (inl header))
 
-pub block-stops : (limit : ℕ) (wanted : Wanted) (read octets block : List ℕ) (used : ℕ) (now : Progress) (fault : Fault) → now.gathering.wanted ≡ wanted
+pub block-stops : (account : Account) (wanted : Wanted) (read octets block : List ℕ) (used : ℕ) (now : Progress) (fault : Fault) → now.gathering.wanted ≡ wanted
     → BeginsBlock now.context now.at (rest_of used octets) block → BlockFails now.gathering.wanted now.gathering.senders now.context now.at block fault
-    → LeadTo limit (read ++ take used octets) now → Stops limit wanted (read ++ octets) fault
-block-stops limit wanted read octets block used now fault same begins fails lead =
-    stops-behind limit wanted read octets used now fault same lead
+    → LeadTo account (read ++ take used octets) now → Stops account.limit wanted (read ++ octets) fault
+block-stops account wanted read octets block used now fault same begins fails lead =
+    stops-behind account wanted read octets used now same lead fault
     (subst (λ (t : List ℕ). StopsAt now.gathering.wanted now.gathering.senders now.context now.at t fault) (rest_is used octets) (inr (block, begins, fails)))
+
+pub block-needs : (account : Account) (wanted : Wanted) (read octets block : List ℕ) (used : ℕ) (now : Progress) → now.gathering.wanted ≡ wanted → BeginsBlock now.context now.at (rest_of used octets) block
+    → ((content : Content) × (block_said now.context now.at block ≡ Ok content) × BlockNeedsMemory now.gathering.wanted now.gathering.senders content)
+    → LeadTo account (read ++ take used octets) now → NeedsMemory account.limit wanted read octets
+block-needs account wanted read octets block used now same begins (content, said, needs) lead =
+    needs-behind account wanted read octets used now same lead
+    (subst (NeedsMemoryAt now.gathering.wanted now.gathering.senders now.context now.at) (rest_is used octets) (inr (block, content, begins, said, needs)))
 
 -- want of memory, or what is said of the fault else
 pub else-by : {M P Q : Type 0} → (P → Q) → M ⊎ P → M ⊎ Q

@@ -5,23 +5,43 @@ use Rattle.std.proofs.lemmas.List.{append-nil, take-append-drop, take-append-le,
 use Rattle.babel_capture.specs.declared.fault.Fault.{Fault}
 use Rattle.babel_capture.specs.declared.fault.Fault.TheVariants as faults
 use Rattle.babel_capture.specs.declared.wanted.Wanted.{Wanted}
-use Rattle.babel_capture.specs.Blocks.{IsPartial, header_of, octets_of, start, context_behind}
-use Rattle.babel_capture.specs.Capture.{CaptureFault, HasFailed, HasRead, HasReadTo, IsRead, IsReadToCut, IsShortBy, State}
+use Rattle.babel_capture.specs.Blocks.{IsPartial, header_of, octets_of, sightings_of, start, context_behind}
+use Rattle.babel_capture.specs.Capture.{CaptureFault, account_of, HasFailed, HasGiven, HasGivenTo, HasRead, IsRead, IsReadToCut, IsShortBy, State}
 use Rattle.babel_capture.specs.Context.{Before}
+use Rattle.babel_capture.specs.Gathering.{IsGathered, with_taken}
 use Rattle.babel_capture.specs.Lengths.{header_len, block_len}
-use Rattle.babel_capture.specs.Reading.{Progress, LeadTo, HasStarted, HasTaken, Stops, StopsAt}
+use Rattle.babel_capture.specs.Reading.{Account, Progress, LeadTo, HasStarted, HasTaken, NeedsMemory, Stops, StopsAt, without_dump}
 use Rattle.babel_capture.specs.Tallies.{Senders, senders_of}
 
-pub taken-next : (limit : ℕ) (fed piece pending all left : List ℕ) (used : ℕ) (old new : Progress) → all ≡ pending ++ piece → left ≡ drop used all
-    → ((limit : ℕ) (read : List ℕ) → LeadTo limit read old → LeadTo limit (read ++ take used all) new) → IsPartial new.context new.at (drop used all)
-    → HasTaken limit old pending fed → HasTaken limit new left (fed ++ piece)
-taken-next limit fed piece pending all left used old new is_all is_left took partial taken = record {
+pub taken-next : (account : Account) (fed piece pending all left : List ℕ) (used : ℕ) (old new : Progress) → all ≡ pending ++ piece → left ≡ drop used all
+    → ((account : Account) (read : List ℕ) → LeadTo account read old → LeadTo account (read ++ take used all) new) → IsPartial new.context new.at (drop used all)
+    → HasTaken account old pending fed → HasTaken account new left (fed ++ piece)
+taken-next account fed piece pending all left used old new is_all is_left took partial taken = record {
   read = taken.read ++ take used all;
   whole = ap (λ (t : List ℕ). t ++ piece) taken.whole ∙ append_assoc taken.read pending piece ∙ ap (λ (t : List ℕ). taken.read ++ t) (sym is_all ∙ sym (take-append-drop used all))
       ∙ sym (append_assoc taken.read (take used all) (drop used all)) ∙ ap (λ (t : List ℕ). (taken.read ++ take used all) ++ t) (sym is_left);
-  leads = took limit taken.read taken.leads;
+  leads = took account taken.read taken.leads;
   partial = subst (λ (t : List ℕ). IsPartial new.context new.at t) (sym is_left) partial;
 }
+
+-- ---- memory
+
+-- where nothing is pending, what is needed for a piece is needed after the octets that were read
+pub needs-here : (old : Progress) (pending piece : List ℕ) → pending ≡ [] → ((account : Account) (read : List ℕ) → LeadTo account read old → NeedsMemory account.limit old.gathering.wanted read piece)
+    → (account : Account) (fed : List ℕ) → HasTaken account old pending fed → NeedsMemory account.limit old.gathering.wanted fed piece
+needs-here old pending piece none needs account fed taken =
+    subst (λ (t : List ℕ). NeedsMemory account.limit old.gathering.wanted t piece) (sym (taken.whole ∙ ap (λ (t : List ℕ). taken.read ++ t) none ∙ append-nil taken.read))
+    (needs account taken.read taken.leads)
+
+pub needs-fed : (state : State) (fault : Fault) (piece : List ℕ) → state.fault ≡ None
+    → (fault ≡ faults.Memory → (state.pending ≢ []) ⊎ ((account : Account) (fed : List ℕ) → HasTaken account state.progress state.pending fed → NeedsMemory account.limit state.progress.gathering.wanted fed piece))
+    → fault ≡ faults.Memory → (state.fault ≡ Some faults.Memory) ⊎ (state.pending ≢ []) ⊎ ((fed : List ℕ) → HasRead state fed → NeedsMemory state.limit state.progress.gathering.wanted fed piece)
+needs-fed state fault piece is needs memory = by (needs memory)
+  where
+    by : (state.pending ≢ []) ⊎ ((account : Account) (fed : List ℕ) → HasTaken account state.progress state.pending fed → NeedsMemory account.limit state.progress.gathering.wanted fed piece)
+        → (state.fault ≡ Some faults.Memory) ⊎ (state.pending ≢ []) ⊎ ((fed : List ℕ) → HasRead state fed → NeedsMemory state.limit state.progress.gathering.wanted fed piece)
+    by (inl some) = inr (inl some)
+    by (inr needed) = inr (inr (λ fed read. needed (account_of state []) fed (subst (λ (f : Option Fault). HasGivenTo state [] f fed) is read)))
 
 -- ---- a fault stays, however the octets go on
 
@@ -59,29 +79,29 @@ stops-more limit wanted octets more fault stops = record {
 
 -- from here the octets lead there; or they have this fault
 abbrev pub Takes : Progress → List ℕ → Progress → List ℕ → List ℕ → Type 0
-Takes old before new after piece = (limit : ℕ) (fed : List ℕ) → HasTaken limit old before fed → HasTaken limit new after (fed ++ piece)
+Takes old before new after piece = (account : Account) (fed : List ℕ) → HasTaken account old before fed → HasTaken account new after (fed ++ piece)
 
 abbrev pub Fails : Progress → List ℕ → List ℕ → Fault → Type 0
-Fails old before piece fault = (fault ≡ faults.Memory) ⊎ ((limit : ℕ) (fed : List ℕ) → HasTaken limit old before fed → Stops limit old.gathering.wanted (fed ++ piece) fault)
+Fails old before piece fault = (fault ≡ faults.Memory) ⊎ ((account : Account) (fed : List ℕ) → HasTaken account old before fed → Stops account.limit old.gathering.wanted (fed ++ piece) fault)
 
 module _ (front back piece : List ℕ) (whole : front ++ back ≡ piece) where
   behind : (fed : List ℕ) → (fed ++ front) ++ back ≡ fed ++ piece
   behind fed = append_assoc fed front back ∙ ap (λ (t : List ℕ). fed ++ t) whole
 
   pub takes-both : (old next new : Progress) (before between after : List ℕ) → Takes old before next between front → Takes next between new after back → Takes old before new after piece
-  takes-both old next new before between after one two limit fed taken = subst (λ (t : List ℕ). HasTaken limit new after t) (behind fed) (two limit (fed ++ front) (one limit fed taken))
+  takes-both old next new before between after one two account fed taken = subst (λ (t : List ℕ). HasTaken account new after t) (behind fed) (two account (fed ++ front) (one account fed taken))
 
   pub fails-first : (old : Progress) (before : List ℕ) (fault : Fault) → Fails old before front fault → Fails old before piece fault
   fails-first old before fault (inl memory) = inl memory
-  fails-first old before fault (inr stops) = inr (λ limit fed taken.
-      subst (λ (t : List ℕ). Stops limit old.gathering.wanted t fault) (behind fed) (stops-more limit old.gathering.wanted (fed ++ front) back fault (stops limit fed taken)))
+  fails-first old before fault (inr stops) = inr (λ account fed taken.
+      subst (λ (t : List ℕ). Stops account.limit old.gathering.wanted t fault) (behind fed) (stops-more account.limit old.gathering.wanted (fed ++ front) back fault (stops account fed taken)))
 
   pub fails-later : (old next : Progress) (before between : List ℕ) (fault : Fault) → next.gathering.wanted ≡ old.gathering.wanted → Takes old before next between front
       → Fails next between back fault → Fails old before piece fault
   fails-later old next before between fault same one (inl memory) = inl memory
-  fails-later old next before between fault same one (inr stops) = inr (λ limit fed taken.
-      subst (λ (w : Wanted). Stops limit w (fed ++ piece) fault) same
-      (subst (λ (t : List ℕ). Stops limit next.gathering.wanted t fault) (behind fed) (stops limit (fed ++ front) (one limit fed taken))))
+  fails-later old next before between fault same one (inr stops) = inr (λ account fed taken.
+      subst (λ (w : Wanted). Stops account.limit w (fed ++ piece) fault) same
+      (subst (λ (t : List ℕ). Stops account.limit next.gathering.wanted t fault) (behind fed) (stops account (fed ++ front) (one account fed taken))))
 
 pub split-whole : (n : ℕ) (front back piece : List ℕ) → front ≡ take n piece → back ≡ drop n piece → front ++ back ≡ piece
 split-whole n front back piece is_front is_back = ap (λ (t : List ℕ). t ++ back) is_front ∙ ap (λ (t : List ℕ). take n piece ++ t) is_back ∙ take-append-drop n piece
@@ -96,14 +116,14 @@ ok-map P Q (Err fault) follows holds = tt
 
 -- ---- the end
 
-module _ (limit : ℕ) (progress : Progress) (pending fed : List ℕ) (taken : HasTaken limit progress pending fed) where
+module _ (account : Account) (progress : Progress) (pending fed : List ℕ) (taken : HasTaken account progress pending fed) where
   place_is : progress.at ≡ length (octets_of taken.leads.blocks)
   place_is = taken.leads.place ∙ ap length taken.leads.whole
 
-  context_started : HasStarted progress.context → HasStarted (context_behind (start limit) taken.leads.blocks)
+  context_started : HasStarted progress.context → HasStarted (context_behind (start account.limit) taken.leads.blocks)
   context_started started = subst HasStarted taken.leads.context started
 
-  ends-short : (fault : Fault) → IsShortBy progress.context progress.at pending fault → CaptureFault limit progress.gathering.wanted fed fault
+  ends-short : (fault : Fault) → IsShortBy progress.context progress.at pending fault → CaptureFault account.limit progress.gathering.wanted fed fault
   ends-short fault short = inr (record {
     blocks = taken.leads.blocks;
     rest = pending;
@@ -111,13 +131,13 @@ module _ (limit : ℕ) (progress : Progress) (pending fed : List ℕ) (taken : H
     whole = taken.whole ∙ ap (λ (t : List ℕ). t ++ pending) taken.leads.whole;
     are_blocks = taken.leads.are_blocks;
     taken = taken.leads.gathered.taken;
-    partial = subst (λ (n : ℕ). IsPartial (context_behind (start limit) taken.leads.blocks) n pending) place_is
+    partial = subst (λ (n : ℕ). IsPartial (context_behind (start account.limit) taken.leads.blocks) n pending) place_is
         (subst (λ (c : Before). IsPartial c progress.at pending) taken.leads.context taken.partial);
-    short = subst (λ (n : ℕ). IsShortBy (context_behind (start limit) taken.leads.blocks) n pending fault) place_is
+    short = subst (λ (n : ℕ). IsShortBy (context_behind (start account.limit) taken.leads.blocks) n pending fault) place_is
         (subst (λ (c : Before). IsShortBy c progress.at pending fault) taken.leads.context short);
   })
 
-  read-before : HasStarted progress.context → IsRead limit taken.read progress.gathering
+  read-before : HasStarted progress.context → IsRead account.limit taken.read (with_taken account.taken progress.gathering)
   read-before started = record {
     blocks = taken.leads.blocks;
     whole = taken.leads.whole;
@@ -127,22 +147,22 @@ module _ (limit : ℕ) (progress : Progress) (pending fed : List ℕ) (taken : H
     names = taken.leads.names;
   }
 
-pub not-started : (limit : ℕ) (progress : Progress) (pending fed : List ℕ) → ¬ HasStarted progress.context → HasTaken limit progress pending fed
-    → CaptureFault limit progress.gathering.wanted fed faults.NotCapture
-not-started limit progress pending fed not taken = ends-short limit progress pending fed taken faults.NotCapture (inl (not, refl))
+pub not-started : (account : Account) (progress : Progress) (pending fed : List ℕ) → ¬ HasStarted progress.context → HasTaken account progress pending fed
+    → CaptureFault account.limit progress.gathering.wanted fed faults.NotCapture
+not-started account progress pending fed not taken = ends-short account progress pending fed taken faults.NotCapture (inl (not, refl))
 
-pub cut-short : (limit : ℕ) (progress : Progress) (pending fed : List ℕ) → HasStarted progress.context → pending ≢ [] → HasTaken limit progress pending fed
-    → CaptureFault limit progress.gathering.wanted fed (faults.CutShort progress.at)
-cut-short limit progress pending fed started some taken = ends-short limit progress pending fed taken (faults.CutShort progress.at) (inr (started, some, refl))
+pub cut-short : (account : Account) (progress : Progress) (pending fed : List ℕ) → HasStarted progress.context → pending ≢ [] → HasTaken account progress pending fed
+    → CaptureFault account.limit progress.gathering.wanted fed (faults.CutShort progress.at)
+cut-short account progress pending fed started some taken = ends-short account progress pending fed taken (faults.CutShort progress.at) (inr (started, some, refl))
 
-pub all-read : (limit : ℕ) (progress : Progress) (pending fed : List ℕ) → HasStarted progress.context → pending ≡ [] → HasTaken limit progress pending fed → IsRead limit fed progress.gathering
-all-read limit progress pending fed started none taken =
-    subst (λ (t : List ℕ). IsRead limit t progress.gathering) (sym (append-nil taken.read) ∙ ap (λ (t : List ℕ). taken.read ++ t) (sym none) ∙ sym taken.whole)
-    (read-before limit progress pending fed taken started)
+pub all-read : (account : Account) (progress : Progress) (pending fed : List ℕ) → HasStarted progress.context → pending ≡ [] → HasTaken account progress pending fed → IsRead account.limit fed (with_taken account.taken progress.gathering)
+all-read account progress pending fed started none taken =
+    subst (λ (t : List ℕ). IsRead account.limit t (with_taken account.taken progress.gathering)) (sym (append-nil taken.read) ∙ ap (λ (t : List ℕ). taken.read ++ t) (sym none) ∙ sym taken.whole)
+    (read-before account progress pending fed taken started)
 
-pub read-to-cut : (limit : ℕ) (progress : Progress) (pending fed : List ℕ) (cut : Option ℕ) → HasStarted progress.context
-    → ((pending ≡ []) × (cut ≡ None)) ⊎ ((pending ≢ []) × (cut ≡ Some progress.at)) → HasTaken limit progress pending fed → IsReadToCut limit fed progress.gathering cut
-read-to-cut limit progress pending fed cut started which taken = record {
+pub read-to-cut : (account : Account) (progress : Progress) (pending fed : List ℕ) (cut : Option ℕ) → HasStarted progress.context
+    → ((pending ≡ []) × (cut ≡ None)) ⊎ ((pending ≢ []) × (cut ≡ Some progress.at)) → HasTaken account progress pending fed → IsReadToCut account.limit fed (with_taken account.taken progress.gathering) cut
+read-to-cut account progress pending fed cut started which taken = record {
   read = taken.read;
   rest = pending;
   whole = taken.whole;
@@ -154,10 +174,35 @@ read-to-cut limit progress pending fed cut started which taken = record {
     gathered = taken.leads.gathered;
     names = taken.leads.names;
   };
-  partial = subst (λ (n : ℕ). IsPartial (context_behind (start limit) taken.leads.blocks) n pending) taken.leads.place
+  partial = subst (λ (n : ℕ). IsPartial (context_behind (start account.limit) taken.leads.blocks) n pending) taken.leads.place
       (subst (λ (c : Before). IsPartial c progress.at pending) taken.leads.context taken.partial);
   where_cut = subst (λ (n : ℕ). ((pending ≡ []) × (cut ≡ None)) ⊎ ((pending ≢ []) × (cut ≡ Some n))) taken.leads.place which;
 }
+
+-- ---- the dump is taken out
+
+out_of : (taken : List ℕ) (state : State) (fault : Option Fault) (fed : List ℕ) → HasGivenTo state taken fault fed
+    → HasGivenTo (record state { progress = without_dump state.progress }) (taken ++ state.progress.gathering.dump) fault fed
+out_of taken state None fed given = record {
+  read = given.read;
+  whole = given.whole;
+  leads = record {
+    blocks = given.leads.blocks;
+    whole = given.leads.whole;
+    are_blocks = given.leads.are_blocks;
+    place = given.leads.place;
+    context = given.leads.context;
+    gathered = subst (λ (d : List ℕ). IsGathered (sightings_of given.leads.blocks) (record state.progress.gathering { dump = d }))
+        (sym (append-nil (taken ++ state.progress.gathering.dump))) given.leads.gathered;
+    names = given.leads.names;
+  };
+  partial = given.partial;
+}
+out_of taken state (Some fault) fed given = given
+
+pub taken_out : (state new : State) (out taken fed : List ℕ) → new ≡ record state { progress = without_dump state.progress } → out ≡ state.progress.gathering.dump
+    → HasGiven state taken fed → HasGiven new (taken ++ out) fed
+taken_out state new out taken fed is is_out given = rw (is, is_out) (out_of taken state state.fault fed given)
 
 -- ---- after a fault
 
@@ -165,21 +210,27 @@ pub failed-more : (state : State) (fault : Fault) (fed piece : List ℕ) → Has
 failed-more state fault fed piece (inl memory) = inl memory
 failed-more state fault fed piece (inr stops) = inr (stops-more state.limit state.progress.gathering.wanted fed piece fault stops)
 
-pub stays-read : (state : State) (fault : Fault) (fed piece : List ℕ) → state.fault ≡ Some fault → HasRead state fed → HasRead state (fed ++ piece)
-stays-read state fault fed piece is read =
-    subst (λ (f : Option Fault). HasReadTo state f (fed ++ piece)) (sym is)
-    (failed-more state fault fed piece (subst (λ (f : Option Fault). HasReadTo state f fed) is read))
+pub stays-given : (state : State) (fault : Fault) (taken fed piece : List ℕ) → state.fault ≡ Some fault → HasGiven state taken fed → HasGiven state taken (fed ++ piece)
+stays-given state fault taken fed piece is read =
+    subst (λ (f : Option Fault). HasGivenTo state taken f (fed ++ piece)) (sym is)
+    (failed-more state fault fed piece (subst (λ (f : Option Fault). HasGivenTo state taken f fed) is read))
 
-pub failed-fault : (state : State) (fault : Fault) (fed : List ℕ) → state.fault ≡ Some fault → fault ≢ faults.Memory → HasRead state fed → CaptureFault state.limit state.progress.gathering.wanted fed fault
-failed-fault state fault fed is not read = by (subst (λ (f : Option Fault). HasReadTo state f fed) is read)
+pub stays-read : (state : State) (fault : Fault) (fed piece : List ℕ) → state.fault ≡ Some fault → HasRead state fed → HasRead state (fed ++ piece)
+stays-read state fault = stays-given state fault []
+
+pub failed-given : (state : State) (fault : Fault) (taken fed : List ℕ) → state.fault ≡ Some fault → fault ≢ faults.Memory → HasGiven state taken fed → CaptureFault state.limit state.progress.gathering.wanted fed fault
+failed-given state fault taken fed is not read = by (subst (λ (f : Option Fault). HasGivenTo state taken f fed) is read)
   where
     by : HasFailed state fault fed → CaptureFault state.limit state.progress.gathering.wanted fed fault
     by (inl memory) = absurd (not memory)
     by (inr stops) = inl stops
 
+pub failed-fault : (state : State) (fault : Fault) (fed : List ℕ) → state.fault ≡ Some fault → fault ≢ faults.Memory → HasRead state fed → CaptureFault state.limit state.progress.gathering.wanted fed fault
+failed-fault state fault = failed-given state fault []
+
 pub failed-next : (state : State) (fault : Fault) (piece : List ℕ) → state.fault ≡ None
-    → (fault ≡ faults.Memory) ⊎ ((limit : ℕ) (fed : List ℕ) → HasTaken limit state.progress state.pending fed → Stops limit state.progress.gathering.wanted (fed ++ piece) fault)
+    → (fault ≡ faults.Memory) ⊎ ((account : Account) (fed : List ℕ) → HasTaken account state.progress state.pending fed → Stops account.limit state.progress.gathering.wanted (fed ++ piece) fault)
     → fault ≢ faults.Memory → (fed more : List ℕ) → HasRead state fed → CaptureFault state.limit state.progress.gathering.wanted ((fed ++ piece) ++ more) fault
 failed-next state fault piece is (inl memory) not fed more read = absurd (not memory)
 failed-next state fault piece is (inr stops) not fed more read =
-    inl (stops-more state.limit state.progress.gathering.wanted (fed ++ piece) more fault (stops state.limit fed (subst (λ (f : Option Fault). HasReadTo state f fed) is read)))
+    inl (stops-more state.limit state.progress.gathering.wanted (fed ++ piece) more fault (stops (account_of state []) fed (subst (λ (f : Option Fault). HasGivenTo state [] f fed) is read)))

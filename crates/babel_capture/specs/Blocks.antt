@@ -6,7 +6,8 @@ use Rattle.std.specs.List.{flat_map}
 use Rattle.std.specs.Result.{IsOkAnd}
 use Rattle.babel_capture.specs.declared.layout.Layout.TheVariants as layouts
 use Rattle.babel_capture.specs.declared.link.Link.{Link}
-use Rattle.babel_capture.specs.Contents.{Captured, Content, file, section, describes, holds, names_in}
+use Rattle.babel_capture.specs.Contents.{Captured, Content, file, section, describes, holds}
+use Rattle.babel_capture.specs.Contents.{names_in}
 use Rattle.babel_capture.specs.Contents.{nothing, block_said, context_after}
 use Rattle.babel_capture.specs.Context.{Before}
 use Rattle.babel_capture.specs.Frame.{frame_sight}
@@ -52,7 +53,7 @@ pub record BlockAt : Type 0 where
 abbrev pub start : ℕ → Before
 start limit = record { limit = limit; layout = layouts.Start; first = 0; interfaces = [] }
 
--- blocks one after another, the first at this offset, each behind what those before it say
+-- blocks one after another, the first at this offset, each after what those before it say
 abbrev pub AreBlocks : Before → ℕ → List BlockAt → Type 0
 AreBlocks before at [] = Unit {0}
 AreBlocks before at (block ∷ blocks) =
@@ -103,7 +104,7 @@ sightings_in number at (describes interface name) = []
 sightings_in number at (holds packet) = sighting_of number at packet ∷ []
 sightings_in number at nothing = []
 
--- the packets of blocks, in order, behind so many
+-- the packets of blocks, in order, after so many
 abbrev pub sightings_behind : ℕ → List BlockAt → List Sighting
 sightings_behind count [] = []
 sightings_behind count (block ∷ blocks) =

@@ -1,6 +1,7 @@
 -- What the blocks of a capture say: draft-ietf-opsawg-pcap, 4 and 5; draft-ietf-opsawg-pcapng, 4.1
 -- to 4.4.
-use Rattle.std.specs.Prelude.{ℕ, ◌+◌, ◌-◌, ◌%◌, min, Bool, ◌==◌, ◌&&◌, ◌||◌, nat_lt, nat_le, if◌then◌else◌, List, []}
+use Rattle.std.specs.Prelude.{ℕ, ◌+◌, ◌-◌, ◌%◌, min, Bool, ◌==◌, ◌&&◌, ◌||◌, nat_lt, nat_le}
+use Rattle.std.specs.Prelude.{if◌then◌else◌, List, []}
 use Rattle.std.specs.Prelude.{◌∷◌, ◌++◌, length, slice_get, slice_range, Option, Some, None, Result}
 use Rattle.std.specs.Prelude.{Ok, Err}
 use Rattle.babel_capture.specs.declared.block.Block.{Block}
@@ -28,7 +29,7 @@ pub record Captured : Type 0 where
   pub whole_len : ℕ
 
 -- the header of a pcap file, the header of a section, an interface with its name, which is empty
--- where it has none, a packet, or what is passed over
+-- where it has none, a packet, or a block that is ignored
 pub data Content : Type 0 where
   file : (order : Order) (interface : Interface) → Content
   section : (order : Order) → Content
@@ -84,8 +85,8 @@ abbrev pub record_said : Before → ℕ → Order → List ℕ → Result Conten
 record_said before at order block =
     packet_said before at 0 (slice_range block 16 (length block)) (number_at order 4 block 12)
 
--- draft-ietf-opsawg-pcapng, 4.1: at least 28 octets; the version of a section is at 12 and 14; it is
--- 1.0, or 1.2, which readers are to take for the same
+-- draft-ietf-opsawg-pcapng, 4.1: at least 28 octets; the version of a section is at 12 and 14; it
+-- is 1.0, or 1.2, which readers are to take for the same
 abbrev pub is_section_version : Order → List ℕ → Bool
 is_section_version order block =
     number_at order 2 block 12 == 1
@@ -166,7 +167,7 @@ simple_said before at order block =
     else simple_of before at order block (slice_get before.interfaces before.first)
 
 -- draft-ietf-opsawg-pcapng, 4: a block by its type, with its total length at its end again; others
--- are passed over. The number of an interface has 32 bits at 8, and 16 bits there in the old packet
+-- are ignored. The number of an interface has 32 bits at 8, and 16 bits there in the old packet
 -- block.
 abbrev pub typed_said : Before → ℕ → Order → List ℕ → ℕ → Result Content Fault
 typed_said before at order block kind =

@@ -17,8 +17,8 @@ pub record Payload : Type 0 where
   pub octets : List ℕ
   pub whole : ℕ
 
--- IEEE 802.1Q, 9: a customer's or a service provider's VLAN tag; 0x9100 and 0x9200 were used for the
--- second before the standard had it
+-- IEEE 802.1Q, 9: a customer's or a service provider's VLAN tag; 0x9100 and 0x9200 were used for
+-- the second before the standard had it
 abbrev pub is_tag : ℕ → Bool
 is_tag ether_type =
     ether_type == 0x8100 || ether_type == 0x88a8 || ether_type == 0x9100 || ether_type == 0x9200

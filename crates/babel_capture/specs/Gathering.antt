@@ -9,11 +9,13 @@ use Rattle.babel_capture.specs.declared.tallies.Origin.{Origin}
 use Rattle.babel_capture.specs.declared.wanted.Wanted.{Wanted}
 use Rattle.babel_capture.specs.declared.wanted.Wanted.TheVariants as wanteds
 use Rattle.babel_capture.specs.Blocks.{Sighting, sight_in}
-use Rattle.babel_capture.specs.Contents.{Captured, Content, holds}
+use Rattle.babel_capture.specs.Contents.{Captured, Content, file, section, describes, holds}
+use Rattle.babel_capture.specs.Contents.{nothing}
 use Rattle.babel_capture.specs.Counts.{Counts, Made, counts_of}
 use Rattle.babel_capture.specs.Findings.{Found, passed, untold, left, refused, found, Finds}
 use Rattle.babel_capture.specs.Lack.{lack_fault}
-use Rattle.babel_capture.specs.Tallies.{Senders, IsOneTooMany, senders_of}
+use Rattle.babel_capture.specs.Tallies.{CountNeedsMemory, IsOneTooMany, Senders, senders_of}
+use Rattle.babel_capture.specs.Tallies.{tally_of}
 
 -- a packet that is not refused
 abbrev pub IsTaken : Found → Type 0
@@ -31,8 +33,8 @@ AreMade wanted (sighting ∷ later) made =
     × (one.link ≡ sighting.link) × Finds wanted sighting.what one.what × IsTaken one.what
     × AreMade wanted later others
 
--- What is made of packets that are taken, each of them: at most 65,536 senders are kept, each counted
--- at each place where it occurs.
+-- What is made of packets that are taken, each of them: at most 65,536 senders are kept, each
+-- counted at each place where it occurs.
 pub record AreTaken (wanted : Wanted) (sightings : List Sighting) (made : List Made) : Type 0 where
   pub are_made : AreMade wanted sightings made
   pub few : length (senders_of made) ≤ 65536
@@ -63,6 +65,10 @@ pub record Gathering : Type 0 where
   pub report : Counts
   pub senders : Senders
 
+-- what was gathered, had these octets not been taken out of the dump
+abbrev pub with_taken : List ℕ → Gathering → Gathering
+with_taken taken gathering = record gathering { dump = taken ++ gathering.dump }
+
 -- the name of the interface with this number
 abbrev pub name_of : Gathering → ℕ → List ℕ
 name_of gathering interface = unwrap_or (slice_get gathering.names interface) []
@@ -88,3 +94,21 @@ IsRefusedPacket wanted senders at packet fault =
 abbrev pub IsRefused : Wanted → Senders → ℕ → Content → Fault → Type 0
 IsRefused wanted senders at (holds packet) fault = IsRefusedPacket wanted senders at packet fault
 IsRefused wanted senders at content fault = ⊥
+
+-- memory is needed for a packet that is found: it is added to the dump, if one is wanted, or its
+-- sender is listed
+abbrev pub PacketNeedsMemory : Wanted → Senders → Origin → List ℕ → Type 0
+PacketNeedsMemory wanteds.Everyone senders origin packet =
+    CountNeedsMemory (tally_of senders origin) packet
+PacketNeedsMemory (wanteds.Sender sender place) senders origin packet = Unit {0}
+
+-- and for a block: it describes an interface, or holds such a packet
+abbrev pub BlockNeedsMemory : Wanted → Senders → Content → Type 0
+BlockNeedsMemory wanted senders (file order interface) = Unit {0}
+BlockNeedsMemory wanted senders (section order) = ⊥
+BlockNeedsMemory wanted senders (describes interface name) = Unit {0}
+BlockNeedsMemory wanted senders (holds packet) =
+    (origin : Origin) × (octets : List ℕ)
+    × Finds wanted (sight_in packet) (found origin.place origin.sender octets)
+    × PacketNeedsMemory wanted senders origin octets
+BlockNeedsMemory wanted senders nothing = ⊥

@@ -1,5 +1,6 @@
 -- The extension headers of IPv6 packets: RFC 8200, 4.
-use Rattle.std.specs.Prelude.{ℕ, zero, suc, ◌+◌, ◌-◌, ◌*◌, Bool, not, ◌==◌, ◌&&◌, ◌||◌, nat_lt, nat_le}
+use Rattle.std.specs.Prelude.{ℕ, zero, suc, ◌+◌, ◌-◌, ◌*◌, Bool, not, ◌==◌, ◌&&◌, ◌||◌, nat_lt}
+use Rattle.std.specs.Prelude.{nat_le}
 use Rattle.std.specs.Prelude.{bit_and}
 use Rattle.std.specs.Prelude.{if◌then◌else◌, List, length, drop, slice_index}
 use Rattle.babel_capture.specs.Octets.{network_number}
@@ -29,8 +30,8 @@ is_first_fragment number octets = number == 44 && bit_and (network_number 2 2 oc
 abbrev pub has_more_fragments : List ℕ → Bool
 has_more_fragments octets = not (bit_and (network_number 2 2 octets) 0x0001 == 0)
 
--- RFC 8200, 4.3 to 4.6: how many of its octets tell what comes after an extension header: number and
--- length; or, of the fragment header, number and offset
+-- RFC 8200, 4.3 to 4.6: how many of its octets tell what comes after an extension header: number
+-- and length; or, of the fragment header, number and offset
 abbrev pub telling_len : ℕ → ℕ
 telling_len number = if has_len number then 2 else if number == 44 then 4 else 0
 

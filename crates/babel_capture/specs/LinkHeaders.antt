@@ -1,6 +1,7 @@
 -- What stands before an IP packet in a frame: IEEE 802.3, 3.2; IEEE 802.1Q, 9;
 -- tcpdump.org/linktypes.html.
-use Rattle.std.specs.Prelude.{◌≡◌, ℕ, ◌+◌, ◌*◌, ◌^◌, ◌<◌, ◌≤◌, ◌⊎◌, List, [], ◌∷◌, ◌++◌, length}
+use Rattle.std.specs.Prelude.{◌≡◌, ◌≢◌, ℕ, ◌+◌, ◌*◌, ◌^◌, ◌<◌, ◌≤◌, ◌⊎◌, List, [], ◌∷◌, ◌++◌}
+use Rattle.std.specs.Prelude.{length}
 use Rattle.std.specs.Prelude.{fold, Some, Contains}
 use Rattle.std.specs.List.{All}
 use Rattle.byteorder.specs.Endian.{big_bytes, little_bytes}
@@ -100,3 +101,24 @@ IsHeader links.RawIpv4 interface ether_type place header =
     (ether_type ≡ 0x0800) × (place ≡ place_on interface) × (header ≡ [])
 IsHeader links.RawIpv6 interface ether_type place header =
     (ether_type ≡ 0x86dd) × (place ≡ place_on interface) × (header ≡ [])
+
+-- ---- what is no IP
+
+-- a frame of these has an EtherType
+abbrev pub HasEtherType : Link → Type 0
+HasEtherType link = (link ≡ links.Ethernet) ⊎ (link ≡ links.Cooked) ⊎ (link ≡ links.Cooked2)
+
+-- an EtherType, or a length in its place, that is none of IPv4, IPv6 and the tags
+abbrev pub IsOtherType : ℕ → Type 0
+IsOtherType ether_type =
+    (ether_type < 2 ^ 16) × (ether_type ≢ 0x0800) × (ether_type ≢ 0x86dd) × (ether_type ≢ 0x8100)
+    × (ether_type ≢ 0x88a8) × (ether_type ≢ 0x9100) × (ether_type ≢ 0x9200)
+
+-- and a frame of these the number of a protocol family, here of none of IP's
+abbrev pub HasFamily : Link → Type 0
+HasFamily link = (link ≡ links.Null) ⊎ (link ≡ links.Loop)
+
+abbrev pub IsOtherFamily : ℕ → Type 0
+IsOtherFamily family =
+    (family < 2 ^ 16) × (family ≢ 2) × (family ≢ 10) × (family ≢ 24) × (family ≢ 28)
+    × (family ≢ 30)

@@ -4,15 +4,15 @@ use Rattle.std.specs.Prelude.{nat_lt, if◌then◌else◌, List, [], length, tak
 use Rattle.babel_capture.specs.declared.order.Order.{Order}
 use Rattle.babel_capture.specs.Numbers.{number_at}
 
--- the name that was found, which is empty where there is none, the octets that are left, and whether
--- an option ran past them
+-- the name that was found, which is empty where there is none, the octets that are left, and
+-- whether an option ran past them
 pub record Options : Type 0 where
   pub name : List ℕ
   pub octets : List ℕ
   pub is_cut : Bool
 
--- draft-ietf-opsawg-pcapng, 3.5: the code and the length of an option, of two octets each; its value
--- comes after them, and octets up to a multiple of 4
+-- draft-ietf-opsawg-pcapng, 3.5: the code and the length of an option, of two octets each; its
+-- value comes after them, and octets up to a multiple of 4
 abbrev pub option_code : Order → List ℕ → ℕ
 option_code order octets = number_at order 2 octets 0
 
@@ -26,8 +26,8 @@ padded len = 4 + (len + 3) / 4 * 4
 abbrev pub is_last : Order → List ℕ → Bool
 is_last order octets = nat_lt (length octets) 4 || option_code order octets == 0
 
--- draft-ietf-opsawg-pcapng, 4.2: the name of an interface is the value of option 2; the first that is
--- not empty counts
+-- draft-ietf-opsawg-pcapng, 4.2: the name of an interface is the value of option 2; the first that
+-- is not empty counts
 abbrev pub name_with : Order → Options → List ℕ
 name_with order options =
     if option_code order options.octets == 2 && length options.name == 0

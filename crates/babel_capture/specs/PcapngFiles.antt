@@ -1,8 +1,7 @@
--- A section of a pcapng file, as it is laid out, and what it is read as: draft-ietf-opsawg-pcapng,
--- 3.1 and 4.1 to 4.4.
+-- pcapng files, as they are laid out, and what they are read as: draft-ietf-opsawg-pcapng, 3.1 and
+-- 4.1 to 4.4.
 use Rattle.std.specs.Prelude.{◌≡◌, ◌≢◌, ℕ, ◌+◌, ◌%◌, ◌^◌, ◌<◌, ◌≤◌, ◌⊎◌, List, [], ◌∷◌, ◌++◌}
 use Rattle.std.specs.Prelude.{length, slice_get, false, Some}
-use Rattle.std.specs.List.{flat_map}
 use Rattle.babel_capture.specs.declared.layout.Interface.{Interface}
 use Rattle.babel_capture.specs.declared.link.Link.{Link}
 use Rattle.babel_capture.specs.declared.order.Order.{Order}
@@ -31,14 +30,20 @@ section_body order head =
 -- 4.2, 4.3, 4.4: a description of an interface: link type, a reserved number, the most octets that
 -- are kept of a packet, and options; an enhanced packet: the interface, two numbers of its time,
 -- how many octets it had, those that were kept, and padding and options; the packet block that it
--- replaced, with the number of drops beside that of the interface; a simple packet; or a block of
--- another type
+-- replaced, with the number of drops beside that of the interface; a simple packet; a block of
+-- another type; or the header of a section, in the section's byte order
 pub data PcapngBlock : Type 0 where
   described : (link_number reserved snap_len : ℕ) (options : List ℕ) → PcapngBlock
   enhanced : (number high low whole_len : ℕ) (frame more : List ℕ) → PcapngBlock
   old : (number drops high low whole_len : ℕ) (frame more : List ℕ) → PcapngBlock
   simple : (whole_len : ℕ) (frame padding : List ℕ) → PcapngBlock
   another : (kind : ℕ) (body : List ℕ) → PcapngBlock
+  begins : (order : Order) (head : SectionHeader) → PcapngBlock
+
+-- the byte order of a block, and of those after it
+abbrev pub order_in : Order → PcapngBlock → Order
+order_in order (begins next head) = next
+order_in order block = order
 
 abbrev pub kind_of : PcapngBlock → ℕ
 kind_of (described link_number reserved snap_len options) = 1
@@ -46,6 +51,7 @@ kind_of (enhanced number high low whole_len frame more) = 6
 kind_of (old number drops high low whole_len frame more) = 2
 kind_of (simple whole_len frame padding) = 3
 kind_of (another kind body) = kind
+kind_of (begins order head) = 0x0a0d0d0a
 
 abbrev pub body_of : Order → PcapngBlock → List ℕ
 body_of order (described link_number reserved snap_len options) =
@@ -60,13 +66,19 @@ body_of order (old number drops high low whole_len frame more) =
     ++ (frame ++ more))))))
 body_of order (simple whole_len frame padding) = written order 4 whole_len ++ (frame ++ padding)
 body_of order (another kind body) = body
+body_of order (begins next head) = section_body next head
 
 abbrev pub octets_in : Order → PcapngBlock → List ℕ
-octets_in order block = block_octets order (kind_of block) (body_of order block)
+octets_in order block = block_octets (order_in order block) (kind_of block) (body_of order block)
 
-abbrev pub section_octets : Order → SectionHeader → List PcapngBlock → List ℕ
-section_octets order head blocks =
-    block_octets order 0x0a0d0d0a (section_body order head) ++ flat_map (octets_in order) blocks
+abbrev pub octets_from : Order → List PcapngBlock → List ℕ
+octets_from order [] = []
+octets_from order (block ∷ blocks) =
+    octets_in order block ++ octets_from (order_in order block) blocks
+
+-- the header of the first section, and the blocks after it
+abbrev pub pcapng_octets : Order → SectionHeader → List PcapngBlock → List ℕ
+pcapng_octets order head blocks = octets_from order (begins order head ∷ blocks)
 
 -- 3.1: what a block holds fills words of four octets, and at most 16 MiB are read of one
 pub record Fits (body : List ℕ) : Type 0 where
@@ -95,7 +107,6 @@ packet_at number link frame whole = record {
 -- the first packet is this one, of an interface that was described and a link type that is read
 pub record IsPacket (interfaces : List Interface) (number whole_len : ℕ) (frame : List ℕ)
     (packets later : List Captured) : Type 0 where
-  pub number_fits : number < 2 ^ 32
   pub len_fits : whole_len < 2 ^ 32
   pub interface : Interface
   pub is_described : slice_get interfaces number ≡ Some interface
@@ -106,29 +117,33 @@ pub record IsPacket (interfaces : List Interface) (number whole_len : ℕ) (fram
 abbrev pub interface_of : ℕ → ℕ → Interface
 interface_of link_number snap_len = record { link = link_number; snap_len = snap_len }
 
--- Blocks, of which each fits, hold these packets, where these interfaces were described before: the
--- numbers of a block fit their fields; no option of a description runs past it; a packet is of an
--- interface that was described, of a link type that is read, and a simple one of the first; of a
--- simple one as much is kept as that interface keeps; and blocks of other types hold none.
-abbrev pub Hold : Order → List Interface → List PcapngBlock → List Captured → Type 0
-Hold order interfaces [] packets = packets ≡ []
-Hold order interfaces (described link_number reserved snap_len options ∷ blocks) packets =
+-- Blocks, of which each fits, hold these packets, where these interfaces were described before, of
+-- which those of this section begin at `first`: the numbers of a block fit their fields; no option
+-- of a description runs past it; a packet is of an interface that was described, by its number in
+-- the section, of a link type that is read, and a simple one of the section's first; of a simple
+-- one as much is kept as that interface keeps; blocks of other types hold none; and a section has
+-- interfaces of its own.
+abbrev pub Hold : Order → ℕ → List Interface → List PcapngBlock → List Captured → Type 0
+Hold order first interfaces [] packets = packets ≡ []
+Hold order first interfaces (described link_number reserved snap_len options ∷ blocks) packets =
     Fits (body_of order (described link_number reserved snap_len options))
     × (link_number < 2 ^ 16) × (snap_len < 2 ^ 32) × (length interfaces < 65536)
     × ((all_options order options).is_cut ≡ false)
-    × Hold order (interfaces ++ interface_of link_number snap_len ∷ []) blocks packets
-Hold order interfaces (enhanced number high low whole_len frame more ∷ blocks) packets =
-    Fits (body_of order (enhanced number high low whole_len frame more))
-    × ((later : List Captured) × IsPacket interfaces number whole_len frame packets later
-    × Hold order interfaces blocks later)
-Hold order interfaces (old number drops high low whole_len frame more ∷ blocks) packets =
+    × Hold order first (interfaces ++ interface_of link_number snap_len ∷ []) blocks packets
+Hold order first interfaces (enhanced number high low whole_len frame more ∷ blocks) packets =
+    Fits (body_of order (enhanced number high low whole_len frame more)) × (number < 2 ^ 32)
+    × ((later : List Captured) × IsPacket interfaces (first + number) whole_len frame packets later
+    × Hold order first interfaces blocks later)
+Hold order first interfaces (old number drops high low whole_len frame more ∷ blocks) packets =
     Fits (body_of order (old number drops high low whole_len frame more)) × (number < 2 ^ 16)
-    × ((later : List Captured) × IsPacket interfaces number whole_len frame packets later
-    × Hold order interfaces blocks later)
-Hold order interfaces (simple whole_len frame padding ∷ blocks) packets =
+    × ((later : List Captured) × IsPacket interfaces (first + number) whole_len frame packets later
+    × Hold order first interfaces blocks later)
+Hold order first interfaces (simple whole_len frame padding ∷ blocks) packets =
     Fits (body_of order (simple whole_len frame padding))
-    × ((later : List Captured) × (is : IsPacket interfaces 0 whole_len frame packets later)
+    × ((later : List Captured) × (is : IsPacket interfaces first whole_len frame packets later)
     × (length frame ≡ kept_len is.interface.snap_len whole_len)
-    × Hold order interfaces blocks later)
-Hold order interfaces (another kind body ∷ blocks) packets =
-    Fits body × (kind < 2 ^ 32) × NoneOf kind × Hold order interfaces blocks packets
+    × Hold order first interfaces blocks later)
+Hold order first interfaces (another kind body ∷ blocks) packets =
+    Fits body × (kind < 2 ^ 32) × NoneOf kind × Hold order first interfaces blocks packets
+Hold order first interfaces (begins next head ∷ blocks) packets =
+    IsSection next head × Hold next (length interfaces) interfaces blocks packets

@@ -1,4 +1,5 @@
--- Where a packet was captured. It is this project's own, but for the numbers of tags: IEEE 802.1Q, 9.
+-- Where a packet was captured. It is this project's own, but for the numbers of tags: IEEE 802.1Q,
+-- 9.
 use Rattle.std.specs.Prelude.{ℕ, not, ◌==◌, if◌then◌else◌, List, [], ◌∷◌, None}
 use Rattle.std.specs.List.{filter}
 use Rattle.babel_capture.specs.declared.place.Place.{Place}

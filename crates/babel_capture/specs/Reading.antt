@@ -1,15 +1,17 @@
 -- How far a capture was read, block by block.
-use Rattle.std.specs.Prelude.{◌≡◌, ℕ, List, ◌++◌, length, Ok, Err, ◌⊎◌}
+use Rattle.std.specs.Prelude.{◌≡◌, ◌≢◌, ◌≤◌, ℕ, List, [], ◌++◌, length, Ok, Err, ◌⊎◌}
 use Rattle.babel_capture.specs.declared.fault.Fault.{Fault}
 use Rattle.babel_capture.specs.declared.layout.Layout.{Layout}
 use Rattle.babel_capture.specs.declared.layout.Layout.TheVariants as layouts
 use Rattle.babel_capture.specs.declared.wanted.Wanted.{Wanted}
 use Rattle.babel_capture.specs.Blocks.{BlockAt, HasHeader, IsPartial, header_of, BeginsBlock}
-use Rattle.babel_capture.specs.Blocks.{AreBlocks, start, context_behind, names_of, octets_of, sightings_of}
+use Rattle.babel_capture.specs.Blocks.{AreBlocks, start, context_behind, names_of, octets_of}
+use Rattle.babel_capture.specs.Blocks.{sightings_of}
 use Rattle.babel_capture.specs.Contents.{Content, block_said}
 use Rattle.babel_capture.specs.Context.{Before}
 use Rattle.babel_capture.specs.Counts.{Made}
-use Rattle.babel_capture.specs.Gathering.{Gathering, IsGathered, IsRefused, AreTaken}
+use Rattle.babel_capture.specs.Gathering.{AreTaken, BlockNeedsMemory, Gathering, IsGathered}
+use Rattle.babel_capture.specs.Gathering.{IsRefused, with_taken}
 use Rattle.babel_capture.specs.Lengths.{block_len}
 use Rattle.babel_capture.specs.Tallies.{Senders, senders_of}
 
@@ -20,14 +22,24 @@ pub record Progress : Type 0 where
   pub gathering : Gathering
   pub at : ℕ
 
+-- with nothing of the dump
+abbrev pub without_dump : Progress → Progress
+without_dump progress =
+    record progress { gathering = record progress.gathering { dump = [] } }
+
+-- how many octets are read at most, and what was taken out of the dump until now
+pub record Account : Type 0 where
+  pub limit : ℕ
+  pub taken : List ℕ
+
 -- the octets are blocks, and this is how far they lead
-pub record LeadTo (limit : ℕ) (octets : List ℕ) (progress : Progress) : Type 0 where
+pub record LeadTo (account : Account) (octets : List ℕ) (progress : Progress) : Type 0 where
   pub blocks : List BlockAt
   pub whole : octets ≡ octets_of blocks
-  pub are_blocks : AreBlocks (start limit) 0 blocks
+  pub are_blocks : AreBlocks (start account.limit) 0 blocks
   pub place : progress.at ≡ length octets
-  pub context : progress.context ≡ context_behind (start limit) blocks
-  pub gathered : IsGathered (sightings_of blocks) progress.gathering
+  pub context : progress.context ≡ context_behind (start account.limit) blocks
+  pub gathered : IsGathered (sightings_of blocks) (with_taken account.taken progress.gathering)
   pub names : progress.gathering.names ≡ names_of blocks
 
 -- a whole block that can't be read, or whose packet is refused
@@ -55,6 +67,27 @@ pub record Stops (limit : ℕ) (wanted : Wanted) (octets : List ℕ) (fault : Fa
   pub stops : StopsAt wanted (senders_of made) (context_behind (start limit) blocks) (length
       (octets_of blocks)) rest fault
 
+-- octets for which memory is needed: what is left of them is less than a block, and is kept; or the
+-- block that they begin with needs it
+abbrev pub NeedsMemoryAt : Wanted → Senders → Before → ℕ → List ℕ → Type 0
+NeedsMemoryAt wanted senders before at octets =
+    (IsPartial before at octets × (octets ≢ []))
+    ⊎ ((block : List ℕ) × (content : Content) × BeginsBlock before at octets block
+    × (block_said before at block ≡ Ok content) × BlockNeedsMemory wanted senders content)
+
+-- memory is needed for a piece that comes after these octets: for a block that begins in it, where
+-- those before are taken
+pub record NeedsMemory (limit : ℕ) (wanted : Wanted) (fed piece : List ℕ) : Type 0 where
+  pub blocks : List BlockAt
+  pub rest : List ℕ
+  pub made : List Made
+  pub whole : fed ++ piece ≡ octets_of blocks ++ rest
+  pub are_blocks : AreBlocks (start limit) 0 blocks
+  pub taken : AreTaken wanted (sightings_of blocks) made
+  pub in_piece : length fed ≤ length (octets_of blocks)
+  pub needs : NeedsMemoryAt wanted (senders_of made) (context_behind (start limit) blocks) (length
+      (octets_of blocks)) rest
+
 -- the first block was read, so that the octets are a capture
 abbrev pub IsKnown : Layout → Type 0
 IsKnown layouts.Start = ⊥
@@ -67,8 +100,8 @@ HasStarted before = IsKnown before.layout
 -- ---- in pieces
 
 -- the octets are blocks that lead so far, and less than another, which are pending
-pub record HasTaken (limit : ℕ) (progress : Progress) (pending fed : List ℕ) : Type 0 where
+pub record HasTaken (account : Account) (progress : Progress) (pending fed : List ℕ) : Type 0 where
   pub read : List ℕ
   pub whole : fed ≡ read ++ pending
-  pub leads : LeadTo limit read progress
+  pub leads : LeadTo account read progress
   pub partial : IsPartial progress.context progress.at pending

@@ -1,5 +1,7 @@
--- How many packets of Babel each sender sent, of how many octets, and with how many Updates. It is this project's own.
-use Rattle.std.specs.Prelude.{◌≡◌, ◌≤◌, ◌+◌, ℕ, List, [], length, fold, Option, None}
+-- How many packets of Babel each sender sent, of how many octets, and with how many Updates. It is
+-- this project's own.
+use Rattle.std.specs.Prelude.{◌≡◌, ◌≤◌, ◌+◌, ◌^◌, ◌⊎◌, ℕ, List, [], length, fold, Option, None}
+use Rattle.std.specs.Prelude.{Some}
 use Rattle.std.specs.declared.cmp.Ordering.{Ordering}
 use Rattle.std.specs.Ordering.{on, then_cmp, nat_cmp}
 use Rattle.std.specs.BTreeMap.{insert_entry, is_at}
@@ -48,6 +50,19 @@ one_more tally packet = record {
   octets = tally.octets + length packet;
   updates = tally.updates + updates_in packet;
 }
+
+-- one packet more makes a number that has more than 64 bits
+abbrev pub Overflows : Tally → List ℕ → Type 0
+Overflows tally packet =
+    (2 ^ 64 ≤ tally.packets + 1)
+    ⊎ (2 ^ 64 ≤ tally.octets + length packet)
+    ⊎ (2 ^ 64 ≤ tally.updates + updates_in packet)
+
+-- memory is needed to count a packet of a sender that is not listed yet, or where a number
+-- overflows
+abbrev pub CountNeedsMemory : Option Tally → List ℕ → Type 0
+CountNeedsMemory None packet = Unit {0}
+CountNeedsMemory (Some tally) packet = Overflows tally packet
 
 -- with a packet of this sender
 abbrev pub tallied : Senders → Origin → List ℕ → Senders

@@ -1,7 +1,11 @@
-ghost use Rattle.std.specs.Prelude.{◌≡◌, ◌≤◌, ◌<◌, ◌+◌, ◌^◌, length, ◌-◌, ◌==◌, IfOk, IfErr, Ok, Err};
+ghost use Rattle.std.specs.Prelude.{◌≡◌, ◌≤◌, ◌<◌, ◌+◌, ◌^◌, length, ◌-◌, ◌==◌, IfOk, IfErr, Ok};
+ghost use Rattle.std.specs.Prelude.{Err};
 ghost use Rattle.babel_capture.specs.Numbers.{number_at};
 ghost use Rattle.babel_capture.specs.Lengths.{header_len};
-ghost use Rattle.babel_capture.specs.Contents.{block_said, content_of, file_said, interface_said, kept_len, kept_said, numbered_said, packet_said, pcapng_said, section_said, simple_said, typed_said, versioned_said};
+ghost use Rattle.babel_capture.specs.Contents.{block_said, content_of, file_said, interface_said};
+ghost use Rattle.babel_capture.specs.Contents.{kept_len, kept_said, numbered_said, packet_said};
+ghost use Rattle.babel_capture.specs.Contents.{pcapng_said, section_said, simple_said, typed_said};
+ghost use Rattle.babel_capture.specs.Contents.{versioned_said};
 
 use crate::context::Context;
 use crate::fault::Fault;
@@ -61,7 +65,7 @@ pub enum Block<'a> {
     },
     /// A captured packet.
     Packet(Packet<'a>),
-    /// What is passed over.
+    /// A block of another type, which is ignored.
     Other,
 }
 

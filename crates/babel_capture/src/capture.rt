@@ -1,5 +1,8 @@
-ghost use Rattle.std.specs.Prelude.{◌≡◌, ◌≢◌, ◌++◌, ℕ, List, [], Some, None, Err, IfOk, IfErr, IfSome, OnOk};
-ghost use Rattle.babel_capture.specs.Capture.{CaptureFault, HasRead, IsRead, IsReadToCut};
+ghost use Rattle.std.specs.Prelude.{◌≡◌, ◌≢◌, ◌++◌, ◌⊎◌, ℕ, List, [], Some, None, Err, IfOk, IfErr};
+ghost use Rattle.std.specs.Prelude.{IfSome, OnOk};
+ghost use Rattle.babel_capture.specs.Capture.{CaptureFault, HasGiven, HasRead, IsRead, IsReadToCut};
+ghost use Rattle.babel_capture.specs.Gathering.{with_taken};
+ghost use Rattle.babel_capture.specs.Reading.{NeedsMemory, without_dump};
 
 use crate::fault::Fault;
 use crate::gathered::Gathered;
@@ -35,6 +38,7 @@ impl Capture {
     /// A reader that was fed nothing, of so many octets at most.
     pub fn new(alloc: Global, limit: u64, wanted: Wanted) -> Capture
         ensures read { HasRead result [] }
+        ensures dump { result.progress.gathering.dump ≡ [] }
         ensures made { (result.limit ≡ limit) × (result.progress.gathering.wanted ≡ wanted)
             × (result.fault ≡ None) }
     {
@@ -48,10 +52,13 @@ impl Capture {
     /// Takes the next octets of the capture. A fault is answered as soon as the octets so far have
     /// it, whatever comes after them; after any fault every later call answers that fault. Of the
     /// piece only octets of a block that is not whole in it are copied, so that the memory taken
-    /// goes with the longest block.
+    /// goes with the largest block.
     pub fn feed(&mut self, piece: &[u8]) -> Result<(), Fault>
-        // The reader stands where the octets that it was fed before, and these, lead it.
+        // The reader stands where the octets that it was fed before, and these, lead it, whatever
+        // was taken out of its dump.
         ensures fed { (fed : List ℕ) → HasRead self.old fed → HasRead self.new (fed ++ piece.now) }
+        ensures given { (taken fed : List ℕ) → HasGiven self.old taken fed
+            → HasGiven self.new taken (fed ++ piece.now) }
         ensures same { (self.new.limit ≡ self.old.limit)
             × (self.new.progress.gathering.wanted ≡ self.old.progress.gathering.wanted) }
 
@@ -64,6 +71,14 @@ impl Capture {
             → HasRead self.old fed
             → CaptureFault self.old.limit self.old.progress.gathering.wanted
             ((fed ++ piece.now) ++ more) fault) }
+
+        // Want of memory was answered before, or a block did not come in one piece, or memory is
+        // needed for a block of this piece: it is not whole, or describes an interface, or has a
+        // packet that is added to the dump or whose sender is listed.
+        ensures memory { IfErr result (λ fault. fault ≡ Fault.Memory
+            → (self.old.fault ≡ Some Fault.Memory) ⊎ (self.old.pending ≢ [])
+            ⊎ ((fed : List ℕ) → HasRead self.old fed → NeedsMemory self.old.limit
+            self.old.progress.gathering.wanted fed piece.now)) }
         ensures stays { IfSome self.old.fault (λ fault. result ≡ Err fault) }
     {
         if let Some(fault) = self.fault {
@@ -78,11 +93,22 @@ impl Capture {
         }
     }
 
-    /// What the packets give that were read so far.
-    pub fn into_gathered(self) -> Gathered
-        ensures { result ≡ self.progress.gathering }
+    /// What the packets give that were read so far, but for what was taken of their dump.
+    pub fn gathered(&self) -> &Gathered
+        ensures { result.now ≡ self.now.progress.gathering }
     {
-        self.stream.reader.into_gathered()
+        self.stream.reader.gathered()
+    }
+
+    /// Takes the octets of the dump that were gathered since the last call.
+    #[tactic(auto, using(crate::proofs::StreamLaws::taken_out))]
+    pub fn take_dump(&mut self) -> Vec<u8>
+        ensures taken { result.items ≡ self.old.progress.gathering.dump }
+        ensures rest { self.new ≡ record self.old { progress = without_dump self.old.progress } }
+        ensures given { (taken fed : List ℕ) → HasGiven self.old taken fed
+            → HasGiven self.new (taken ++ result.items) fed }
+    {
+        self.stream.reader.take_dump()
     }
 
     /// What the packets of all octets that were fed give; the fault that was answered before if
@@ -108,6 +134,28 @@ impl Capture {
         self.stream.finish()
     }
 
+    /// Where the octets that were fed end within a block: its offset. The fault that was answered
+    /// before if there was one, `NotCapture` if they end before their first block is whole.
+    pub fn cut(&self) -> Result<Option<u64>, Fault>
+        ensures ok { IfOk result (λ cut. (taken fed : List ℕ) → HasGiven self.now taken fed
+            → IsReadToCut self.now.limit fed (with_taken taken self.now.progress.gathering) cut) }
+        ensures not_cut { self.now.fault ≡ None
+            → IfErr result (λ fault. fault ≡ Fault.NotCapture) }
+        ensures fault { IfErr result (λ fault. fault ≢ Fault.Memory → (taken fed : List ℕ)
+            → HasGiven self.now taken fed
+            → CaptureFault self.now.limit self.now.progress.gathering.wanted fed fault) }
+        ensures stays { IfSome self.now.fault (λ fault. result ≡ Err fault) }
+
+        // It takes no memory.
+        ensures memory { IfErr result (λ fault. fault ≡ Fault.Memory
+            → self.now.fault ≡ Some Fault.Memory) }
+    {
+        if let Some(fault) = self.fault {
+            return Err(fault);
+        }
+        self.stream.cut()
+    }
+
     /// The same of a capture whose last block may be cut short: what its whole blocks give, and the
     /// offset of the block that is not whole, if there is one.
     pub fn finish_at_cut(self) -> Result<(Gathered, Option<u64>), Fault>
@@ -126,9 +174,7 @@ impl Capture {
         ensures memory { IfErr result (λ fault. fault ≡ Fault.Memory
             → self.fault ≡ Some Fault.Memory) }
     {
-        if let Some(fault) = self.fault {
-            return Err(fault);
-        }
-        self.stream.finish_at_cut()
+        let cut = self.cut()?;
+        Ok((self.stream.reader.into_gathered(), cut))
     }
 }

@@ -1,8 +1,12 @@
-ghost use Rattle.std.specs.Prelude.{◌≡◌, ◌≤◌, ◌+◌, ◌-◌, ◌^◌, ◌<◌, [], length, slice_get, nat_le, OnOk, IfOk, IfErr, IfSome, IfNone, Err};
+ghost use Rattle.std.specs.Prelude.{◌≡◌, ◌≤◌, ◌+◌, ◌-◌, ◌^◌, ◌<◌, [], length, slice_get, nat_le};
+ghost use Rattle.std.specs.Prelude.{OnErr, OnOk, IfOk, IfErr, IfSome, IfNone, Err};
 ghost use Rattle.babel_capture.specs.Blocks.{BeginsBlock, HasHeader, IsPartial, header_of};
 ghost use Rattle.babel_capture.specs.Lengths.{block_len};
 ghost use Rattle.babel_capture.specs.Contents.{content_of, context_after};
+ghost use Rattle.babel_capture.specs.Gathering.{BlockNeedsMemory};
+ghost use Rattle.babel_capture.specs.Tallies.{Senders};
 ghost use Rattle.babel_capture.specs.declared.layout.Layout.TheVariants as layouts;
+ghost use Rattle.babel_capture.specs.declared.wanted.Wanted.{Wanted as WantedSaid};
 
 use crate::block::Block;
 use crate::fault::Fault;
@@ -137,6 +141,8 @@ impl Context {
     pub fn take(&mut self, said: &Block<'_>) -> Result<(), AllocError>
         ensures limit { self.new.limit ≡ self.old.limit }
         ensures ok { OnOk result (self.new ≡ context_after self.old (content_of said.now)) }
+        ensures err { OnErr result ((wanted : WantedSaid) (senders : Senders)
+            → BlockNeedsMemory wanted senders (content_of said.now)) }
     {
         match said {
             Block::File { order, interface } => {

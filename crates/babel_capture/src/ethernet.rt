@@ -89,7 +89,7 @@ impl<'a> Payload<'a> {
         }
     }
 
-    /// After the VLAN tags, of which at most `MAX_TAGS` are passed over.
+    /// After the VLAN tags, of which at most `MAX_TAGS` are skipped.
     fn past_tags(self) -> Payload<'a>
         ensures { payload result ≡ past_tags 4 (payload self.entry) }
     {

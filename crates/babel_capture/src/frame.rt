@@ -1,5 +1,6 @@
 ghost use Rattle.std.specs.Prelude.{◌≡◌, ◌≤◌, ◌+◌, length, max};
-ghost use Rattle.babel_capture.specs.Frame.{cooked2_sight, family_sight, frame_sight, header_sight, raw_sight};
+ghost use Rattle.babel_capture.specs.Frame.{cooked2_sight, family_sight, frame_sight, header_sight};
+ghost use Rattle.babel_capture.specs.Frame.{raw_sight};
 ghost use Rattle.babel_capture.specs.Sight.{sight_of};
 
 use crate::ethernet::{Payload, leads_to_ip};

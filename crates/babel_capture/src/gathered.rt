@@ -1,7 +1,9 @@
-ghost use Rattle.std.specs.Prelude.{◌≡◌, ◌+◌, ◌^◌, ◌<◌, ◌≤◌, ◌++◌, ◌∷◌, [], ◌⊎◌, List, length, OnOk, IfErr};
+ghost use Rattle.std.specs.Prelude.{◌≡◌, ℕ, ◌+◌, ◌^◌, ◌<◌, ◌≤◌, ◌++◌, ◌∷◌, [], ◌⊎◌, List, length};
+ghost use Rattle.std.specs.Prelude.{OnOk, IfErr};
 ghost use Rattle.babel_capture.specs.Blocks.{Sighting, sighting_of, sightings_in};
 ghost use Rattle.babel_capture.specs.Contents.{captured_of, content_of, holds, names_in};
-ghost use Rattle.babel_capture.specs.Gathering.{IsGathered, IsRefused, dump_with, name_of};
+ghost use Rattle.babel_capture.specs.Gathering.{BlockNeedsMemory, IsGathered, IsRefused};
+ghost use Rattle.babel_capture.specs.Gathering.{PacketNeedsMemory, dump_with, name_of, with_taken};
 ghost use Rattle.babel_capture.specs.Tallies.{IsOneTooMany, tallied};
 
 use crate::block::{Block, Packet};
@@ -13,6 +15,7 @@ use crate::wanted::Wanted;
 use std::alloc::Global;
 use std::collections::BTreeMap;
 use std::marker::Model;
+use std::mem;
 
 /// What is gathered of the packets of a capture.
 #[derive(Drop)]
@@ -45,6 +48,7 @@ impl Gathered {
     pub fn new(alloc: Global, wanted: Wanted) -> Gathered
         ensures none { (IsGathered [] result) × (result.names ≡ []) }
         ensures wanted { result.wanted ≡ wanted }
+        ensures dump { result.dump ≡ [] }
     {
         Gathered {
             alloc,
@@ -87,6 +91,14 @@ impl Gathered {
         self.dump
     }
 
+    /// Takes the octets of the dump out, so that it is empty.
+    pub fn take_dump(&mut self) -> Vec<u8>
+        ensures taken { result.items ≡ self.old.dump }
+        ensures rest { self.new ≡ record self.old { dump = [] } }
+    {
+        mem::replace(&mut self.dump, Vec::new(self.alloc))
+    }
+
     /// How many packets the capture has, and which wanted datagrams were left out.
     pub fn report(&self) -> Report
         ensures { result ≡ self.now.report }
@@ -108,12 +120,15 @@ impl Gathered {
         ensures wanted { self.new.wanted ≡ self.old.wanted }
         ensures names { self.new.names ≡ self.old.names }
         ensures report { self.new.report.packets ≤ self.old.report.packets + 1 }
-        ensures ok { OnOk result ((before : List Sighting) → IsGathered before self.old
+        ensures ok { OnOk result ((taken : List ℕ) (before : List Sighting)
+            → IsGathered before (with_taken taken self.old)
             → IsGathered (before ++ sighting_of (self.old.report.packets + 1) at
-            (captured_of packet.now) ∷ []) self.new) }
+            (captured_of packet.now) ∷ []) (with_taken taken self.new)) }
         ensures err { IfErr result (λ fault. (fault ≡ Fault.Memory)
             ⊎ IsRefused self.old.wanted self.old.senders at
             (holds (captured_of packet.now)) fault) }
+        ensures memory { IfErr result (λ fault. fault ≡ Fault.Memory → BlockNeedsMemory
+            self.old.wanted self.old.senders (holds (captured_of packet.now))) }
     {
         let link = packet.link;
         match self.wanted.finding(packet) {
@@ -148,11 +163,14 @@ impl Gathered {
         ensures names { OnOk result (self.new.names
             ≡ self.old.names ++ names_in (content_of said.now)) }
         ensures report { self.new.report.packets ≤ self.old.report.packets + 1 }
-        ensures ok { OnOk result ((before : List Sighting) → IsGathered before self.old
+        ensures ok { OnOk result ((taken : List ℕ) (before : List Sighting)
+            → IsGathered before (with_taken taken self.old)
             → IsGathered (before ++ sightings_in (self.old.report.packets + 1) at
-            (content_of said.now)) self.new) }
+            (content_of said.now)) (with_taken taken self.new)) }
         ensures err { IfErr result (λ fault. (fault ≡ Fault.Memory)
             ⊎ IsRefused self.old.wanted self.old.senders at (content_of said.now) fault) }
+        ensures memory { IfErr result (λ fault. fault ≡ Fault.Memory → BlockNeedsMemory
+            self.old.wanted self.old.senders (content_of said.now)) }
     {
         match said {
             Block::Packet(packet) => self.take_packet(at, packet),
@@ -191,6 +209,8 @@ impl Gathered {
         ensures few { OnOk result (length self.new.senders ≤ 65536) }
         ensures err { IfErr result (λ fault. (fault ≡ Fault.Memory)
             ⊎ ((fault ≡ Fault.TooManySenders at) × IsOneTooMany self.old.senders origin)) }
+        ensures memory { IfErr result (λ fault. fault ≡ Fault.Memory
+            → PacketNeedsMemory self.old.wanted self.old.senders origin packet.now) }
     {
         self.senders.add(at, origin, packet)?;
         if let Wanted::Sender { .. } = self.wanted {

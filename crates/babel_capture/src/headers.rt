@@ -4,7 +4,7 @@ ghost use Rattle.babel_capture.specs.Headers.{telling_len};
 use crate::field::number16;
 use crate::part::Part;
 
-/// How many extension headers of a packet are passed over.
+/// How many extension headers of a packet are skipped.
 pub const MAX_EXTENSION_HEADERS: usize = 8;
 
 /// Extension headers: RFC 8200, 4.3 to 4.6.

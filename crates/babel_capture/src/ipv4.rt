@@ -1,5 +1,6 @@
 ghost use Rattle.std.specs.Prelude.{◌≡◌, ◌≤◌, length};
-ghost use Rattle.babel_capture.specs.Ipv4.{ipv4_header_len, ipv4_carried_sight, ipv4_header_sight, ipv4_sight};
+ghost use Rattle.babel_capture.specs.Ipv4.{ipv4_header_len, ipv4_carried_sight, ipv4_header_sight};
+ghost use Rattle.babel_capture.specs.Ipv4.{ipv4_sight};
 ghost use Rattle.babel_capture.specs.Sight.{sight_of};
 
 use crate::field::{ipv4_address, number16};

@@ -1,6 +1,6 @@
 //! What follows from the definitions alone.
-ghost use Rattle.std.specs.Prelude.{◌≡◌, ℕ, ◌+◌, ◌<◌, ◌≤◌, ◌++◌, List, [], length, take};
-ghost use Rattle.babel_capture.specs.Capture.{IsRead};
+ghost use Rattle.std.specs.Prelude.{◌≡◌, ◌≢◌, ℕ, ◌+◌, ◌<◌, ◌≤◌, ◌++◌, ◌⊎◌, List, [], length, take};
+ghost use Rattle.babel_capture.specs.Capture.{CaptureFault, IsRead};
 ghost use Rattle.babel_capture.specs.Gathering.{Gathering};
 ghost use Rattle.babel_capture.specs.OneCapture.{CaptureIsOne, CutCaptureIsOne};
 ghost use Rattle.babel_capture.specs.OneFault.{CutIsTheFault, FaultIsOne, ReadHasNoFault};
@@ -9,7 +9,7 @@ ghost use Rattle.babel_capture.specs.Packets.{ArePackets, IsPastEnd};
 ghost use Rattle.babel_capture.specs.PcapFiles.{IsPcap, IsReadAs, PcapFile};
 ghost use Rattle.babel_capture.specs.PcapFiles.{packets_in, packets_of, pcap_octets};
 ghost use Rattle.babel_capture.specs.PcapngFiles.{Hold, IsSection, PcapngBlock, SectionHeader};
-ghost use Rattle.babel_capture.specs.PcapngFiles.{section_octets};
+ghost use Rattle.babel_capture.specs.PcapngFiles.{pcapng_octets};
 ghost use Rattle.babel_capture.specs.Contents.{Captured};
 ghost use Rattle.babel_capture.specs.declared.order.Order.{Order};
 ghost use Rattle.babel_capture.specs.Reading.{Stops};
@@ -17,19 +17,23 @@ ghost use Rattle.babel_capture.specs.Senders.{AreSenders};
 ghost use Rattle.babel_tlv.specs.FrameFaults.{FrameFault};
 ghost use Rattle.babel_tlv.specs.declared.fault.Fault.{Fault as DumpFault};
 ghost use Rattle.babel_capture.specs.declared.fault.Fault.{Fault};
+ghost use Rattle.babel_capture.specs.declared.fault.Fault.TheVariants.{Memory};
 ghost use Rattle.babel_capture.specs.declared.wanted.Wanted.{Wanted};
 ghost use Rattle.babel_capture.specs.Backing.{Backs};
 ghost use Rattle.babel_capture.specs.Frame.{frame_sight};
 ghost use Rattle.babel_capture.specs.LaidOut.{HasBabel, IsBabel, IsOverIp, UdpDatagram};
-ghost use Rattle.babel_capture.specs.LinkHeaders.{IsHeader};
+ghost use Rattle.babel_capture.specs.LinkHeaders.{HasEtherType, HasFamily, IsHeader};
+ghost use Rattle.babel_capture.specs.LinkHeaders.{IsOtherFamily, IsOtherType};
+ghost use Rattle.byteorder.specs.Endian.{big_bytes, little_bytes};
 ghost use Rattle.babel_prefix.specs.Address.{Address};
-ghost use Rattle.babel_capture.specs.Sight.{Carried, datagram, lacking};
+ghost use Rattle.babel_capture.specs.Sight.{Carried, datagram, lacking, other};
 ghost use Rattle.babel_capture.specs.declared.link.Link.{Link as LinkType};
 ghost use Rattle.babel_capture.specs.declared.lack.Lack.TheVariants.{Snapped};
 ghost use Rattle.babel_capture.specs.declared.place.Place.{Place};
 
 /// What is seen of a frame is in the frame: a datagram was snapped only if the recorder left octets
-/// out, and a payload is some of the octets that it kept, one after the other.
+/// out, and a payload is that of a UDP datagram which stands in the octets that it kept, both of
+/// whose ports are that of Babel, and whose sender may send it.
 #[tactic(auto, using(crate::proofs::BackingLaws::frame_backed))]
 pub fn sight_is_backed()
     ensures { (interface : ℕ) (link : LinkType) (octets : List ℕ) (all : ℕ)
@@ -47,6 +51,19 @@ pub fn laid_out_is_seen()
         → HasBabel ether_type sender packet carried → length header + length packet ≤ all
         → frame_sight interface link (header ++ (packet ++ padding)) all
         ≡ datagram place sender carried }
+{}
+
+/// After a link header whose EtherType, up to four tags included, or whose protocol family is none
+/// of IP's, nothing of Babel is seen, whatever comes next.
+pub fn other_type_is_passed()
+    ensures family { (link : LinkType) (interface family : ℕ) (header octets : List ℕ) (all : ℕ)
+        → HasFamily link → IsOtherFamily family
+        → (header ≡ big_bytes 4 family) ⊎ (header ≡ little_bytes 4 family)
+        → frame_sight interface link (header ++ octets) all ≡ other }
+    ensures ether_type { (link : LinkType) (interface ether_type : ℕ) (place : Place)
+        (header octets : List ℕ) (all : ℕ)
+        → HasEtherType link → IsHeader link interface ether_type place header
+        → IsOtherType ether_type → frame_sight interface link (header ++ octets) all ≡ other }
 {}
 
 /// Where the recorder kept the first octets of such a frame, the datagram's ports within, it is
@@ -77,14 +94,14 @@ pub fn pcap_is_read()
         → IsReadAs limit (pcap_octets pcap) (packets_in pcap link) }
 {}
 
-/// A section of a pcapng file that is laid out as its format says, in either byte order, of
+/// A pcapng file that is laid out as its format says, of sections in either byte order, each of
 /// descriptions, packets in each of their three blocks, and blocks of other types, is read as
-/// exactly its packets.
+/// exactly its packets, with interfaces numbered over all sections.
 pub fn pcapng_is_read()
     ensures { (limit : ℕ) (order : Order) (head : SectionHeader) (blocks : List PcapngBlock)
-        (packets : List Captured) → IsSection order head → Hold order [] blocks packets
-        → length (section_octets order head blocks) ≤ limit
-        → IsReadAs limit (section_octets order head blocks) packets }
+        (packets : List Captured) → IsSection order head → Hold order 0 [] blocks packets
+        → length (pcapng_octets order head blocks) ≤ limit
+        → IsReadAs limit (pcapng_octets order head blocks) packets }
 {}
 
 /// The dump of a capture is whole Babel packets, end to end.
@@ -114,6 +131,12 @@ pub fn fault_stays()
     ensures { (limit : ℕ) (wanted : Wanted) (octets more : List ℕ) (fault : Fault)
         → Stops limit wanted octets fault
         → Stops limit wanted (octets ++ more) fault }
+{}
+
+/// The fault of a capture is never want of memory.
+pub fn fault_is_of_octets()
+    ensures { (limit : ℕ) (wanted : Wanted) (octets : List ℕ) (fault : Fault)
+        → CaptureFault limit wanted octets fault → fault ≢ Memory }
 {}
 
 /// Octets are one capture: however its pieces were cut, what the packets of it give is one, and so

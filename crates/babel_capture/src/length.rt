@@ -1,5 +1,7 @@
 ghost use Rattle.std.specs.Prelude.{◌≡◌, ◌≤◌, ◌<◌, ◌+◌, length, IfOk};
-ghost use Rattle.babel_capture.specs.Lengths.{header_len, is_pcap_magic, is_section, pcap_order, section_order, section_len, total_len, record_len, first_len, layout_len};
+ghost use Rattle.babel_capture.specs.Lengths.{header_len, is_pcap_magic, is_section, pcap_order};
+ghost use Rattle.babel_capture.specs.Lengths.{section_order, section_len, total_len, record_len};
+ghost use Rattle.babel_capture.specs.Lengths.{first_len, layout_len};
 
 use crate::fault::Fault;
 use crate::layout::Layout;
@@ -27,7 +29,7 @@ const LEAST_BLOCK: u32 = 12;
 
 const LEAST_SECTION: u32 = 28;
 
-/// The longest packet of a pcap file, and the longest block of a pcapng file, that are read.
+/// The largest packet of a pcap file, and the largest block of a pcapng file, that are read.
 const LONGEST_PACKET: u32 = 262_144;
 
 const LONGEST_BLOCK: u32 = 16_777_216;

@@ -1,6 +1,7 @@
 ghost use Rattle.std.specs.Prelude.{◌≡◌, ◌≤◌, ◌+◌, ◌<◌, length, drop};
 ghost use Rattle.babel_capture.specs.Layers.{options};
-ghost use Rattle.babel_capture.specs.Options.{all_options, is_last, name_with, option_len, padded, past_option};
+ghost use Rattle.babel_capture.specs.Options.{all_options, is_last, name_with, option_len, padded};
+ghost use Rattle.babel_capture.specs.Options.{past_option};
 
 use crate::order::Order;
 

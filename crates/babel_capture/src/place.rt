@@ -1,7 +1,7 @@
 ghost use Rattle.std.specs.Prelude.{◌≡◌};
 ghost use Rattle.babel_capture.specs.Place.{no_vlans, place_on, vlan_fields, with_vlan};
 
-/// How many VLAN tags of a frame are passed over.
+/// How many VLAN tags of a frame are skipped.
 pub const MAX_TAGS: usize = 4;
 
 /// Where a packet was captured: all that tells links apart. Places are ordered by the interface,

@@ -1,7 +1,13 @@
-ghost use Rattle.std.specs.Prelude.{◌≡◌, ◌↔◌, IsTrue, ◌≤◌, ◌<◌, ◌+◌, ◌-◌, ◌^◌, ◌++◌, ◌⊎◌, ℕ, List, [], length, take, drop, OnOk, IfOk, IfErr, IfSome, IfNone, Err};
-ghost use Rattle.babel_capture.specs.Blocks.{BeginsBlock, HasHeader, IsBlock, IsPartial, header_of, start};
+ghost use Rattle.std.specs.Prelude.{◌≡◌, ◌↔◌, IsTrue, ◌≤◌, ◌<◌, ◌+◌, ◌-◌, ◌^◌, ◌++◌, ◌⊎◌, ℕ, List};
+ghost use Rattle.std.specs.Prelude.{[], length, take, drop, OnOk, IfOk, IfErr, IfSome, IfNone, Err};
+ghost use Rattle.std.specs.Prelude.{Ok};
+ghost use Rattle.babel_capture.specs.Blocks.{BeginsBlock, HasHeader, IsBlock, IsPartial, header_of};
+ghost use Rattle.babel_capture.specs.Blocks.{start};
+ghost use Rattle.babel_capture.specs.Contents.{Content, block_said};
+ghost use Rattle.babel_capture.specs.Gathering.{BlockNeedsMemory};
 ghost use Rattle.babel_capture.specs.Lengths.{block_len};
-ghost use Rattle.babel_capture.specs.Reading.{BlockFails, HasStarted, LeadTo, Stops};
+ghost use Rattle.babel_capture.specs.Reading.{Account, BlockFails, HasStarted, LeadTo, NeedsMemory};
+ghost use Rattle.babel_capture.specs.Reading.{Stops, without_dump};
 
 use crate::block::read_block;
 use crate::context::Context;
@@ -35,9 +41,10 @@ impl Model for Reader {
 impl Reader {
     /// Nothing was read yet, of so many octets at most.
     pub fn new(alloc: Global, limit: u64, wanted: Wanted) -> Reader
-        ensures none { LeadTo limit [] result }
+        ensures none { LeadTo (record { limit = limit; taken = [] }) [] result }
         ensures context { result.context ≡ start limit }
         ensures wanted { result.gathering.wanted ≡ wanted }
+        ensures dump { result.gathering.dump ≡ [] }
     {
         Reader {
             context: Context::new(alloc, limit),
@@ -54,17 +61,21 @@ impl Reader {
     }
 
     /// Takes a whole block.
+    #[tactic(auto, using(crate::proofs::MemoryLaws::said_other))]
     fn take_block(&mut self, block: &[u8]) -> Result<(), Fault>
         requires is_block { IsBlock self.old.context self.old.at block.now }
         requires some { 12 ≤ length block.now }
         requires room { length block.now ≤ self.old.context.limit - self.old.at }
         requires fits { self.old.at + length block.now < 2 ^ 64 }
         ensures wanted { self.new.gathering.wanted ≡ self.old.gathering.wanted }
-        ensures ok { OnOk result ((limit : ℕ) (read : List ℕ) → LeadTo limit read self.old
-            → LeadTo limit (read ++ block.now) self.new) }
+        ensures ok { OnOk result ((account : Account) (read : List ℕ)
+            → LeadTo account read self.old → LeadTo account (read ++ block.now) self.new) }
         ensures err { IfErr result (λ fault. (fault ≡ Fault.Memory)
             ⊎ BlockFails self.old.gathering.wanted self.old.gathering.senders self.old.context
             self.old.at block.now fault) }
+        ensures memory { IfErr result (λ fault. fault ≡ Fault.Memory → (content : Content)
+            × (block_said self.old.context self.old.at block.now ≡ Ok content)
+            × BlockNeedsMemory self.old.gathering.wanted self.old.gathering.senders content) }
     {
         let said = read_block(&self.context, self.at, block)?;
         let at = self.at;
@@ -103,13 +114,18 @@ impl Reader {
     pub fn take_blocks(&mut self, octets: &[u8]) -> Result<usize, Fault>
         ensures wanted { self.new.gathering.wanted ≡ self.old.gathering.wanted }
         ensures used { IfOk result (λ used. used ≤ length octets.now) }
-        ensures took { IfOk result (λ used. (limit : ℕ) (read : List ℕ)
-            → LeadTo limit read self.old → LeadTo limit (read ++ take used octets.now) self.new) }
+        ensures took { IfOk result (λ used. (account : Account) (read : List ℕ)
+            → LeadTo account read self.old
+            → LeadTo account (read ++ take used octets.now) self.new) }
         ensures partial { IfOk result (λ used. IsPartial self.new.context self.new.at
             (drop used octets.now)) }
         ensures stops { IfErr result (λ fault. (fault ≡ Fault.Memory)
-            ⊎ ((limit : ℕ) (read : List ℕ) → LeadTo limit read self.old
-            → Stops limit self.old.gathering.wanted (read ++ octets.now) fault)) }
+            ⊎ ((account : Account) (read : List ℕ) → LeadTo account read self.old
+            → Stops account.limit self.old.gathering.wanted (read ++ octets.now) fault)) }
+        ensures memory { IfErr result (λ fault. fault ≡ Fault.Memory
+            → (account : Account) (read : List ℕ)
+            → LeadTo account read self.old
+            → NeedsMemory account.limit self.old.gathering.wanted read octets.now) }
     {
         let mut used = 0;
         while let Some(block) = self.first_block(&octets[used..])? {
@@ -124,6 +140,21 @@ impl Reader {
         ensures { IsTrue result ↔ HasStarted self.now.context }
     {
         !matches!(self.context.layout(), Layout::Start)
+    }
+
+    /// What was gathered so far.
+    pub fn gathered(&self) -> &Gathered
+        ensures { result.now ≡ self.now.gathering }
+    {
+        &self.gathered
+    }
+
+    /// Takes the dump out of what was gathered.
+    pub fn take_dump(&mut self) -> Vec<u8>
+        ensures taken { result.items ≡ self.old.gathering.dump }
+        ensures rest { self.new ≡ without_dump self.old }
+    {
+        self.gathered.take_dump()
     }
 
     /// What was gathered.

@@ -1,6 +1,7 @@
 ghost use Rattle.std.specs.Prelude.{◌≡◌, ◌+◌, ◌^◌, ◌<◌, [], IfSome};
 ghost use Rattle.babel_capture.specs.Counts.{Counts, count_at, counts_of, reason_place};
-ghost use Rattle.babel_capture.specs.Counting.{counted_with, one_more, packet_counted, short_counted};
+ghost use Rattle.babel_capture.specs.Counting.{counted_with, one_more, packet_counted};
+ghost use Rattle.babel_capture.specs.Counting.{short_counted};
 
 use crate::link::Link;
 use crate::reason::Reason;

@@ -1,6 +1,8 @@
-ghost use Rattle.std.specs.Prelude.{◌≡◌, ◌≢◌, ◌≤◌, ◌++◌, ◌⊎◌, ℕ, List, [], drop, length, vec_len, OnOk, IfOk, IfErr};
+ghost use Rattle.std.specs.Prelude.{◌≡◌, ◌≢◌, ◌≤◌, ◌++◌, ◌⊎◌, ℕ, List, [], drop, length, vec_len};
+ghost use Rattle.std.specs.Prelude.{OnOk, IfOk, IfErr};
 ghost use Rattle.babel_capture.specs.Capture.{CaptureFault, IsRead, IsReadToCut};
-ghost use Rattle.babel_capture.specs.Reading.{HasTaken, Stops};
+ghost use Rattle.babel_capture.specs.Gathering.{with_taken};
+ghost use Rattle.babel_capture.specs.Reading.{Account, HasTaken, NeedsMemory, Stops};
 
 use crate::fault::Fault;
 use crate::gathered::Gathered;
@@ -34,13 +36,21 @@ impl Stream {
     /// pending, and where they begin one that is not whole: the others are read where they lie.
     pub fn take(&mut self, piece: &[u8]) -> Result<(), Fault>
         ensures wanted { self.new.reader.gathering.wanted ≡ self.old.reader.gathering.wanted }
-        ensures ok { OnOk result ((limit : ℕ) (fed : List ℕ)
-            → HasTaken limit self.old.reader self.old.pending.items fed
-            → HasTaken limit self.new.reader self.new.pending.items (fed ++ piece.now)) }
-        ensures err { IfErr result (λ fault. (fault ≡ Fault.Memory) ⊎ ((limit : ℕ) (fed : List ℕ)
-            → HasTaken limit self.old.reader self.old.pending.items fed
-            → Stops limit self.old.reader.gathering.wanted (fed ++ piece.now) fault)) }
+        ensures ok { OnOk result ((account : Account) (fed : List ℕ)
+            → HasTaken account self.old.reader self.old.pending.items fed
+            → HasTaken account self.new.reader self.new.pending.items (fed ++ piece.now)) }
+        ensures err { IfErr result (λ fault. (fault ≡ Fault.Memory)
+            ⊎ ((account : Account) (fed : List ℕ)
+            → HasTaken account self.old.reader self.old.pending.items fed
+            → Stops account.limit self.old.reader.gathering.wanted (fed ++ piece.now) fault)) }
+        ensures memory { IfErr result (λ fault. fault ≡ Fault.Memory
+            → (self.old.pending.items ≢ []) ⊎ ((account : Account) (fed : List ℕ)
+            → HasTaken account self.old.reader self.old.pending.items fed
+            → NeedsMemory account.limit self.old.reader.gathering.wanted fed piece.now)) }
     {
+        if self.pending.is_empty() {
+            return self.take_in_place(piece);
+        }
         let (header, rest) = piece.split_at(self.lacking_of(piece));
         self.take_behind(header)?;
         self.take_past_header(rest)
@@ -49,12 +59,13 @@ impl Stream {
     /// Takes octets where the header of the block that is pending is whole, if one is.
     fn take_past_header(&mut self, piece: &[u8]) -> Result<(), Fault>
         ensures wanted { self.new.reader.gathering.wanted ≡ self.old.reader.gathering.wanted }
-        ensures ok { OnOk result ((limit : ℕ) (fed : List ℕ)
-            → HasTaken limit self.old.reader self.old.pending.items fed
-            → HasTaken limit self.new.reader self.new.pending.items (fed ++ piece.now)) }
-        ensures err { IfErr result (λ fault. (fault ≡ Fault.Memory) ⊎ ((limit : ℕ) (fed : List ℕ)
-            → HasTaken limit self.old.reader self.old.pending.items fed
-            → Stops limit self.old.reader.gathering.wanted (fed ++ piece.now) fault)) }
+        ensures ok { OnOk result ((account : Account) (fed : List ℕ)
+            → HasTaken account self.old.reader self.old.pending.items fed
+            → HasTaken account self.new.reader self.new.pending.items (fed ++ piece.now)) }
+        ensures err { IfErr result (λ fault. (fault ≡ Fault.Memory)
+            ⊎ ((account : Account) (fed : List ℕ)
+            → HasTaken account self.old.reader self.old.pending.items fed
+            → Stops account.limit self.old.reader.gathering.wanted (fed ++ piece.now) fault)) }
     {
         let (block, rest) = piece.split_at(self.lacking_of(piece));
         self.take_behind(block)?;
@@ -69,15 +80,16 @@ impl Stream {
         self.reader.lacking(&self.pending).min(piece.len())
     }
 
-    /// Takes octets that come behind those of the block that is pending.
+    /// Takes octets that come after those of the block that is pending.
     fn take_behind(&mut self, piece: &[u8]) -> Result<(), Fault>
         ensures wanted { self.new.reader.gathering.wanted ≡ self.old.reader.gathering.wanted }
-        ensures ok { OnOk result ((limit : ℕ) (fed : List ℕ)
-            → HasTaken limit self.old.reader self.old.pending.items fed
-            → HasTaken limit self.new.reader self.new.pending.items (fed ++ piece.now)) }
-        ensures err { IfErr result (λ fault. (fault ≡ Fault.Memory) ⊎ ((limit : ℕ) (fed : List ℕ)
-            → HasTaken limit self.old.reader self.old.pending.items fed
-            → Stops limit self.old.reader.gathering.wanted (fed ++ piece.now) fault)) }
+        ensures ok { OnOk result ((account : Account) (fed : List ℕ)
+            → HasTaken account self.old.reader self.old.pending.items fed
+            → HasTaken account self.new.reader self.new.pending.items (fed ++ piece.now)) }
+        ensures err { IfErr result (λ fault. (fault ≡ Fault.Memory)
+            ⊎ ((account : Account) (fed : List ℕ)
+            → HasTaken account self.old.reader self.old.pending.items fed
+            → Stops account.limit self.old.reader.gathering.wanted (fed ++ piece.now) fault)) }
     {
         self.pending.extend_from_slice(piece)?;
         let used = self.reader.take_blocks(&self.pending)?;
@@ -88,26 +100,36 @@ impl Stream {
     /// Takes octets, where they lie if no block is pending.
     fn take_in_place(&mut self, piece: &[u8]) -> Result<(), Fault>
         ensures wanted { self.new.reader.gathering.wanted ≡ self.old.reader.gathering.wanted }
-        ensures ok { OnOk result ((limit : ℕ) (fed : List ℕ)
-            → HasTaken limit self.old.reader self.old.pending.items fed
-            → HasTaken limit self.new.reader self.new.pending.items (fed ++ piece.now)) }
-        ensures err { IfErr result (λ fault. (fault ≡ Fault.Memory) ⊎ ((limit : ℕ) (fed : List ℕ)
-            → HasTaken limit self.old.reader self.old.pending.items fed
-            → Stops limit self.old.reader.gathering.wanted (fed ++ piece.now) fault)) }
+        ensures ok { OnOk result ((account : Account) (fed : List ℕ)
+            → HasTaken account self.old.reader self.old.pending.items fed
+            → HasTaken account self.new.reader self.new.pending.items (fed ++ piece.now)) }
+        ensures err { IfErr result (λ fault. (fault ≡ Fault.Memory)
+            ⊎ ((account : Account) (fed : List ℕ)
+            → HasTaken account self.old.reader self.old.pending.items fed
+            → Stops account.limit self.old.reader.gathering.wanted (fed ++ piece.now) fault)) }
+        ensures memory { IfErr result (λ fault. fault ≡ Fault.Memory
+            → (self.old.pending.items ≢ []) ⊎ ((account : Account) (fed : List ℕ)
+            → HasTaken account self.old.reader self.old.pending.items fed
+            → NeedsMemory account.limit self.old.reader.gathering.wanted fed piece.now)) }
     {
         if !self.pending.is_empty() {
             return self.take_behind(piece);
         }
         let used = self.reader.take_blocks(piece)?;
         let (_blocks, left) = piece.split_at(used);
+        if left.is_empty() {
+            return Ok(());
+        }
         self.pending.extend_from_slice(left)?;
         Ok(())
     }
 
     /// No octets yet, of so many at most.
     pub fn new(alloc: Global, limit: u64, wanted: Wanted) -> Stream
-        ensures none { HasTaken limit result.reader result.pending.items [] }
+        ensures none { HasTaken (record { limit = limit; taken = [] }) result.reader
+            result.pending.items [] }
         ensures wanted { result.reader.gathering.wanted ≡ wanted }
+        ensures dump { result.reader.gathering.dump ≡ [] }
     {
         Stream {
             reader: Reader::new(alloc, limit, wanted),
@@ -117,13 +139,13 @@ impl Stream {
 
     /// What the packets of a whole capture give.
     pub fn finish(self) -> Result<Gathered, Fault>
-        ensures ok { IfOk result (λ gathered. (limit : ℕ) (fed : List ℕ)
-            → HasTaken limit self.reader self.pending.items fed
-            → IsRead limit fed gathered) }
+        ensures ok { IfOk result (λ gathered. (account : Account) (fed : List ℕ)
+            → HasTaken account self.reader self.pending.items fed
+            → IsRead account.limit fed (with_taken account.taken gathered)) }
         ensures wanted { IfOk result (λ gathered. gathered.wanted ≡ self.reader.gathering.wanted) }
-        ensures fault { IfErr result (λ fault. (limit : ℕ) (fed : List ℕ)
-            → HasTaken limit self.reader self.pending.items fed
-            → CaptureFault limit self.reader.gathering.wanted fed fault) }
+        ensures fault { IfErr result (λ fault. (account : Account) (fed : List ℕ)
+            → HasTaken account self.reader self.pending.items fed
+            → CaptureFault account.limit self.reader.gathering.wanted fed fault) }
         ensures memory { IfErr result (λ fault. fault ≢ Fault.Memory) }
     {
         if !self.reader.has_started() {
@@ -137,25 +159,23 @@ impl Stream {
         Ok(self.reader.into_gathered())
     }
 
-    /// What the packets of the whole blocks give, and the offset of a block that is not whole.
-    pub fn finish_at_cut(self) -> Result<(Gathered, Option<u64>), Fault>
-        ensures ok { IfOk result (λ given. (limit : ℕ) (fed : List ℕ)
-            → HasTaken limit self.reader self.pending.items fed
-            → IsReadToCut limit fed given.0 given.1) }
-        ensures wanted { IfOk result (λ given. given.0.wanted ≡ self.reader.gathering.wanted) }
+    /// The offset of a block that is not whole, if the octets end within one.
+    pub fn cut(&self) -> Result<Option<u64>, Fault>
+        ensures ok { IfOk result (λ cut. (account : Account) (fed : List ℕ)
+            → HasTaken account self.now.reader self.now.pending.items fed
+            → IsReadToCut account.limit fed
+            (with_taken account.taken self.now.reader.gathering) cut) }
         ensures err { IfErr result (λ fault. fault ≡ Fault.NotCapture) }
-        ensures fault { IfErr result (λ fault. (limit : ℕ) (fed : List ℕ)
-            → HasTaken limit self.reader self.pending.items fed
-            → CaptureFault limit self.reader.gathering.wanted fed fault) }
+        ensures fault { IfErr result (λ fault. (account : Account) (fed : List ℕ)
+            → HasTaken account self.now.reader self.now.pending.items fed
+            → CaptureFault account.limit self.now.reader.gathering.wanted fed fault) }
     {
         if !self.reader.has_started() {
             return Err(Fault::NotCapture);
         }
-        let cut = if self.pending.is_empty() {
-            None
-        } else {
-            Some(self.reader.at())
-        };
-        Ok((self.reader.into_gathered(), cut))
+        if self.pending.is_empty() {
+            return Ok(None);
+        }
+        Ok(Some(self.reader.at()))
     }
 }

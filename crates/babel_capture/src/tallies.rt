@@ -1,6 +1,6 @@
-ghost use Rattle.std.specs.Prelude.{◌≡◌, ◌≤◌, ◌+◌, ◌^◌, ◌⊎◌, [], length, IfErr, IfNone, IfSome, None, OnOk};
-ghost use Rattle.babel_capture.specs.Updates.{updates_in};
-ghost use Rattle.babel_capture.specs.Tallies.{IsOneTooMany, one_more, tallied, tally_of};
+ghost use Rattle.std.specs.Prelude.{◌≡◌, ◌≤◌, ◌⊎◌, [], length, IfErr, IfNone, IfSome, None, OnOk};
+ghost use Rattle.babel_capture.specs.Tallies.{CountNeedsMemory, IsOneTooMany, Overflows, one_more};
+ghost use Rattle.babel_capture.specs.Tallies.{tallied, tally_of};
 
 use crate::fault::Fault;
 use crate::place::Place;
@@ -35,9 +35,7 @@ impl Tally {
     /// 2^64 - 1.
     fn with(self, packet: &[u8]) -> Option<Tally>
         ensures some { IfSome result (λ tally. tally ≡ one_more self packet.now) }
-        ensures none { IfNone result ((2 ^ 64 ≤ self.packets + 1)
-            ⊎ (2 ^ 64 ≤ self.octets + length packet.now)
-            ⊎ (2 ^ 64 ≤ self.updates + updates_in packet.now)) }
+        ensures none { IfNone result (Overflows self packet.now) }
     {
         Some(Tally {
             packets: self.packets.checked_add(1)?,
@@ -110,6 +108,8 @@ impl Tallies {
         ensures few { OnOk result (length self.new ≤ 65536) }
         ensures err { IfErr result (λ fault. (fault ≡ Fault.Memory)
             ⊎ ((fault ≡ Fault.TooManySenders at) × IsOneTooMany self.old origin)) }
+        ensures memory { IfErr result (λ fault. fault ≡ Fault.Memory
+            → CountNeedsMemory (tally_of self.old origin) packet.now) }
     {
         let Some(tally) = self.tallies.get_mut(&origin) else {
             return self.add_first(at, origin, packet);

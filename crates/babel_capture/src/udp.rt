@@ -1,6 +1,7 @@
 ghost use Rattle.std.specs.Prelude.{◌≡◌, ◌≤◌, length};
 ghost use Rattle.babel_capture.specs.Sight.{sight_of};
-ghost use Rattle.babel_capture.specs.Udp.{babel_sight, is_babel, is_of_routers, len_sight, may_send, udp_sight, unkept_sight};
+ghost use Rattle.babel_capture.specs.Udp.{babel_sight, is_babel, is_of_routers, len_sight};
+ghost use Rattle.babel_capture.specs.Udp.{may_send, udp_sight, unkept_sight};
 
 use crate::field::number16;
 use crate::flaw::Flaw;

@@ -171,7 +171,8 @@ no_pair (w ∷ before) after words (pair ∷ pairs) all none = no_pair before af
 -- no line that asks is wrong among lines that ask for pairs
 says_within : (before after : List (List ℕ)) (line : List ℕ) (pairs : List AddrPair) → AskFor (before ++ line ∷ after) pairs → AsksBy (words_of line) asks.Wrong → ⊥
 says_within before after line pairs asked wrong =
-    let words : asking (before ++ line ∷ after) ≡ asking before ++ words_of line ∷ asking after = asking-append before (line ∷ after) ∙ ap (λ (rest : List (List (List ℕ))). asking before ++ rest) (asks_first line after wrong.0) in
+    let words : asking (before ++ line ∷ after) ≡ asking before ++ words_of line ∷ asking after = asking-append before (line ∷ after)
+    ∙ ap (λ (rest : List (List (List ℕ))). asking before ++ rest) (asks_first line after wrong.0) in
     no_pair (asking before) (asking after) (words_of line) pairs (rw words at asked) wrong.1
 
 pub not_wrong : (lines : List (List ℕ)) (pairs : List AddrPair) (at : ℕ) → AskFor lines pairs → IsFirstWrong lines at → ⊥

@@ -1,8 +1,6 @@
 -- What a reader gave so far, piece by piece, and a capture was fed.
-use Rattle.std.proofs.Common.{◌≡◌, ◌≢◌, ℕ, ◌+◌, ◌<◌, ◌≤◌, true, List, ◌++◌, length, take, Option, None, Some, arith, length-append, length-take, subst, ◌∙◌, inl, inr}
-use Rattle.std.specs.Io.KnownBytes.{Consumes, IsAtEnd}
-use Rattle.std.proofs.KnownBytes.{Consumes-trans}
-use Rattle.babel_capture.specs.Capture.{CaptureFault, HasRead, HasReadTo, State}
+use Rattle.std.proofs.Common.{◌≡◌, ◌≢◌, ℕ, ◌+◌, ◌<◌, ◌≤◌, true, List, [], ◌++◌, length, take, Option, None, Some, arith, length-append, length-take, subst, ◌∙◌, inl, inr}
+use Rattle.babel_capture.specs.Capture.{CaptureFault, account_of, HasGivenTo, HasRead, State}
 use Rattle.babel_capture.specs.Gathering.{Gathering}
 use Rattle.babel_capture.specs.Reading.{Stops}
 use Rattle.babel_capture.specs.declared.fault.Fault.{Fault}
@@ -11,40 +9,41 @@ use Rattle.babel_capture.specs.declared.wanted.Wanted.{Wanted}
 use Rattle.babel_dump.specs.CaptureGiven.{CaptureInput, GaveCapture, IsFaultOfCapture, IsFedWhole, IsReadSo}
 use Rattle.babel_dump.specs.declared.capture_reading.CaptureReading.{CaptureReading}
 use Rattle.babel_dump.proofs.CaptureLimits.{taken_within}
-use Rattle.babel_dump.proofs.Devices.{gave_none}
+use Rattle.babel_dump.specs.Device.{Gave, InputState, IsSpent}
+use Rattle.babel_dump.proofs.Devices.{gave_more, gave_none}
 
 -- the reader gave these octets, at least one in each turn, and that is what the capture was fed
-pub record IsFedSoFar (f : State) (old new : Option (List ℕ)) (turns : ℕ) : Type 0 where
+pub record IsFedSoFar (f : State) (old new : InputState) (turns : ℕ) : Type 0 where
   pub octets : List ℕ
   pub fed : HasRead f octets
-  pub gave : Consumes old new octets
+  pub gave : Gave old new octets
   pub some_each : turns ≤ length octets
 
 -- one more piece
-pub fed_more : (f h : State) (a b c : Option (List ℕ)) (turns n : ℕ) (buf : List ℕ) → IsFedSoFar f a b turns
-    → Consumes b c (take n buf) → ((octets : List ℕ) → HasRead f octets → HasRead h (octets ++ take n buf))
+pub fed_more : (f h : State) (a b c : InputState) (turns n : ℕ) (buf : List ℕ) → IsFedSoFar f a b turns
+    → Gave b c (take n buf) → ((octets : List ℕ) → HasRead f octets → HasRead h (octets ++ take n buf))
     → 0 < n → n ≤ length buf → IsFedSoFar h a c (turns + 1)
 fed_more f h a b c turns n buf so_far gave fed some within = record {
   octets = so_far.octets ++ take n buf;
   fed = fed so_far.octets so_far.fed;
-  gave = Consumes-trans a b c _ _ so_far.gave gave;
+  gave = gave_more a b c _ _ so_far.gave gave;
   some_each = let _more = so_far.some_each in omega (arith, length-append so_far.octets (take n buf), length-take n buf);
 }
 
 -- the end was met
-pub fed_whole : (f : State) (reader : CaptureInput) (b : Option (List ℕ)) (turns : ℕ) (buf : List ℕ) → IsFedSoFar f reader.old.left b turns
-    → Consumes b reader.new.left (take 0 buf) → IsAtEnd reader.new.left → reader.old.ends < reader.new.ends → IsFedWhole f reader
+pub fed_whole : (f : State) (reader : CaptureInput) (b : InputState) (turns : ℕ) (buf : List ℕ) → IsFedSoFar f reader.old b turns
+    → Gave b reader.new (take 0 buf) → IsSpent reader.new → reader.old.ends < reader.new.ends → IsFedWhole f reader
 fed_whole f reader b turns buf so_far gave end met = record {
   given = so_far.octets;
   fed = so_far.fed;
-  gave = record { gave = gave_none reader.old.left b reader.new.left so_far.octets buf so_far.gave gave; all = end; met_end = met };
+  gave = record { gave = gave_none reader.old b reader.new so_far.octets buf so_far.gave gave; all = end; met_end = met };
 }
 
 -- without a fault the turns are fewer than the limit and 24
-pub fed_within : (f : State) (a b : Option (List ℕ)) (turns : ℕ) → IsFedSoFar f a b turns → f.fault ≡ None → turns < f.limit + 24
+pub fed_within : (f : State) (a b : InputState) (turns : ℕ) → IsFedSoFar f a b turns → f.fault ≡ None → turns < f.limit + 24
 fed_within f a b turns so_far none =
-    let taken = subst (λ (fault : Option Fault). HasReadTo f fault so_far.octets) none so_far.fed in
-    let within : length so_far.octets < f.limit + 24 = taken_within f.limit f.progress f.pending so_far.octets taken in
+    let taken = subst (λ (fault : Option Fault). HasGivenTo f [] fault so_far.octets) none so_far.fed in
+    let within : length so_far.octets < f.limit + 24 = taken_within (account_of f []) f.progress f.pending so_far.octets taken in
     let _some = so_far.some_each in
     omega arith
 
@@ -57,11 +56,11 @@ pub record IsReadFrom (f : State) (reading : CaptureReading) (whose : Wanted) : 
 kept_stops : (f : State) (fault : Fault) (octets : List ℕ) → fault ≢ faults.Memory → f.fault ≡ Some fault → HasRead f octets
     → Stops f.limit f.progress.gathering.wanted octets fault
 kept_stops f fault octets not_memory is read =
-    elim (subst (λ (kept : Option Fault). HasReadTo f kept octets) is read) [ inl memory ↦ absurd (not_memory memory) | inr stops ↦ stops ]
+    elim (subst (λ (kept : Option Fault). HasGivenTo f [] kept octets) is read) [ inl memory ↦ absurd (not_memory memory) | inr stops ↦ stops ]
 
 -- the last piece gave a fault
-pub fed_fault : (reader : CaptureInput) (f h : State) (b : Option (List ℕ)) (turns n : ℕ) (buf : List ℕ) (fault : Fault)
-    → IsReadFrom h reader.reading reader.wanted → IsFedSoFar f reader.old.left b turns → Consumes b reader.new.left (take n buf)
+pub fed_fault : (reader : CaptureInput) (f h : State) (b : InputState) (turns n : ℕ) (buf : List ℕ) (fault : Fault)
+    → IsReadFrom h reader.reading reader.wanted → IsFedSoFar f reader.old b turns → Gave b reader.new (take n buf)
     → ((octets : List ℕ) → HasRead f octets → HasRead h (octets ++ take n buf)) → h.fault ≡ Some fault
     → fault ≢ faults.Memory → IsFaultOfCapture reader fault
 fed_fault reader f h b turns n buf fault from so_far gave fed kept not_memory =
@@ -70,7 +69,7 @@ fed_fault reader f h b turns n buf fault from so_far gave fed kept not_memory =
     let is : Stops reader.reading.limit reader.wanted octets fault = rw (← from.limit, ← from.wanted) stops in
     record {
       given = octets;
-      gave = Consumes-trans reader.old.left b reader.new.left _ _ so_far.gave gave;
+      gave = gave_more reader.old b reader.new _ _ so_far.gave gave;
       refused = inl is;
     }
 

@@ -1,15 +1,16 @@
--- A capture that was read to its end, whose last block may be cut short.
-use Rattle.std.proofs.Common.{rules, arith, ◌≡◌, ◌≤◌, ℕ, length, Result, Ok, Err, IfOk, IfErr, Bool, true, false, List, ◌++◌, Option, None, Some, append-nil, ap, subst, sym, ◌∙◌, inl, inr, refl}
+-- A capture that was read to its end, whose last block may be cut short, or which is refused.
+use Rattle.std.proofs.Common.{rules, arith, ◌≡◌, ◌≤◌, ℕ, length, Result, Ok, Err, IfSome, Bool, true, false, List, [], ◌++◌, Option, None, Some, append-nil, ap, subst, sym, ◌∙◌, inl, inr, refl}
 use Rattle.std.proofs.lemmas.Bool.{true≢false}
 use Rattle.std.proofs.lemmas.Option.{none-some, same_Some}
-use Rattle.babel_capture.specs.Capture.{EndsShort, HasRead, IsRead, IsReadToCut, State}
-use Rattle.babel_capture.specs.Gathering.{Gathering}
+use Rattle.babel_capture.specs.Capture.{EndsShort, IsRead, IsReadToCut}
+use Rattle.std.specs.Io.KnownBytes.{Consumes, IsAtEnd}
+use Rattle.babel_capture.specs.Gathering.{Gathering, with_taken}
 use Rattle.babel_capture.specs.declared.fault.Fault.TheVariants as faults
-use Rattle.babel_dump.specs.CaptureGiven.{CaptureInput, GaveCapture, GaveWhole, IsFedWhole, IsReadSo}
-use Rattle.babel_dump.specs.CapturedDump.{IsDumpIn, NoDumpCause}
-use Rattle.babel_dump.specs.CaptureRun.{CaptureCause, IsNoFault}
-use Rattle.babel_dump.proofs.CaptureFeeding.{IsReadFrom}
-use Rattle.babel_dump.specs.Parts.{EndsRefused, EndsWith, IsAccepted}
+use Rattle.babel_dump.specs.CaptureGiven.{CaptureInput, GaveCapture, GaveWhole, IsReadSo}
+use Rattle.babel_dump.specs.CapturedDump.{HandedIsDump, IsDumpIn, NoDumpCause, RefusalHasCause, capture_with}
+use Rattle.babel_dump.specs.Device.{HandsOf, InputState, fresh}
+use Rattle.babel_dump.specs.Drained.{CaptureSource, EndsRefused, Hands, HasDrained, HasHandedAll, Held, IsAccepted, IsWhole, Stands}
+use Rattle.babel_dump.proofs.Devices.{gave_known}
 use Rattle.babel_dump.specs.declared.captured.CaptureNotes.{CaptureNotes}
 use Rattle.babel_dump.specs.declared.input_fault.InputFault.{InputFault}
 use Rattle.babel_dump.specs.declared.input_fault.InputFault.TheVariants as input_faults
@@ -20,16 +21,6 @@ pub record GaveToCut (reader : CaptureInput) (gathering : Gathering) (cut : Opti
   pub gave : GaveWhole reader octets
   pub is_read : IsReadToCut reader.reading.limit octets gathering cut
   pub wanted : gathering.wanted ≡ reader.wanted
-
-pub given_to_cut : (reader : CaptureInput) (f : State) (gathering : Gathering) (cut : Option ℕ) → IsReadFrom f reader.reading reader.wanted
-    → IsFedWhole f reader → ((fed : List ℕ) → HasRead f fed → IsReadToCut f.limit fed gathering cut)
-    → gathering.wanted ≡ f.progress.gathering.wanted → GaveToCut reader gathering cut
-given_to_cut reader f gathering cut from all answered wanted = record {
-  octets = all.given;
-  gave = all.gave;
-  is_read = rw (← from.limit) (answered all.given all.fed);
-  wanted = wanted ∙ from.wanted;
-}
 
 -- without a cut the octets are whole blocks
 no_cut : (limit : ℕ) (octets : List ℕ) (gathering : Gathering) (cut : Option ℕ) → cut ≡ None → IsReadToCut limit octets gathering cut
@@ -70,17 +61,6 @@ cut_short limit octets gathering cut at some read = elim read.where_cut [
   }
 ]
 
--- a fault of feeding
-pub fed_refused : (reader : CaptureInput) (fault : InputFault) → CaptureCause reader IsNoFault fault → NoDumpCause reader fault
-fed_refused reader (input_faults.Dump fault) cause = cause
-fed_refused reader (input_faults.Ignored tlv) cause = absurd cause
-fed_refused reader (input_faults.Capture fault) cause = cause
-fed_refused reader (input_faults.LeftOut datagram) cause = cause
-fed_refused reader (input_faults.SeveralInterfaces interfaces) cause = absurd cause
-fed_refused reader (input_faults.NoPackets sender) cause = absurd cause
-fed_refused reader input_faults.NoUpdates cause = absurd cause
-fed_refused reader input_faults.Read cause = cause
-
 -- a fault of the end
 pub end_refused : (reader : CaptureInput) (gathering : Gathering) (cut : Option ℕ) (fault : InputFault) → GaveToCut reader gathering cut
     → EndsRefused reader.reading.accept_cut reader.reading.strict gathering cut fault → NoDumpCause reader fault
@@ -114,24 +94,88 @@ end_refused reader gathering cut (input_faults.NoPackets sender) given cause =
 end_refused reader gathering cut input_faults.NoUpdates given cause = absurd cause
 end_refused reader gathering cut input_faults.Read given cause = absurd cause
 
--- the dump of a sender at one place, which is kept
-pub ended_well : (reader : CaptureInput) (gathering : Gathering) (cut : Option ℕ) (end : Result CaptureNotes InputFault) (left : Option (List ℕ))
-    → GaveToCut reader gathering cut → IfOk end (EndsWith reader.reading.accept_cut gathering cut)
-    → (length gathering.senders ≤ 1 → left ≡ Some gathering.dump)
-    → IfOk end (λ notes. (dump : List ℕ) × IsDumpIn reader dump notes × (left ≡ Some dump))
-ended_well reader gathering cut (Ok notes) left given ends kept =
-    let is : IsDumpIn reader gathering.dump notes = record {
-      gathering = gathering;
-      gave = rw ends.cut_is (gave_so reader gathering cut ends.accepted given);
-      dump_is = refl;
-      one_place = ends.one_place;
-      report_is = ends.report_is;
-    } in
-    (gathering.dump, is, kept (omega (arith, ends.one_place)))
-ended_well reader gathering cut (Err fault) left given ends kept = tt
+-- what is said of its end is said whatever was taken out of the dump
+ends_with_taken : (source : CaptureSource) (dump : List ℕ) (cut : Option ℕ) (fault : InputFault)
+    → EndsRefused source.reading.accept_cut source.reading.strict source.capture.progress.gathering cut fault
+    → EndsRefused source.reading.accept_cut source.reading.strict (with_taken dump source.capture.progress.gathering) cut fault
+ends_with_taken source dump cut (input_faults.Dump fault) ends = ends
+ends_with_taken source dump cut (input_faults.Ignored tlv) ends = ends
+ends_with_taken source dump cut (input_faults.Capture fault) ends = ends
+ends_with_taken source dump cut (input_faults.LeftOut datagram) ends = ends
+ends_with_taken source dump cut (input_faults.SeveralInterfaces interfaces) ends = ends
+ends_with_taken source dump cut (input_faults.NoPackets sender) ends = ends
+ends_with_taken source dump cut input_faults.NoUpdates ends = ends
+ends_with_taken source dump cut input_faults.Read ends = ends
 
-pub ended_refused : (reader : CaptureInput) (gathering : Gathering) (cut : Option ℕ) (end : Result CaptureNotes InputFault)
-    → GaveToCut reader gathering cut
-    → IfErr end (EndsRefused reader.reading.accept_cut reader.reading.strict gathering cut) → IfErr end (NoDumpCause reader)
-ended_refused reader gathering cut (Ok notes) given ends = tt
-ended_refused reader gathering cut (Err fault) given ends = end_refused reader gathering cut fault given ends
+-- the device's reader, when its capture has ended, or a read has failed
+abbrev pub last_state : CaptureSource → InputState
+last_state source = record { left = source.left; captured = None; left_out = None; failures = 1; reads = 1; ends = 1 }
+
+abbrev pub reader_of : Option (List ℕ) → CaptureSource → CaptureInput
+reader_of first source = capture_with (fresh first) (last_state source) source.reading
+
+given_whole : (first : Option (List ℕ)) (source : CaptureSource) (fed : List ℕ) → Consumes first source.left fed → IsAtEnd source.left
+    → GaveWhole (reader_of first source) fed
+given_whole first source fed gave at_end = record {
+  gave = gave_known (fresh first) (last_state source) fed refl refl refl gave;
+  all = (at_end, tt);
+  met_end = omega arith;
+}
+
+given_to_cut : (first : Option (List ℕ)) (source : CaptureSource) (dump : List ℕ) (cut : Option ℕ) (drained : HasDrained first source dump)
+    → IsWhole source drained.fed dump cut → GaveToCut (reader_of first source) (with_taken dump source.capture.progress.gathering) cut
+given_to_cut first source dump cut drained whole = record {
+  octets = drained.fed;
+  gave = given_whole first source drained.fed drained.gave whole.all;
+  is_read = rw (← drained.limit) whole.is_read;
+  wanted = drained.wanted;
+}
+
+-- the capture was read to its end, and this is its dump
+pub drained_well : (first : Option (List ℕ)) (source : CaptureSource) (dump : List ℕ) (notes : CaptureNotes) → HasDrained first source dump
+    → source.end ≡ Some (Ok notes) → IsDumpIn (reader_of first source) dump notes
+drained_well first source dump notes drained is =
+    let stands = subst (Stands source drained.fed dump) is drained.stands in
+    let given = given_to_cut first source dump stands.0 drained stands.1 in
+    record {
+      gathering = with_taken dump source.capture.progress.gathering;
+      gave = rw stands.2.cut_is (gave_so (reader_of first source) _ stands.0 stands.2.accepted given);
+      dump_is = rw (drained.no_more, append-nil dump) refl;
+      one_place = stands.2.one_place;
+      report_is = stands.2.report_is;
+    }
+
+-- it is refused
+pub drained_refused : (first : Option (List ℕ)) (source : CaptureSource) (dump : List ℕ) (fault : InputFault) → HasDrained first source dump
+    → source.end ≡ Some (Err fault) → NoDumpCause (reader_of first source) fault
+drained_refused first source dump fault drained is = elim (subst (Stands source drained.fed dump) is drained.stands) [
+  | inl unread ↦ rw unread (omega arith)
+  | inr (inl (of, is_of, refused)) ↦ rw is_of (λ not_memory. elim (refused not_memory) [
+    | inl stops ↦ record {
+      given = drained.fed;
+      gave = gave_known (fresh first) (last_state source) drained.fed refl refl refl drained.gave;
+      refused = inl (rw (← drained.limit, ← drained.wanted) stops);
+    }
+    | inr (at_end, not_capture, short) ↦ record {
+      given = drained.fed;
+      gave = gave_known (fresh first) (last_state source) drained.fed refl refl refl drained.gave;
+      refused = inr (record {
+        all = given_whole first source drained.fed drained.gave at_end;
+        short = rw (← drained.limit, ← drained.wanted) short;
+        not_accepted = λ _. not_capture;
+      });
+    }
+  ])
+  | inr (inr (cut, whole, ends)) ↦ end_refused (reader_of first source) (with_taken dump source.capture.progress.gathering) cut fault
+      (given_to_cut first source dump cut drained whole) (ends_with_taken source dump cut fault ends)
+]
+
+pub handed_is_dump : HandedIsDump
+handed_is_dump first old new held here octets is is_too handed gave =
+    let hands : Hands held here octets = subst (λ (h : Option Held). HandsOf (Some held) h octets) is_too (subst (λ (h : Option Held). HandsOf h new.captured octets) is gave.gave.handed) in
+    let all : HasHandedAll here = subst (λ (h : Option Held). IfSome h HasHandedAll) is_too gave.all.1 in
+    let drained : HasDrained first here.source octets = subst (HasDrained first here.source) (rw all.2 (append-nil octets)) (hands.handed first [] handed) in
+    (all.0, all.1, (last_state here.source, rw (← hands.reading) (drained_well first here.source octets all.0 drained all.1)))
+
+pub refusal_has_cause : RefusalHasCause
+refusal_has_cause first held given fault handed is = (last_state held.source, drained_refused first held.source (given ++ held.part) fault handed is)

@@ -2,17 +2,21 @@
 use Rattle.std.proofs.Common.{◌≡◌, ℕ, Bool, List, Result, Ok, Err, ap, subst, sym, ◌∙◌, inl, inr}
 use Rattle.std.specs.Prelude.{IfOk, IfErr}
 use Rattle.babel_table.specs.Rows.{Routes}
-use Rattle.babel_table.specs.Seen.{seen_rows}
+use Rattle.babel_table.specs.Seen.{seen_rows, seen_table}
 use Rattle.babel_tlv.specs.declared.view.View.{View}
 use Rattle.babel_canon.specs.Differences.{AreDifferences}
+use Rattle.babel_canon.specs.Routes.{AreRouteDifferences}
 use Rattle.babel_canon.specs.Verdict.{IsVerdict}
 use Rattle.babel_canon.specs.declared.every_difference.Difference.{Difference}
 use Rattle.babel_dump.specs.Command.{CompareCause, Compares, DifferencesCause, GaveSound, HaveDifferences, IsOfMemory, ListsDifferences}
+use Rattle.babel_dump.specs.Command.{ComparesRoutes, IsOutcomeOfAnswers}
+use Rattle.babel_dump.specs.Parts.{SaysRoutes}
 use Rattle.babel_dump.specs.Given.{Input}
 use Rattle.babel_dump.specs.Parts.{GaveBoth, Gathered, HasManyDifferences, Says, SaysDifferences, SaysVerdict}
 use Rattle.babel_dump.specs.Run.{Called, Calls}
 use Rattle.babel_dump.specs.declared.both.SeenTables.{SeenTables}
 use Rattle.babel_dump.specs.declared.format.Format.{Format}
+use Rattle.babel_dump.specs.declared.job.Listed.{Listed}
 use Rattle.babel_dump.specs.declared.outcome.Outcome.{Outcome}
 use Rattle.babel_dump.specs.declared.outcome.Reports.TheVariants as reports
 use Rattle.babel_dump.specs.declared.run_fault.RunFault.{RunFault}
@@ -26,6 +30,12 @@ module _ (reader other : Input) (view : View) (seen : SeenTables) (gave : GaveBo
       is ∙ ap (λ (t : Routes). record { status = status; reports = reports.Dumps t.report seen.right.report }) gave.left_is
       ∙ ap (λ (t : Routes). record { status = status; reports = reports.Dumps gave.table.report t.report }) gave.right_is
 
+  outcome_seen : (status : ℕ) (outcome : Outcome) → IsOutcomeOfAnswers status seen.left seen.right outcome
+      → IsOutcomeOfAnswers status (seen_table view gave.table) (seen_table view gave.other_table) outcome
+  outcome_seen status outcome is =
+      subst (λ (t : Routes). IsOutcomeOfAnswers status (seen_table view gave.table) t outcome) gave.right_is
+      (subst (λ (t : Routes). IsOutcomeOfAnswers status t seen.right outcome) gave.left_is is)
+
   compared : (format : Format) (text : List ℕ) (outcome : Outcome) → SaysVerdict view format seen text outcome → Compares reader other view format text outcome
   compared format text outcome says = record {
     table = gave.table;
@@ -34,6 +44,19 @@ module _ (reader other : Input) (view : View) (seen : SeenTables) (gave : GaveBo
     verdict = says.verdict;
     is_verdict = subst (λ (t : Routes). IsVerdict (seen_rows view gave.table.rows) t.rows says.verdict) gave.right_is
         (subst (λ (t : Routes). IsVerdict t.rows seen.right.rows says.verdict) gave.left_is says.is_verdict);
+    text_is = says.text_is;
+    outcome_is = outcome_seen _ outcome says.outcome_is;
+  }
+
+  compared_routes : (listed : Listed) (format : Format) (text : List ℕ) (outcome : Outcome) → SaysRoutes view listed format seen text outcome
+      → ComparesRoutes reader other view listed format text outcome
+  compared_routes listed format text outcome says = record {
+    table = gave.table;
+    other_table = gave.other_table;
+    gave = gave.gave;
+    differences = says.differences;
+    are_differences = subst (λ (t : Routes). AreRouteDifferences (seen_rows view gave.table.rows) t.rows says.differences) gave.right_is
+        (subst (λ (t : Routes). AreRouteDifferences t.rows seen.right.rows says.differences) gave.left_is says.are_differences);
     text_is = says.text_is;
     outcome_is = outcome_of _ outcome says.outcome_is;
   }
@@ -55,7 +78,7 @@ module _ (reader other : Input) (view : View) (seen : SeenTables) (gave : GaveBo
     have = differ says.differences says.are_differences;
     few = says.few;
     text_is = says.text_is;
-    outcome_is = outcome_of _ outcome says.outcome_is;
+    outcome_is = outcome_seen _ outcome says.outcome_is;
   }
 
   sound : GaveSound reader × GaveSound other
@@ -87,6 +110,16 @@ pub found_verdict : (reader other : Input) (view : View) (format : Format) (unto
 found_verdict reader other view format untouched calls seen (Ok found) gave called says memory =
     record { made = compared reader other view seen gave format _ found.outcome says; cause = tt; called = called_for calls seen (Ok found) called }
 found_verdict reader other view format untouched calls seen (Err fault) gave called says memory =
+    let both = sound reader other view seen gave in
+    record { made = tt; cause = inr (memory, both.0, both.1); called = called_for calls seen (Err fault) called }
+
+pub found_routes : (reader other : Input) (view : View) (listed : Listed) (format : Format) (untouched : Type 0) (calls : Calls) (seen : SeenTables) (found : Result Found RunFault)
+    → GaveBoth reader other view seen → Called {T = SeenTables} {E = RunFault} calls (Ok seen)
+    → IfOk found (Says (SaysRoutes view listed format seen)) → IfErr found IsOfMemory
+    → Gathered calls (CompareCause reader other untouched) (Says (ComparesRoutes reader other view listed format)) found
+found_routes reader other view listed format untouched calls seen (Ok found) gave called says memory =
+    record { made = compared_routes reader other view seen gave listed format _ found.outcome says; cause = tt; called = called_for calls seen (Ok found) called }
+found_routes reader other view listed format untouched calls seen (Err fault) gave called says memory =
     let both = sound reader other view seen gave in
     record { made = tt; cause = inr (memory, both.0, both.1); called = called_for calls seen (Err fault) called }
 

@@ -1,5 +1,6 @@
 -- What a report says was ignored is what TLVs say is ignored.
-use Rattle.std.proofs.Common.{◌≡◌, ◌⊎◌, inl, inr, ℕ, suc, zero, ◌+◌, ◌<◌, ◌≤◌, Bool, true, false, cond, nat_lt, if◌then◌else◌, List, [], ◌∷◌, ◌++◌, length, map, get_or, Option, None, Some, refl, sym, ap, subst, ◌∙◌, arith, eqb-true, eq-eqb}
+use Rattle.std.proofs.Common.{◌≡◌, ◌⊎◌, inl, inr, ℕ, suc, zero, ◌+◌, ◌<◌, ◌≤◌, Bool, true, false, cond, nat_lt, if◌then◌else◌, List, [], ◌∷◌, ◌++◌}
+use Rattle.std.proofs.Common.{length, map, get_or, Option, None, Some, refl, sym, ap, subst, ◌∙◌, arith, eqb-true, eq-eqb}
 use Rattle.std.specs.Prelude.{Result, Ok, Err, count_by, slice_get, find}
 use Rattle.std.specs.List.{AllByRecursion}
 use Rattle.std.specs.Option.{option_map}
@@ -208,9 +209,14 @@ module _ (s : Saying) (rest : List Saying) (q : Reason) (is : IsIgnoredFor q s) 
       later_found (Some later) e = rises later (find-Some (tests_for reason) rest later e).0
 
       by : (b : Bool) → is_ignored_for reason s.what ≡ b
-          → IsIt (option_map (tlv_of reason) (cond b (Some s) (find (tests_for reason) rest))) ⊎ ((reason ≡ q → ⊥) × IsLater (option_map (tlv_of reason) (cond b (Some s) (find (tests_for reason) rest))))
+          → IsIt (option_map (tlv_of reason) (cond b (Some s) (find (tests_for reason) rest)))
+          ⊎ ((reason ≡ q → ⊥) × IsLater (option_map (tlv_of reason) (cond b (Some s) (find (tests_for reason) rest))))
       by true was = inl (let said : s.what ≡ Ok (events.Ignored reason) = for_is reason s.what was in let same : reason ≡ q = cc in ap (λ (r : Reason). Some (tlv_of r s)) same)
-      by false was = inr ((λ same. let said : IsIgnoredFor reason s = subst (λ (r : Reason). IsIgnoredFor r s) (sym same) is in false≢true (sym was ∙ is_for reason s said)), later_found (find (tests_for reason) rest) refl)
+      by false was = inr (
+        (λ same. let said : IsIgnoredFor reason s = subst (λ (r : Reason). IsIgnoredFor r s) (sym same) is in
+            false≢true (sym was ∙ is_for reason s said)),
+        later_found (find (tests_for reason) rest) refl,
+      )
 
   before_other : (other : IgnoredTlv) → s.at ≤ other.at → sooner (Some it) (Some other) ≡ Some it
   before_other other le = by (nat_lt other.at s.at) refl
@@ -241,7 +247,8 @@ module _ (s : Saying) (rest : List Saying) (q : Reason) (is : IsIgnoredFor q s) 
   state [] = inr ((λ none. elim none [ ]), tt)
   state (reason ∷ some) = by (either reason) (state some)
     where
-      by : IsIt (first_for (s ∷ rest) reason) ⊎ ((reason ≡ q → ⊥) × IsLater (first_for (s ∷ rest) reason)) → IsIt (first_of (s ∷ rest) some) ⊎ ((Listed some q → ⊥) × IsLater (first_of (s ∷ rest) some))
+      by : IsIt (first_for (s ∷ rest) reason) ⊎ ((reason ≡ q → ⊥) × IsLater (first_for (s ∷ rest) reason))
+          → IsIt (first_of (s ∷ rest) some) ⊎ ((Listed some q → ⊥) × IsLater (first_of (s ∷ rest) some))
           → IsIt (first_of (s ∷ rest) (reason ∷ some)) ⊎ ((Listed (reason ∷ some) q → ⊥) × IsLater (first_of (s ∷ rest) (reason ∷ some)))
       by (inl e) (inl f) = inl (ap (λ (o : Option IgnoredTlv). sooner o (first_of (s ∷ rest) some)) e ∙ first_left (first_of (s ∷ rest) some) (inl f))
       by (inl e) (inr f) = inl (ap (λ (o : Option IgnoredTlv). sooner o (first_of (s ∷ rest) some)) e ∙ first_left (first_of (s ∷ rest) some) (inr f.1))

@@ -4,12 +4,14 @@ use Rattle.std.specs.Prelude.{◌≢◌}
 use Rattle.babel_tlv.specs.declared.fault.Fault.{Fault}
 use Rattle.babel_tlv.specs.declared.fault.Fault.TheVariants as faults
 use Rattle.babel_tlv.specs.declared.view.View.{View}
+use Rattle.babel_tlv.specs.Group.{IsCanonicalText}
 use Rattle.babel_tlv.specs.Pair.{Pair}
 use Rattle.babel_tlv.specs.Views.{keeps_all}
 use Rattle.babel_table.specs.Bounds.{Bounds, AreBounds}
 use Rattle.babel_table.specs.Counts.{Counts}
 use Rattle.babel_table.specs.Rows.{Routes}
 use Rattle.babel_table.specs.Seen.{seen_rows, seen_table}
+use Rattle.babel_table.specs.TableRows.{AreRows}
 use Rattle.babel_table.proofs.SeenLaws.{all_rows}
 use Rattle.babel_canon.specs.Sizes.{IsBodySize}
 use Rattle.babel_canon.specs.Canonical.{AreCanonical, CanonicalFault, HasManyBoxes, SaysCanonical}
@@ -17,18 +19,20 @@ use Rattle.babel_canon.specs.Answers.{AnswerTheSame}
 use Rattle.babel_canon.specs.AnswersAreTold.{AnswersAreTold}
 use Rattle.babel_canon.specs.AnswersTell.{AnswersTell}
 use Rattle.babel_canon.specs.Fewest.{AreFewest}
+use Rattle.babel_canon.specs.Routes.{RoutesHeadline, SaysRoutes}
 use Rattle.babel_canon.specs.Sent.{Sent, sent}
 use Rattle.babel_canon.specs.Normalises.{Headline, NormaliseFault, Normalises, SaysFewest, as_they_are}
 use Rattle.babel_canon.specs.Packing.{TextIsOne}
 use Rattle.babel_canon.specs.Views.{HeadlineUnder}
 use Rattle.babel_canon.specs.ViewsTell.{AllNormalises}
-use Rattle.babel_dump.specs.Given.{GaveNormal, GaveTable, Input, IsFaultOfForm, IsNormal}
+use Rattle.babel_dump.specs.Given.{GaveNormal, GaveRoutes, GaveTable, Input, IsFaultOfForm, IsNormal}
 use Rattle.babel_dump.specs.InFormat.{pairs_or_counts_in}
 use Rattle.babel_dump.specs.Parts.{SaysPairs}
 use Rattle.babel_dump.specs.declared.format.Format.{Format}
 
 -- the canonical octets of what is seen of the table are those of the dump under the view
-pub gave_normal : Headline → HeadlineUnder → AllNormalises → AnswersAreTold → (reader : Input) (view : View) (body : ℕ) (table seen : Routes) (report : Counts) (octets : List ℕ) → AreBounds reader.reading.limits
+pub gave_normal : Headline → HeadlineUnder → AllNormalises → AnswersAreTold
+    → (reader : Input) (view : View) (body : ℕ) (table seen : Routes) (report : Counts) (octets : List ℕ) → AreBounds reader.reading.limits
     → IsBodySize body → GaveTable reader table → seen ≡ seen_table view table → report ≡ seen.report → SaysCanonical reader.reading.limits body seen.rows octets
     → GaveNormal reader view body report octets
 gave_normal headline under all are_told reader view body table seen report octets bounds size given seen_is report_is says_seen =
@@ -81,6 +85,25 @@ says_pairs one limits view count format table seen pairs text seen_is are_seen t
       is_canon = record { boxes = are.boxes; few = are.few; text = whole.is_text };
       fewest = are.fewest;
       text_is = text_is;
+    }
+
+-- the text of what is seen of the table's rows says the routes of the dump
+pub gave_routes : RoutesHeadline → (reader : Input) (view : View) (body : ℕ) (table seen : Routes) (report : Counts) (octets : List ℕ) → AreBounds reader.reading.limits → IsBodySize body
+    → GaveTable reader table → AreRows table.rows → seen ≡ seen_table view table → report ≡ seen.report → IsCanonicalText body seen.rows octets → GaveRoutes reader view body report octets
+gave_routes headline reader view body table seen report octets bounds size given rows seen_is report_is text =
+    let reading = reader.reading in
+    let says : SaysRoutes view reading.limits reading.mode body (sent reading.sender given.given.dump) octets = record {
+      no_fault = given.given.accepted;
+      table = table;
+      is_table = given.given.is_table;
+      rows = rows;
+      text = subst (λ (t : Routes). IsCanonicalText body t.rows octets) seen_is text;
+    } in
+    record {
+      table = table;
+      gave = given;
+      are = headline view reading.limits reading.mode body bounds size _ octets says;
+      report_is = report_is ∙ ap (λ (t : Routes). t.report) seen_is;
     }
 
 -- more pairs than the limit, or want of memory

@@ -1,5 +1,7 @@
 -- What a job's run answers and writes is settled by the octets of its readers.
-use Rattle.std.proofs.Common.{◌≡◌, ◌≢◌, refl, ℕ, ◌<◌, ◌≤◌, Bool, true, false, if◌then◌else◌, List, [], ◌++◌, length, length-append, take, Option, None, Some, Result, Ok, Err, inl, inr, ◌⊎◌, arith, append-nil, subst, ap, sym, ◌∙◌}
+use Rattle.std.proofs.Common.{◌≡◌, ◌≢◌, refl, ℕ, ◌<◌, ◌≤◌, Bool, true, false, if◌then◌else◌, List, [], ◌++◌, length, length-append, take}
+use Rattle.std.proofs.Common.{Option, None, Some, Result, Ok, Err, inl, inr, ◌⊎◌, arith, append-nil, subst, ap, sym, ◌∙◌}
+use Rattle.std.specs.Prelude.{zero, suc}
 use Rattle.std.specs.Io.KnownBytes.{Appends, Consumes, IsAtEnd}
 use Rattle.babel_capture.specs.Gathering.{Gathering}
 use Rattle.babel_capture.specs.declared.wanted.Wanted.{Wanted}
@@ -13,12 +15,19 @@ use Rattle.babel_table.specs.Bounds.{Bounds}
 use Rattle.babel_table.specs.TableOf.{IsTableOf}
 use Rattle.babel_table.specs.DumpFault.{DumpFault, HasNoFault, IsTruncated}
 use Rattle.babel_table.specs.Rows.{Routes}
-use Rattle.babel_table.specs.Seen.{seen_rows}
+use Rattle.babel_table.specs.Seen.{seen_rows, seen_table}
 use Rattle.babel_table.proofs.OutcomeLaws.{fault_is_one, fault_stays, table_is_one}
 use Rattle.babel_canon.specs.Boxes.{AreBoxes}
 use Rattle.babel_canon.specs.Canonical.{HasManyBoxes}
 use Rattle.babel_canon.specs.Differences.{AreDifferences}
 use Rattle.babel_canon.specs.Normalises.{Normalises}
+use Rattle.babel_canon.specs.Routes.{AreRouteDifferences}
+use Rattle.babel_canon.specs.Routes.{SaysRoutes as SaysDumpRoutes}
+use Rattle.babel_canon.proofs.DifferingRows.{route_differences_are_one}
+use Rattle.babel_canon.proofs.RoutesHeadline.{route_octets_one}
+use Rattle.babel_dump.specs.Command.{ComparesRoutes, IsOutcomeOfAnswers, WritesRoutes}
+use Rattle.babel_dump.specs.InFormat.{listed_in, rows_or_count_in}
+use Rattle.babel_dump.specs.declared.job.Listed.{Listed}
 use Rattle.babel_canon.specs.Sent.{sent}
 use Rattle.babel_canon.specs.Verdict.{IsVerdict}
 use Rattle.babel_canon.specs.declared.every_difference.Difference.{Difference}
@@ -32,10 +41,13 @@ use Rattle.babel_dump.specs.CaptureRun.{CaptureCause, IsOutcomeOf}
 use Rattle.babel_dump.specs.CaptureText.{dump_status, dump_text, senders_in, senders_status}
 use Rattle.babel_dump.specs.Command.{CompareCause, Compares, DifferencesCause, HaveDifferences, InTurn, IsOfMany, IsOfMemory, ListsDifferences, ListsPairs, WritesNormal}
 use Rattle.babel_dump.specs.Each.{EachCause, GavePairsOf, GaveText, LooksUpAsked, RefusesPairs}
+use Rattle.babel_dump.specs.Files.{name_of}
 use Rattle.babel_dump.specs.Given.{GaveAll, GaveDump, GaveTable, GaveUnread, GaveTables, Input, IsFaultOfForm, IsFaultOfGiven, IsOfWhole, Reads, dump_of}
 use Rattle.babel_dump.specs.InFormat.{answer_line_in, differences_or_count_in, each_in, lookup_in, pairs_or_counts_in, show_in, verdict_in}
 use Rattle.babel_dump.specs.JobRun.{CauseBy, SaysBy, capture_of}
-use Rattle.babel_dump.specs.OneOutcome.{Contents, FaultIsOfAll, FaultIsOne, HasContents, IsOfDump, IsOfOctets, NothingWritten, OutcomeIsOne, OutcomeOrFault, RanOver, WrittenIsPrefix, octets_at, reading_at}
+use Rattle.babel_dump.specs.KeyText.{key_line}
+use Rattle.babel_dump.specs.OneOutcome.{Contents, FaultIsOfAll, FaultIsOne, HasContents, IsOfDump, IsOfOctets, NothingWritten}
+use Rattle.babel_dump.specs.OneOutcome.{OutcomeIsOne, OutcomeOrFault, RanOver, WrittenIsPrefix, octets_at, reading_at}
 use Rattle.babel_dump.specs.Run.{InputCause, OfFirst, UnlessWrite}
 use Rattle.babel_dump.specs.RunText.{answer_in, differences_status, each_status, form_text, lookup_status, verdict_status}
 use Rattle.babel_dump.specs.TextParts.{lacks_route}
@@ -51,6 +63,7 @@ use Rattle.babel_dump.specs.declared.job.Job.{Job}
 use Rattle.babel_dump.specs.declared.job.Job.TheVariants as jobs
 use Rattle.babel_dump.specs.declared.left_out.LeftOutDatagram.{LeftOutDatagram}
 use Rattle.babel_dump.specs.declared.outcome.Outcome.{Outcome}
+use Rattle.babel_dump.specs.declared.outcome.Reports.{Reports}
 use Rattle.babel_dump.specs.declared.outcome.Reports.TheVariants as reports
 use Rattle.babel_dump.specs.declared.pairs_fault.PairsFault.TheVariants as pairs_faults
 use Rattle.babel_dump.specs.declared.reading.Reading.{Reading}
@@ -78,7 +91,7 @@ all_of (Some xs) (Some ys) dump given has gave end =
     cc
 
 gave_all : (reader : Input) (dump given : List ℕ) → reader.old.left ≡ Some dump → GaveAll reader given → given ≡ dump
-gave_all reader dump given has gave = all_of reader.old.left reader.new.left dump given has gave.gave gave.all
+gave_all reader dump given has gave = all_of reader.old.left reader.new.left dump given has gave.gave.consumed gave.all.0
 
 -- the dump has no fault of its own, and this table
 pub record IsDump (reading : Reading) (dump : List ℕ) (table : Routes) : Type 0 where
@@ -107,7 +120,7 @@ is_dump reader dump table has given =
 sound : (reader : Input) (dump : Contents) (table : Routes) → HasContents reader.old dump → GaveTable reader table → IsSound reader.reading dump table
 sound reader dump table has gave = record {
   whole = is_dump reader dump table has gave.given;
-  strict = λ is. subst (λ (l : Option LeftOutDatagram). IsReadWhole l table.report) has.left_out (gave.strict is);
+  strict = λ is. subst (λ (l : Option LeftOutDatagram). IsReadWhole l table.report) (gave.given.gave.gave.left_out dump.octets has.octets ∙ has.left_out) (gave.strict is);
 }
 
 is_unread : (reader : Input) (dump : Contents) (fault : InputFault) → HasContents reader.old dump → GaveUnread reader fault → IsUnread reader.reading dump fault
@@ -115,7 +128,7 @@ is_unread reader dump fault has gave = record {
   table = gave.table;
   whole = is_dump reader dump gave.table has gave.given;
   strict = gave.strict;
-  unread = subst (λ (l : Option LeftOutDatagram). IsNotReadWhole l gave.table.report fault) has.left_out gave.unread;
+  unread = subst (λ (l : Option LeftOutDatagram). IsNotReadWhole l gave.table.report fault) (gave.given.gave.gave.left_out dump.octets has.octets ∙ has.left_out) gave.unread;
 }
 
 dump_one : (reading : Reading) (dump : List ℕ) (table other : Routes) → IsDump reading dump table → IsDump reading dump other → table ≡ other
@@ -164,7 +177,7 @@ fault_of_all reader dump fault has given = elim (truncated_or_not fault) [
   | inl is ↦ subst (λ (d : List ℕ). DumpFault reader.reading.limits reader.reading.mode reader.reading.sender d fault)
       (gave_all reader dump given.given has (given.whole (lasts fault is))) given.refused
   | inr lasting ↦
-      let more = begins reader.old.left reader.new.left dump given.given has given.gave in
+      let more = begins reader.old.left reader.new.left dump given.given has given.gave.consumed in
       subst (λ (d : List ℕ). DumpFault reader.reading.limits reader.reading.mode reader.reading.sender d fault) (sym more.1)
       (fault_stays _ _ _ given.given more.0 fault given.refused lasting)
 ]
@@ -206,6 +219,25 @@ normal_one reading view body hex dump one two text text_too outcome outcome_too 
       says.outcome_is ∙ ap (λ r. record { status = 0; reports = reports.Dump r }) reported ∙ sym again.outcome_is,
     )
 
+routes_one : (reading : Reading) (view : View) (body : ℕ) (hex : Bool) (dump : Contents) (one two : Reads) (text text_too : List ℕ) (outcome outcome_too : Outcome)
+    → HasContents one.old dump → HasContents two.old dump
+    → WritesRoutes (dump_of one reading) view body hex text outcome → WritesRoutes (dump_of two reading) view body hex text_too outcome_too
+    → (text ≡ text_too) × (outcome ≡ outcome_too)
+routes_one reading view body hex dump one two text text_too outcome outcome_too has has_too says again =
+    let of_all : (reader : Reads) (octets given : List ℕ) → HasContents reader.old dump → GaveAll (dump_of reader reading) given
+    → SaysDumpRoutes view reading.limits reading.mode body (sent reading.sender given) octets
+    → SaysDumpRoutes view reading.limits reading.mode body (sent reading.sender dump.octets) octets =
+    λ reader octets given has gave of_given. subst (λ (d : List ℕ). SaysDumpRoutes view reading.limits reading.mode body (sent reading.sender d) octets)
+    (gave_all (dump_of reader reading) dump.octets given has.octets gave) of_given in
+    let same = route_octets_one view _ _ body _ says.octets again.octets
+    (of_all one says.octets _ has says.gave.gave.given.gave says.gave.are.says)
+    (of_all two again.octets _ has_too again.gave.gave.given.gave again.gave.are.says) in
+    let tables = table_one reading dump one two says.gave.table again.gave.table has has_too says.gave.gave again.gave.gave in
+    let reported = says.gave.report_is ∙ ap (λ (t : Routes). t.report) tables ∙ sym again.gave.report_is in (
+      says.text_is ∙ ap (form_text hex) same ∙ sym again.text_is,
+      says.outcome_is ∙ ap (λ r. record { status = 0; reports = reports.Dump r }) reported ∙ sym again.outcome_is,
+    )
+
 pairs_one : (reading : Reading) (view : View) (count : Bool) (format : Format) (dump : Contents) (one two : Reads) (text text_too : List ℕ) (outcome outcome_too : Outcome)
     → HasContents one.old dump → HasContents two.old dump
     → ListsPairs (dump_of one reading) view count format text outcome → ListsPairs (dump_of two reading) view count format text_too outcome_too
@@ -226,6 +258,29 @@ differences_same rows rows_too others others_too differences too left right one 
     differences_are_one rows_too others_too differences too
     (subst (λ (r : List Pair). AreDifferences rows_too r differences) right (subst (λ (r : List Pair). AreDifferences r others differences) left one)) two
 
+-- how two tables answer has one outcome
+answers_one : (status : ℕ) (table other : Routes) (outcome too : Outcome) → IsOutcomeOfAnswers status table other outcome
+    → IsOutcomeOfAnswers status table other too → outcome ≡ too
+answers_one status table other outcome too is is_too = by status refl
+  where
+    same : outcome.status ≡ too.status → outcome.reports ≡ too.reports → outcome ≡ too
+    same statuses reported =
+        ap (λ (n : ℕ). let o : Outcome = record { status = n; reports = outcome.reports } in o) statuses
+        ∙ ap (λ (r : Reports). let o : Outcome = record { status = too.status; reports = r } in o) reported
+
+    by : (n : ℕ) → status ≡ n → outcome ≡ too
+    by zero e =
+        let one = is.alike e in
+        let two = is_too.alike e in
+        let routes = route_differences_are_one table.rows other.rows one.0 two.0 one.1 two.1 in
+        same (is.status_is ∙ sym is_too.status_is) (one.2 ∙ ap (λ (ds : List Difference). reports.Alike table.report other.report (length ds)) routes ∙ sym two.2)
+    by (suc n) e =
+        let some : status ≢ 0 = λ none. apart n (sym e ∙ none) in
+        same (is.status_is ∙ sym is_too.status_is) (is.unlike some ∙ sym (is_too.unlike some))
+      where
+        apart : (m : ℕ) → suc m ≡ 0 → ⊥
+        apart m never = cc
+
 module _ (reading other_reading : Reading) (view : View) (dump other : Contents) (one two one_other two_other : Reads)
     (has : HasContents one.old dump) (has_too : HasContents two.old dump) (other_has : HasContents one_other.old other) (other_has_too : HasContents two_other.old other) where
   tables_one : (table other_table too other_too : Routes) → GaveTables (dump_of one reading) (dump_of one_other other_reading) table other_table
@@ -243,6 +298,16 @@ module _ (reading other_reading : Reading) (view : View) (dump other : Contents)
       ∙ ap (λ (t : Routes). record { status = status_too; reports = reports.Dumps t.report other_table.report }) left
       ∙ ap (λ (t : Routes). record { status = status_too; reports = reports.Dumps too.report t.report }) right ∙ sym too_is
 
+  both_answers_one : (status status_too : ℕ) (table other_table too other_too : Routes) (outcome outcome_too : Outcome)
+      → status ≡ status_too → table ≡ too → other_table ≡ other_too
+      → IsOutcomeOfAnswers status (seen_table view table) (seen_table view other_table) outcome
+      → IsOutcomeOfAnswers status_too (seen_table view too) (seen_table view other_too) outcome_too → outcome ≡ outcome_too
+  both_answers_one status status_too table other_table too other_too outcome outcome_too statuses left right is is_too =
+      answers_one status_too (seen_table view too) (seen_table view other_too) outcome outcome_too
+      (subst (λ (s : ℕ). IsOutcomeOfAnswers s (seen_table view too) (seen_table view other_too) outcome) statuses
+      (subst (λ (t : Routes). IsOutcomeOfAnswers status (seen_table view too) (seen_table view t) outcome) right
+      (subst (λ (t : Routes). IsOutcomeOfAnswers status (seen_table view t) (seen_table view other_table) outcome) left is))) is_too
+
   compares_one : (format : Format) (text text_too : List ℕ) (outcome outcome_too : Outcome)
       → Compares (dump_of one reading) (dump_of one_other other_reading) view format text outcome
       → Compares (dump_of two reading) (dump_of two_other other_reading) view format text_too outcome_too
@@ -253,7 +318,21 @@ module _ (reading other_reading : Reading) (view : View) (dump other : Contents)
       (subst (λ (t : Routes). IsVerdict (seen_rows view t.rows) (seen_rows view says.other_table.rows) says.verdict) tables.0 says.is_verdict) in
       let same = verdict_is_one (seen_rows view again.table.rows) (seen_rows view again.other_table.rows) says.verdict again.verdict moved again.is_verdict in (
         says.text_is ∙ ap (verdict_in format view) same ∙ sym again.text_is,
-        outcomes_one _ _ says.table says.other_table again.table again.other_table outcome outcome_too (ap verdict_status same) tables.0 tables.1 says.outcome_is again.outcome_is,
+        both_answers_one _ _ says.table says.other_table again.table again.other_table outcome outcome_too (ap verdict_status same) tables.0 tables.1 says.outcome_is again.outcome_is,
+      )
+
+  compares_routes_one : (listed : Listed) (format : Format) (text text_too : List ℕ) (outcome outcome_too : Outcome)
+      → ComparesRoutes (dump_of one reading) (dump_of one_other other_reading) view listed format text outcome
+      → ComparesRoutes (dump_of two reading) (dump_of two_other other_reading) view listed format text_too outcome_too
+      → (text ≡ text_too) × (outcome ≡ outcome_too)
+  compares_routes_one listed format text text_too outcome outcome_too says again =
+      let tables = tables_one says.table says.other_table again.table again.other_table says.gave again.gave in
+      let moved = subst (λ (t : Routes). AreRouteDifferences (seen_rows view again.table.rows) (seen_rows view t.rows) says.differences) tables.1
+      (subst (λ (t : Routes). AreRouteDifferences (seen_rows view t.rows) (seen_rows view says.other_table.rows) says.differences) tables.0 says.are_differences) in
+      let same = route_differences_are_one (seen_rows view again.table.rows) (seen_rows view again.other_table.rows) says.differences again.differences moved again.are_differences in (
+        says.text_is ∙ ap (listed_in format view listed) same ∙ sym again.text_is,
+        outcomes_one _ _ says.table says.other_table again.table again.other_table outcome outcome_too (ap (λ (ds : List Difference). differences_status (length ds)) same) tables.0 tables.1
+            says.outcome_is again.outcome_is,
       )
 
   differences_one : (table other_table too other_too : Routes) (differences differences_too : List Difference)
@@ -272,7 +351,7 @@ module _ (reading other_reading : Reading) (view : View) (dump other : Contents)
       let tables = tables_one says.table says.other_table again.table again.other_table says.have.gave again.have.gave in
       let same = differences_one says.table says.other_table again.table again.other_table says.differences again.differences says.have again.have in (
         says.text_is ∙ ap (differences_or_count_in format view count) same ∙ sym again.text_is,
-        outcomes_one _ _ says.table says.other_table again.table again.other_table outcome outcome_too
+        both_answers_one _ _ says.table says.other_table again.table again.other_table outcome outcome_too
             (ap (λ (l : List Difference). differences_status (length l)) same) tables.0 tables.1 says.outcome_is again.outcome_is,
       )
 
@@ -328,7 +407,7 @@ reads_one reading wanted octets one two cut cut_too is is_too =
 is_read : (reading : CaptureReading) (wanted : Wanted) (reader : Reads) (contents : Contents) (gathering : Gathering) (cut : Option ℕ) → HasContents reader.old contents
     → GaveCapture (capture_of reader reading wanted) gathering cut → IsGatheringOf reading wanted contents.octets gathering cut
 is_read reading wanted reader contents gathering cut has gave =
-    let all = all_of reader.old.left reader.new.left contents.octets gave.octets has.octets gave.gave.gave gave.gave.all in record {
+    let all = all_of reader.old.left reader.new.left contents.octets gave.octets has.octets gave.gave.gave.consumed gave.gave.all.0 in record {
       is_read = subst (λ (t : List ℕ). IsReadSo reading.accept_cut reading.limit t gathering cut) all gave.is_read;
       wanted_is = gave.wanted;
     }
@@ -368,12 +447,24 @@ says_one (jobs.Each reading format file pairs quiet) octets other one two one_ot
     each_one reading format octets other one two one_other two_other text text_too outcome outcome_too has has_too other_has other_has_too says again
 says_one (jobs.Normalise reading view body hex file quiet) octets other one two one_other two_other text text_too outcome outcome_too has has_too other_has other_has_too says again =
     normal_one reading view body hex octets one two text text_too outcome outcome_too has has_too says again
+says_one (jobs.Key reading view file quiet) octets other one two one_other two_other text text_too outcome outcome_too has has_too other_has other_has_too says again =
+    let same = normal_one reading view 1024 false octets one two says.octets again.octets outcome outcome_too has has_too says.writes again.writes in
+    (says.text_is ∙ ap (λ octets. key_line octets (name_of file)) same.0 ∙ sym again.text_is, same.1)
 says_one (jobs.Pairs reading view count format file quiet) octets other one two one_other two_other text text_too outcome outcome_too has has_too other_has other_has_too says again =
     pairs_one reading view count format octets one two text text_too outcome outcome_too has has_too says again
 says_one (jobs.Compare reading other_reading view format file another quiet) octets other one two one_other two_other text text_too outcome outcome_too has has_too other_has other_has_too says again =
     compares_one reading other_reading view octets other one two one_other two_other has has_too other_has other_has_too format text text_too outcome outcome_too says again
-says_one (jobs.Differences reading other_reading view count format file another quiet) octets other one two one_other two_other text text_too outcome outcome_too has has_too other_has other_has_too says again =
+says_one (jobs.Differences reading other_reading view count format file another quiet) octets other one two
+    one_other two_other text text_too outcome outcome_too has has_too other_has other_has_too says again =
     lists_one reading other_reading view octets other one two one_other two_other has has_too other_has other_has_too count format text text_too outcome outcome_too says again
+says_one (jobs.RouteOctets reading view body hex file quiet) octets other one two one_other two_other text text_too outcome outcome_too has has_too other_has other_has_too says again =
+    routes_one reading view body hex octets one two text text_too outcome outcome_too has has_too says again
+says_one (jobs.RouteRows reading view count format file quiet) octets other one two one_other two_other text text_too outcome outcome_too has has_too other_has other_has_too says again =
+    table_says_one (λ t. rows_or_count_in format view count t.rows) (λ _. 0) says.table again.table text text_too outcome outcome_too
+    (table_one reading octets one two says.table again.table has has_too says.gave again.gave) says.text_is says.outcome_is again.text_is again.outcome_is
+says_one (jobs.CompareRoutes reading other_reading view listed format file another quiet)
+    octets other one two one_other two_other text text_too outcome outcome_too has has_too other_has other_has_too says again =
+    compares_routes_one reading other_reading view octets other one two one_other two_other has has_too other_has other_has_too listed format text text_too outcome outcome_too says again
 says_one (jobs.Senders reading format file quiet) octets other one two one_other two_other text text_too outcome outcome_too has has_too other_has other_has_too says again =
     capture_says_one reading wanteds.Everyone octets one two has has_too (senders_in format) (λ g. senders_status g.senders) says.gathering again.gathering says.cut again.cut
     text text_too outcome outcome_too says.gave again.gave says.text_is says.outcome_is again.text_is again.outcome_is
@@ -445,10 +536,14 @@ FaultOf (jobs.Lookup reading pair format file quiet) octets other fault = FaultA
 FaultOf (jobs.Each reading format file pairs quiet) octets other fault =
     FaultOfPairs reading other.octets fault ⊎ (((asked : List AddrPair) × AreAskedBy reading other.octets asked) × FaultAt sides.First (FaultOfDump reading octets) fault)
 FaultOf (jobs.Normalise reading view body hex file quiet) octets other fault = FaultAt sides.First (FaultOfForm reading view octets) fault
+FaultOf (jobs.Key reading view file quiet) octets other fault = FaultAt sides.First (FaultOfForm reading view octets) fault
 FaultOf (jobs.Pairs reading view count format file quiet) octets other fault = FaultAt sides.First (FaultOfForm reading view octets) fault
 FaultOf (jobs.Compare reading other_reading view format file another quiet) octets other fault = FaultOfBoth reading other_reading octets other fault
 FaultOf (jobs.Differences reading other_reading view count format file another quiet) octets other fault =
     FaultOfDifferences reading other_reading view octets other fault
+FaultOf (jobs.RouteOctets reading view body hex file quiet) octets other fault = FaultAt sides.First (FaultOfDump reading octets) fault
+FaultOf (jobs.RouteRows reading view count format file quiet) octets other fault = FaultAt sides.First (FaultOfDump reading octets) fault
+FaultOf (jobs.CompareRoutes reading other_reading view listed format file another quiet) octets other fault = FaultOfBoth reading other_reading octets other fault
 FaultOf (jobs.Senders reading format file quiet) octets other fault = FaultAt sides.First (FaultOfCapture reading wanteds.Everyone octets) fault
 FaultOf (jobs.Extract reading sender place hex file quiet) octets other fault =
     FaultAt sides.First (FaultOfCapture reading (wanteds.Sender sender place) octets) fault
@@ -504,7 +599,7 @@ of_pairs reader text (run_faults.Pairs (pairs_faults.NotAPair line)) has is wron
       subst (λ (t : List ℕ). IsFirstWrong (lines_of t) line) same wrong.wrong,
     )
 of_pairs reader text (run_faults.Pairs pairs_faults.TooLong) has is many =
-    let whole = begins reader.old.left reader.new.left text many.octets has many.gave in
+    let whole = begins reader.old.left reader.new.left text many.octets has many.gave.consumed in
     let long : length text ≡ length (many.octets ++ whole.0) = ap (λ (t : List ℕ). length t) whole.1 in
     inr (refl, omega (arith, many.over, long, length-append many.octets whole.0))
 of_pairs reader text (run_faults.Pairs pairs_faults.Read) has is refuses = absurd is
@@ -588,12 +683,20 @@ cause_of (jobs.Each reading format file pairs quiet) reader second untouched oct
     of_each reading reader second octets other fault has other_has is cause
 cause_of (jobs.Normalise reading view body hex file quiet) reader second untouched octets other fault has other_has is cause =
     at_first _ _ fault (λ f is cause. of_form reading view reader octets f has is cause) is cause
+cause_of (jobs.Key reading view file quiet) reader second untouched octets other fault has other_has is cause =
+    at_first _ _ fault (λ f is cause. of_form reading view reader octets f has is cause) is cause
 cause_of (jobs.Pairs reading view count format file quiet) reader second untouched octets other fault has other_has is cause =
     at_first _ _ fault (λ f is cause. of_form reading view reader octets f has is cause) is cause
 cause_of (jobs.Compare reading other_reading view format file another quiet) reader second untouched octets other fault has other_has is cause =
     of_compare reading other_reading reader second untouched octets other fault has other_has is cause
 cause_of (jobs.Differences reading other_reading view count format file another quiet) reader second untouched octets other fault has other_has is cause =
     of_differences reading other_reading view reader second untouched octets other fault has other_has is cause
+cause_of (jobs.RouteOctets reading view body hex file quiet) reader second untouched octets other fault has other_has is cause =
+    at_first _ _ fault (λ f is cause. of_dump reading reader octets f has is cause) is cause
+cause_of (jobs.RouteRows reading view count format file quiet) reader second untouched octets other fault has other_has is cause =
+    at_first _ _ fault (λ f is cause. of_dump reading reader octets f has is cause) is cause
+cause_of (jobs.CompareRoutes reading other_reading view listed format file another quiet) reader second untouched octets other fault has other_has is cause =
+    of_compare reading other_reading reader second untouched octets other fault has other_has is cause
 cause_of (jobs.Senders reading format file quiet) reader second untouched octets other fault has other_has is cause =
     at_first _ _ fault (λ f is cause. of_capture reading wanteds.Everyone reader octets _ f has is cause) is cause
 cause_of (jobs.Extract reading sender place hex file quiet) reader second untouched octets other fault has other_has is cause =
@@ -649,6 +752,15 @@ sound_leaves_none reading wanted contents reader has gathering cut sound fault (
     let firsts : None ≡ Some datagram = sym none ∙ ap (λ (g : Gathering). first_left_out g.report) same.0 ∙ left.first in
     absurd cc
 
+normal_no_fault : (reading : Reading) (view : View) (body : ℕ) (hex : Bool) (reader : Reads) (dump : Contents) (text : List ℕ) (outcome : Outcome) (fault : InputFault)
+    → HasContents reader.old dump → WritesNormal (dump_of reader reading) view body hex text outcome → FaultOfForm reading view dump fault → ⊥
+normal_no_fault reading view body hex reader dump text outcome fault has says is_fault =
+    let gave = says.gave in
+    let normal = gave.under.normalises in
+    let same = table_is_one _ _ _ gave.gave.given.dump gave.table normal.table gave.gave.given.is_table normal.is_table in
+    form_no_fault reading view dump gave.table normal.boxes fault (sound (dump_of reader reading) dump gave.table has gave.gave)
+    (subst (λ (t : Routes). AreBoxes (seen_rows view t.rows) normal.boxes) (sym same) normal.are_boxes) normal.few is_fault
+
 says_no_fault : (job : Job) (reader second : Reads) (octets other : Contents) (text : List ℕ) (outcome : Outcome) (fault : RunFault) → HasContents reader.old octets
     → HasContents second.old other → SaysBy job reader second text outcome → FaultOf job octets other fault → ⊥
 says_no_fault (jobs.Show reading format file quiet) reader second octets other text outcome fault has other_has says (of_input, is, is_fault) =
@@ -660,11 +772,9 @@ says_no_fault (jobs.Each reading format file pairs quiet) reader second octets o
 says_no_fault (jobs.Each reading format file pairs quiet) reader second octets other text outcome fault has other_has says (inr (asked, (of_input, is, is_fault))) =
     sound_no_fault reading octets says.answers.table of_input (sound (dump_of reader reading) octets says.answers.table has says.answers.gave) is_fault
 says_no_fault (jobs.Normalise reading view body hex file quiet) reader second octets other text outcome fault has other_has says (of_input, is, is_fault) =
-    let gave = says.gave in
-    let normal = gave.under.normalises in
-    let same = table_is_one _ _ _ gave.gave.given.dump gave.table normal.table gave.gave.given.is_table normal.is_table in
-    form_no_fault reading view octets gave.table normal.boxes of_input (sound (dump_of reader reading) octets gave.table has gave.gave)
-    (subst (λ (t : Routes). AreBoxes (seen_rows view t.rows) normal.boxes) (sym same) normal.are_boxes) normal.few is_fault
+    normal_no_fault reading view body hex reader octets text outcome of_input has says is_fault
+says_no_fault (jobs.Key reading view file quiet) reader second octets other text outcome fault has other_has says (of_input, is, is_fault) =
+    normal_no_fault reading view 1024 false reader octets says.octets outcome of_input has says.writes is_fault
 says_no_fault (jobs.Pairs reading view count format file quiet) reader second octets other text outcome fault has other_has says (of_input, is, is_fault) =
     form_no_fault reading view octets says.table says.canon.pairs of_input (sound (dump_of reader reading) octets says.table has says.gave.gave)
     says.gave.is_canon.boxes says.gave.is_canon.few is_fault
@@ -679,6 +789,13 @@ says_no_fault (jobs.Differences reading other_reading view count format file ano
     let one = differ reading other_reading view reader second octets other says.table says.other_table says.differences has other_has says.have in
     let same = ap (λ (l : List Difference). length l) (differ_one reading other_reading view octets other says.differences more one differ_too) in
     absurd (omega (arith, same, few, many))
+says_no_fault (jobs.RouteOctets reading view body hex file quiet) reader second octets other text outcome fault has other_has says (of_input, is, is_fault) =
+    sound_no_fault reading octets says.gave.table of_input (sound (dump_of reader reading) octets says.gave.table has says.gave.gave) is_fault
+says_no_fault (jobs.RouteRows reading view count format file quiet) reader second octets other text outcome fault has other_has says (of_input, is, is_fault) =
+    sound_no_fault reading octets says.table of_input (sound (dump_of reader reading) octets says.table has says.gave) is_fault
+says_no_fault (jobs.CompareRoutes reading other_reading view listed format file another quiet) reader second octets other text outcome fault has other_has says is_fault =
+    both_no_fault reading other_reading octets other says.table says.other_table fault (sound (dump_of reader reading) octets says.table has says.gave.gave)
+    (sound (dump_of second other_reading) other says.other_table other_has says.gave.other_gave) is_fault
 says_no_fault (jobs.Senders reading format file quiet) reader second octets other text outcome fault has other_has says (of_input, is, is_fault) =
     sound_leaves_none reading wanteds.Everyone octets reader has says.gathering says.cut says.gave of_input is_fault
 says_no_fault (jobs.Extract reading sender place hex file quiet) reader second octets other text outcome fault has other_has says (of_input, is, is_fault) =
@@ -742,10 +859,14 @@ fault_one (jobs.Each reading format file pairs quiet) octets other fault too (in
 fault_one (jobs.Each reading format file pairs quiet) octets other fault too (inr (asked, one)) (inl two) = absurd (asked_no_fault reading other.octets asked.0 too asked.1 two)
 fault_one (jobs.Each reading format file pairs quiet) octets other fault too (inr (asked, one)) (inr (asked_too, two)) = at_side_one sides.First _ fault too (dump_fault_one reading octets) one two
 fault_one (jobs.Normalise reading view body hex file quiet) octets other fault too one two = at_side_one sides.First _ fault too (form_fault_one reading view octets) one two
+fault_one (jobs.Key reading view file quiet) octets other fault too one two = at_side_one sides.First _ fault too (form_fault_one reading view octets) one two
 fault_one (jobs.Pairs reading view count format file quiet) octets other fault too one two = at_side_one sides.First _ fault too (form_fault_one reading view octets) one two
 fault_one (jobs.Compare reading other_reading view format file another quiet) octets other fault too one two = both_fault_one reading other_reading octets other fault too one two
 fault_one (jobs.Differences reading other_reading view count format file another quiet) octets other fault too one two =
     differences_fault_one reading other_reading view octets other fault too one two
+fault_one (jobs.RouteOctets reading view body hex file quiet) octets other fault too one two = at_side_one sides.First _ fault too (dump_fault_one reading octets) one two
+fault_one (jobs.RouteRows reading view count format file quiet) octets other fault too one two = at_side_one sides.First _ fault too (dump_fault_one reading octets) one two
+fault_one (jobs.CompareRoutes reading other_reading view listed format file another quiet) octets other fault too one two = both_fault_one reading other_reading octets other fault too one two
 fault_one (jobs.Senders reading format file quiet) octets other fault too one two = at_side_one sides.First _ fault too (capture_fault_one reading wanteds.Everyone octets) one two
 fault_one (jobs.Extract reading sender place hex file quiet) octets other fault too one two =
     at_side_one sides.First _ fault too (capture_fault_one reading (wanteds.Sender sender place) octets) one two
@@ -875,6 +996,8 @@ dump_fault_of (jobs.Each reading format file pairs quiet) side octets other faul
     of_one (jobs.Each reading format file pairs quiet) reading side octets other fault _ refl (own_fault reading octets fault) has
 dump_fault_of (jobs.Normalise reading view body hex file quiet) side octets other fault not_pairs has =
     of_one (jobs.Normalise reading view body hex file quiet) reading side octets other fault _ refl (own_form_fault reading view octets fault not_pairs) has
+dump_fault_of (jobs.Key reading view file quiet) side octets other fault not_pairs has =
+    of_one (jobs.Key reading view file quiet) reading side octets other fault _ refl (own_form_fault reading view octets fault not_pairs) has
 dump_fault_of (jobs.Pairs reading view count format file quiet) side octets other fault not_pairs has =
     of_one (jobs.Pairs reading view count format file quiet) reading side octets other fault _ refl (own_form_fault reading view octets fault not_pairs) has
 dump_fault_of (jobs.Compare reading other_reading view format file another quiet) side octets other fault not_pairs has =
@@ -883,6 +1006,12 @@ dump_fault_of (jobs.Differences reading other_reading view count format file ano
     of_both (jobs.Differences reading other_reading view count format file another quiet) reading other_reading side octets other fault refl refl has
 dump_fault_of (jobs.Differences reading other_reading view count format file another quiet) side octets other fault not_pairs (inr (is, many)) =
     let same : fault ≡ faults.TooManyPairs = cc in absurd (not_pairs same)
+dump_fault_of (jobs.RouteOctets reading view body hex file quiet) side octets other fault not_pairs has =
+    of_one (jobs.RouteOctets reading view body hex file quiet) reading side octets other fault _ refl (own_fault reading octets fault) has
+dump_fault_of (jobs.RouteRows reading view count format file quiet) side octets other fault not_pairs has =
+    of_one (jobs.RouteRows reading view count format file quiet) reading side octets other fault _ refl (own_fault reading octets fault) has
+dump_fault_of (jobs.CompareRoutes reading other_reading view listed format file another quiet) side octets other fault not_pairs has =
+    of_both (jobs.CompareRoutes reading other_reading view listed format file another quiet) reading other_reading side octets other fault refl refl has
 dump_fault_of (jobs.Senders reading format file quiet) side octets other fault not_pairs has = absurd (of_no_capture side _ _ octets fault has)
 dump_fault_of (jobs.Extract reading sender place hex file quiet) side octets other fault not_pairs has = absurd (of_no_capture side _ _ octets fault has)
 

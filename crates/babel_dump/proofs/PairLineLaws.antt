@@ -29,13 +29,15 @@ took_line a b c text left rest line first next = record {
   no_flush = next.no_flush ∙ first.no_flush;
 }
 
-module _ {W : Type 0} (state : W → OutputState) (start old new : PairLines W) (pairs : List Pair) (pair : Pair) (same : new.writer.ghost_name ≡ old.writer.ghost_name) (so : HasLines state start old pairs) where
+module _ {W : Type 0} (state : W → OutputState) (start old new : PairLines W) (pairs : List Pair) (pair : Pair)
+    (same : new.writer.ghost_name ≡ old.writer.ghost_name) (so : HasLines state start old pairs) where
   pub one_more_line : (rest : List ℕ) → new.buffer.ghost_name ≡ old.buffer.ghost_name → new.format ≡ old.format → new.view ≡ old.view
       → Took (output (state old.writer.now) (state new.writer.now)) old.buffer.now.items rest → new.buffer.now.items ≡ rest ++ line_in old.format old.view pair
       → HasLines state start new (pairs ++ pair ∷ [])
   one_more_line rest same_buffer same_format same_view next put =
       let line = line_in start.format start.view pair in
-      let put_line : new.buffer.now.items ≡ rest ++ line = put ∙ ap (λ (f : Format). rest ++ line_in f old.view pair) so.same_format ∙ ap (λ (v : View). rest ++ line_in start.format v pair) so.same_view in
+      let put_line : new.buffer.now.items ≡ rest ++ line = put ∙ ap (λ (f : Format). rest ++ line_in f old.view pair) so.same_format
+      ∙ ap (λ (v : View). rest ++ line_in start.format v pair) so.same_view in
       let both = took_line (state start.writer.now) (state old.writer.now) (state new.writer.now) (pairs_in start.format start.view pairs) old.buffer.now.items rest line so.took next in
       record {
         same_writer = same ∙ so.same_writer;
@@ -52,7 +54,8 @@ module _ {W : Type 0} (state : W → OutputState) (start old new : PairLines W) 
       let first = subst (λ (l : List ℕ). Took (output a (state old.writer.now)) text l) (sym (append-nil old.buffer.now.items)) so.took in
       record {
         same_writer = same ∙ so.same_writer;
-        broke = rw (line_last start.format start.view pairs pair) (broke_within _ text (line_in start.format start.view pair) (broke_on a (state old.writer.now) (state new.writer.now) text old.buffer.now.items [] first broke));
+        broke = rw (line_last start.format start.view pairs pair)
+            (broke_within _ text (line_in start.format start.view pair) (broke_on a (state old.writer.now) (state new.writer.now) text old.buffer.now.items [] first broke));
       }
 
 module _ {W : Type 0} (state : W → OutputState) (start new : PairLines W) (all : List Pair) (writer : W) where

@@ -39,7 +39,7 @@ not_whole_is left_out report input_faults.Read is = absurd is
 
 -- it is what reading a dump is refused for
 pub unread_cause : (reader : Input) (Refuses : Fault → Type 0) (table : Routes) (fault : InputFault) → GaveDump reader table → reader.reading.strict ≡ true
-    → IsNotReadWhole reader.old.left_out table.report fault → InputCause reader Refuses fault
+    → IsNotReadWhole reader.new.left_out table.report fault → InputCause reader Refuses fault
 unread_cause reader Refuses table (input_faults.Dump fault) gave strict is = absurd is
 unread_cause reader Refuses table (input_faults.Ignored tlv) gave strict is = record { table = table; given = gave; strict = strict; unread = is }
 unread_cause reader Refuses table (input_faults.Capture fault) gave strict is = absurd is

@@ -1,5 +1,7 @@
--- The pairs of addresses that a text asks for, one on a line. No RFC speaks of such a text: it is this project's own.
-use Rattle.std.specs.Prelude.{ℕ, ◌≡◌, ◌+◌, ◌==◌, Bool, true, false, not, nat_lt, List, [], ◌∷◌, ◌++◌, length, map, filter, slice_index}
+-- The pairs of addresses that a text asks for, one on a line. No RFC speaks of such a text: it is
+-- this project's own.
+use Rattle.std.specs.Prelude.{ℕ, ◌≡◌, ◌+◌, ◌==◌, Bool, true, false, not, nat_lt, List, [], ◌∷◌}
+use Rattle.std.specs.Prelude.{◌++◌, length, map, filter, slice_index}
 use Rattle.std.specs.Char.{is_ascii_whitespace}
 use Rattle.std.specs.List.{AllZip, slice_split}
 use Rattle.std.specs.Str.{IsUtf8}
@@ -34,7 +36,8 @@ pub record SaysPair (words : List (List ℕ)) (pair : AddrPair) : Type 0 where
 abbrev pub AsksBy : List (List ℕ) → Asked → Type 0
 AsksBy words asks.Nothing = is_passed_over words ≡ true
 AsksBy words (asks.Pair pair) = (is_passed_over words ≡ false) × SaysPair words pair
-AsksBy words asks.Wrong = (is_passed_over words ≡ false) × ((pair : AddrPair) → SaysPair words pair → ⊥)
+AsksBy words asks.Wrong =
+    (is_passed_over words ≡ false) × ((pair : AddrPair) → SaysPair words pair → ⊥)
 
 -- the words of each line that is not passed over
 abbrev pub asking : List (List ℕ) → List (List (List ℕ))

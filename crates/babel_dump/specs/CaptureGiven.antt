@@ -1,19 +1,18 @@
 -- What readers gave, as captures. No RFC speaks of readers: these are this project's own.
 use Rattle.std.specs.Prelude.{ℕ, Bool, true, false, ◌≡◌, ◌⊎◌, List, Option, None, Some}
-use Rattle.std.specs.Io.KnownBytes.{Consumes}
 use Rattle.babel_capture.specs.Capture.{EndsShort, HasRead, IsRead, IsReadToCut, State}
 use Rattle.babel_capture.specs.Gathering.{Gathering}
 use Rattle.babel_capture.specs.Reading.{Stops}
 use Rattle.babel_capture.specs.declared.fault.Fault.{Fault}
 use Rattle.babel_capture.specs.declared.fault.Fault.TheVariants as faults
 use Rattle.babel_capture.specs.declared.wanted.Wanted.{Wanted}
-use Rattle.babel_dump.specs.Device.{InputState}
-use Rattle.babel_dump.specs.Given.{GaveOctets}
+use Rattle.babel_dump.specs.Device.{Gave, GaveOctets, InputState}
 use Rattle.babel_dump.specs.LeftOut.{LeavesNoneOut, first_left_out}
 use Rattle.babel_dump.specs.declared.capture_reading.CaptureReading.{CaptureReading}
 use Rattle.babel_dump.specs.declared.left_out.LeftOutDatagram.{LeftOutDatagram}
 
--- a reader of a capture that is read so, of which these datagrams are wanted, before a run and after it
+-- a reader of a capture that is read so, of which these datagrams are wanted, before a run and
+-- after it
 pub record CaptureInput : Type 0 where
   pub reading : CaptureReading
   pub wanted : Wanted
@@ -21,19 +20,23 @@ pub record CaptureInput : Type 0 where
   pub new : InputState
 
 abbrev pub capture_from : InputState → InputState → CaptureReading → Wanted → CaptureInput
-capture_from old new reading wanted = record { reading = reading; wanted = wanted; old = old; new = new }
+capture_from old new reading wanted =
+    record { reading = reading; wanted = wanted; old = old; new = new }
 
 -- the reader gave these octets, all that it had, and met its end
 abbrev pub GaveWhole : CaptureInput → List ℕ → Type 0
 GaveWhole reader = GaveOctets reader.old reader.new
 
--- the octets are a capture; where a cut is accepted, its last block may be cut short, and this is where
+-- the octets are a capture; where a cut is accepted, its last block may be cut short, and this is
+-- where
 abbrev pub IsReadSo : (accept_cut : Bool) → (limit : ℕ) → List ℕ → Gathering → Option ℕ → Type 0
 IsReadSo false limit octets gathering cut = IsRead limit octets gathering × (cut ≡ None)
 IsReadSo true limit octets gathering cut = IsReadToCut limit octets gathering cut
 
--- the reader gave a capture, all that it had, and this is what the packets of it give, of the wanted datagrams
-pub record GaveCapture (reader : CaptureInput) (gathering : Gathering) (cut : Option ℕ) : Type 0 where
+-- the reader gave a capture, all that it had, and this is what the packets of it give, of the
+-- wanted datagrams
+pub record GaveCapture (reader : CaptureInput) (gathering : Gathering) (cut : Option ℕ) :
+    Type 0 where
   pub octets : List ℕ
   pub gave : GaveWhole reader octets
   pub is_read : IsReadSo reader.reading.accept_cut reader.reading.limit octets gathering cut
@@ -44,7 +47,8 @@ pub record GaveSound (reader : CaptureInput) (gathering : Gathering) (cut : Opti
   pub given : GaveCapture reader gathering cut
   pub strict : reader.reading.strict ≡ true → LeavesNoneOut gathering.report
 
--- the reader gave such a capture, which is read strictly, and this datagram is the first that was left out
+-- the reader gave such a capture, which is read strictly, and this datagram is the first that was
+-- left out
 pub record GaveLeftOut (reader : CaptureInput) (datagram : LeftOutDatagram) : Type 0 where
   pub gathering : Gathering
   pub cut : Option ℕ
@@ -52,7 +56,8 @@ pub record GaveLeftOut (reader : CaptureInput) (datagram : LeftOutDatagram) : Ty
   pub strict : reader.reading.strict ≡ true
   pub first : first_left_out gathering.report ≡ Some datagram
 
--- the octets, all that the reader had, end before the first block is whole; or, where no cut is accepted, within a later one
+-- the octets, all that the reader had, end before the first block is whole; or, where no cut is
+-- accepted, within a later one
 pub record EndsTooSoon (reader : CaptureInput) (octets : List ℕ) (fault : Fault) : Type 0 where
   pub all : GaveWhole reader octets
   pub short : EndsShort reader.reading.limit reader.wanted octets fault
@@ -61,8 +66,9 @@ pub record EndsTooSoon (reader : CaptureInput) (octets : List ℕ) (fault : Faul
 -- the fault is that of the octets that the reader gave, however they go on; or they end too soon
 pub record IsFaultOfCapture (reader : CaptureInput) (fault : Fault) : Type 0 where
   pub given : List ℕ
-  pub gave : Consumes reader.old.left reader.new.left given
-  pub refused : Stops reader.reading.limit reader.wanted given fault ⊎ EndsTooSoon reader given fault
+  pub gave : Gave reader.old reader.new given
+  pub refused :
+      Stops reader.reading.limit reader.wanted given fault ⊎ EndsTooSoon reader given fault
 
 -- what a reader of captures was fed is what the device gave, all that it had
 pub record IsFedWhole (capture : State) (reader : CaptureInput) : Type 0 where

@@ -1,11 +1,13 @@
--- What the commands over captures promise, by what their devices say. No RFC speaks of runs: these are this project's own.
+-- What the commands over captures promise, by what their devices say. No RFC speaks of runs: these
+-- are this project's own.
 use Rattle.std.specs.Prelude.{ℕ, Bool, ◌≡◌, ◌≢◌, ◌+◌, ◌<◌, ◌≤◌, List, length, Option}
 use Rattle.babel_capture.specs.Counts.{Counts}
 use Rattle.babel_capture.specs.Gathering.{Gathering}
 use Rattle.babel_capture.specs.declared.fault.Fault.TheVariants as capture_faults
 use Rattle.babel_tlv.specs.declared.fault.Fault.TheVariants as faults
 use Rattle.babel_dump.specs.CaptureGiven.{CaptureInput, GaveLeftOut, GaveSound, IsFaultOfCapture}
-use Rattle.babel_dump.specs.CaptureText.{dump_status, dump_text, places_of, senders_in, senders_status}
+use Rattle.babel_dump.specs.CaptureText.{dump_status, dump_text, places_of}
+use Rattle.babel_dump.specs.CaptureText.{senders_in, senders_status}
 use Rattle.babel_dump.specs.Run.{Calls}
 use Rattle.babel_dump.specs.declared.format.Format.{Format}
 use Rattle.babel_dump.specs.declared.input_fault.InputFault.{InputFault}
@@ -14,16 +16,18 @@ use Rattle.babel_dump.specs.declared.interfaces.Interfaces.{Interfaces}
 use Rattle.babel_dump.specs.declared.outcome.Outcome.{Outcome}
 use Rattle.babel_dump.specs.declared.outcome.Reports.TheVariants as reports
 
--- Each read but the last gives an octet: of blocks within the limit, or of the header of one more, which has 24 octets at
--- most.
+-- Each read but the last gives an octet: of blocks within the limit, or of the header of one more,
+-- which has 24 octets at most.
 abbrev pub capture_calls : CaptureInput → Calls
-capture_calls reader = record { old = reader.old; new = reader.new; most = reader.reading.limit + 24 }
+capture_calls reader =
+    record { old = reader.old; new = reader.new; most = reader.reading.limit + 24 }
 
--- Each fault of reading a capture has its cause: a failed read of its reader, or what its reader gave. Want of memory has
--- none that a contract can see.
+-- Each fault of reading a capture has its cause: a failed read of its reader, or what its reader
+-- gave. Want of memory has none that a contract can see.
 abbrev pub CaptureCause : CaptureInput → (Interfaces → Type 0) → InputFault → Type 0
 CaptureCause reader Several input_faults.Read = reader.old.failures < reader.new.failures
-CaptureCause reader Several (input_faults.Capture fault) = fault ≢ capture_faults.Memory → IsFaultOfCapture reader fault
+CaptureCause reader Several (input_faults.Capture fault) =
+    fault ≢ capture_faults.Memory → IsFaultOfCapture reader fault
 CaptureCause reader Several (input_faults.LeftOut datagram) = GaveLeftOut reader datagram
 CaptureCause reader Several (input_faults.SeveralInterfaces interfaces) = Several interfaces
 CaptureCause reader Several (input_faults.Dump fault) = fault ≡ faults.Memory
@@ -35,10 +39,12 @@ IsNoFault interfaces = ⊥
 
 -- the outcome has this status, and the report of a capture, which is cut short there
 abbrev pub IsOutcomeOf : Outcome → ℕ → Counts → Option ℕ → Type 0
-IsOutcomeOf outcome status report cut = outcome ≡ record { status = status; reports = reports.Capture report cut }
+IsOutcomeOf outcome status report cut =
+    outcome ≡ record { status = status; reports = reports.Capture report cut }
 
 -- `senders`: a line for each sender of the capture at each place
-pub record ListsSenders (reader : CaptureInput) (format : Format) (text : List ℕ) (outcome : Outcome) : Type 0 where
+pub record ListsSenders (reader : CaptureInput) (format : Format) (text : List ℕ)
+    (outcome : Outcome) : Type 0 where
   pub gathering : Gathering
   pub cut : Option ℕ
   pub gave : GaveSound reader gathering cut
@@ -46,7 +52,8 @@ pub record ListsSenders (reader : CaptureInput) (format : Format) (text : List �
   pub outcome_is : IsOutcomeOf outcome (senders_status gathering.senders) gathering.report cut
 
 -- `extract`: the dump of the wanted sender, who sent at one place at most
-pub record Extracts (reader : CaptureInput) (hex : Bool) (text : List ℕ) (outcome : Outcome) : Type 0 where
+pub record Extracts (reader : CaptureInput) (hex : Bool) (text : List ℕ) (outcome : Outcome) :
+    Type 0 where
   pub gathering : Gathering
   pub cut : Option ℕ
   pub gave : GaveSound reader gathering cut

@@ -1,5 +1,7 @@
--- The lines that the runs of captures write: this project's own. The texts of addresses are those of RFC 4291, 2.2.
-use Rattle.std.specs.Prelude.{ℕ, Bool, ◌==◌, ◌||◌, if◌then◌else◌, List, [], ◌∷◌, ◌++◌, map, codes, Option, None, Some}
+-- The lines that the runs of captures write: this project's own. The texts of addresses are those
+-- of RFC 4291, 2.2.
+use Rattle.std.specs.Prelude.{ℕ, Bool, ◌==◌, ◌||◌, if◌then◌else◌, List, [], ◌∷◌, ◌++◌}
+use Rattle.std.specs.Prelude.{map, codes, Option, None, Some}
 use Rattle.std.specs.List.{flat_map}
 use Rattle.std.specs.Fmt.{decimal}
 use Rattle.std.specs.Char.{is_ascii_alphanumeric}
@@ -36,7 +38,8 @@ escape format = in_format format (codes "\\x") (codes "\\\\x")
 -- ` (NAME)`, or nothing where there is none
 abbrev pub name_text : List ℕ → List ℕ
 name_text [] = []
-name_text (octet ∷ octets) = codes " (" ++ escaped (escape formats.Text) (octet ∷ octets) ++ codes ")"
+name_text (octet ∷ octets) =
+    codes " (" ++ escaped (escape formats.Text) (octet ∷ octets) ++ codes ")"
 
 -- `"NAME"`, or `null`
 abbrev pub name_json : List ℕ → List ℕ
@@ -73,17 +76,22 @@ sender_front origin = printed origin.sender ++ codes " interface " ++ decimal or
 abbrev pub sender_end : Place → Tally → List ℕ
 sender_end place tally =
     link_text place.link ++ vlans_text place.vlans ++ codes " packets " ++ decimal tally.packets
-    ++ codes " octets " ++ decimal tally.octets ++ codes " updates " ++ decimal tally.updates ++ newline
+    ++ codes " octets " ++ decimal tally.octets ++ codes " updates " ++ decimal tally.updates
+    ++ newline
 
 -- `ADDRESS interface N (NAME) link N vlan N.N packets N octets N updates N`
 abbrev pub sender_line : (name : List ℕ) → Origin × Tally → List ℕ
-sender_line name sender = sender_front sender.0 ++ name_text name ++ sender_end sender.0.place sender.1
+sender_line name sender =
+    sender_front sender.0 ++ name_text name ++ sender_end sender.0.place sender.1
 
--- `{"address":"ADDRESS","interface":N,"link":N,"vlans":[N,N],"name":`, and `,"packets":N,"octets":N,"updates":N}`
+-- `{"address":"ADDRESS","interface":N,"link":N,"vlans":[N,N],"name":`, and
+-- `,"packets":N,"octets":N,"updates":N}`
 abbrev pub sender_front_json : Origin → List ℕ
 sender_front_json origin =
-    codes "{\"address\":\"" ++ printed origin.sender ++ codes "\",\"interface\":" ++ decimal origin.place.interface
-    ++ codes ",\"link\":" ++ link_json origin.place.link ++ codes ",\"vlans\":" ++ vlans_json origin.place.vlans
+    codes "{\"address\":\"" ++ printed origin.sender ++ codes "\",\"interface\":"
+    ++ decimal origin.place.interface
+    ++ codes ",\"link\":" ++ link_json origin.place.link ++ codes ",\"vlans\":"
+    ++ vlans_json origin.place.vlans
     ++ codes ",\"name\":"
 
 abbrev pub sender_end_json : Tally → List ℕ
@@ -91,7 +99,8 @@ sender_end_json tally =
     codes ",\"packets\":" ++ decimal tally.packets ++ codes ",\"octets\":" ++ decimal tally.octets
     ++ codes ",\"updates\":" ++ decimal tally.updates ++ codes "}" ++ newline
 
--- `{"address":"ADDRESS","interface":N,"link":N,"vlans":[N,N],"name":"NAME","packets":N,"octets":N,"updates":N}`
+-- `{"address":"ADDRESS","interface":N,"link":N,"vlans":[N,N],"name":"NAME"`, and then
+-- `,"packets":N,"octets":N,"updates":N}`
 abbrev pub sender_json : (name : List ℕ) → Origin × Tally → List ℕ
 sender_json name sender = sender_front_json sender.0 ++ name_json name ++ sender_end_json sender.1
 
@@ -100,7 +109,8 @@ sender_in format name sender = in_format format (sender_line name sender) (sende
 
 -- with the name that the capture has for its interface
 abbrev pub named_in : Format → Gathering → Origin × Tally → List ℕ
-named_in format gathering sender = sender_in format (name_of gathering sender.0.place.interface) sender
+named_in format gathering sender =
+    sender_in format (name_of gathering sender.0.place.interface) sender
 
 -- a line for each sender at each place
 abbrev pub senders_in : Format → Gathering → List ℕ

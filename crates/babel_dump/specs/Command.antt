@@ -1,24 +1,31 @@
--- What each command over dumps promises: its own text and outcome, and the causes of its faults. These are this project's
--- own.
-use Rattle.std.specs.Prelude.{ℕ, Bool, ◌≡◌, ◌<◌, ◌≤◌, ◌⊎◌, List, length, Result}
+-- What each command over dumps promises: its own text and outcome, and the causes of its faults.
+-- These are this project's own.
+use Rattle.std.specs.Prelude.{ℕ, Bool, false, ◌≡◌, ◌≢◌, ◌<◌, ◌≤◌, ◌⊎◌, List, length, Result}
 use Rattle.babel_prefix.specs.Address.{Address}
 use Rattle.babel_tlv.specs.declared.fault.Fault.TheVariants as faults
 use Rattle.babel_tlv.specs.declared.view.View.{View}
 use Rattle.babel_tlv.specs.Views.{keeps_all}
 use Rattle.babel_table.specs.Counts.{Counts}
 use Rattle.babel_table.specs.Rows.{Routes}
-use Rattle.babel_table.specs.Seen.{seen_rows}
+use Rattle.babel_table.specs.Seen.{seen_rows, seen_table}
 use Rattle.babel_canon.specs.Canonical.{Canonical}
 use Rattle.babel_canon.specs.Differences.{AreDifferences}
+use Rattle.babel_canon.specs.Routes.{AreRouteDifferences}
 use Rattle.babel_canon.specs.Verdict.{IsVerdict}
 use Rattle.babel_canon.specs.declared.every_difference.Difference.{Difference}
 use Rattle.babel_canon.specs.declared.verdict.Verdict.{Verdict}
-use Rattle.babel_dump.specs.Given.{GaveNormal, GavePairs, GaveTable, GaveTables, Input, IsFaultOfForm, IsFaultOfGiven}
-use Rattle.babel_dump.specs.InFormat.{differences_or_count_in, lookup_in, pairs_or_counts_in, show_in, verdict_in}
+use Rattle.babel_dump.specs.Given.{GaveNormal, GavePairs, GaveRoutes, GaveTable, GaveTables, Input}
+use Rattle.babel_dump.specs.Given.{IsFaultOfForm, IsFaultOfGiven}
+use Rattle.babel_dump.specs.InFormat.{differences_or_count_in, lookup_in}
+use Rattle.babel_dump.specs.InFormat.{pairs_or_counts_in, show_in, verdict_in}
+use Rattle.babel_dump.specs.InFormat.{listed_in, rows_or_count_in}
+use Rattle.babel_dump.specs.KeyText.{key_line}
 use Rattle.babel_dump.specs.Run.{Called, InputCause, OfStatus, Output, Ran, RanAlone, calls_of}
-use Rattle.babel_dump.specs.RunText.{answer_in, differences_status, form_text, lookup_status, verdict_status}
+use Rattle.babel_dump.specs.RunText.{answer_in, differences_status, form_text}
+use Rattle.babel_dump.specs.RunText.{lookup_status, verdict_status}
 use Rattle.babel_dump.specs.declared.format.Format.{Format}
 use Rattle.babel_dump.specs.declared.input_fault.InputFault.TheVariants as input_faults
+use Rattle.babel_dump.specs.declared.job.Listed.{Listed}
 use Rattle.babel_dump.specs.declared.outcome.Outcome.{Outcome}
 use Rattle.babel_dump.specs.declared.outcome.Reports.TheVariants as reports
 use Rattle.babel_dump.specs.declared.run_fault.RunFault.{RunFault}
@@ -27,35 +34,58 @@ use Rattle.babel_dump.specs.declared.run_fault.Side.TheVariants as sides
 
 -- the outcome has this status, and the report of a dump, or of two
 abbrev pub IsOutcome : Outcome → ℕ → Counts → Type 0
-IsOutcome outcome status report = outcome ≡ record { status = status; reports = reports.Dump report }
+IsOutcome outcome status report =
+    outcome ≡ record { status = status; reports = reports.Dump report }
 
 abbrev pub IsOutcomeOfBoth : Outcome → ℕ → Counts → Counts → Type 0
-IsOutcomeOfBoth outcome status report other = outcome ≡ record { status = status; reports = reports.Dumps report other }
+IsOutcomeOfBoth outcome status report other =
+    outcome ≡ record { status = status; reports = reports.Dumps report other }
+
+-- the outcome of how two tables answer: where the status is 0, it says how many routes differ
+pub record IsOutcomeOfAnswers (status : ℕ) (table other : Routes) (outcome : Outcome) :
+    Type 0 where
+  pub status_is : outcome.status ≡ status
+  pub alike : status ≡ 0
+      → (routes : List Difference) × AreRouteDifferences table.rows other.rows routes
+      × (outcome.reports ≡ reports.Alike table.report other.report (length routes))
+  pub unlike : status ≢ 0 → outcome.reports ≡ reports.Dumps table.report other.report
 
 -- `show`: the rows and the report of the dump's table
-pub record Shows (reader : Input) (format : Format) (text : List ℕ) (outcome : Outcome) : Type 0 where
+pub record Shows (reader : Input) (format : Format) (text : List ℕ) (outcome : Outcome) :
+    Type 0 where
   pub table : Routes
   pub gave : GaveTable reader table
   pub text_is : text ≡ show_in format table
   pub outcome_is : IsOutcome outcome 0 table.report
 
 -- `lookup`: what the dump's table answers for a destination and a source
-pub record LooksUp (reader : Input) (dst src : Address) (format : Format) (text : List ℕ) (outcome : Outcome) : Type 0 where
+pub record LooksUp (reader : Input) (dst src : Address) (format : Format) (text : List ℕ)
+    (outcome : Outcome) : Type 0 where
   pub table : Routes
   pub gave : GaveTable reader table
   pub text_is : text ≡ lookup_in format dst src (answer_in table dst src)
   pub outcome_is : IsOutcome outcome (lookup_status (answer_in table dst src)) table.report
 
 -- `normalise`: the dump's canonical octets under a view
-pub record WritesNormal (reader : Input) (view : View) (body : ℕ) (hex : Bool) (text : List ℕ) (outcome : Outcome) : Type 0 where
+pub record WritesNormal (reader : Input) (view : View) (body : ℕ) (hex : Bool) (text : List ℕ)
+    (outcome : Outcome) : Type 0 where
   pub octets : List ℕ
   pub report : Counts
   pub gave : GaveNormal reader view body report octets
   pub text_is : text ≡ form_text hex octets
   pub outcome_is : IsOutcome outcome 0 report
 
--- `pairs`: the canonical pairs of the dump's table under a view, or how many rows and pairs there are
-pub record ListsPairs (reader : Input) (view : View) (count : Bool) (format : Format) (text : List ℕ) (outcome : Outcome) : Type 0 where
+-- `key`: the line of the key of what `normalise` writes, which names this file
+pub record WritesKey (reader : Input) (view : View) (file : List ℕ) (text : List ℕ)
+    (outcome : Outcome) : Type 0 where
+  pub octets : List ℕ
+  pub writes : WritesNormal reader view 1024 false octets outcome
+  pub text_is : text ≡ key_line octets file
+
+-- `pairs`: the canonical pairs of the dump's table under a view, or how many rows and pairs there
+-- are
+pub record ListsPairs (reader : Input) (view : View) (count : Bool) (format : Format)
+    (text : List ℕ) (outcome : Outcome) : Type 0 where
   pub table : Routes
   pub canon : Canonical
   pub gave : GavePairs reader view table canon
@@ -63,36 +93,73 @@ pub record ListsPairs (reader : Input) (view : View) (count : Bool) (format : Fo
   pub outcome_is : IsOutcome outcome 0 table.report
 
 -- `compare`: how the answers of the dumps' tables compare under a view
-pub record Compares (reader other : Input) (view : View) (format : Format) (text : List ℕ) (outcome : Outcome) : Type 0 where
+pub record Compares (reader other : Input) (view : View) (format : Format) (text : List ℕ)
+    (outcome : Outcome) : Type 0 where
   pub table : Routes
   pub other_table : Routes
   pub gave : GaveTables reader other table other_table
   pub verdict : Verdict
   pub is_verdict : IsVerdict (seen_rows view table.rows) (seen_rows view other_table.rows) verdict
   pub text_is : text ≡ verdict_in format view verdict
-  pub outcome_is : IsOutcomeOfBoth outcome (verdict_status verdict) table.report other_table.report
+  pub outcome_is : IsOutcomeOfAnswers (verdict_status verdict) (seen_table view table)
+      (seen_table view other_table) outcome
 
 -- two dumps' tables have these differences under a view
-pub record HaveDifferences (reader other : Input) (view : View) (table other_table : Routes) (differences : List Difference) : Type 0 where
+pub record HaveDifferences (reader other : Input) (view : View) (table other_table : Routes)
+    (differences : List Difference) : Type 0 where
   pub gave : GaveTables reader other table other_table
-  pub are_differences : AreDifferences (seen_rows view table.rows) (seen_rows view other_table.rows) differences
+  pub are_differences :
+      AreDifferences (seen_rows view table.rows) (seen_rows view other_table.rows) differences
 
--- `compare --all`: all that the dumps' tables answer differently under a view, or how many differences there are
-pub record ListsDifferences (reader other : Input) (view : View) (count : Bool) (format : Format) (text : List ℕ) (outcome : Outcome) : Type 0 where
+-- `compare --all`: all that the dumps' tables answer differently under a view, or how many
+-- differences there are
+pub record ListsDifferences (reader other : Input) (view : View) (count : Bool) (format : Format)
+    (text : List ℕ) (outcome : Outcome) : Type 0 where
   pub table : Routes
   pub other_table : Routes
   pub differences : List Difference
   pub have : HaveDifferences reader other view table other_table differences
   pub few : length differences ≤ reader.reading.limits.entries
   pub text_is : text ≡ differences_or_count_in format view count differences
-  pub outcome_is : IsOutcomeOfBoth outcome (differences_status (length differences)) table.report other_table.report
+  pub outcome_is : IsOutcomeOfAnswers (differences_status (length differences))
+      (seen_table view table) (seen_table view other_table) outcome
+
+-- `normalise --routes`: the dump's route octets under a view
+pub record WritesRoutes (reader : Input) (view : View) (body : ℕ) (hex : Bool) (text : List ℕ)
+    (outcome : Outcome) : Type 0 where
+  pub octets : List ℕ
+  pub report : Counts
+  pub gave : GaveRoutes reader view body report octets
+  pub text_is : text ≡ form_text hex octets
+  pub outcome_is : IsOutcome outcome 0 report
+
+-- `pairs --routes`: the rows of the dump's table, as a view shows them, or how many there are
+pub record ListsRoutes (reader : Input) (view : View) (count : Bool) (format : Format)
+    (text : List ℕ) (outcome : Outcome) : Type 0 where
+  pub table : Routes
+  pub gave : GaveTable reader table
+  pub text_is : text ≡ rows_or_count_in format view count table.rows
+  pub outcome_is : IsOutcome outcome 0 table.report
+
+-- `compare --routes`: the keys for which the dumps' tables hold what differs under a view
+pub record ComparesRoutes (reader other : Input) (view : View) (listed : Listed) (format : Format)
+    (text : List ℕ) (outcome : Outcome) : Type 0 where
+  pub table : Routes
+  pub other_table : Routes
+  pub gave : GaveTables reader other table other_table
+  pub differences : List Difference
+  pub are_differences : AreRouteDifferences (seen_rows view table.rows)
+      (seen_rows view other_table.rows) differences
+  pub text_is : text ≡ listed_in format view listed differences
+  pub outcome_is : IsOutcomeOfBoth outcome (differences_status (length differences))
+      table.report other_table.report
 
 -- the reader gave a dump without a fault, of which nothing was left unread if it is read strictly
 abbrev pub GaveSound : Input → Type 0
 GaveSound reader = (table : Routes) × GaveTable reader table
 
--- Two dumps are read in turn: a fault of the first leaves the other reader as it was (`untouched`), and one of the other
--- comes where the first has none.
+-- Two dumps are read in turn: a fault of the first leaves the other reader as it was (`untouched`),
+-- and one of the other comes where the first has none.
 abbrev pub InTurn : Input → Input → (untouched : Type 0) → RunFault → Type 0
 InTurn reader other untouched (run_faults.Input sides.First fault) =
     untouched × InputCause reader (IsFaultOfGiven reader) fault
@@ -127,22 +194,29 @@ DifferencesCause reader other view untouched fault =
     CompareCause reader other untouched fault ⊎ (IsOfMany fault × HaveMany reader other view)
 
 abbrev pub RanShow : Input → Format → Output → Result ℕ RunFault → Type 0
-RanShow reader format writer = RanAlone reader (InputCause reader (IsFaultOfGiven reader)) writer (Shows reader format)
+RanShow reader format writer =
+    RanAlone reader (InputCause reader (IsFaultOfGiven reader)) writer (Shows reader format)
 
 abbrev pub RanLookup : Input → Address → Address → Format → Output → Result ℕ RunFault → Type 0
 RanLookup reader dst src format writer =
-    RanAlone reader (InputCause reader (IsFaultOfGiven reader)) writer (LooksUp reader dst src format)
+    RanAlone reader (InputCause reader (IsFaultOfGiven reader)) writer
+    (LooksUp reader dst src format)
 
 abbrev pub RanNormalise : Input → ℕ → Bool → Output → Result ℕ RunFault → Type 0
 RanNormalise reader body hex writer =
-    RanAlone reader (InputCause reader (IsFaultOfForm reader keeps_all)) writer (WritesNormal reader keeps_all body hex)
+    RanAlone reader (InputCause reader (IsFaultOfForm reader keeps_all)) writer
+    (WritesNormal reader keeps_all body hex)
 
 abbrev pub RanPairs : Input → Bool → Format → Output → Result ℕ RunFault → Type 0
 RanPairs reader count format writer =
-    RanAlone reader (InputCause reader (IsFaultOfForm reader keeps_all)) writer (ListsPairs reader keeps_all count format)
+    RanAlone reader (InputCause reader (IsFaultOfForm reader keeps_all)) writer
+    (ListsPairs reader keeps_all count format)
 
 -- `untouched` says that the other reader is as it was
-pub record RanCompare (reader other : Input) (format : Format) (writer : Output) (untouched : Type 0) (result : Result ℕ RunFault) : Type 0 where
-  pub ran : Ran writer (CompareCause reader other untouched) (OfStatus (Compares reader other keeps_all format)) result
+pub record RanCompare (reader other : Input) (format : Format) (writer : Output)
+    (untouched : Type 0) (result : Result ℕ RunFault) : Type 0 where
+  pub ran :
+      Ran writer (CompareCause reader other untouched)
+      (OfStatus (Compares reader other keeps_all format)) result
   pub called : Called (calls_of reader) result
   pub other_called : Called (calls_of other) result

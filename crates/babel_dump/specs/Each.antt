@@ -1,10 +1,10 @@
--- What `lookup --each` promises: the pairs are read first, and then each is looked up in the dump. No RFC speaks of it: this
--- is the project's own.
+-- What `lookup --each` promises: the pairs are read first, and then each is looked up in the dump.
+-- No RFC speaks of it: this is the project's own.
 use Rattle.std.specs.Prelude.{ℕ, ◌≡◌, ◌<◌, ◌≤◌, ◌⊎◌, List, length}
-use Rattle.std.specs.Io.KnownBytes.{Consumes}
 use Rattle.babel_table.specs.Rows.{Routes}
 use Rattle.babel_dump.specs.AskedPairs.{AskFor, IsFirstWrong, lines_of}
 use Rattle.babel_dump.specs.Command.{IsOfMemory, IsOutcome}
+use Rattle.babel_dump.specs.Device.{Gave}
 use Rattle.babel_dump.specs.Given.{GaveAll, GaveTable, Input, IsFaultOfGiven}
 use Rattle.babel_dump.specs.InFormat.{each_in}
 use Rattle.babel_dump.specs.Run.{InputCause, OfFirst}
@@ -24,7 +24,7 @@ pub record GaveText (reader : Input) (text : List ℕ) : Type 0 where
 -- the reader gave more octets than a dump may have
 pub record GaveTooMany (reader : Input) : Type 0 where
   pub octets : List ℕ
-  pub gave : Consumes reader.old.left reader.new.left octets
+  pub gave : Gave reader.old reader.new octets
   pub over : reader.reading.limits.bytes < length octets
 
 -- the lines of the text that the reader gave ask for these pairs
@@ -39,7 +39,8 @@ pub record GaveWrong (reader : Input) (line : ℕ) : Type 0 where
   pub gave : GaveText reader text
   pub wrong : IsFirstWrong (lines_of text) line
 
--- why there is no text, by what the reader gave; want of memory has no cause that a contract can see
+-- why there is no text, by what the reader gave; want of memory has no cause that a contract can
+-- see
 abbrev pub RefusesText : Input → RunFault → Type 0
 RefusesText reader (run_faults.Pairs pairs_faults.TooLong) = GaveTooMany reader
 RefusesText reader (run_faults.Pairs pairs_faults.Read) = reader.old.failures < reader.new.failures
@@ -52,22 +53,25 @@ RefusesPairs reader (run_faults.Pairs (pairs_faults.NotAPair line)) = GaveWrong 
 RefusesPairs reader fault = RefusesText reader fault
 
 -- what the dump's table answers for each of these pairs
-pub record LooksUpEach (reader : Input) (format : Format) (pairs : List AddrPair) (text : List ℕ) (outcome : Outcome) : Type 0 where
+pub record LooksUpEach (reader : Input) (format : Format) (pairs : List AddrPair) (text : List ℕ)
+    (outcome : Outcome) : Type 0 where
   pub table : Routes
   pub gave : GaveTable reader table
   pub text_is : text ≡ each_in format table pairs
   pub outcome_is : IsOutcome outcome (each_status table pairs) table.report
 
 -- what it answers for each of the pairs that the reader of pairs gave
-pub record LooksUpAsked (reader pairs : Input) (format : Format) (text : List ℕ) (outcome : Outcome) : Type 0 where
+pub record LooksUpAsked (reader pairs : Input) (format : Format) (text : List ℕ)
+    (outcome : Outcome) : Type 0 where
   pub asked : List AddrPair
   pub gave : GavePairsOf pairs asked
   pub answers : LooksUpEach reader format asked text outcome
 
--- A fault of a lookup of each of the pairs: that of the pairs, and then the dump's reader is as it was; or, where these
--- have none, that of the dump.
+-- A fault of a lookup of each of the pairs: that of the pairs, and then the dump's reader is as it
+-- was; or, where these have none, that of the dump.
 abbrev pub EachCause : Input → Input → RunFault → Type 0
 EachCause reader pairs fault =
     (RefusesPairs pairs fault × (reader.new ≡ reader.old))
-    ⊎ (((asked : List AddrPair) × GavePairsOf pairs asked) × (pairs.new.failures ≡ pairs.old.failures)
+    ⊎ (((asked : List AddrPair) × GavePairsOf pairs asked)
+    × (pairs.new.failures ≡ pairs.old.failures)
     × OfFirst (InputCause reader (IsFaultOfGiven reader)) fault)

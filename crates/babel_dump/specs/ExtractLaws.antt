@@ -32,7 +32,9 @@ pub record Extracted (dump : List ℕ) : Type 0 where
   pub other : Contents
   pub before : List ℕ
   pub outcome : Outcome
-  pub ran : RanOver (jobs.Extract reading sender place false file quiet) contents other before (before ++ dump) (Ok outcome)
+  pub ran :
+      RanOver (jobs.Extract reading sender place false file quiet) contents other before
+      (before ++ dump) (Ok outcome)
 
 -- no job over them, whatever its words and limits, refuses them for such a fault: not as its first
 -- dump, and not as the other of a comparison
@@ -40,5 +42,6 @@ abbrev pub ExtractedIsFramed : Type 0
 ExtractedIsFramed =
     (job : Job) (side : Side) (contents other : Contents) (before after : List ℕ) (fault : Fault)
     → Extracted (octets_at side contents other)
-    → RanOver job contents other before after (Err (run_faults.Input side (input_faults.Dump fault)))
+    → RanOver job contents other before after
+    (Err (run_faults.Input side (input_faults.Dump fault)))
     → ¬ IsOfFraming fault

@@ -1,4 +1,5 @@
--- Laws of the definitions: which TLVs a report says were ignored, by what TLVs say. These are this project's own.
+-- Laws of the definitions: which TLVs a report says were ignored, by what TLVs say. These are this
+-- project's own.
 use Rattle.std.specs.Prelude.{◌≡◌, ◌↔◌, ℕ, ◌<◌, List, ◌∷◌, ◌++◌, AllPairs, Contains, Ok, Some}
 use Rattle.babel_prefix.specs.Address.{Address}
 use Rattle.babel_tlv.specs.declared.event.Event.TheVariants as events
@@ -15,7 +16,8 @@ IsIgnoredFor reason saying = saying.what ≡ Ok (events.Ignored reason)
 
 -- none of these TLVs is ignored
 abbrev pub AreNotIgnored : List Saying → Type 0
-AreNotIgnored told = (saying : Saying) → Contains told saying → (reason : Reason) → IsIgnoredFor reason saying → ⊥
+AreNotIgnored told =
+    (saying : Saying) → Contains told saying → (reason : Reason) → IsIgnoredFor reason saying → ⊥
 
 -- of these TLVs this is ignored, and none before it is
 pub record IsFirst (told : List Saying) (tlv : IgnoredTlv) : Type 0 where
@@ -35,7 +37,8 @@ OffsetsRise told = AllPairs (λ saying later. saying.at < later.at) told
 abbrev pub NoneIsNone : Type 0
 NoneIsNone = (told : List Saying) → IgnoresNone (counts_of told) ↔ AreNotIgnored told
 
--- by the counts of TLVs at rising offsets this one was ignored first exactly where it is the first of them that is ignored
+-- by the counts of TLVs at rising offsets this one was ignored first exactly where it is the first
+-- of them that is ignored
 abbrev pub FirstIsFirst : Type 0
 FirstIsFirst =
     (told : List Saying) → OffsetsRise told → (tlv : IgnoredTlv)

@@ -1,6 +1,5 @@
 -- What readers gave, as dumps. No RFC speaks of readers: these are this project's own.
-use Rattle.std.specs.Prelude.{ℕ, ◌≡◌, ◌≢◌, ◌<◌, ◌⊎◌, false, true, List, None, Some}
-use Rattle.std.specs.Io.KnownBytes.{Consumes, IsAtEnd}
+use Rattle.std.specs.Prelude.{ℕ, ◌≡◌, ◌≢◌, ◌⊎◌, false, true, List, None, Some}
 use Rattle.babel_prefix.specs.Address.{Address}
 use Rattle.babel_tlv.specs.declared.fault.Fault.{Fault}
 use Rattle.babel_tlv.specs.declared.fault.Fault.TheVariants as faults
@@ -19,10 +18,11 @@ use Rattle.babel_canon.specs.Answers.{AnswerTheSame}
 use Rattle.babel_canon.specs.AnswersTell.{AnswersTell}
 use Rattle.babel_canon.specs.Fewest.{AreFewest}
 use Rattle.babel_canon.specs.Headline.{ReadsAgain, TellsApart}
+use Rattle.babel_canon.specs.Routes.{AreRouteOctets}
 use Rattle.babel_canon.specs.Sent.{Sent, sent}
 use Rattle.babel_canon.specs.Normalises.{NormaliseFault, Normalises, SaysFewest, as_they_are}
 use Rattle.babel_canon.specs.Views.{AnswerTheSameUnder, ReadsAgainSeen}
-use Rattle.babel_dump.specs.Device.{InputState}
+use Rattle.babel_dump.specs.Device.{Gave, GaveOctets, InputState}
 use Rattle.babel_dump.specs.Strict.{IsNotReadWhole, IsReadWhole}
 use Rattle.babel_dump.specs.declared.input_fault.InputFault.{InputFault}
 use Rattle.babel_dump.specs.declared.reading.Reading.{Reading}
@@ -62,12 +62,7 @@ usual_reading limits mode sender = record {
 abbrev pub input : Bounds → Mode → Address → InputState → InputState → Input
 input limits mode sender old new = read_from old new (usual_reading limits mode sender)
 
--- a reader gave these octets, all that it had, and met its end
-pub record GaveOctets (old new : InputState) (octets : List ℕ) : Type 0 where
-  pub gave : Consumes old.left new.left octets
-  pub all : IsAtEnd new.left
-  pub met_end : old.ends < new.ends
-
+-- the reader gave these octets, all that it had, and met its end
 abbrev pub GaveAll : Input → List ℕ → Type 0
 GaveAll reader = GaveOctets reader.old reader.new
 
@@ -76,19 +71,20 @@ pub record GaveDump (reader : Input) (table : Routes) : Type 0 where
   pub dump : List ℕ
   pub gave : GaveAll reader dump
   pub accepted : HasNoFault reader.reading.limits reader.reading.mode reader.reading.sender dump
-  pub is_table : IsTableOf reader.reading.limits reader.reading.mode reader.reading.sender dump table
+  pub is_table :
+      IsTableOf reader.reading.limits reader.reading.mode reader.reading.sender dump table
 
 -- the reader gave such a dump, of which nothing was left unread if it is read strictly
 pub record GaveTable (reader : Input) (table : Routes) : Type 0 where
   pub given : GaveDump reader table
-  pub strict : reader.reading.strict ≡ true → IsReadWhole reader.old.left_out table.report
+  pub strict : reader.reading.strict ≡ true → IsReadWhole reader.new.left_out table.report
 
 -- the reader gave such a dump, which is read strictly and refused with this fault
 pub record GaveUnread (reader : Input) (fault : InputFault) : Type 0 where
   pub table : Routes
   pub given : GaveDump reader table
   pub strict : reader.reading.strict ≡ true
-  pub unread : IsNotReadWhole reader.old.left_out table.report fault
+  pub unread : IsNotReadWhole reader.new.left_out table.report fault
 
 -- only a whole dump has the fault: octets may mend it, or it is about what all octets say
 abbrev pub IsOfWhole : Fault → Type 0
@@ -96,25 +92,27 @@ IsOfWhole (faults.Truncated at) = Unit {0}
 IsOfWhole faults.TooManyPairs = Unit {0}
 IsOfWhole fault = ⊥
 
--- The fault is that of the octets that the reader gave: of all that it had, where only a whole dump has it. That canonical
--- pairs are too many is no fault of octets.
+-- The fault is that of the octets that the reader gave: of all that it had, where only a whole dump
+-- has it. That canonical pairs are too many is no fault of octets.
 pub record IsFaultOfGiven (reader : Input) (fault : Fault) : Type 0 where
   pub given : List ℕ
-  pub gave : Consumes reader.old.left reader.new.left given
-  pub refused : DumpFault reader.reading.limits reader.reading.mode reader.reading.sender given fault
+  pub gave : Gave reader.old reader.new given
+  pub refused :
+      DumpFault reader.reading.limits reader.reading.mode reader.reading.sender given fault
   pub whole : IsOfWhole fault → GaveAll reader given
   pub not_pairs : fault ≢ faults.TooManyPairs
 
--- the fault is that of the octets that the reader gave; or, where they have none, that the boxes of what the view sees of
--- their table's answers are more than the limit
+-- the fault is that of the octets that the reader gave; or, where they have none, that the boxes of
+-- what the view sees of their table's answers are more than the limit
 abbrev pub IsFaultOfForm : Input → View → Fault → Type 0
 IsFaultOfForm reader view fault =
     IsFaultOfGiven reader fault
     ⊎ ((fault ≡ faults.TooManyPairs) × ((table : Routes) × GaveTable reader table
     × HasManyBoxes reader.reading.limits (seen_rows view table.rows)))
 
--- These are the canonical octets of what is seen of a dump: they tell it apart from each that answers
--- otherwise, and, read with any sender, answer as it does; and no list of pairs says as much in fewer.
+-- These are the canonical octets of what is seen of a dump: they tell it apart from each that
+-- answers otherwise, and, read with any sender, answer as it does; and no list of pairs says as
+-- much in fewer.
 pub record IsNormal (Same : List Pair → List Pair → Type 0) (see : List Pair → List Pair)
     (limits : Bounds) (mode : Mode) (body : ℕ) (one : Sent) (octets : List ℕ) : Type 0 where
   pub normalises : Normalises see limits mode body one octets
@@ -126,25 +124,38 @@ pub record IsNormal (Same : List Pair → List Pair → Type 0) (see : List Pair
 -- the reader gave a dump, all that it had, and these are its canonical octets under the view, read
 -- again with it or without; and, if it keeps every field, its canonical octets, of which the
 -- headline is told in plain definitions
-pub record GaveNormal (reader : Input) (view : View) (body : ℕ) (report : Counts) (octets : List ℕ) :
-    Type 0 where
+pub record GaveNormal (reader : Input) (view : View) (body : ℕ) (report : Counts)
+    (octets : List ℕ) : Type 0 where
   pub table : Routes
   pub gave : GaveTable reader table
   pub under : IsNormal (AnswerTheSameUnder view) (seen_rows view)
-      reader.reading.limits reader.reading.mode body (sent reader.reading.sender gave.given.dump) octets
+      reader.reading.limits reader.reading.mode body
+      (sent reader.reading.sender gave.given.dump) octets
   pub reads_without : (any : Address) → ReadsAgainSeen view as_they_are
-      reader.reading.limits reader.reading.mode body (sent reader.reading.sender gave.given.dump) octets any
+      reader.reading.limits reader.reading.mode body
+      (sent reader.reading.sender gave.given.dump) octets any
   pub whole : view ≡ keeps_all → IsNormal AnswerTheSame as_they_are
-      reader.reading.limits reader.reading.mode body (sent reader.reading.sender gave.given.dump) octets
+      reader.reading.limits reader.reading.mode body
+      (sent reader.reading.sender gave.given.dump) octets
   pub told : view ≡ keeps_all → AnswersTell
       (Normalises as_they_are reader.reading.limits reader.reading.mode body)
       (NormaliseFault as_they_are reader.reading.limits reader.reading.mode)
       reader.reading.mode (sent reader.reading.sender gave.given.dump) octets
   pub report_is : report ≡ table.report
 
--- the reader gave a dump, all that it had, and these are its table and the canonical form of what the view sees of it, with
--- the fewest pairs
-pub record GavePairs (reader : Input) (view : View) (table : Routes) (canon : Canonical) : Type 0 where
+-- the reader gave a dump, all that it had, and these are its route octets under the view
+pub record GaveRoutes (reader : Input) (view : View) (body : ℕ) (report : Counts)
+    (octets : List ℕ) : Type 0 where
+  pub table : Routes
+  pub gave : GaveTable reader table
+  pub are : AreRouteOctets view reader.reading.limits reader.reading.mode body
+      (sent reader.reading.sender gave.given.dump) octets
+  pub report_is : report ≡ table.report
+
+-- the reader gave a dump, all that it had, and these are its table and the canonical form of what
+-- the view sees of it, with the fewest pairs
+pub record GavePairs (reader : Input) (view : View) (table : Routes) (canon : Canonical) :
+    Type 0 where
   pub gave : GaveTable reader table
   pub is_canon : IsCanonical reader.reading.limits 1024 (seen_rows view table.rows) canon
   pub fewest : AreFewest (seen_rows view table.rows) canon.pairs

@@ -30,4 +30,5 @@ first_ignored counts = first_among counts all_reasons
 
 -- no TLV was ignored
 abbrev pub IgnoresNone : Counts → Type 0
-IgnoresNone counts = AllByRecursion (λ reason. count_at counts.ignored (reason_place reason) ≡ None) all_reasons
+IgnoresNone counts =
+    AllByRecursion (λ reason. count_at counts.ignored (reason_place reason) ≡ None) all_reasons

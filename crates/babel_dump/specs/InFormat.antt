@@ -1,5 +1,5 @@
 -- What the runs write, in the format that is asked for: this project's own.
-use Rattle.std.specs.Prelude.{ℕ, Bool, if◌then◌else◌, List, [], ◌++◌, length, Option}
+use Rattle.std.specs.Prelude.{ℕ, Bool, if◌then◌else◌, List, [], ◌++◌, codes, length, take, Option}
 use Rattle.std.specs.List.{flat_map}
 use Rattle.babel_prefix.specs.Address.{Address}
 use Rattle.babel_tlv.specs.declared.held.Held.{Held}
@@ -10,11 +10,16 @@ use Rattle.babel_table.specs.Counts.{Counts}
 use Rattle.babel_table.specs.Rows.{Routes}
 use Rattle.babel_canon.specs.declared.verdict.Verdict.{Verdict}
 use Rattle.babel_canon.specs.declared.every_difference.Difference.{Difference}
-use Rattle.babel_dump.specs.JsonText.{counts_json, difference_count_json, difference_json, lookup_json, pair_json, report_json, same_json, verdict_json}
-use Rattle.babel_dump.specs.RunText.{answer_in, answer_line, answer_text, counts_text, difference_count_text, difference_text, newline, pair_line, report_text, same_text, verdict_text}
+use Rattle.babel_dump.specs.JsonText.{count_json, counts_json, difference_json}
+use Rattle.babel_dump.specs.JsonText.{lookup_json, pair_json, report_json, same_json, verdict_json}
+use Rattle.babel_dump.specs.RunText.{answer_in, answer_line, answer_text, counts_text}
+use Rattle.babel_dump.specs.RunText.{count_text, difference_text, newline, pair_line}
+use Rattle.babel_dump.specs.RunText.{report_text, same_text, verdict_text}
 use Rattle.babel_dump.specs.declared.addr_pair.AddrPair.{AddrPair}
 use Rattle.babel_dump.specs.declared.format.Format.{Format}
 use Rattle.babel_dump.specs.declared.format.Format.TheVariants as formats
+use Rattle.babel_dump.specs.declared.job.Listed.{Listed}
+use Rattle.babel_dump.specs.declared.job.Listed.TheVariants as listeds
 
 -- the text, or the JSON that says the same
 abbrev pub in_format : Format → (text json : List ℕ) → List ℕ
@@ -32,9 +37,14 @@ abbrev pub counts_in : Format → (rows pairs : ℕ) → List ℕ
 counts_in format rows pairs = in_format format (counts_text rows pairs) (counts_json rows pairs)
 
 -- the lines of the pairs, or how many rows and pairs there are
-abbrev pub pairs_or_counts_in : Format → View → Bool → (rows pairs : List (RouteKey × Held)) → List ℕ
+abbrev pub pairs_or_counts_in :
+    Format → View → Bool → (rows pairs : List (RouteKey × Held)) → List ℕ
 pairs_or_counts_in format view count rows pairs =
     if count then counts_in format (length rows) (length pairs) else pairs_in format view pairs
+
+-- how many there are of what has this name
+abbrev pub count_in : Format → List ℕ → ℕ → List ℕ
+count_in format name count = in_format format (count_text name count) (count_json name count)
 
 abbrev pub report_in : Format → Counts → List ℕ
 report_in format counts = in_format format (report_text counts) (report_json counts)
@@ -48,14 +58,18 @@ lookup_in format dst src answer =
     in_format format (answer_text keeps_all answer ++ newline) (lookup_json dst src answer)
 
 abbrev pub answer_line_in : Format → (dst src : Address) → Option Held → List ℕ
-answer_line_in format dst src answer = in_format format (answer_line dst src answer) (lookup_json dst src answer)
+answer_line_in format dst src answer =
+    in_format format (answer_line dst src answer) (lookup_json dst src answer)
 
 -- a line for each pair of addresses
 abbrev pub each_in : Format → Routes → List AddrPair → List ℕ
-each_in format table pairs = flat_map (λ pair. answer_line_in format pair.dst pair.src (answer_in table pair.dst pair.src)) pairs
+each_in format table pairs =
+    flat_map (λ pair. answer_line_in format pair.dst pair.src (answer_in table pair.dst pair.src))
+    pairs
 
 abbrev pub verdict_in : Format → View → Verdict → List ℕ
-verdict_in format view verdict = in_format format (verdict_text view verdict) (verdict_json view verdict)
+verdict_in format view verdict =
+    in_format format (verdict_text view verdict) (verdict_json view verdict)
 
 abbrev pub difference_in : Format → View → Difference → List ℕ
 difference_in format view difference =
@@ -69,7 +83,17 @@ differences_in format view differences = flat_map (difference_in format view) di
 -- what says each difference, or how many there are
 abbrev pub differences_or_count_in : Format → View → Bool → List Difference → List ℕ
 differences_or_count_in format view count differences =
-    if count
-    then in_format format (difference_count_text (length differences))
-    (difference_count_json (length differences))
+    if count then count_in format (codes "differences") (length differences)
     else differences_in format view differences
+
+-- a line for each row, or how many there are
+abbrev pub rows_or_count_in : Format → View → Bool → List (RouteKey × Held) → List ℕ
+rows_or_count_in format view count rows =
+    if count then count_in format (codes "rows") (length rows) else pairs_in format view rows
+
+-- what says the first difference, each, or how many there are
+abbrev pub listed_in : Format → View → Listed → List Difference → List ℕ
+listed_in format view listeds.First differences = differences_in format view (take 1 differences)
+listed_in format view listeds.All differences = differences_in format view differences
+listed_in format view listeds.Count differences =
+    count_in format (codes "differences") (length differences)

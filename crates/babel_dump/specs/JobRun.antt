@@ -3,9 +3,13 @@ use Rattle.std.specs.Prelude.{ℕ, List, Option, None, Some, Result}
 use Rattle.babel_capture.specs.declared.wanted.Wanted.{Wanted}
 use Rattle.babel_capture.specs.declared.wanted.Wanted.TheVariants as wanteds
 use Rattle.babel_dump.specs.CaptureGiven.{CaptureInput, capture_from}
-use Rattle.babel_dump.specs.CaptureRun.{CaptureCause, Extracts, IsNoFault, IsOnSeveral, ListsSenders, capture_calls}
-use Rattle.babel_dump.specs.Command.{CompareCause, Compares, DifferencesCause, ListsDifferences, ListsPairs, LooksUp, Shows, WritesNormal}
+use Rattle.babel_dump.specs.CaptureRun.{CaptureCause, Extracts, IsNoFault, IsOnSeveral}
+use Rattle.babel_dump.specs.CaptureRun.{ListsSenders, capture_calls}
+use Rattle.babel_dump.specs.Command.{CompareCause, Compares, DifferencesCause, ListsDifferences}
+use Rattle.babel_dump.specs.Command.{ComparesRoutes, ListsPairs, ListsRoutes, LooksUp, Shows}
+use Rattle.babel_dump.specs.Command.{WritesKey, WritesNormal, WritesRoutes}
 use Rattle.babel_dump.specs.Each.{EachCause, LooksUpAsked}
+use Rattle.babel_dump.specs.Files.{name_of}
 use Rattle.babel_dump.specs.Given.{IsFaultOfForm, IsFaultOfGiven, Reads, dump_of}
 use Rattle.babel_dump.specs.Run.{Called, Calls, InputCause, OfFirst, Output, Ran, calls_of}
 use Rattle.babel_dump.specs.declared.capture_reading.CaptureReading.{CaptureReading}
@@ -18,19 +22,33 @@ use Rattle.babel_dump.specs.declared.run_fault.RunFault.{RunFault}
 abbrev pub capture_of : Reads → CaptureReading → Wanted → CaptureInput
 capture_of reader reading wanted = capture_from reader.old reader.new reading wanted
 
--- what a job says of what its readers gave, in its text and its outcome: what its command does, with the job's own words
+-- what a job says of what its readers gave, in its text and its outcome: what its command does,
+-- with the job's own words
 abbrev pub SaysBy : Job → (reader other : Reads) → List ℕ → Outcome → Type 0
 SaysBy (jobs.Show reading format file quiet) reader other = Shows (dump_of reader reading) format
-SaysBy (jobs.Lookup reading pair format file quiet) reader other = LooksUp (dump_of reader reading) pair.dst pair.src format
+SaysBy (jobs.Lookup reading pair format file quiet) reader other =
+    LooksUp (dump_of reader reading) pair.dst pair.src format
 SaysBy (jobs.Each reading format file pairs quiet) reader other =
     LooksUpAsked (dump_of reader reading) (dump_of other reading) format
-SaysBy (jobs.Normalise reading view body hex file quiet) reader other = WritesNormal (dump_of reader reading) view body hex
-SaysBy (jobs.Pairs reading view count format file quiet) reader other = ListsPairs (dump_of reader reading) view count format
+SaysBy (jobs.Normalise reading view body hex file quiet) reader other =
+    WritesNormal (dump_of reader reading) view body hex
+SaysBy (jobs.Key reading view file quiet) reader other =
+    WritesKey (dump_of reader reading) view (name_of file)
+SaysBy (jobs.Pairs reading view count format file quiet) reader other =
+    ListsPairs (dump_of reader reading) view count format
 SaysBy (jobs.Compare reading other_reading view format file another quiet) reader other =
     Compares (dump_of reader reading) (dump_of other other_reading) view format
 SaysBy (jobs.Differences reading other_reading view count format file another quiet) reader other =
     ListsDifferences (dump_of reader reading) (dump_of other other_reading) view count format
-SaysBy (jobs.Senders reading format file quiet) reader other = ListsSenders (capture_of reader reading wanteds.Everyone) format
+SaysBy (jobs.RouteOctets reading view body hex file quiet) reader other =
+    WritesRoutes (dump_of reader reading) view body hex
+SaysBy (jobs.RouteRows reading view count format file quiet) reader other =
+    ListsRoutes (dump_of reader reading) view count format
+SaysBy (jobs.CompareRoutes reading other_reading view listed format file another quiet)
+    reader other =
+    ComparesRoutes (dump_of reader reading) (dump_of other other_reading) view listed format
+SaysBy (jobs.Senders reading format file quiet) reader other =
+    ListsSenders (capture_of reader reading wanteds.Everyone) format
 SaysBy (jobs.Extract reading sender place hex file quiet) reader other =
     Extracts (capture_of reader reading (wanteds.Sender sender place)) hex
 
@@ -44,12 +62,22 @@ CauseBy (jobs.Each reading format file pairs quiet) reader other untouched =
     EachCause (dump_of reader reading) (dump_of other reading)
 CauseBy (jobs.Normalise reading view body hex file quiet) reader other untouched =
     OfFirst (InputCause (dump_of reader reading) (IsFaultOfForm (dump_of reader reading) view))
+CauseBy (jobs.Key reading view file quiet) reader other untouched =
+    OfFirst (InputCause (dump_of reader reading) (IsFaultOfForm (dump_of reader reading) view))
 CauseBy (jobs.Pairs reading view count format file quiet) reader other untouched =
     OfFirst (InputCause (dump_of reader reading) (IsFaultOfForm (dump_of reader reading) view))
 CauseBy (jobs.Compare reading other_reading view format file another quiet) reader other untouched =
     CompareCause (dump_of reader reading) (dump_of other other_reading) untouched
-CauseBy (jobs.Differences reading other_reading view count format file another quiet) reader other untouched =
+CauseBy (jobs.Differences reading other_reading view count format file another quiet)
+    reader other untouched =
     DifferencesCause (dump_of reader reading) (dump_of other other_reading) view untouched
+CauseBy (jobs.RouteOctets reading view body hex file quiet) reader other untouched =
+    OfFirst (InputCause (dump_of reader reading) (IsFaultOfGiven (dump_of reader reading)))
+CauseBy (jobs.RouteRows reading view count format file quiet) reader other untouched =
+    OfFirst (InputCause (dump_of reader reading) (IsFaultOfGiven (dump_of reader reading)))
+CauseBy (jobs.CompareRoutes reading other_reading view listed format file another quiet)
+    reader other untouched =
+    CompareCause (dump_of reader reading) (dump_of other other_reading) untouched
 CauseBy (jobs.Senders reading format file quiet) reader other untouched =
     OfFirst (CaptureCause (capture_of reader reading wanteds.Everyone) IsNoFault)
 CauseBy (jobs.Extract reading sender place hex file quiet) reader other untouched =
@@ -61,29 +89,47 @@ abbrev pub first_calls : Job → Reads → Calls
 first_calls (jobs.Show reading format file quiet) reader = calls_of (dump_of reader reading)
 first_calls (jobs.Lookup reading pair format file quiet) reader = calls_of (dump_of reader reading)
 first_calls (jobs.Each reading format file pairs quiet) reader = calls_of (dump_of reader reading)
-first_calls (jobs.Normalise reading view body hex file quiet) reader = calls_of (dump_of reader reading)
-first_calls (jobs.Pairs reading view count format file quiet) reader = calls_of (dump_of reader reading)
-first_calls (jobs.Compare reading other_reading view format file another quiet) reader = calls_of (dump_of reader reading)
+first_calls (jobs.Normalise reading view body hex file quiet) reader =
+    calls_of (dump_of reader reading)
+first_calls (jobs.Key reading view file quiet) reader = calls_of (dump_of reader reading)
+first_calls (jobs.Pairs reading view count format file quiet) reader =
+    calls_of (dump_of reader reading)
+first_calls (jobs.Compare reading other_reading view format file another quiet) reader =
+    calls_of (dump_of reader reading)
 first_calls (jobs.Differences reading other_reading view count format file another quiet) reader =
     calls_of (dump_of reader reading)
-first_calls (jobs.Senders reading format file quiet) reader = capture_calls (capture_of reader reading wanteds.Everyone)
+first_calls (jobs.RouteOctets reading view body hex file quiet) reader =
+    calls_of (dump_of reader reading)
+first_calls (jobs.RouteRows reading view count format file quiet) reader =
+    calls_of (dump_of reader reading)
+first_calls (jobs.CompareRoutes reading other_reading view listed format file another quiet)
+    reader =
+    calls_of (dump_of reader reading)
+first_calls (jobs.Senders reading format file quiet) reader =
+    capture_calls (capture_of reader reading wanteds.Everyone)
 first_calls (jobs.Extract reading sender place hex file quiet) reader =
     capture_calls (capture_of reader reading (wanteds.Sender sender place))
 
 abbrev pub other_calls : Job → Reads → Option Calls
-other_calls (jobs.Each reading format file pairs quiet) other = Some (calls_of (dump_of other reading))
-other_calls (jobs.Compare reading other_reading view format file another quiet) other = Some (calls_of (dump_of other other_reading))
+other_calls (jobs.Each reading format file pairs quiet) other =
+    Some (calls_of (dump_of other reading))
+other_calls (jobs.Compare reading other_reading view format file another quiet) other =
+    Some (calls_of (dump_of other other_reading))
 other_calls (jobs.Differences reading other_reading view count format file another quiet) other =
+    Some (calls_of (dump_of other other_reading))
+other_calls (jobs.CompareRoutes reading other_reading view listed format file another quiet) other =
     Some (calls_of (dump_of other other_reading))
 other_calls job other = None
 
 -- it does so, and the other reader is as it was where it is not read
-abbrev pub OtherCalled : {T : Type 0} → Option Calls → (untouched : Type 0) → Result T RunFault → Type 0
+abbrev pub OtherCalled :
+    {T : Type 0} → Option Calls → (untouched : Type 0) → Result T RunFault → Type 0
 OtherCalled None untouched result = untouched
 OtherCalled (Some calls) untouched result = Called calls result
 
 -- what its run does
-pub record RanJob (job : Job) (reader other : Reads) (writer : Output) (untouched : Type 0) (result : Result Outcome RunFault) : Type 0 where
+pub record RanJob (job : Job) (reader other : Reads) (writer : Output) (untouched : Type 0)
+    (result : Result Outcome RunFault) : Type 0 where
   pub ran : Ran writer (CauseBy job reader other untouched) (SaysBy job reader other) result
   pub called : Called (first_calls job reader) result
   pub other_called : OtherCalled (other_calls job other) untouched result

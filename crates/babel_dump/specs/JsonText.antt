@@ -1,5 +1,6 @@
--- The lines that the runs write as JSON (RFC 8259): one object a line, with the members in the order that is shown here. No
--- string has a character that needs an escape, but the name of an interface. These are this project's own.
+-- The lines that the runs write as JSON (RFC 8259): one object a line, with the members in the
+-- order that is shown here. No string has a character that needs an escape, but the name of an
+-- interface. These are this project's own.
 use Rattle.std.specs.Prelude.{Bool, if◌then◌else◌, ℕ, List, ◌++◌, codes, Option, Some, None}
 use Rattle.std.specs.List.{filter_map, join_by}
 use Rattle.std.specs.Option.{option_map}
@@ -43,27 +44,33 @@ answer_json view (Some helds.Unreachable) = codes "\"unreachable\""
 
 -- `"destination":"DST","source":"SRC"`, of their texts
 abbrev pub addressed_json : (dst src : List ℕ) → List ℕ
-addressed_json dst src = codes "\"destination\":\"" ++ dst ++ codes "\",\"source\":\"" ++ src ++ codes "\""
+addressed_json dst src =
+    codes "\"destination\":\"" ++ dst ++ codes "\",\"source\":\"" ++ src ++ codes "\""
 
 -- `{"destination":"DST","source":"SRC","answer":ANSWER}`
 abbrev pub answered_line : View → (dst src : List ℕ) → Option Held → List ℕ
 answered_line view dst src answer =
-    codes "{" ++ addressed_json dst src ++ codes ",\"answer\":" ++ answer_json view answer ++ codes "}" ++ newline
+    codes "{" ++ addressed_json dst src ++ codes ",\"answer\":" ++ answer_json view answer
+    ++ codes "}" ++ newline
 
 abbrev pub pair_json : View → RouteKey × Held → List ℕ
-pair_json view pair = answered_line view (printed_prefix pair.0.dst) (printed_prefix pair.0.src) (Some pair.1)
+pair_json view pair =
+    answered_line view (printed_prefix pair.0.dst) (printed_prefix pair.0.src) (Some pair.1)
 
 abbrev pub lookup_json : (dst src : Address) → Option Held → List ℕ
 lookup_json dst src answer = answered_line keeps_all (printed dst) (printed src) answer
 
 -- `{"rows":N,"pairs":N}`
 abbrev pub counts_json : ℕ → ℕ → List ℕ
-counts_json rows pairs = codes "{\"rows\":" ++ decimal rows ++ codes ",\"pairs\":" ++ decimal pairs ++ codes "}" ++ newline
+counts_json rows pairs =
+    codes "{\"rows\":" ++ decimal rows ++ codes ",\"pairs\":" ++ decimal pairs ++ codes "}"
+    ++ newline
 
 -- `{"reason":"NAME","count":N,"first":OFFSET}`
 abbrev pub ignored_object : Reason → ℕ × ℕ → List ℕ
 ignored_object reason counted =
-    codes "{\"reason\":\"" ++ reason_name reason ++ codes "\",\"count\":" ++ decimal counted.0 ++ codes ",\"first\":"
+    codes "{\"reason\":\"" ++ reason_name reason ++ codes "\",\"count\":" ++ decimal counted.0
+    ++ codes ",\"first\":"
     ++ decimal counted.1 ++ codes "}"
 
 -- `{"tlvs":N,"ignored":[..]}`, with an object for each reason that occurred, and commas between
@@ -98,6 +105,7 @@ difference_json view difference =
     differ_json view (printed_prefix difference.key.dst) (printed_prefix difference.key.src)
     difference.left difference.right
 
--- `{"differences":N}`
-abbrev pub difference_count_json : ℕ → List ℕ
-difference_count_json count = codes "{\"differences\":" ++ decimal count ++ codes "}" ++ newline
+-- `{"NAME":N}`
+abbrev pub count_json : List ℕ → ℕ → List ℕ
+count_json name count =
+    codes "{\"" ++ name ++ codes "\":" ++ decimal count ++ codes "}" ++ newline

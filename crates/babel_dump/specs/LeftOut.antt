@@ -17,7 +17,8 @@ left_out_for counts reason = first_counted reason (count_at counts.left_out (rea
 abbrev pub sooner : Option LeftOutDatagram → Option LeftOutDatagram → Option LeftOutDatagram
 sooner None other = other
 sooner (Some datagram) None = Some datagram
-sooner (Some datagram) (Some other) = if nat_lt other.packet datagram.packet then Some other else Some datagram
+sooner (Some datagram) (Some other) =
+    if nat_lt other.packet datagram.packet then Some other else Some datagram
 
 -- the first datagram that was left out for one of these reasons
 abbrev pub first_among : Counts → List Reason → Option LeftOutDatagram
@@ -30,4 +31,5 @@ first_left_out counts = first_among counts all_reasons
 
 -- no datagram was left out
 abbrev pub LeavesNoneOut : Counts → Type 0
-LeavesNoneOut counts = AllByRecursion (λ reason. count_at counts.left_out (reason_place reason) ≡ None) all_reasons
+LeavesNoneOut counts =
+    AllByRecursion (λ reason. count_at counts.left_out (reason_place reason) ≡ None) all_reasons

@@ -66,11 +66,12 @@ IsOfOctets (run_faults.Pairs pairs_faults.Read) = ⊥
 IsOfOctets (run_faults.Pairs fault) = Unit {0}
 IsOfOctets run_faults.Write = ⊥
 
--- two runs of a job over the same contents that answer an outcome answer the same, and write the same
--- text
+-- two runs of a job over the same contents that answer an outcome answer the same, and write the
+-- same text
 abbrev pub OutcomeIsOne : Type 0
 OutcomeIsOne =
-    (job : Job) (contents other : Contents) (before after before_too after_too : List ℕ) (outcome outcome_too : Outcome)
+    (job : Job) (contents other : Contents) (before after before_too after_too : List ℕ)
+    (outcome outcome_too : Outcome)
     → RanOver job contents other before after (Ok outcome)
     → RanOver job contents other before_too after_too (Ok outcome_too)
     → (outcome ≡ outcome_too)
@@ -79,7 +80,8 @@ OutcomeIsOne =
 -- where one answers an outcome, no other answers a fault of the octets
 abbrev pub OutcomeOrFault : Type 0
 OutcomeOrFault =
-    (job : Job) (contents other : Contents) (before after before_too after_too : List ℕ) (outcome : Outcome)
+    (job : Job) (contents other : Contents) (before after before_too after_too : List ℕ)
+    (outcome : Outcome)
     (fault : RunFault)
     → RanOver job contents other before after (Ok outcome)
     → RanOver job contents other before_too after_too (Err fault)
@@ -88,7 +90,8 @@ OutcomeOrFault =
 -- where two answer a fault of the octets, it is the same
 abbrev pub FaultIsOne : Type 0
 FaultIsOne =
-    (job : Job) (contents other : Contents) (before after before_too after_too : List ℕ) (fault fault_too : RunFault)
+    (job : Job) (contents other : Contents) (before after before_too after_too : List ℕ)
+    (fault fault_too : RunFault)
     → RanOver job contents other before after (Err fault)
     → RanOver job contents other before_too after_too (Err fault_too)
     → IsOfOctets fault → IsOfOctets fault_too → fault ≡ fault_too
@@ -99,11 +102,23 @@ reading_at sides.First (jobs.Show reading format file quiet) = Some reading
 reading_at sides.First (jobs.Lookup reading pair format file quiet) = Some reading
 reading_at sides.First (jobs.Each reading format file pairs quiet) = Some reading
 reading_at sides.First (jobs.Normalise reading view body hex file quiet) = Some reading
+reading_at sides.First (jobs.Key reading view file quiet) = Some reading
 reading_at sides.First (jobs.Pairs reading view count format file quiet) = Some reading
-reading_at sides.First (jobs.Compare reading other_reading view format file other quiet) = Some reading
-reading_at sides.First (jobs.Differences reading other_reading view count format file other quiet) = Some reading
-reading_at sides.Other (jobs.Compare reading other_reading view format file other quiet) = Some other_reading
+reading_at sides.First (jobs.Compare reading other_reading view format file other quiet) =
+    Some reading
+reading_at sides.First (jobs.Differences reading other_reading view count format file other quiet) =
+    Some reading
+reading_at sides.First (jobs.RouteOctets reading view body hex file quiet) = Some reading
+reading_at sides.First (jobs.RouteRows reading view count format file quiet) = Some reading
+reading_at sides.First
+    (jobs.CompareRoutes reading other_reading view listed format file other quiet) =
+    Some reading
+reading_at sides.Other (jobs.Compare reading other_reading view format file other quiet) =
+    Some other_reading
 reading_at sides.Other (jobs.Differences reading other_reading view count format file other quiet) =
+    Some other_reading
+reading_at sides.Other
+    (jobs.CompareRoutes reading other_reading view listed format file other quiet) =
     Some other_reading
 reading_at side job = None
 
@@ -111,22 +126,25 @@ abbrev pub octets_at : Side → (contents other : Contents) → List ℕ
 octets_at sides.First contents other = contents.octets
 octets_at sides.Other contents other = other.octets
 
--- A dump's fault is that of all octets that its reader had; but for want of memory, and for too many
--- pairs, which no octets have.
+-- A dump's fault is that of all octets that its reader had; but for want of memory, and for too
+-- many pairs, which no octets have.
 abbrev pub FaultIsOfAll : Type 0
 FaultIsOfAll =
-    (job : Job) (side : Side) (reading : Reading) (contents other : Contents) (before after : List ℕ)
+    (job : Job) (side : Side) (reading : Reading) (contents other : Contents)
+    (before after : List ℕ)
     (fault : Fault)
     → reading_at side job ≡ Some reading
-    → RanOver job contents other before after (Err (run_faults.Input side (input_faults.Dump fault)))
+    → RanOver job contents other before after
+    (Err (run_faults.Input side (input_faults.Dump fault)))
     → fault ≢ faults.Memory → fault ≢ faults.TooManyPairs
     → DumpFault reading.limits reading.mode reading.sender (octets_at side contents other) fault
 
--- a failed write leaves the first octets of the text that any run over the same contents writes that
--- answers an outcome
+-- a failed write leaves the first octets of the text that any run over the same contents writes
+-- that answers an outcome
 abbrev pub WrittenIsPrefix : Type 0
 WrittenIsPrefix =
-    (job : Job) (contents other : Contents) (before after before_too after_too : List ℕ) (outcome : Outcome)
+    (job : Job) (contents other : Contents) (before after before_too after_too : List ℕ)
+    (outcome : Outcome)
     → RanOver job contents other before after (Err run_faults.Write)
     → RanOver job contents other before_too after_too (Ok outcome)
     → (text : List ℕ) × (n : ℕ) × (after_too ≡ before_too ++ text) × (after ≡ before ++ take n text)

@@ -1,13 +1,12 @@
 -- What the two parts of a run promise, reading and writing. These are this project's own.
-use Rattle.std.specs.Prelude.{ℕ, Bool, true, false, ◌≡◌, ◌+◌, ◌<◌, ◌≤◌, ◌⊎◌, List, [], length, Option, None, Some, Result, IfOk, IfErr, OnOk, OnErr}
+use Rattle.std.specs.Prelude.{ℕ, Bool, true, false, ◌≡◌, ◌+◌, ◌<◌, ◌≤◌, ◌⊎◌, List, [], length}
+use Rattle.std.specs.Prelude.{Option, None, Some, Result, IfOk, IfErr, OnOk, OnErr}
 use Rattle.std.specs.Io.KnownBytes.{Appends}
 use Rattle.babel_prefix.specs.Address.{Address}
-use Rattle.babel_capture.specs.Gathering.{Gathering}
-use Rattle.babel_capture.specs.declared.fault.Fault.TheVariants as capture_faults
-use Rattle.babel_tlv.specs.declared.fault.Fault.TheVariants as faults
 use Rattle.babel_tlv.specs.declared.view.View.{View}
 use Rattle.babel_tlv.specs.Pair.{Pair}
 use Rattle.babel_table.specs.Bounds.{Bounds}
+use Rattle.babel_table.specs.Counts.{Counts}
 use Rattle.babel_table.specs.Rows.{Routes}
 use Rattle.babel_table.specs.Seen.{seen_rows, seen_table}
 use Rattle.babel_table.specs.Feeding.{Progress, HasRead}
@@ -15,26 +14,25 @@ use Rattle.babel_table.specs.declared.answer.Answer.{Answer}
 use Rattle.babel_canon.specs.Canonical.{Canonical, IsCanonical}
 use Rattle.babel_canon.specs.Differences.{AreDifferences}
 use Rattle.babel_canon.specs.Fewest.{AreFewest}
+use Rattle.babel_canon.specs.Routes.{AreRouteDifferences}
 use Rattle.babel_canon.specs.Verdict.{IsVerdict}
 use Rattle.babel_canon.specs.declared.every_difference.Difference.{Difference}
 use Rattle.babel_canon.specs.declared.verdict.Verdict.{Verdict}
 use Rattle.babel_dump.specs.AskedPairs.{IsFirstWrong}
-use Rattle.babel_dump.specs.CaptureText.{places_of}
-use Rattle.babel_dump.specs.Command.{IsOfMany, IsOfMemory, IsOutcomeOfBoth}
+use Rattle.babel_dump.specs.Command.{IsOfMany, IsOfMemory, IsOutcome, IsOutcomeOfAnswers}
+use Rattle.babel_dump.specs.Command.{IsOutcomeOfBoth}
 use Rattle.babel_dump.specs.Device.{AppendsPrefix}
 use Rattle.babel_dump.specs.Given.{GaveAll, GaveTables, Input, Reads}
-use Rattle.babel_dump.specs.InFormat.{differences_or_count_in, pairs_or_counts_in, verdict_in}
+use Rattle.babel_dump.specs.InFormat.{differences_or_count_in, listed_in, pairs_or_counts_in}
+use Rattle.babel_dump.specs.InFormat.{verdict_in}
 use Rattle.babel_dump.specs.JobRun.{CauseBy, OtherCalled, SaysBy, first_calls, other_calls}
-use Rattle.babel_dump.specs.LeftOut.{LeavesNoneOut, first_left_out}
 use Rattle.babel_dump.specs.Run.{Called, Calls, Output}
-use Rattle.babel_dump.specs.RunText.{answer_in, differences_status, verdict_status}
+use Rattle.babel_dump.specs.RunText.{answer_in, differences_status, form_text, verdict_status}
 use Rattle.babel_dump.specs.SlicedRows.{found_text}
 use Rattle.babel_dump.specs.declared.both.SeenTables.{SeenTables}
-use Rattle.babel_dump.specs.declared.captured.CaptureNotes.{CaptureNotes}
 use Rattle.babel_dump.specs.declared.format.Format.{Format}
-use Rattle.babel_dump.specs.declared.input_fault.InputFault.{InputFault}
-use Rattle.babel_dump.specs.declared.input_fault.InputFault.TheVariants as input_faults
 use Rattle.babel_dump.specs.declared.job.Job.{Job}
+use Rattle.babel_dump.specs.declared.job.Listed.{Listed}
 use Rattle.babel_dump.specs.declared.outcome.Outcome.{Outcome}
 use Rattle.babel_dump.specs.declared.pairs_fault.PairsFault.TheVariants as pairs_faults
 use Rattle.babel_dump.specs.declared.run_fault.RunFault.{RunFault}
@@ -54,8 +52,10 @@ pub record GaveAnswer (Gave : Routes → Type 0) (dst src : Address) (answer : A
   pub held : answer.held ≡ answer_in table dst src
   pub report : answer.report ≡ table.report
 
--- what reading from a device promises, of which something was made, and whose faults have these causes
-pub record Gathered {T E : Type 0} (calls : Calls) (Cause : E → Type 0) (Made : T → Type 0) (result : Result T E) : Type 0 where
+-- what reading from a device promises, of which something was made, and whose faults have these
+-- causes
+pub record Gathered {T E : Type 0} (calls : Calls) (Cause : E → Type 0) (Made : T → Type 0)
+    (result : Result T E) : Type 0 where
   pub made : IfOk result Made
   pub cause : IfErr result Cause
   pub called : Called calls result
@@ -70,7 +70,8 @@ IsFaultOfLines lines (run_faults.Pairs (pairs_faults.NotAPair line)) = IsFirstWr
 IsFaultOfLines lines (run_faults.Pairs fault) = ⊥
 IsFaultOfLines lines fault = IsOfMemory fault
 
--- two readers gave a dump each, all that they had, and this is what a view sees of the dumps' tables
+-- two readers gave a dump each, all that they had, and this is what a view sees of the dumps'
+-- tables
 pub record GaveBoth (reader other : Input) (view : View) (seen : SeenTables) : Type 0 where
   pub table : Routes
   pub other_table : Routes
@@ -79,62 +80,58 @@ pub record GaveBoth (reader other : Input) (view : View) (seen : SeenTables) : T
   pub right_is : seen.right ≡ seen_table view other_table
 
 -- the text is that of the canonical pairs of what a view sees of rows, or of their count
-pub record SaysPairs (limits : Bounds) (view : View) (count : Bool) (format : Format) (rows : List Pair) (text : List ℕ) : Type 0 where
+pub record SaysPairs (limits : Bounds) (view : View) (count : Bool) (format : Format)
+    (rows : List Pair) (text : List ℕ) : Type 0 where
   pub canon : Canonical
   pub is_canon : IsCanonical limits 1024 (seen_rows view rows) canon
   pub fewest : AreFewest (seen_rows view rows) canon.pairs
   pub text_is : text ≡ pairs_or_counts_in format view count rows canon.pairs
 
 -- the text and the outcome are those of how two tables compare
-pub record SaysVerdict (view : View) (format : Format) (seen : SeenTables) (text : List ℕ) (outcome : Outcome) : Type 0 where
+pub record SaysVerdict (view : View) (format : Format) (seen : SeenTables) (text : List ℕ)
+    (outcome : Outcome) : Type 0 where
   pub verdict : Verdict
   pub is_verdict : IsVerdict seen.left.rows seen.right.rows verdict
   pub text_is : text ≡ verdict_in format view verdict
-  pub outcome_is : IsOutcomeOfBoth outcome (verdict_status verdict) seen.left.report seen.right.report
+  pub outcome_is : IsOutcomeOfAnswers (verdict_status verdict) seen.left seen.right outcome
 
--- the text and the outcome are those of all that two tables answer differently, or of how many differences there are
-pub record SaysDifferences (limits : Bounds) (view : View) (count : Bool) (format : Format) (seen : SeenTables) (text : List ℕ)
-    (outcome : Outcome) : Type 0 where
+-- the text and the outcome are those of all that two tables answer differently, or of how many
+-- differences there are
+pub record SaysDifferences (limits : Bounds) (view : View) (count : Bool) (format : Format)
+    (seen : SeenTables) (text : List ℕ) (outcome : Outcome) : Type 0 where
   pub differences : List Difference
   pub are_differences : AreDifferences seen.left.rows seen.right.rows differences
   pub few : length differences ≤ limits.entries
   pub text_is : text ≡ differences_or_count_in format view count differences
-  pub outcome_is : IsOutcomeOfBoth outcome (differences_status (length differences)) seen.left.report seen.right.report
+  pub outcome_is : IsOutcomeOfAnswers (differences_status (length differences)) seen.left seen.right
+      outcome
+
+-- the text and the outcome are those of octets that were made of a dump with this report
+pub record SaysOctets (octets : List ℕ) (hex : Bool) (report : Counts) (text : List ℕ)
+    (outcome : Outcome) : Type 0 where
+  pub text_is : text ≡ form_text hex octets
+  pub outcome_is : IsOutcome outcome 0 report
+
+-- the text and the outcome are those of the keys for which two tables hold what differs
+pub record SaysRoutes (view : View) (listed : Listed) (format : Format) (seen : SeenTables)
+    (text : List ℕ) (outcome : Outcome) : Type 0 where
+  pub differences : List Difference
+  pub are_differences : AreRouteDifferences seen.left.rows seen.right.rows differences
+  pub text_is : text ≡ listed_in format view listed differences
+  pub outcome_is : IsOutcomeOfBoth outcome (differences_status (length differences))
+      seen.left.report seen.right.report
 
 -- two tables have more differences than the limit, or memory was wanting
 abbrev pub HasManyDifferences : Bounds → SeenTables → RunFault → Type 0
 HasManyDifferences limits seen fault =
     IsOfMemory fault
-    ⊎ (IsOfMany fault × ((differences : List Difference) × AreDifferences seen.left.rows seen.right.rows differences
+    ⊎ (IsOfMany fault × ((differences : List Difference)
+    × AreDifferences seen.left.rows seen.right.rows differences
     × (limits.entries < length differences)))
 
--- a capture that was read to its end is not cut short there, unless that is accepted
-abbrev pub IsAccepted : (accept_cut : Bool) → (cut : Option ℕ) → Type 0
-IsAccepted accept_cut cut = accept_cut ≡ false → cut ≡ None
-
--- it has the dump of a sender at one place
-pub record EndsWith (accept_cut : Bool) (gathering : Gathering) (cut : Option ℕ) (notes : CaptureNotes) : Type 0 where
-  pub accepted : IsAccepted accept_cut cut
-  pub one_place : length gathering.senders ≡ 1
-  pub report_is : notes.report ≡ gathering.report
-  pub cut_is : notes.cut ≡ cut
-
--- it is refused
-abbrev pub EndsRefused : (accept_cut strict : Bool) → Gathering → (cut : Option ℕ) → InputFault → Type 0
-EndsRefused accept_cut strict gathering cut (input_faults.Capture fault) =
-    (accept_cut ≡ false) × ((at : ℕ) × (cut ≡ Some at) × (fault ≡ capture_faults.CutShort at))
-EndsRefused accept_cut strict gathering cut (input_faults.LeftOut datagram) =
-    IsAccepted accept_cut cut × (strict ≡ true) × (first_left_out gathering.report ≡ Some datagram)
-EndsRefused accept_cut strict gathering cut (input_faults.NoPackets sender) =
-    IsAccepted accept_cut cut × (gathering.senders ≡ [])
-EndsRefused accept_cut strict gathering cut (input_faults.SeveralInterfaces interfaces) =
-    IsAccepted accept_cut cut × (strict ≡ true → LeavesNoneOut gathering.report) × (2 ≤ length gathering.senders)
-    × (interfaces.0.items ≡ places_of gathering.senders)
-EndsRefused accept_cut strict gathering cut (input_faults.Dump fault) = fault ≡ faults.Memory
-EndsRefused accept_cut strict gathering cut fault = ⊥
-
 -- what a job finds of what its readers gave
-pub record FoundBy (job : Job) (reader other : Reads) (untouched : Type 0) (result : Result Found RunFault) : Type 0 where
+pub record FoundBy (job : Job) (reader other : Reads) (untouched : Type 0)
+    (result : Result Found RunFault) : Type 0 where
   pub says : IfOk result (Says (SaysBy job reader other))
   pub cause : IfErr result (CauseBy job reader other untouched)
   pub called : Called (first_calls job reader) result

@@ -1,7 +1,6 @@
 -- What a run writes of what it found. These are this project's own.
 use Rattle.std.specs.Prelude.{ℕ, ◌≡◌, List, [], ◌++◌, Result, Ok, Err, IfOk, IfErr}
 use Rattle.std.specs.List.{flat_map}
-use Rattle.babel_tlv.specs.Views.{keeps_all}
 use Rattle.babel_dump.specs.CaptureText.{senders_in}
 use Rattle.babel_dump.specs.InFormat.{answer_line_in, difference_in, pairs_in}
 use Rattle.babel_dump.specs.Run.{Output}
@@ -17,14 +16,16 @@ use Rattle.babel_dump.specs.declared.slices.Rows.TheVariants as rows
 
 -- what is answered for a destination and a source
 abbrev pub answered_in : Format → Answered → List ℕ
-answered_in format answered = answer_line_in format answered.pair.dst answered.pair.src answered.held
+answered_in format answered =
+    answer_line_in format answered.pair.dst answered.pair.src answered.held
 
 -- a line for each row
 abbrev pub lines_of : Format → Rows → List ℕ
-lines_of format (rows.Table table) = pairs_in format keeps_all table.rows
+lines_of format (rows.Table view table) = pairs_in format view table.rows
 lines_of format (rows.Pairs view pairs) = pairs_in format view pairs
 lines_of format (rows.Answers answers) = flat_map (answered_in format) answers.items
-lines_of format (rows.Differences view differences) = flat_map (difference_in format view) differences.items
+lines_of format (rows.Differences view differences) =
+    flat_map (difference_in format view) differences.items
 lines_of format (rows.Senders gathered) = senders_in format gathered
 lines_of format rows.Empty = []
 
@@ -32,10 +33,11 @@ lines_of format rows.Empty = []
 abbrev pub found_text : Found → List ℕ
 found_text found = lines_of found.format found.rows ++ found.after.items
 
--- What was found was written, and its outcome is answered, or that a write failed. Where nothing was found the fault is
--- answered, and the writer is as it was.
+-- What was found was written, and its outcome is answered, or that a write failed. Where nothing
+-- was found the fault is answered, and the writer is as it was.
 abbrev pub Finished : Output → Result Found RunFault → Result Outcome RunFault → Type 0
 Finished writer (Ok found) result =
     WroteText writer (found_text found) result
-    × IfOk result (λ outcome. outcome ≡ found.outcome) × IfErr result (λ fault. fault ≡ run_faults.Write)
+    × IfOk result (λ outcome. outcome ≡ found.outcome)
+    × IfErr result (λ fault. fault ≡ run_faults.Write)
 Finished writer (Err fault) result = (result ≡ Err fault) × (writer.new ≡ writer.old)

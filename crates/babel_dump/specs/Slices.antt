@@ -1,5 +1,7 @@
--- How a text is written in slices: from a buffer whose room was taken before. These are this project's own.
-use Rattle.std.specs.Prelude.{ℕ, ◌≡◌, ◌+◌, ◌<◌, ◌≤◌, List, ◌++◌, Vec, vec_len, vec_capacity, Result, MatchResult, OnOk, OnErr}
+-- How a text is written in slices: from a buffer whose room was taken before. These are this
+-- project's own.
+use Rattle.std.specs.Prelude.{ℕ, ◌≡◌, ◌+◌, ◌<◌, ◌≤◌, List, ◌++◌, Vec, vec_len}
+use Rattle.std.specs.Prelude.{vec_capacity, Result, MatchResult, OnOk, OnErr}
 use Rattle.std.specs.Io.KnownBytes.{Appends}
 use Rattle.babel_dump.specs.Device.{AppendsPrefix}
 use Rattle.babel_dump.specs.Run.{Output}
@@ -29,10 +31,12 @@ pub record Broke (writer : Output) (text : List ℕ) : Type 0 where
 
 -- what writing a text promises of which this is left where no write fails
 abbrev pub WroteFront : {T E : Type 0} → Output → (text left : List ℕ) → Result T E → Type 0
-WroteFront writer text left result = MatchResult result (λ _. Took writer text left) (λ _. Broke writer text)
+WroteFront writer text left result =
+    MatchResult result (λ _. Took writer text left) (λ _. Broke writer text)
 
 -- what writing a text whole promises
-pub record WroteText {T E : Type 0} (writer : Output) (text : List ℕ) (result : Result T E) : Type 0 where
+pub record WroteText {T E : Type 0} (writer : Output) (text : List ℕ) (result : Result T E) :
+    Type 0 where
   pub whole : OnOk result (Appends writer.old.taken writer.new.taken text)
   pub flushed : OnOk result (writer.new.flushes ≡ writer.old.flushes + 1)
   pub no_failure : OnOk result (writer.new.failures ≡ writer.old.failures)

@@ -15,6 +15,8 @@ pub record IsReadWhole (left_out : Option LeftOutDatagram) (report : Counts) : T
 -- why it is refused, in this order: its first ignored TLV, a datagram that was left out, no Updates
 abbrev pub IsNotReadWhole : Option LeftOutDatagram → Counts → InputFault → Type 0
 IsNotReadWhole left_out report (input_faults.Ignored tlv) = first_ignored report ≡ Some tlv
-IsNotReadWhole left_out report (input_faults.LeftOut datagram) = IgnoresNone report × (left_out ≡ Some datagram)
-IsNotReadWhole left_out report input_faults.NoUpdates = IgnoresNone report × (left_out ≡ None) × (report.updates ≡ 0)
+IsNotReadWhole left_out report (input_faults.LeftOut datagram) =
+    IgnoresNone report × (left_out ≡ Some datagram)
+IsNotReadWhole left_out report input_faults.NoUpdates =
+    IgnoresNone report × (left_out ≡ None) × (report.updates ≡ 0)
 IsNotReadWhole left_out report fault = ⊥

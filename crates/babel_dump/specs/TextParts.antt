@@ -9,10 +9,11 @@ use Rattle.babel_capture.specs.declared.tallies.Tally.{Tally}
 use Rattle.babel_tlv.specs.declared.reason.Reason.{Reason}
 use Rattle.babel_table.specs.Counts.{Counts, reason_place, count_at}
 use Rattle.babel_table.specs.Rows.{Routes}
-use Rattle.babel_dump.specs.CaptureText.{sender_end, sender_end_json, sender_front, sender_front_json}
+use Rattle.babel_dump.specs.CaptureText.{sender_end, sender_end_json, sender_front}
+use Rattle.babel_dump.specs.CaptureText.{sender_front_json}
 use Rattle.babel_dump.specs.InFormat.{in_format}
-use Rattle.babel_dump.specs.JsonText.{difference_count_json, ignored_object, same_json}
-use Rattle.babel_dump.specs.RunText.{answer_in, difference_count_text, ignored_line, lookup_status}
+use Rattle.babel_dump.specs.JsonText.{ignored_object, same_json}
+use Rattle.babel_dump.specs.RunText.{answer_in, ignored_line, lookup_status}
 use Rattle.babel_dump.specs.RunText.{newline, same_text}
 use Rattle.babel_dump.specs.declared.format.Format.{Format}
 
@@ -30,12 +31,15 @@ lacks_route table dst src = lookup_status (answer_in table dst src) == 1
 
 -- a line for each of these reasons that occurred
 abbrev pub ignored_lines : Counts → List Reason → List ℕ
-ignored_lines counts reasons = flat_map (λ reason. ignored_line reason (count_at counts.ignored (reason_place reason))) reasons
+ignored_lines counts reasons =
+    flat_map (λ reason. ignored_line reason (count_at counts.ignored (reason_place reason))) reasons
 
 -- an object for each of these reasons that occurred
 abbrev pub ignored_objects : Counts → List Reason → List (List ℕ)
 ignored_objects counts reasons =
-    filter_map (λ reason. option_map (ignored_object reason) (count_at counts.ignored (reason_place reason))) reasons
+    filter_map
+    (λ reason. option_map (ignored_object reason) (count_at counts.ignored (reason_place reason)))
+    reasons
 
 -- with a comma between each two
 abbrev pub comma_separated : List (List ℕ) → List ℕ
@@ -56,16 +60,14 @@ closing format (octet ∷ octets) = in_format format (codes ")") (codes "\"")
 
 -- the parts of a sender's line before the octets of the name and after them
 abbrev pub to_name : Format → Origin → (name : List ℕ) → List ℕ
-to_name format origin name = in_format format (sender_front origin) (sender_front_json origin) ++ opening format name
+to_name format origin name =
+    in_format format (sender_front origin) (sender_front_json origin) ++ opening format name
 
 abbrev pub after_name : Format → Origin × Tally → (name : List ℕ) → List ℕ
 after_name format sender name =
-    closing format name ++ in_format format (sender_end sender.0.place sender.1) (sender_end_json sender.1)
+    closing format name
+    ++ in_format format (sender_end sender.0.place sender.1) (sender_end_json sender.1)
 
 -- `same`
 abbrev pub same_in : Format → List ℕ
 same_in format = in_format format same_text same_json
-
-abbrev pub difference_count_in : Format → ℕ → List ℕ
-difference_count_in format count =
-    in_format format (difference_count_text count) (difference_count_json count)

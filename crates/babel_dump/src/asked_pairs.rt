@@ -4,7 +4,8 @@ ghost use Rattle.std.specs.Option.{IfNone};
 ghost use Rattle.std.specs.List.{slice_split};
 ghost use Rattle.babel_prefix.specs.Address.{Address};
 ghost use Rattle.babel_prefix.specs.Text.{AddressText};
-ghost use Rattle.babel_dump.specs.AskedPairs.{AskFor, AsksBy, SaysPair, is_passed_over, lines_of, words_of};
+ghost use Rattle.babel_dump.specs.AskedPairs.{AskFor, AsksBy, SaysPair, is_passed_over};
+ghost use Rattle.babel_dump.specs.AskedPairs.{lines_of, words_of};
 ghost use Rattle.babel_dump.specs.Parts.{IsFaultOfLines};
 ghost use Rattle.babel_dump.specs.declared.addr_pair.AddrPair.{AddrPair};
 
@@ -18,21 +19,21 @@ use std::str;
 /// What the words of a line ask for.
 #[derive(Clone, Copy)]
 enum Asked {
-    /// Nothing: the line is passed over.
+    /// Nothing: the line is skipped.
     Nothing,
     /// What is answered for these addresses.
     Pair(AddrPair),
-    /// They are no pair of addresses.
+    /// They are not a pair of addresses.
     Wrong,
 }
 
 /// The pairs that the lines of a text ask for, in their order. A line has a destination and a
-/// source, with blanks between and around them. A line is passed over that has only blanks, or
-/// whose first octet that is no blank is `#`.
+/// source, with blanks between and around them. A line is skipped that has only blanks, or
+/// whose first octet other than a blank is `#`.
 ///
 /// # Errors
 ///
-/// `Pairs` with `NotAPair` for the first line that is neither; `Dump` with `Memory`.
+/// `Pairs` with the first line that is neither; out of memory.
 pub(crate) fn asked_pairs(alloc: Global, text: &[u8]) -> Result<Vec<AddrPair>, RunFault>
     ensures ok { IfOk result (λ pairs. AskFor (lines_of text.now) pairs.items) }
     ensures fault { IfErr result (IsFaultOfLines (lines_of text.now)) }

@@ -1,6 +1,6 @@
 //! The two dumps of a comparison.
-ghost use Rattle.std.specs.Prelude.{◌≡◌};
-ghost use Rattle.babel_dump.specs.Command.{InTurn};
+ghost use Rattle.std.specs.Prelude.{◌≡◌, IfOk};
+ghost use Rattle.babel_dump.specs.Command.{InTurn, IsOutcomeOfAnswers};
 ghost use Rattle.babel_dump.specs.Device.{HasRoomToCount};
 ghost use Rattle.babel_dump.specs.Given.{GaveTable, IsFaultOfGiven, read_from};
 ghost use Rattle.babel_dump.specs.Parts.{Gathered, GaveBoth};
@@ -8,11 +8,13 @@ ghost use Rattle.babel_dump.specs.Run.{Called, InputCause, OfOther, calls_of};
 
 use crate::byte_in::ByteIn;
 use crate::input::read_table;
+use crate::outcome::{Outcome, Reports};
 use crate::reading::Reading;
 use crate::run_fault::{RunFault, Side};
+use babel_canon::route_differences;
 use babel_table::Table;
 use babel_tlv::View;
-use std::alloc::Global;
+use std::alloc::{AllocError, Global};
 
 /// The tables of two dumps, as one view sees both.
 #[derive(Drop)]
@@ -44,6 +46,21 @@ pub(crate) fn read_both<R: ByteIn, S: ByteIn>(
     let left = table.seen(view);
     let right = other_table.seen(view);
     Ok(SeenTables { left, right })
+}
+
+/// The outcome of comparing what two tables answer, with this status: where it is 0, the answers
+/// are the same, and the outcome says how many routes differ.
+pub(crate) fn compared(alloc: Global, seen: &SeenTables, status: u8) -> Result<Outcome, AllocError>
+    ensures { IfOk result (IsOutcomeOfAnswers status seen.now.left seen.now.right) }
+{
+    let (left, right) = (*seen.left.report(), *seen.right.report());
+    if status != 0 {
+        let reports = Reports::Dumps(left, right);
+        return Ok(Outcome { status, reports });
+    }
+    let routes = route_differences(alloc, &seen.left, &seen.right)?;
+    let reports = Reports::Alike(left, right, routes.len());
+    Ok(Outcome { status, reports })
 }
 
 /// Reads the other dump of a comparison to its end, or to its first fault, which is then the

@@ -1,7 +1,6 @@
 ghost use Rattle.std.specs.Prelude.{◌≡◌, ◌+◌, ◌-◌, ◌^◌, ◌<◌, None, length};
 ghost use Rattle.std.specs.Io.{ReadsAtMost};
-ghost use Rattle.std.specs.Io.KnownBytes.{ReadConsumes};
-ghost use Rattle.babel_dump.specs.Device.{InputState, failed_calls, ended_reads};
+ghost use Rattle.babel_dump.specs.Device.{InputState, ReadGave, failed_calls, ended_reads};
 
 use crate::left_out::LeftOutDatagram;
 use std::io;
@@ -9,8 +8,9 @@ use std::io::Read;
 
 /// A device that gives octets, as std's `Read` does, with counts that contracts alone see.
 pub trait ByteIn {
-    // The octets that are left to give, where the device says them, what was left out of them, how
-    // many calls failed, how many reads there were, and how many of them met the end.
+    // The octets that are left to give, where the device says them, what it holds of a capture, if
+    // it reads one, what was left out of its octets, how many calls failed, how many reads there
+    // were, and how many of them met the end.
     ghost state: { Self → InputState };
 
     /// Gives its next octets, at least one where there are more and the buffer isn't empty.
@@ -23,16 +23,14 @@ pub trait ByteIn {
         requires few_reads { (state self.old).reads < 2 ^ 64 - 1 }
         requires few_ends { (state self.old).ends < 2 ^ 64 - 1 }
         ensures bound { ReadsAtMost result buf.new }
-        ensures octets { ReadConsumes (state self.old).left (state self.new).left result buf.new }
-        ensures same { (state self.new).left_out ≡ (state self.old).left_out }
+        ensures octets { ReadGave (state self.old) (state self.new) result buf.new }
         ensures counts_failure { (state self.new).failures
             ≡ (state self.old).failures + failed_calls result }
         ensures counts_read { (state self.new).reads ≡ (state self.old).reads + 1 }
         ensures counts_end { (state self.new).ends
             ≡ (state self.old).ends + ended_reads result (length buf.old) };
 
-    /// The first datagram that was left out of what it gives, if what it gives was cut from a
-    /// capture.
+    /// The first datagram that was left out of what it gave, if that was cut from a capture.
     fn left_out(&self) -> Option<LeftOutDatagram>
         ensures { result ≡ (state self.now).left_out };
 }
@@ -52,6 +50,7 @@ impl<R: Read> FromReader<R> {
     pub fn new(reader: R) -> FromReader<R>
         ensures { ⟦<FromReader<R> as ByteIn>⟧.state result ≡ record {
           left = R.remaining reader;
+          captured = None;
           left_out = None;
           failures = 0;
           reads = 0;
@@ -66,6 +65,7 @@ impl<R: Read> FromReader<R> {
     pub fn of_capture(reader: R, left_out: Option<LeftOutDatagram>) -> FromReader<R>
         ensures { ⟦<FromReader<R> as ByteIn>⟧.state result ≡ record {
           left = R.remaining reader;
+          captured = None;
           left_out = left_out;
           failures = 0;
           reads = 0;
@@ -85,6 +85,7 @@ impl<R: Read> FromReader<R> {
 impl<R: Read> ByteIn for FromReader<R> {
     ghost state = { λ d. record {
       left = R.remaining d.reader;
+      captured = None;
       left_out = d.left_out;
       failures = d.failures;
       reads = d.reads;

@@ -1,7 +1,8 @@
 //! What a reader gives, as a capture.
 ghost use Rattle.std.specs.Prelude.{◌≡◌, ◌≢◌, ℕ, true, List, [], None, IfOk, IfErr, OnOk};
 ghost use Rattle.babel_capture.specs.Capture.{CaptureFault, HasRead};
-ghost use Rattle.babel_dump.specs.CaptureGiven.{GaveCapture, GaveSound, IsFedWhole, IsReadSo, capture_from};
+ghost use Rattle.babel_dump.specs.CaptureGiven.{GaveCapture, GaveSound, IsFedWhole};
+ghost use Rattle.babel_dump.specs.CaptureGiven.{IsReadSo, capture_from};
 ghost use Rattle.babel_dump.specs.CaptureRun.{CaptureCause, IsNoFault, capture_calls};
 ghost use Rattle.babel_dump.specs.Device.{HasRoomToCount};
 ghost use Rattle.babel_dump.specs.Parts.{Gathered};

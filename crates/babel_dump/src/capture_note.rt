@@ -5,12 +5,13 @@ use thiserror::Error;
 #[derive(Clone, Copy, Debug, PartialEq, Eq, Error)]
 pub enum CaptureNote {
     /// Babel packets came in frames that name no interface.
-    #[error("frames of Linux cooked, version 1, name no interface, so links can't be told apart; record with -y LINUX_SLL2")]
+    #[error("frames of Linux cooked, version 1, name no interface, so links can't be told apart; \
+             record with -y LINUX_SLL2")]
     Cooked,
     /// One frame was too short to tell whether it had a datagram of Babel.
     #[error("1 frame too short to tell")]
     OneShort,
-    /// So many frames were.
+    /// This many frames were.
     #[error("{0} frames too short to tell")]
     Short(u64),
 }

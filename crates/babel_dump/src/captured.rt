@@ -1,20 +1,29 @@
 //! The dump of a sender in a capture, which runs read as they read any dump.
-ghost use Rattle.std.specs.Prelude.{◌≡◌, ◌≤◌, ℕ, List, None, Some, IfOk, IfErr, length};
-ghost use Rattle.babel_dump.specs.CapturedDump.{IsDumpIn, NoDumpCause, capture_with};
-ghost use Rattle.babel_dump.specs.Device.{HasRoomToCount};
-ghost use Rattle.babel_dump.specs.LeftOut.{first_left_out};
-ghost use Rattle.babel_dump.specs.Parts.{EndsRefused, EndsWith};
+ghost use Rattle.std.specs.Prelude.{◌≡◌, ◌<◌, ◌⊎◌, ◌++◌, ℕ, List, [], take, length, Option, None};
+ghost use Rattle.std.specs.Prelude.{Some, Ok, Err, IfErr, IfNone, IfOk, IfSome, MatchResult};
+ghost use Rattle.std.specs.Io.{ReadsAtMost};
+ghost use Rattle.std.specs.Io.KnownBytes.{IsAtEnd};
+ghost use Rattle.babel_capture.specs.Capture.{HasGiven};
+ghost use Rattle.babel_dump.specs.CapturedDump.{NoDumpCause, capture_with};
+ghost use Rattle.babel_dump.specs.Device.{HasRoomToCount, InputState, fresh};
+ghost use Rattle.babel_dump.specs.Drained.{EndsRefused, EndsWith, HasDrained, HasHanded, Hands};
+ghost use Rattle.babel_dump.specs.Drained.{HasHandedAll, Stands, held_of, source_of};
+ghost use Rattle.babel_dump.specs.declared.captured.CaptureNotes.{CaptureNotes as CaptureNotesSaid};
+ghost use Rattle.babel_dump.specs.declared.input_fault.InputFault.{InputFault as InputFaultSaid};
 
 use crate::byte_in::ByteIn;
-use crate::capture_input::feed_all;
 use crate::input_fault::InputFault;
 use crate::interfaces::interfaces_of;
 use crate::left_out::{LeftOutDatagram, first_left_out};
 use crate::reading::Reading;
 use babel_capture::{Capture, Fault, Gathered, Report};
+use babel_tlv::Fault as DumpFault;
 use std::alloc::Global;
 use std::io;
 use std::io::{Cursor, ErrorKind, Read};
+
+/// How many octets one read of a capture asks for.
+const PIECE: usize = 65_536;
 
 /// What the notes after the output say of a capture.
 #[derive(Clone, Copy, Debug, PartialEq, Eq)]
@@ -25,117 +34,258 @@ pub struct CaptureNotes {
     pub cut: Option<u64>,
 }
 
-/// The dump of a sender in a capture: its packets, end to end. Where the capture is refused, it has
-/// those before what refuses it, and then a read fails.
+/// A capture that is read for the dump of a sender.
 #[derive(Drop)]
-pub struct CapturedDump {
-    dump: Cursor<Vec<u8>>,
-    end: Result<CaptureNotes, InputFault>,
-}
-
-impl CaptureNotes {
-    /// The first datagram of the sender that was left out.
-    pub fn left_out(&self) -> Option<LeftOutDatagram>
-        ensures { result ≡ first_left_out self.now.report }
-    {
-        first_left_out(&self.report)
-    }
-}
-
-impl CapturedDump {
-    /// What the notes say of the capture; `None` where it is refused.
-    pub fn notes(&self) -> Option<CaptureNotes>
-        ensures some { IfOk self.now.end (λ notes. result ≡ Some notes) }
-        ensures none { IfErr self.now.end (λ fault. result ≡ None) }
-    {
-        match &self.end {
-            Ok(notes) => Some(*notes),
-            Err(_) => None,
-        }
-    }
-
-    /// Why the capture is refused; a failed read where it is not.
-    pub fn into_refusal(self) -> InputFault
-        ensures { IfErr self.end (λ fault. result ≡ fault) }
-    {
-        let CapturedDump { end, .. } = self;
-        match end {
-            Ok(_) => InputFault::Read,
-            Err(fault) => fault,
-        }
-    }
-
-    /// What was gathered of a capture that ends so. The packets of a sender at several places are
-    /// no dump.
-    fn of(alloc: Global, gathered: Gathered, end: Result<CaptureNotes, InputFault>) -> CapturedDump
-        ensures end { result.end ≡ end }
-        ensures dump { length gathered.senders ≤ 1
-            → ⟦<CapturedDump as Read>⟧.remaining result ≡ Some gathered.dump }
-    {
-        let dump = if gathered.senders().len() > 1 {
-            Vec::new(alloc)
-        } else {
-            gathered.into_dump()
-        };
-        CapturedDump {
-            dump: Cursor::new(dump),
-            end,
-        }
-    }
-}
-
-impl Read for CapturedDump {
-    ghost use Rattle.std.specs.Prelude.{◌<◌, length, IfOk, IfErr};
-    ghost use Rattle.std.specs.Io.{ReadsAtMost};
-    ghost use Rattle.std.specs.Io.KnownBytes.{ReadConsumes};
-
-    ghost remaining = { λ d. ⟦<Cursor<Vec<u8>> as Read>⟧.remaining d.dump };
-
-    fn read(&mut self, buf: &mut [u8]) -> io::Result<usize>
-        ensures bound { ReadsAtMost result buf.new }
-        ensures bytes { ReadConsumes (⟦<Cursor<Vec<u8>> as Read>⟧.remaining self.old.dump)
-            (⟦<Cursor<Vec<u8>> as Read>⟧.remaining self.new.dump) result buf.new }
-        ensures end { self.new.end ≡ self.old.end }
-
-        // What is read of a capture that is refused has no end.
-        ensures refused { IfErr self.old.end
-            (λ fault. 0 < length buf.old → IfOk result (λ n. 0 < n)) }
-    {
-        let len = self.dump.read(buf)?;
-        if len == 0 && !buf.is_empty() && self.end.is_err() {
-            return Err(io::Error::from(ErrorKind::InvalidData));
-        }
-        Ok(len)
-    }
-}
-
-/// Reads a capture to its end, or to its first fault, for the dump of a sender.
-pub(crate) fn captured_dump<R: ByteIn>(
+struct Source<R> {
     alloc: Global,
     reading: Reading,
-    reader: &mut R,
-) -> CapturedDump
-    requires { HasRoomToCount (R.state reader.old) }
-    ensures dump { let input = capture_with (R.state reader.old) (R.state reader.new) reading in
-        IfOk result.end (λ notes. (dump : List ℕ) × IsDumpIn input dump notes
-        × (⟦<CapturedDump as Read>⟧.remaining result ≡ Some dump)) }
-    ensures refused { let input = capture_with (R.state reader.old) (R.state reader.new) reading in
-        IfErr result.end (NoDumpCause input) }
-{
-    let how = reading.of_capture();
-    let mut capture = Capture::new(alloc, u64::from(how.limit), reading.wanted());
-    if let Err(fault) = feed_all(&mut capture, how, reader) {
-        return CapturedDump::of(alloc, capture.into_gathered(), Err(fault));
-    }
-    match capture.finish_at_cut() {
-        Ok((gathered, cut)) => {
-            let end = end_of(alloc, reading, &gathered, cut);
-            CapturedDump::of(alloc, gathered, end)
+    reader: R,
+    capture: Capture,
+    /// What the notes say of it, or why it is refused, once it has ended.
+    end: Option<Result<CaptureNotes, InputFault>>,
+}
+
+impl<R: Read + Drop> Source<R> {
+    /// A capture of which nothing was read.
+    fn new(alloc: Global, reading: Reading, reader: R) -> Source<R>
+        ensures reading { result.reading ≡ reading }
+        ensures none { HasDrained (R.remaining reader) (source_of R.remaining result) [] }
+    {
+        let how = reading.of_capture();
+        Source {
+            alloc,
+            reading,
+            reader,
+            capture: Capture::new(alloc, u64::from(how.limit), reading.wanted()),
+            end: None,
         }
-        Err(fault) => CapturedDump {
-            dump: Cursor::new(Vec::new(alloc)),
-            end: Err(InputFault::Capture(fault)),
-        },
+    }
+
+    /// Reads more of the capture: the octets that it adds to the dump, if any. `None` where the
+    /// capture has ended, or is refused.
+    fn next_part(&mut self) -> Option<Vec<u8>>
+        ensures reading { self.new.reading ≡ self.old.reading }
+        ensures some { IfSome result (λ part. (first : Option (List ℕ)) (dump : List ℕ)
+            → HasDrained first (source_of R.remaining self.old) dump
+            → HasDrained first (source_of R.remaining self.new) (dump ++ part.items)) }
+        ensures none { IfNone result ((first : Option (List ℕ)) (dump : List ℕ)
+            → HasDrained first (source_of R.remaining self.old) dump
+            → HasDrained first (source_of R.remaining self.new) dump) }
+    {
+        if self.end.is_some() {
+            return None;
+        }
+        let mut piece = [0; PIECE];
+        match self.reader.read(&mut piece) {
+            Ok(0) => {
+                self.end = Some(self.end_here());
+                None
+            }
+            Ok(n) => {
+                let fed = self.capture.feed(&piece[..n]);
+                let part = self.capture.take_dump();
+                match fed {
+                    Ok(()) => Some(part),
+                    Err(fault) => {
+                        self.end = Some(Err(InputFault::Capture(fault)));
+                        Some(part)
+                    }
+                }
+            }
+            Err(_) => {
+                self.end = Some(Err(InputFault::Read));
+                None
+            }
+        }
+    }
+
+    /// What a read answers where the capture has ended.
+    fn answer_at_end(&self) -> io::Result<usize>
+        ensures { IfOk result (λ n. (n ≡ 0)
+            × ((notes : CaptureNotesSaid) × (self.now.end ≡ Some (Ok notes)))) }
+    {
+        match &self.end {
+            Some(Ok(_)) => Ok(0),
+            _ => Err(io::Error::from(ErrorKind::InvalidData)),
+        }
+    }
+
+    /// Reads the capture to its end.
+    fn read_out(&mut self)
+        ensures reading { self.new.reading ≡ self.old.reading }
+        ensures drained { (first : Option (List ℕ)) (dump : List ℕ)
+            → HasDrained first (source_of R.remaining self.old) dump
+            → (all : List ℕ) × HasDrained first (source_of R.remaining self.new) all }
+    {
+        'parts: for _ in 0..u64::MAX {
+            if self.next_part().is_none() {
+                return;
+            }
+        }
+    }
+
+    /// Whether packets of the sender were found at several places until now.
+    fn is_on_several(&self) -> bool {
+        self.capture.gathered().senders().len() > 1
+    }
+
+    /// Why the capture is refused, or this fault where it is not.
+    fn refusal_or(self, fault: InputFault) -> InputFault
+        ensures refusal { (refusal : InputFaultSaid) → self.end ≡ Some (Err refusal)
+            → result ≡ refusal }
+        ensures told { (first : Option (List ℕ)) (dump : List ℕ)
+            → HasDrained first (source_of R.remaining self) dump → (result ≡ fault)
+            ⊎ ((last : InputState)
+            × NoDumpCause (capture_with (fresh first) last self.reading) result) }
+    {
+        let Source { end, .. } = self;
+        match end {
+            Some(Err(refusal)) => refusal,
+            _ => fault,
+        }
+    }
+
+    /// What the notes say of the capture, which ends here, or why it is refused.
+    fn end_here(&self) -> Result<CaptureNotes, InputFault>
+        ensures { let source = source_of R.remaining self.now in IsAtEnd source.left
+            → source.capture.fault ≡ None → (fed dump : List ℕ)
+            → HasGiven source.capture dump fed → Stands source fed dump (Some result) }
+    {
+        match self.capture.cut() {
+            Ok(cut) => end_of(self.alloc, self.reading, self.capture.gathered(), cut),
+            Err(fault) => Err(InputFault::Capture(fault)),
+        }
+    }
+}
+
+/// The dump of a sender in a capture: its packets, end to end, as the capture is read. Where the
+/// capture is refused, it has those before what refuses it, and then a read fails.
+#[derive(Drop)]
+pub struct CapturedDump<R> {
+    source: Source<R>,
+    part: Cursor<Vec<u8>>,
+    failures: u64,
+    reads: u64,
+    ends: u64,
+}
+
+impl<R: Read + Drop> CapturedDump<R> {
+    /// The dump that is read so, of the capture that the reader gives.
+    pub fn new(alloc: Global, reading: Reading, reader: R) -> CapturedDump<R>
+        ensures reading { result.source.reading ≡ reading }
+        ensures none { HasHanded (R.remaining reader) (held_of R.remaining result.source
+            (⟦<Cursor<Vec<u8>> as Read>⟧.remaining result.part)) [] }
+        ensures room { HasRoomToCount (⟦<CapturedDump<R> as ByteIn>⟧.state result) }
+    {
+        CapturedDump {
+            source: Source::new(alloc, reading, reader),
+            part: Cursor::new(Vec::new(alloc)),
+            failures: 0,
+            reads: 0,
+            ends: 0,
+        }
+    }
+
+    /// What the notes say of the capture, where it was read to its end; `None` where it is refused.
+    pub fn notes(&self) -> Option<CaptureNotes>
+        ensures some { (notes : CaptureNotesSaid) → self.now.source.end ≡ Some (Ok notes)
+            → result ≡ Some notes }
+        ensures none { (fault : InputFaultSaid) → self.now.source.end ≡ Some (Err fault)
+            → result ≡ None }
+    {
+        match &self.source.end {
+            Some(Ok(notes)) => Some(*notes),
+            _ => None,
+        }
+    }
+
+    /// What is told where a run over the dump answers this fault: where a read failed, why the
+    /// capture is refused. A fault of a dump is not told of a sender at several places, so the
+    /// capture is read to its end.
+    pub fn told(self, fault: InputFault) -> InputFault
+        ensures refusal { fault ≡ InputFault.Read → (refusal : InputFaultSaid)
+            → self.source.end ≡ Some (Err refusal) → result ≡ refusal }
+        ensures told { (first : Option (List ℕ)) (dump : List ℕ)
+            → HasDrained first (source_of R.remaining self.source) dump → (result ≡ fault)
+            ⊎ ((last : InputState)
+            × NoDumpCause (capture_with (fresh first) last self.source.reading) result) }
+    {
+        let CapturedDump { source, .. } = self;
+        match fault {
+            InputFault::Read => source.refusal_or(fault),
+            InputFault::Dump(DumpFault::Memory) => fault,
+            InputFault::Dump(_) => {
+                let mut source = source;
+                source.read_out();
+                if source.is_on_several() {
+                    source.refusal_or(fault)
+                } else {
+                    fault
+                }
+            }
+            _ => fault,
+        }
+    }
+}
+
+/// Gives the next octets of the dump: of this part of it, or of the next that the source has.
+fn give<R: Read + Drop>(
+    source: &mut Source<R>,
+    part: &mut Cursor<Vec<u8>>,
+    buf: &mut [u8],
+) -> io::Result<usize>
+    ensures bound { ReadsAtMost result buf.new }
+    ensures octets { let old = held_of R.remaining source.old
+        (⟦<Cursor<Vec<u8>> as Read>⟧.remaining part.old) in
+        let new = held_of R.remaining source.new
+        (⟦<Cursor<Vec<u8>> as Read>⟧.remaining part.new) in
+        MatchResult result (λ n. Hands old new (take n buf.new)
+        × (n ≡ 0 → 0 < length buf.new → HasHandedAll new)) (λ _. Hands old new []) }
+{
+    'parts: for _ in 0..u64::MAX {
+        let len = part.read(buf)?;
+        if len > 0 || buf.is_empty() {
+            return Ok(len);
+        }
+        match source.next_part() {
+            Some(next) => *part = Cursor::new(next),
+            None => return source.answer_at_end(),
+        }
+    }
+    Err(io::Error::from(ErrorKind::InvalidData))
+}
+
+impl<R: Read + Drop> ByteIn for CapturedDump<R> {
+    ghost use Rattle.babel_dump.specs.LeftOut.{first_left_out as first_of};
+
+    ghost state = { λ d. record {
+      left = None;
+      captured = Some (held_of R.remaining d.source
+          (⟦<Cursor<Vec<u8>> as Read>⟧.remaining d.part));
+      left_out = first_of d.source.capture.progress.gathering.report;
+      failures = d.failures;
+      reads = d.reads;
+      ends = d.ends;
+    } };
+
+    fn read(&mut self, buf: &mut [u8]) -> io::Result<usize> {
+        self.reads += 1;
+        match give(&mut self.source, &mut self.part, buf) {
+            Ok(n) => {
+                if n == 0 && !buf.is_empty() {
+                    self.ends += 1;
+                }
+                Ok(n)
+            }
+            Err(error) => {
+                self.failures += 1;
+                Err(error)
+            }
+        }
+    }
+
+    fn left_out(&self) -> Option<LeftOutDatagram> {
+        first_left_out(&self.source.capture.gathered().report())
     }
 }
 

@@ -1,5 +1,5 @@
 //! The command line, as `clap` reads it.
-use clap::{Arg, ArgAction, Command, value_parser};
+use clap::{Arg, ArgAction, ArgGroup, Command, value_parser};
 use std::alloc::{AllocError, Global};
 
 /// The most routes for which the least limit on octets, 83 for each, is a number of 32 bits.
@@ -9,9 +9,16 @@ const MOST_ROUTES: i64 = 51_746_593;
 /// 0 and 1 differ from command to command, and examples.
 macro_rules! after_help {
     ($($known:literal,)* examples: $($example:literal),+; $($status:literal),+) => {
-        after_help!(refused: "a dump or a capture"; $($known,)* examples: $($example),+; $($status),+)
+        after_help!(
+            refused: "a dump or a capture"; $($known,)* examples: $($example),+; $($status),+
+        )
     };
-    (refused: $refused:literal; $($known:literal,)* examples: $($example:literal),+; $($status:literal),+) => {
+    (
+        refused: $refused:literal;
+        $($known:literal,)*
+        examples: $($example:literal),+;
+        $($status:literal),+
+    ) => {
         concat!(
             $($known, "\n",)*
             "Exit statuses:",
@@ -28,7 +35,8 @@ macro_rules! after_help {
 }
 
 const AFTER_HELP: &str = after_help!(
-    "IPv4 routes with an IPv6 next hop (address encoding 4, AE 4 for short, RFC 9229) are not read.",
+    "IPv4 routes with an IPv6 next hop (address encoding 4, AE 4 for short, RFC 9229) are not \
+     read.",
     "babeld sends them on links without IPv4 addresses. They and their retractions are ignored and",
     "counted as unknown-encoding, so that an answer for IPv4 can be missing or stale.\n",
     examples:
@@ -36,7 +44,8 @@ const AFTER_HELP: &str = after_help!(
     "show --from fe80::1 x.pcap",
     "lookup --from fe80::1 --to 10.1.2.3 --src 0.0.0.0 x.pcap";
     "0  done; a lookup has a route; the compared dumps answer the same",
-    "1  a lookup has no route: none or unreachable; the compared dumps differ; a capture has no packets"
+    "1  a lookup has no route: none or unreachable; the compared dumps differ; a capture has no \
+     packets"
 );
 
 const AFTER_SHOW: &str = after_help!(
@@ -62,6 +71,16 @@ const AFTER_NORMALISE: &str = after_help!(
     "0  done"
 );
 
+const AFTER_KEY: &str = after_help!(
+    refused: "a dump or a capture";
+    "Each line is HEX  FILE, as sha256sum writes it. Keys of one --ignore and one --hold are equal",
+    "exactly if the answers are. The status is the greatest of those of all files.\n",
+    examples:
+    "key --from fe80::1 before.pcap now.pcap",
+    "key --ignore seqno --from fe80::1 x.pcap";
+    "0  done"
+);
+
 const AFTER_PAIRS: &str = after_help!(
     examples:
     "pairs --from fe80::1 x.pcap",
@@ -72,9 +91,10 @@ const AFTER_PAIRS: &str = after_help!(
 const AFTER_COMPARE: &str = after_help!(
     examples:
     "compare --from fe80::1 before.pcap now.pcap",
-    "compare --all --ignore next-hop,metric --from fe80::1 --other-from fe80::2 x.pcap x.pcap";
-    "0  every destination and source has the same answer",
-    "1  at least one destination and source has a different answer"
+    "compare --all --ignore next-hop,metric --from fe80::1 --other-from fe80::2 x.pcap x.pcap",
+    "compare --routes --all --from fe80::1 before.pcap now.pcap";
+    "0  every destination and source has the same answer, or, with --routes, no route differs",
+    "1  at least one destination and source has a different answer, or one route differs"
 );
 
 const AFTER_SENDERS: &str = after_help!(
@@ -100,7 +120,8 @@ pub(crate) fn command<'a>(alloc: Global) -> Result<Command<'a>, AllocError> {
     let command = Command::new(alloc, "babel-dump")
         .version("1.1.0")
         .about(
-            "Shows what Babel packets of one sender announce (RFC 8966, RFC 9079), from a packet capture or a dump",
+            "Shows what Babel packets of one sender announce (RFC 8966, RFC 9079), from a packet \
+             capture or a dump",
         )
         .after_help(AFTER_HELP)
         .no_binary_name(true)
@@ -109,6 +130,7 @@ pub(crate) fn command<'a>(alloc: Global) -> Result<Command<'a>, AllocError> {
     let command = with_tables(alloc, command)?;
     command
         .subcommand(normalise(alloc)?)?
+        .subcommand(key(alloc)?)?
         .subcommand(pairs(alloc)?)?
         .subcommand(compare(alloc)?)?
         .subcommand(senders(alloc)?)?
@@ -156,8 +178,8 @@ fn unless_each(arg: Arg<'_>) -> Result<Arg<'_>, AllocError> {
 
 /// The option for the pairs to look up.
 fn each<'a>(alloc: Global) -> Result<Arg<'a>, AllocError> {
-    let help =
-        "Look up each destination and source in the file PAIRS (- for standard input) instead of --to and --src";
+    let help = "Look up each destination and source in the file PAIRS (- for standard input) \
+                instead of --to and --src";
     Arg::new(alloc, "each")
         .long("each")
         .value_name("PAIRS")
@@ -183,12 +205,29 @@ fn normalise<'a>(alloc: Global) -> Result<Command<'a>, AllocError> {
     of_one_dump(alloc, command)?
         .arg(strict(alloc))?
         .arg(ignore(alloc))?
+        .arg(routes(alloc, "Write the octets of the routes, not of the answers"))?
         .arg(body)?
         .arg(flag(
             alloc,
             "hex",
             "Write the octets as lower-case hexadecimal digits on one line",
         ))
+}
+
+/// The command for the keys of files.
+fn key<'a>(alloc: Global) -> Result<Command<'a>, AllocError> {
+    let about = "Print the SHA-256 of the canonical octets of each file, as sha256sum does";
+    let command = Command::new(alloc, "key")
+        .about(about)
+        .after_help(AFTER_KEY);
+    let file = Arg::new(alloc, "file")
+        .value_name("FILE")
+        .action(ArgAction::Append)
+        .help("The dumps, or the captures that have them; standard input if omitted or -");
+    with_reading(alloc, command)?
+        .arg(strict(alloc))?
+        .arg(ignore(alloc))?
+        .arg(file)
 }
 
 /// The command for the canonical pairs.
@@ -205,6 +244,10 @@ fn pairs<'a>(alloc: Global) -> Result<Command<'a>, AllocError> {
     of_one_dump(alloc, command)?
         .arg(strict(alloc))?
         .arg(ignore(alloc))?
+        .arg(routes(
+            alloc,
+            "Print the routes, a line for each, in place of the pairs",
+        ))?
         .arg(json(alloc))?
         .arg(count)
 }
@@ -225,7 +268,8 @@ fn compare<'a>(alloc: Global) -> Result<Command<'a>, AllocError> {
     let interface = place(
         alloc,
         "interface",
-        "The place in FILE, if it is a capture: the interface, with its link and VLANs, as senders lists it",
+        "The place in FILE, if it is a capture: the interface, with its link and VLANs, as senders \
+         lists it",
     );
     let other_interface = place(
         alloc,
@@ -243,8 +287,15 @@ fn compare<'a>(alloc: Global) -> Result<Command<'a>, AllocError> {
         .arg(strict(alloc))?
         .arg(ignore(alloc))?
         .arg(json(alloc))?
+        .arg(routes(alloc, "Compare the routes, not the answers"))?
         .arg(all(alloc))?
         .arg(count_of_all(alloc)?)?
+        .group(
+            ArgGroup::new(alloc, "listed")
+                .arg("all")?
+                .arg("routes")?
+                .multiple(true),
+        )?
         .arg(dump(
             alloc,
             "file",
@@ -259,22 +310,29 @@ fn compare<'a>(alloc: Global) -> Result<Command<'a>, AllocError> {
         ))
 }
 
+/// The option for routes in place of answers.
+fn routes<'a>(alloc: Global, help: &'a str) -> Arg<'a> {
+    flag(alloc, "routes", help)
+}
+
 /// The option for all differences.
 fn all<'a>(alloc: Global) -> Arg<'a> {
-    let help = "List every largest block of destinations and sources on which the inputs differ";
+    let help =
+        "List every largest block of destinations and sources on which the inputs differ, or, \
+         with --routes, every route";
     flag(alloc, "all", help)
 }
 
 /// The option for the number of all differences.
 fn count_of_all<'a>(alloc: Global) -> Result<Arg<'a>, AllocError> {
-    let help = "With --all: print only how many such blocks there are";
-    flag(alloc, "count", help).requires_arg("all")
+    let help = "With --all or --routes: print only how many such blocks, or routes, there are";
+    flag(alloc, "count", help).requires_arg("listed")
 }
 
 /// The command for the senders of a capture.
 fn senders<'a>(alloc: Global) -> Result<Command<'a>, AllocError> {
-    let about =
-        "List who sent Babel packets in a capture (pcap, pcapng), at which place, and how many packets, octets and Updates";
+    let about = "List who sent Babel packets in a capture (pcap, pcapng), at which place, and how \
+                 many packets, octets and Updates";
     let command = Command::new(alloc, "senders")
         .about(about)
         .after_help(AFTER_SENDERS);
@@ -333,8 +391,13 @@ fn of_one_dump<'a>(alloc: Global, command: Command<'a>) -> Result<Command<'a>, A
     let file = Arg::new(alloc, "file").value_name("FILE").help(
         "The dump, or the capture that has it; standard input if omitted or -",
     );
+    with_reading(alloc, command)?.arg(file)
+}
+
+/// The command with the options of each command that reads a dump of one sender.
+fn with_reading<'a>(alloc: Global, command: Command<'a>) -> Result<Command<'a>, AllocError> {
     let from = address(alloc, "from", "The source address of the packets");
-    with_settings(alloc, command.arg(from)?.arg(interface(alloc))?)?.arg(file)
+    with_settings(alloc, command.arg(from)?.arg(interface(alloc))?)
 }
 
 /// The command with what each command has that reads a dump: how retractions are read, whether
@@ -349,14 +412,16 @@ fn with_settings<'a>(alloc: Global, command: Command<'a>) -> Result<Command<'a>,
             "max-routes",
             "ROUTES",
             MOST_ROUTES,
-            "How many routes, and how many canonical pairs or differences, there may be [default: 262144]",
+            "How many routes, and how many canonical pairs or differences, there may be [default: \
+             262144]",
         ))?
         .arg(number(
             alloc,
             "max-octets",
             "OCTETS",
             i64::from(u32::MAX),
-            "How many octets a dump may have, also one in a capture [default: 33554432, or 83 for each of the routes if that is more]",
+            "How many octets a dump may have, also one in a capture [default: 33554432, or 83 for \
+             each of the routes if that is more]",
         ))
 }
 
@@ -390,8 +455,8 @@ fn flag<'a>(alloc: Global, id: &'a str, help: &'a str) -> Arg<'a> {
 
 /// The option for the place where the packets of a sender were captured.
 fn interface<'a>(alloc: Global) -> Arg<'a> {
-    let help =
-        "The place in a capture: the interface, as 1, with its link and VLANs if there are any, as 1/3, 1:10 or 1/3:10.20; required if the sender appears at several";
+    let help = "The place in a capture: the interface, as 1, with its link and VLANs if there are \
+                any, as 1/3, 1:10 or 1/3:10.20; required if the sender appears at several";
     place(alloc, "interface", help)
 }
 
@@ -424,7 +489,8 @@ fn ignore<'a>(alloc: Global) -> Arg<'a> {
         .value_name("LIST")
         .action(ArgAction::Set)
         .help(
-            "Fields of a route that do not count: next-hop, router-id, seqno, metric, separated by commas",
+            "Fields of a route that do not count: next-hop, router-id, seqno, metric, separated by \
+             commas",
         )
 }
 

@@ -7,11 +7,11 @@ ghost use Rattle.babel_dump.specs.Run.{Called, calls_of, output};
 ghost use Rattle.babel_dump.specs.RunText.{verdict_status};
 ghost use Rattle.babel_dump.specs.declared.format.Format.TheVariants as formats;
 
-use crate::both::{SeenTables, read_both};
+use crate::both::{SeenTables, compared, read_both};
 use crate::byte_in::ByteIn;
 use crate::byte_out::ByteOut;
 use crate::format::Format;
-use crate::outcome::{Outcome, Reports, status_alone};
+use crate::outcome::status_alone;
 use crate::output::verdict_output;
 use crate::reading::Reading;
 use crate::run_fault::RunFault;
@@ -29,8 +29,8 @@ use std::alloc::Global;
 ///
 /// # Errors
 ///
-/// `Dump` with the first dump's fault, or with `Memory`; `Read` where a read of it failed;
-/// `OtherDump` and `OtherRead` for the other; `Write` where a write or the flush failed.
+/// `Input`, with the side, where a dump is refused, where memory ran out, or where a read failed;
+/// `Write` where a write or the flush failed.
 pub fn run_compare<R: ByteIn, S: ByteIn, W: ByteOut>(
     alloc: Global,
     limits: Limits,
@@ -80,7 +80,8 @@ pub(crate) fn find_verdict<R: ByteIn, S: ByteIn>(
     found_verdict(alloc, view, format, &seen)
 }
 
-/// The lines of how the answers of two tables compare. Want of memory is the first dump's.
+/// The lines of how the answers of two tables compare. Running out of memory is the first dump's
+/// fault.
 fn found_verdict(
     alloc: Global,
     view: View,
@@ -92,10 +93,7 @@ fn found_verdict(
 {
     let verdict = babel_canon::compare(alloc, &seen.left, &seen.right)?;
     let text = verdict_output(alloc, format, view, &verdict)?;
-    let outcome = Outcome {
-        status: verdict_status(&verdict),
-        reports: Reports::Dumps(*seen.left.report(), *seen.right.report()),
-    };
+    let outcome = compared(alloc, seen, verdict_status(&verdict))?;
     Ok(Found::text(alloc, text, outcome)?)
 }
 

@@ -1,27 +1,28 @@
-ghost use Rattle.std.specs.Prelude.{◌≡◌, IfErr, IfOk};
+ghost use Rattle.std.specs.Prelude.{◌≡◌, ◌++◌, IfErr, IfOk};
 ghost use Rattle.babel_dump.specs.Command.{DifferencesCause, ListsDifferences};
 ghost use Rattle.babel_dump.specs.Device.{HasRoomToCount};
 ghost use Rattle.babel_dump.specs.Given.{read_from};
+ghost use Rattle.babel_dump.specs.InFormat.{differences_in};
 ghost use Rattle.babel_dump.specs.Parts.{Gathered, HasManyDifferences, Says, SaysDifferences};
 ghost use Rattle.babel_dump.specs.Run.{Called, calls_of};
 ghost use Rattle.babel_dump.specs.RunText.{differences_status};
+ghost use Rattle.babel_dump.specs.SlicedRows.{lines_of};
 
-use crate::both::{SeenTables, read_both};
+use crate::both::{SeenTables, compared, read_both};
 use crate::byte_in::ByteIn;
 use crate::format::Format;
-use crate::outcome::{Outcome, Reports};
-use crate::output::{difference_count_output, same_output};
+use crate::output::{count_output, same_output};
 use crate::reading::Reading;
 use crate::run_fault::RunFault;
 use crate::slices::{Found, Rows};
-use babel_canon::difference_count;
+use babel_canon::{Difference, difference_count};
 use babel_table::Limits;
 use babel_tlv::View;
-use std::alloc::Global;
+use std::alloc::{AllocError, Global};
 
 /// Reads two dumps, the first to its end before the other, and makes the lines of each block of
-/// destinations and sources that they answer differently, with the two answers there, as a view sees
-/// both, or, with `count`, of how many such blocks there are.
+/// destinations and sources that they answer differently, with the two answers there, as a view
+/// sees both, or, with `count`, of how many such blocks there are.
 pub(crate) fn find_differences<R: ByteIn, S: ByteIn>(
     alloc: Global,
     reading: Reading,
@@ -59,28 +60,37 @@ fn found_differences(
     ensures ok { IfOk result (Says (SaysDifferences limits view count format seen)) }
     ensures err { IfErr result (HasManyDifferences limits seen) }
 {
-    let SeenTables { left, right } = seen;
-    let reports = Reports::Dumps(*left.report(), *right.report());
     if count {
-        let number = difference_count(alloc, limits, &left, &right)?;
-        let text = difference_count_output(alloc, format, number)?;
-        let status = differences_status(number);
-        return Ok(Found::text(alloc, text, Outcome { status, reports })?);
+        let number = difference_count(alloc, limits, &seen.left, &seen.right)?;
+        let text = count_output(alloc, format, "differences", number)?;
+        let outcome = compared(alloc, &seen, differences_status(number))?;
+        return Ok(Found::text(alloc, text, outcome)?);
     }
-    let differences = babel_canon::differences(alloc, limits, &left, &right)?;
-    drop((left, right));
-    let after = if differences.is_empty() {
-        same_output(alloc, format)?
-    } else {
-        Vec::new(alloc)
-    };
-    let status = differences_status(differences.len());
-    let rows = Rows::Differences(view, differences);
-    Ok(Found::rows(alloc, format, rows, after, Outcome { status, reports })?)
+    let differences = babel_canon::differences(alloc, limits, &seen.left, &seen.right)?;
+    let outcome = compared(alloc, &seen, differences_status(differences.len()))?;
+    drop(seen);
+    let (rows, after) = difference_rows(alloc, view, format, differences)?;
+    Ok(Found::rows(alloc, format, rows, after, outcome)?)
 }
 
-/// The status of so many differences.
-fn differences_status(count: usize) -> u8
+/// The lines of each difference, or `same` where there is none.
+pub(crate) fn difference_rows(
+    alloc: Global,
+    view: View,
+    format: Format,
+    differences: Vec<Difference>,
+) -> Result<(Rows, Vec<u8>), AllocError>
+    ensures { IfOk result (λ found.
+        lines_of format found.0 ++ found.1.items ≡ differences_in format view differences.items) }
+{
+    if differences.is_empty() {
+        return Ok((Rows::Empty, same_output(alloc, format)?));
+    }
+    Ok((Rows::Differences(view, differences), Vec::new(alloc)))
+}
+
+/// The status for this many differences.
+pub(crate) fn differences_status(count: usize) -> u8
     ensures { result ≡ differences_status count }
 {
     if count == 0 { 0 } else { 1 }

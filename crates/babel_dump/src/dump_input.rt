@@ -1,12 +1,12 @@
 //! Where a dump is read from: a stream that is one, or the capture that has it.
-ghost use Rattle.std.specs.Prelude.{◌≡◌, ◌≤◌, ℕ, List, Some, IfOk, IfErr, take};
+ghost use Rattle.std.specs.Prelude.{◌≡◌, ◌≤◌, take};
 ghost use Rattle.std.specs.Io.KnownBytes.{Keeps, prepend_known};
-ghost use Rattle.babel_dump.specs.CapturedDump.{IsDumpIn, NoDumpCause, capture_with};
-ghost use Rattle.babel_dump.specs.Device.{InputState, fresh};
+ghost use Rattle.babel_dump.specs.Device.{HasRoomToCount};
 
-use crate::byte_in::FromReader;
-use crate::captured::{CaptureNotes, CapturedDump, captured_dump};
+use crate::byte_in::{ByteIn, FromReader};
+use crate::captured::{CaptureNotes, CapturedDump};
 use crate::input_fault::InputFault;
+use crate::left_out::LeftOutDatagram;
 use crate::reading::Reading;
 use std::alloc::Global;
 use std::io;
@@ -86,19 +86,21 @@ fn whole<R: Read>(first: [u8; MAGIC], len: usize, reader: R) -> Whole<R>
 
 /// A stream from its beginning, or the dump in a capture.
 #[derive(Drop)]
-pub enum DumpInput<R> {
-    Stream(Whole<R>),
-    Captured(CapturedDump),
+pub enum DumpInput<R: Read> {
+    Stream(FromReader<Whole<R>>),
+    Captured(CapturedDump<Whole<R>>),
 }
 
 impl<R: Read + Drop> DumpInput<R> {
     /// The stream as it is; or, if it is a capture and a dump is read, the dump that is read so.
-    pub fn new(alloc: Global, begun: Begun<R>, reading: Option<Reading>) -> DumpInput<R> {
+    pub fn new(alloc: Global, begun: Begun<R>, reading: Option<Reading>) -> DumpInput<R>
+        ensures room { HasRoomToCount (⟦<DumpInput<R> as ByteIn>⟧.state result) }
+    {
         match reading {
             Some(reading) if begun.is_capture => {
-                DumpInput::Captured(dump_in(alloc, begun.stream, reading))
+                DumpInput::Captured(CapturedDump::new(alloc, reading, begun.stream))
             }
-            _ => DumpInput::Stream(begun.stream),
+            _ => DumpInput::Stream(FromReader::new(begun.stream)),
         }
     }
 
@@ -110,38 +112,34 @@ impl<R: Read + Drop> DumpInput<R> {
         }
     }
 
-    /// Why a read failed: a capture is refused, or the stream's read failed.
-    pub fn into_refusal(self) -> InputFault {
+    /// What is told where a run over the dump answers this fault.
+    pub fn told(self, fault: InputFault) -> InputFault {
         match self {
-            DumpInput::Stream(_) => InputFault::Read,
-            DumpInput::Captured(dump) => dump.into_refusal(),
+            DumpInput::Stream(_) => fault,
+            DumpInput::Captured(dump) => dump.told(fault),
         }
     }
 }
 
-/// The dump that is read so, of the capture in a stream.
-fn dump_in<R: Read + Drop>(alloc: Global, stream: R, reading: Reading) -> CapturedDump
-    ensures dump { IfOk result.end (λ notes. (new : InputState) × (dump : List ℕ)
-        × IsDumpIn (capture_with (fresh (R.remaining stream)) new reading) dump notes
-        × (⟦<CapturedDump as Read>⟧.remaining result ≡ Some dump)) }
-    ensures refused { IfErr result.end (λ fault. (new : InputState)
-        × NoDumpCause (capture_with (fresh (R.remaining stream)) new reading) fault) }
-{
-    captured_dump(alloc, reading, &mut FromReader::new(stream))
-}
-
-impl<R: Read> Read for DumpInput<R> {
+impl<R: Read + Drop> ByteIn for DumpInput<R> {
     ghost use Rattle.babel_dump.specs.declared.dump_input.DumpInput.TheVariants.{Stream, Captured};
 
-    ghost remaining = { elim [
-      | Stream stream ↦ ⟦<Chain<Take<Cursor<[u8; 4]>>, R> as Read>⟧.remaining stream
-      | Captured dump ↦ ⟦<CapturedDump as Read>⟧.remaining dump
+    ghost state = { elim [
+      | Stream stream ↦ ⟦<FromReader<Chain<Take<Cursor<[u8; 4]>>, R>> as ByteIn>⟧.state stream
+      | Captured dump ↦ ⟦<CapturedDump<Chain<Take<Cursor<[u8; 4]>>, R>> as ByteIn>⟧.state dump
     ] };
 
     fn read(&mut self, buf: &mut [u8]) -> io::Result<usize> {
         match self {
             DumpInput::Stream(stream) => stream.read(buf),
             DumpInput::Captured(dump) => dump.read(buf),
+        }
+    }
+
+    fn left_out(&self) -> Option<LeftOutDatagram> {
+        match self {
+            DumpInput::Stream(stream) => stream.left_out(),
+            DumpInput::Captured(dump) => dump.left_out(),
         }
     }
 }

@@ -1,7 +1,8 @@
 ghost use Rattle.std.specs.Prelude.{◌≡◌, IfOk};
 ghost use Rattle.std.specs.List.{flat_map};
 ghost use Rattle.babel_dump.specs.Device.{HasRoomToCount};
-ghost use Rattle.babel_dump.specs.Each.{EachCause, GavePairsOf, LooksUpAsked, LooksUpEach, RefusesPairs};
+ghost use Rattle.babel_dump.specs.Each.{EachCause, GavePairsOf, LooksUpAsked};
+ghost use Rattle.babel_dump.specs.Each.{LooksUpEach, RefusesPairs};
 ghost use Rattle.babel_dump.specs.Given.{IsFaultOfGiven, read_from};
 ghost use Rattle.babel_dump.specs.InFormat.{each_in};
 ghost use Rattle.babel_dump.specs.Parts.{Gathered, Says};
@@ -24,8 +25,8 @@ use crate::slices::{Found, Rows};
 use babel_table::Table;
 use std::alloc::{AllocError, Global};
 
-/// Reads the pairs that a text asks for, and then a dump, and makes the lines of what it answers for
-/// each of them. Where the pairs are refused the dump is not read.
+/// Reads the pairs that a text asks for, and then a dump, and makes the lines of what it answers
+/// for each of them. Where the pairs are refused the dump is not read.
 pub(crate) fn find_each<R: ByteIn, S: ByteIn>(
     alloc: Global,
     reading: Reading,

@@ -36,19 +36,23 @@ pub enum Hint {
     #[error("hint: the packet before may have a trailer (RFC 8967), which is not read")]
     Trailer,
     /// A TLV has an address encoding that is not read.
-    #[error("hint: unknown-encoding usually means IPv4 routes with IPv6 next hops (AE 4, RFC 9229), which are not read: IPv4 answers can be missing or stale")]
+    #[error("hint: unknown-encoding usually means IPv4 routes with IPv6 next hops (AE 4, \
+             RFC 9229), which are not read: IPv4 answers can be missing or stale")]
     UnknownEncoding,
     /// A route has no next hop. This option names the sender.
-    #[error("hint: no-next-hop: {0} names a sender of the other family, and these routes carry no next hop")]
+    #[error("hint: no-next-hop: {0} names a sender of the other family, and these routes carry \
+             no next hop")]
     NoNextHop(&'static str),
     /// The octets of a capture begin as a dump does.
-    #[error("hint: this looks like a dump, not a capture: use show, lookup, normalise, pairs or compare")]
+    #[error("hint: this looks like a dump, not a capture: use show, lookup, normalise, pairs or \
+             compare")]
     Dump,
     /// The octets are no capture.
     #[error("hint: a capture is a file of pcap or pcapng, as tcpdump -w writes it")]
     Format,
     /// The capture is cut short.
-    #[error("hint: the recorder was stopped within a record; --accept-cut reads the complete records")]
+    #[error("hint: the recorder was stopped within a record; --accept-cut reads the complete \
+             records")]
     Cut,
     /// The recorder kept only a part of a datagram.
     #[error("hint: tcpdump -s 0 keeps packets whole")]
@@ -57,13 +61,15 @@ pub enum Hint {
     #[error("hint: fragments are not put together, so the dump would lack what they have")]
     Fragment,
     /// A datagram is longer than its frame.
-    #[error("hint: the frame has less than the datagram says; take the capture as it was recorded, since --accept-cut does not help")]
+    #[error("hint: the frame has less than the datagram says; take the capture as it was \
+             recorded, since --accept-cut does not help")]
     DatagramCutShort,
     /// A capture is of a version that is not read.
     #[error("hint: supported versions: pcap 2.4, pcapng 1.0 and 1.2")]
     Version,
     /// A packet is of a link type that is not read.
-    #[error("hint: supported link types: Ethernet, Linux cooked (tcpdump -i any), raw IP, null and loopback")]
+    #[error("hint: supported link types: Ethernet, Linux cooked (tcpdump -i any), raw IP, null \
+             and loopback")]
     Link,
     /// The sender has no packets in the capture, or none on the interface that is named.
     #[error("hint: senders lists who sent, and at which places")]
@@ -104,8 +110,8 @@ impl Hint {
         }
     }
 
-    /// What to know about the offset of a TLV that a fault tells, of an input that begins with these
-    /// octets.
+    /// What to know about the offset of a TLV that a fault tells, of an input that begins with
+    /// these octets.
     pub fn of_offset(fault: &RunFault, begins: &[u8]) -> Option<Hint> {
         match fault {
             RunFault::Input(

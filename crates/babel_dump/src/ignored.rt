@@ -1,6 +1,7 @@
 ghost use Rattle.std.specs.Prelude.{◌≡◌, IfSome};
 ghost use Rattle.std.specs.Option.{IfNone};
-ghost use Rattle.babel_dump.specs.Ignored.{IgnoresNone, first_among, first_counted, first_ignored, sooner};
+ghost use Rattle.babel_dump.specs.Ignored.{IgnoresNone, first_among, first_counted};
+ghost use Rattle.babel_dump.specs.Ignored.{first_ignored, sooner};
 
 use crate::reason_text::{REASONS, name};
 use babel_table::Report;

@@ -10,8 +10,8 @@ use babel_tlv::Fault;
 use std::alloc::AllocError;
 use thiserror::Error;
 
-/// Why nothing could be made of an input: a dump or a capture. `Display` gives the line for standard
-/// error.
+/// Why an input, a dump or a capture, gave no result. `Display` gives the line for
+/// standard error.
 #[derive(Debug, Drop, PartialEq, Eq, Error)]
 pub enum InputFault {
     /// The dump is refused, or an allocation was.

@@ -7,7 +7,7 @@ use std::alloc::{AllocError, Global};
 use std::collections::BTreeMap;
 use std::fmt;
 
-/// So many places are listed at most.
+/// The most places that are listed.
 const LISTED: usize = 16;
 
 /// The places where a sender's packets were captured, in rising order. `Display` gives them in the

@@ -1,10 +1,11 @@
 ghost use Rattle.std.specs.Prelude.{◌≡◌};
 ghost use Rattle.std.specs.Option.{option_copied};
-ghost use Rattle.babel_dump.specs.Files.{first_file, other_file};
+ghost use Rattle.babel_dump.specs.Files.{first_file, name_of, other_file};
 
 use crate::addr_pair::AddrPair;
 use crate::capture_reading::CaptureReading;
 use crate::format::Format;
+use crate::key_text::Named;
 use crate::reading::Reading;
 use babel_canon::Body;
 use babel_capture::Place;
@@ -52,6 +53,13 @@ pub enum Job {
         file: DumpFile,
         quiet: bool,
     },
+    /// `key`: the digest of what `normalise` writes of a dump.
+    Key {
+        reading: Reading,
+        view: View,
+        file: DumpFile,
+        quiet: bool,
+    },
     /// `pairs`: the canonical pairs of a dump.
     Pairs {
         reading: Reading,
@@ -84,6 +92,36 @@ pub enum Job {
         other: DumpFile,
         quiet: bool,
     },
+    /// `normalise --routes`: the route octets of a dump.
+    RouteOctets {
+        reading: Reading,
+        view: View,
+        body: Body,
+        hex: bool,
+        file: DumpFile,
+        quiet: bool,
+    },
+    /// `pairs --routes`: the rows of a dump.
+    RouteRows {
+        reading: Reading,
+        view: View,
+        /// Whether the rows are only counted: `--count`.
+        count: bool,
+        format: Format,
+        file: DumpFile,
+        quiet: bool,
+    },
+    /// `compare --routes`: the keys for which two dumps hold what differs.
+    CompareRoutes {
+        reading: Reading,
+        other_reading: Reading,
+        view: View,
+        listed: Listed,
+        format: Format,
+        file: DumpFile,
+        other: DumpFile,
+        quiet: bool,
+    },
     /// `senders`: who sent Babel packets, by a capture.
     Senders {
         reading: CaptureReading,
@@ -106,6 +144,17 @@ pub enum Job {
     },
 }
 
+/// What is written of the keys for which two dumps hold what differs.
+#[derive(Clone, Copy, Debug, PartialEq, Eq)]
+pub enum Listed {
+    /// The first of them.
+    First,
+    /// Each of them: `--all`.
+    All,
+    /// How many there are: `--count`.
+    Count,
+}
+
 /// Where a dump, a capture, or the pairs of `--each`, are read from.
 #[derive(Debug, Drop)]
 pub enum DumpFile {
@@ -113,6 +162,18 @@ pub enum DumpFile {
     StandardInput,
     /// The file of this name.
     Named(String),
+}
+
+impl DumpFile {
+    /// The name of the file; `-` of standard input.
+    pub fn name(&self) -> &str
+        ensures { result.now ≡ name_of self.now }
+    {
+        match self {
+            DumpFile::StandardInput => "-",
+            DumpFile::Named(name) => name.as_str(),
+        }
+    }
 }
 
 impl Job {
@@ -125,11 +186,24 @@ impl Job {
             | Job::Lookup { file, .. }
             | Job::Each { file, .. }
             | Job::Normalise { file, .. }
+            | Job::Key { file, .. }
             | Job::Pairs { file, .. }
             | Job::Compare { file, .. }
             | Job::Differences { file, .. }
+            | Job::RouteOctets { file, .. }
+            | Job::RouteRows { file, .. }
+            | Job::CompareRoutes { file, .. }
             | Job::Senders { file, .. }
             | Job::Extract { file, .. } => file,
+        }
+    }
+
+    /// What a line on standard error about its input begins with: of `key`, which may have many
+    /// files, the file.
+    pub fn named(&self) -> Named<'_> {
+        match self {
+            Job::Key { file, .. } => Named(Some(file.name())),
+            _ => Named(None),
         }
     }
 
@@ -138,7 +212,9 @@ impl Job {
         ensures { option_copied result ≡ other_file self.now }
     {
         match self {
-            Job::Compare { other, .. } | Job::Differences { other, .. } => Some(other),
+            Job::Compare { other, .. }
+            | Job::Differences { other, .. }
+            | Job::CompareRoutes { other, .. } => Some(other),
             Job::Each { pairs, .. } => Some(pairs),
             _ => None,
         }
@@ -151,9 +227,13 @@ impl Job {
             | Job::Lookup { reading, .. }
             | Job::Each { reading, .. }
             | Job::Normalise { reading, .. }
+            | Job::Key { reading, .. }
             | Job::Pairs { reading, .. }
             | Job::Compare { reading, .. }
-            | Job::Differences { reading, .. } => Some(*reading),
+            | Job::Differences { reading, .. }
+            | Job::RouteOctets { reading, .. }
+            | Job::RouteRows { reading, .. }
+            | Job::CompareRoutes { reading, .. } => Some(*reading),
             Job::Senders { .. } | Job::Extract { .. } => None,
         }
     }
@@ -161,9 +241,9 @@ impl Job {
     /// How the other dump of a comparison is read.
     pub fn other_reading(&self) -> Option<Reading> {
         match self {
-            Job::Compare { other_reading, .. } | Job::Differences { other_reading, .. } => Some(
-                *other_reading,
-            ),
+            Job::Compare { other_reading, .. }
+            | Job::Differences { other_reading, .. }
+            | Job::CompareRoutes { other_reading, .. } => Some(*other_reading),
             _ => None,
         }
     }
@@ -176,8 +256,8 @@ impl Job {
         }
     }
 
-    /// The option that is for captures alone and was given for a dump, by whether FILE and OTHER are
-    /// captures.
+    /// The option that is for captures alone and was given for a dump, by whether FILE and OTHER
+    /// are captures.
     pub fn misplaced(&self, is_capture: bool, other_is_capture: bool) -> Option<&'static str> {
         let reading = self.reading()?;
         let other_place = match self.other_reading() {
@@ -216,9 +296,13 @@ impl Job {
             | Job::Lookup { quiet, .. }
             | Job::Each { quiet, .. }
             | Job::Normalise { quiet, .. }
+            | Job::Key { quiet, .. }
             | Job::Pairs { quiet, .. }
             | Job::Compare { quiet, .. }
             | Job::Differences { quiet, .. }
+            | Job::RouteOctets { quiet, .. }
+            | Job::RouteRows { quiet, .. }
+            | Job::CompareRoutes { quiet, .. }
             | Job::Senders { quiet, .. }
             | Job::Extract { quiet, .. } => *quiet,
         }

@@ -12,10 +12,12 @@ use crate::differences::find_differences;
 use crate::each::find_each;
 use crate::extract::find_packets;
 use crate::job::Job;
+use crate::key::find_key;
 use crate::lookup::find_answer;
 use crate::normalise::find_normal;
 use crate::outcome::Outcome;
 use crate::pairs::find_pairs;
+use crate::routes::{find_route_differences, find_route_octets, find_route_rows};
 use crate::run_fault::RunFault;
 use crate::senders::find_senders;
 use crate::show::find_rows;
@@ -23,15 +25,15 @@ use crate::slices::{Found, finish};
 use babel_capture::Wanted;
 use std::alloc::Global;
 
-/// Does a job: reads its input, finds what its command asks for, writes that, and flushes. The other
-/// reader has the other dump of a comparison, or the pairs of `--each`; each other job leaves it as
-/// it was.
+/// Does a job: reads its input, finds what its command asks for, writes that, and flushes. The
+/// other reader has the other dump of a comparison, or the pairs of `--each`; each other job leaves
+/// it as it was.
 ///
 /// # Errors
 ///
-/// `Input` where nothing could be made of an input; of the other of a comparison it comes only where
-/// the first has no fault. `Pairs` with the fault of the pairs of `--each`, and then the dump is not
-/// read. `Write` where a write or the flush failed. At each other fault nothing is written.
+/// `Input` where an input gave no result; of the other of a comparison it comes only where the
+/// first has no fault. `Pairs` with the fault of the pairs of `--each`, and then the dump
+/// is not read. `Write` where a write or the flush failed. At each other fault nothing is written.
 pub fn run_job<R: ByteIn, S: ByteIn, W: ByteOut>(
     alloc: Global,
     job: &Job,
@@ -63,6 +65,12 @@ fn find<R: ByteIn, S: ByteIn>(
         (reads (S.state other.old) (S.state other.new)) (other.new ≡ other.old) result }
 {
     match *job {
+        Job::Key {
+            reading,
+            view,
+            ref file,
+            ..
+        } => find_key(alloc, reading, view, file.name(), reader),
         Job::Show {
             reading,
             format,
@@ -113,6 +121,37 @@ fn find<R: ByteIn, S: ByteIn>(
             other_reading,
             view,
             count,
+            format,
+            reader,
+            other,
+        ),
+        Job::RouteOctets {
+            reading,
+            view,
+            body,
+            hex,
+            ..
+        } => find_route_octets(alloc, reading, view, body, hex, reader),
+        Job::RouteRows {
+            reading,
+            view,
+            count,
+            format,
+            ..
+        } => find_route_rows(alloc, reading, view, count, format, reader),
+        Job::CompareRoutes {
+            reading,
+            other_reading,
+            view,
+            listed,
+            format,
+            ..
+        } => find_route_differences(
+            alloc,
+            reading,
+            other_reading,
+            view,
+            listed,
             format,
             reader,
             other,

@@ -1,11 +1,14 @@
 //! Laws of the definitions.
+ghost use Rattle.babel_dump.specs.CapturedDump.{HandedIsDump, RefusalHasCause};
 ghost use Rattle.babel_dump.specs.ExtractLaws.{ExtractedIsFramed};
 ghost use Rattle.babel_dump.specs.FirstIgnored.{FirstIsFirst, NoneIsNone, OffsetsOfDumpsRise};
-ghost use Rattle.babel_dump.specs.OneOutcome.{FaultIsOfAll, FaultIsOne, NamedIsNotSeveral, NothingWritten, OutcomeIsOne, OutcomeOrFault, WrittenIsPrefix};
+ghost use Rattle.babel_dump.specs.OneOutcome.{FaultIsOfAll, FaultIsOne, NamedIsNotSeveral};
+ghost use Rattle.babel_dump.specs.OneOutcome.{NothingWritten, OutcomeIsOne, OutcomeOrFault};
+ghost use Rattle.babel_dump.specs.OneOutcome.{WrittenIsPrefix};
 
-/// What a job's run over devices that say their octets answers, failed calls and want of memory
-/// aside, is settled by the octets of its readers: one outcome and one text, or one fault. Faults of
-/// captures are not among those of which this is said.
+/// What a job's run over devices that say their octets answers, failed calls and running out of
+/// memory aside, is settled by the octets of its readers: one outcome and one text, or one fault.
+/// This does not speak of the faults of captures.
 pub fn outcome_is_one()
     ensures outcome { OutcomeIsOne }
     ensures outcome_or_fault { OutcomeOrFault }
@@ -35,10 +38,17 @@ pub fn named_interface_is_one()
     ensures { NamedIsNotSeveral }
 {}
 
-/// A report says that no TLV was ignored exactly where no TLV is; and, as offsets in a dump rise, the
-/// first that it says was ignored is the first that is.
+/// A report says that no TLV was ignored exactly where no TLV is; and, as offsets in a dump rise,
+/// the first that it says was ignored is the first that is.
 pub fn ignored_is_first()
     ensures none { NoneIsNone }
     ensures first { FirstIsFirst }
     ensures rise { OffsetsOfDumpsRise }
+{}
+
+/// What a run was given by a device over a capture, to its end, is the dump in the capture that the
+/// device's reader gave; and where the capture is refused, that has its cause.
+pub fn handed_is_dump()
+    ensures dump { HandedIsDump }
+    ensures refused { RefusalHasCause }
 {}

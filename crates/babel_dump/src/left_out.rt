@@ -1,7 +1,8 @@
 //! Datagrams of a capture that were left out.
 ghost use Rattle.std.specs.Prelude.{◌≡◌, IfSome};
 ghost use Rattle.std.specs.Option.{IfNone};
-ghost use Rattle.babel_dump.specs.LeftOut.{LeavesNoneOut, first_among, first_counted, first_left_out, sooner};
+ghost use Rattle.babel_dump.specs.LeftOut.{LeavesNoneOut, first_among, first_counted};
+ghost use Rattle.babel_dump.specs.LeftOut.{first_left_out, sooner};
 
 use babel_capture::{Reason, Report};
 use std::fmt;
@@ -52,7 +53,12 @@ impl LeftOutNote {
 
 impl fmt::Display for LeftOutNote {
     fn fmt<W: fmt::Write>(&self, f: &mut fmt::Formatter<W>) -> fmt::Result {
-        write!(f, "{} datagrams left out", self.left_out)?;
+        let datagrams = if self.left_out == 1 {
+            "datagram"
+        } else {
+            "datagrams"
+        };
+        write!(f, "{} {datagrams} left out", self.left_out)?;
         let mut mark = ": ";
         for reason in &REASONS {
             if let Some((count, first)) = self.report.left_out(*reason) {

@@ -4,7 +4,7 @@ ghost use Rattle.babel_dump.specs.AskedLimits.{asked_bounds};
 
 use babel_table::Limits;
 
-/// Fewer octets than 83 for each route, with which no table of so many routes could be read.
+/// Fewer octets than 83 for each route, too few for a table of that many routes.
 #[derive(Clone, Copy)]
 pub(crate) struct TooFew {
     pub octets: u32,

@@ -28,7 +28,7 @@ use std::alloc::Global;
 ///
 /// # Errors
 ///
-/// `Dump` with the dump's fault, or with `Memory`; `Read` where a read failed; `Write` where a
+/// `Input` where the dump is refused, where memory ran out, or where a read failed; `Write` where a
 /// write or the flush failed.
 pub fn run_lookup<R: ByteIn, W: ByteOut>(
     alloc: Global,

@@ -1,7 +1,8 @@
+ghost use Rattle.std.specs.Prelude.{IfOk};
 ghost use Rattle.babel_dump.specs.Command.{RanNormalise, WritesNormal};
 ghost use Rattle.babel_dump.specs.Device.{HasRoomToCount, HasRoomToWrite};
 ghost use Rattle.babel_dump.specs.Given.{GaveNormal, IsFaultOfForm, input, read_from};
-ghost use Rattle.babel_dump.specs.Parts.{Gathered, Says};
+ghost use Rattle.babel_dump.specs.Parts.{Gathered, Says, SaysOctets};
 ghost use Rattle.babel_dump.specs.Run.{InputCause, OfFirst, calls_of, output};
 
 use crate::byte_in::ByteIn;
@@ -19,7 +20,7 @@ use babel_canon::{Body, canonical_octets};
 use babel_prefix::Addr;
 use babel_table::{Limits, Report};
 use babel_tlv::{Mode, View};
-use std::alloc::Global;
+use std::alloc::{AllocError, Global};
 
 /// Reads a dump that this sender sent, and writes its canonical octets, in packets with bodies of
 /// at most this many octets: as they are, or, with `hex`, as lower-case hexadecimal digits on a
@@ -31,9 +32,9 @@ use std::alloc::Global;
 ///
 /// # Errors
 ///
-/// `Dump` with the dump's fault, with `TooManyPairs` where the canonical pairs are more than the
-/// entries of the limits, or with `Memory`; `Read` where a read failed; `Write` where a write or
-/// the flush failed.
+/// `Input` where the dump is refused, also with `TooManyPairs` if its canonical pairs are more than
+/// the entries of the limits, where memory ran out, or where a read failed; `Write` where a write
+/// or the flush failed.
 pub fn run_normalise<R: ByteIn, W: ByteOut>(
     alloc: Global,
     limits: Limits,
@@ -71,6 +72,18 @@ pub(crate) fn find_normal<R: ByteIn>(
         (Says (WritesNormal dump view body hex)) result }
 {
     let (report, octets) = read_octets(alloc, reading, view, body, reader)?;
+    Ok(octets_found(alloc, report, octets, hex)?)
+}
+
+/// Octets that were made of a dump with this report, or their line.
+pub(crate) fn octets_found(
+    alloc: Global,
+    report: Report,
+    octets: Vec<u8>,
+    hex: bool,
+) -> Result<Found, AllocError>
+    ensures { IfOk result (Says (SaysOctets octets.items hex report)) }
+{
     let text = if hex {
         hex_output(alloc, &octets)?
     } else {
@@ -80,12 +93,12 @@ pub(crate) fn find_normal<R: ByteIn>(
         status: 0,
         reports: Reports::Dump(report),
     };
-    Ok(Found::text(alloc, text, outcome)?)
+    Found::text(alloc, text, outcome)
 }
 
 /// Reads a dump to its end, or to its first fault, and makes its canonical octets under the view,
 /// beside its report.
-fn read_octets<R: ByteIn>(
+pub(crate) fn read_octets<R: ByteIn>(
     alloc: Global,
     reading: Reading,
     view: View,

@@ -20,6 +20,8 @@ pub enum Reports {
     Dump(Report),
     /// Of the two dumps of a comparison, in their order.
     Dumps(Report, Report),
+    /// Of the two dumps of a comparison that answer the same, and how many of their routes differ.
+    Alike(Report, Report, usize),
     /// Of a capture.
     Capture {
         /// How many packets it has, and which wanted datagrams were left out.

@@ -2,19 +2,21 @@
 ghost use Rattle.std.specs.Prelude.{◌≡◌, ◌≤◌, ◌++◌, List, ℕ, IfOk, length};
 ghost use Rattle.babel_tlv.specs.declared.view.View.{View};
 ghost use Rattle.babel_dump.specs.CaptureText.{escape};
-ghost use Rattle.babel_dump.specs.InFormat.{counts_in, line_in, lookup_in, report_in, verdict_in};
+ghost use Rattle.babel_dump.specs.InFormat.{count_in, counts_in, line_in, lookup_in, report_in};
+ghost use Rattle.babel_dump.specs.InFormat.{verdict_in};
 ghost use Rattle.babel_dump.specs.Slices.{HasRoom, TookRoom};
-ghost use Rattle.babel_dump.specs.TextParts.{after_name, closing, difference_count_in, hex_text, opening, same_in, to_name};
+ghost use Rattle.babel_dump.specs.TextParts.{after_name, closing, hex_text};
+ghost use Rattle.babel_dump.specs.TextParts.{opening, same_in, to_name};
 ghost use Rattle.babel_dump.specs.declared.format.Format.{Format};
 
 use crate::addr_pair::AddrPair;
 use crate::format::Format;
 use crate::push::{
-    push_answer_line, push_counts, push_differ, push_difference_count, push_lookup, push_pair_line,
+    push_answer_line, push_count, push_counts, push_differ, push_lookup, push_pair_line,
     push_sender_end, push_sender_front, push_text,
 };
 use crate::push_json::{
-    push_answered, push_counts_json, push_differ_json, push_difference_count_json, push_pair_json,
+    push_answered, push_count_json, push_counts_json, push_differ_json, push_pair_json,
     push_sender_end_json, push_sender_front_json,
 };
 use crate::push_report::{push_report, push_report_json};
@@ -119,7 +121,7 @@ pub(crate) fn push_after_name(
     }
 }
 
-/// What stands before the octets of a name, or in place of one.
+/// The text before the octets of a name, or in place of one.
 fn opening(format: Format, name: &[u8]) -> &'static str
     ensures text { result.now ≡ opening format name.now }
     ensures short { length result.now ≤ 4 }
@@ -132,7 +134,7 @@ fn opening(format: Format, name: &[u8]) -> &'static str
     }
 }
 
-/// What stands after the octets of a name.
+/// The text after the octets of a name.
 fn closing(format: Format, name: &[u8]) -> &'static str
     ensures text { result.now ≡ closing format name.now }
     ensures short { length result.now ≤ 4 }
@@ -144,7 +146,7 @@ fn closing(format: Format, name: &[u8]) -> &'static str
     }
 }
 
-/// What stands before the digits of an octet of a name.
+/// The text before the digits of an octet of a name.
 pub(crate) fn escape_of(format: Format) -> &'static str
     ensures text { result.now ≡ escape format }
     ensures short { length result.now ≤ 3 }
@@ -244,18 +246,20 @@ pub(crate) fn same_output(alloc: Global, format: Format) -> Result<Vec<u8>, Allo
     Ok(text)
 }
 
-/// How many differences there are.
-pub(crate) fn difference_count_output(
+/// How many there are of what has this name, of at most 11 octets.
+pub(crate) fn count_output(
     alloc: Global,
     format: Format,
+    name: &str,
     count: usize,
 ) -> Result<Vec<u8>, AllocError>
-    ensures { IfOk result (λ text. text.items ≡ difference_count_in format count) }
+    requires { length name.now ≤ 11 }
+    ensures { IfOk result (λ text. text.items ≡ count_in format name.now count) }
 {
     let mut text = Vec::with_capacity(alloc, LONGEST_TEXT)?;
     match format {
-        Format::Text => push_difference_count(&mut text, count),
-        Format::Json => push_difference_count_json(&mut text, count),
+        Format::Text => push_count(&mut text, name, count),
+        Format::Json => push_count_json(&mut text, name, count),
     }
     Ok(text)
 }

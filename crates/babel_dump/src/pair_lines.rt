@@ -1,4 +1,5 @@
-ghost use Rattle.std.specs.Prelude.{◌-◌, ◌^◌, ◌<◌, ◌≤◌, ◌∷◌, ◌++◌, List, [], OnOk, OnErr, vec_capacity};
+ghost use Rattle.std.specs.Prelude.{◌-◌, ◌^◌, ◌<◌, ◌≤◌, ◌∷◌, ◌++◌, List, [], OnOk};
+ghost use Rattle.std.specs.Prelude.{OnErr, vec_capacity};
 ghost use Rattle.babel_tlv.specs.Pair.{Pair};
 
 use crate::byte_out::ByteOut;

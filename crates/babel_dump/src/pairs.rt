@@ -31,9 +31,9 @@ use std::alloc::Global;
 ///
 /// # Errors
 ///
-/// With and without `count`: `Dump` with the dump's fault, with `TooManyPairs` where the canonical
-/// pairs are more than the entries of the limits, or with `Memory`; `Read` where a read failed;
-/// `Write` where a write or the flush failed.
+/// With and without `count`: `Input` where the dump is refused, also with `TooManyPairs` if its
+/// canonical pairs are more than the entries of the limits, where memory ran out, or where a read
+/// failed; `Write` where a write or the flush failed.
 pub fn run_pairs<R: ByteIn, W: ByteOut>(
     alloc: Global,
     limits: Limits,
@@ -86,8 +86,8 @@ pub(crate) fn find_pairs<R: ByteIn>(
     })
 }
 
-/// A table's canonical pairs under a view, whose lines are the text, or no pair, and the line of how
-/// many rows and pairs there are. The table is gone before the pairs are written.
+/// A table's canonical pairs under a view, whose lines are the text, or no pair, and the line of
+/// how many rows and pairs there are. The table is gone before the pairs are written.
 fn found_pairs(
     alloc: Global,
     limits: Limits,

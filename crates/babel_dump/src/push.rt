@@ -1,13 +1,16 @@
 //! Lines, appended octet by octet to a buffer that has room for them, with no formatter between.
-ghost use Rattle.std.specs.Prelude.{◌≡◌, ℕ, false, List, ◌∷◌, [], ◌++◌, ◌*◌, ◌/◌, ◌%◌, ◌^◌};
+ghost use Rattle.std.specs.Prelude.{◌≡◌, ◌+◌, ℕ, false, List, ◌∷◌, [], ◌++◌, ◌*◌, ◌/◌, ◌%◌, ◌^◌};
 ghost use Rattle.std.specs.Prelude.{◌<◌, ◌≤◌, if◌then◌else◌, length, map};
 ghost use Rattle.std.specs.List.{join_with_byte};
 ghost use Rattle.std.specs.Fmt.{decimal, digits, digit_glyph};
 ghost use Rattle.babel_prefix.specs.declared.family.Family.TheVariants.{V6};
 ghost use Rattle.babel_prefix.specs.Text.{printed, printed_bits, printed_prefix};
 ghost use Rattle.babel_tlv.specs.Views.{keeps_all};
-ghost use Rattle.babel_dump.specs.CaptureText.{link_text, marked, octet_text, sender_end, sender_front};
-ghost use Rattle.babel_dump.specs.RunText.{announcement_text, answer_line, answer_text, counts_text, difference_count_text, differ_lines, held_text, kept_text, newline, pair_line};
+ghost use Rattle.babel_dump.specs.CaptureText.{link_text, marked, octet_text};
+ghost use Rattle.babel_dump.specs.CaptureText.{sender_end, sender_front};
+ghost use Rattle.babel_dump.specs.RunText.{announcement_text, answer_line, answer_text};
+ghost use Rattle.babel_dump.specs.RunText.{counts_text, count_text, differ_lines};
+ghost use Rattle.babel_dump.specs.RunText.{held_text, kept_text, newline, pair_line};
 ghost use Rattle.babel_dump.specs.Slices.{HasRoom, TookRoom};
 ghost use Rattle.babel_dump.specs.TextParts.{hex_digits, nonzero};
 
@@ -98,13 +101,14 @@ pub(crate) fn push_counts(buffer: &mut Vec<u8>, rows: usize, pairs: usize)
     push_octet(buffer, b'\n');
 }
 
-/// Appends how many differences there are.
-pub(crate) fn push_difference_count(buffer: &mut Vec<u8>, count: usize)
-    requires { HasRoom buffer.old 33 }
-    ensures text { buffer.new.items ≡ buffer.old.items ++ difference_count_text count }
-    ensures room { TookRoom buffer.old buffer.new 33 }
+/// Appends how many there are of what has this name.
+pub(crate) fn push_count(buffer: &mut Vec<u8>, name: &str, count: usize)
+    requires { HasRoom buffer.old (length name.now + 22) }
+    ensures text { buffer.new.items ≡ buffer.old.items ++ count_text name.now count }
+    ensures room { TookRoom buffer.old buffer.new (length name.now + 22) }
 {
-    push_text(buffer, "differences ");
+    push_text(buffer, name);
+    push_octet(buffer, b' ');
     push_decimal(buffer, count);
     push_octet(buffer, b'\n');
 }

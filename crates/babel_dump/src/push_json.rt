@@ -1,10 +1,13 @@
 //! Lines as JSON (RFC 8259), appended to a buffer that has room for them. No text of an address
 //! or a router-id has a character that JSON escapes.
-ghost use Rattle.std.specs.Prelude.{◌≡◌, ◌++◌, Some};
+ghost use Rattle.std.specs.Prelude.{◌≡◌, ◌+◌, ◌++◌, Some, length};
 ghost use Rattle.hex.specs.Hex.{encode_lower};
 ghost use Rattle.babel_prefix.specs.Text.{printed};
-ghost use Rattle.babel_dump.specs.CaptureText.{link_json, sender_end_json, sender_front_json, vlans_json};
-ghost use Rattle.babel_dump.specs.JsonText.{addressed_json, announcement_json, answer_json, answered_line, counts_json, differ_json, difference_count_json, kept_json, pair_json, quoted};
+ghost use Rattle.babel_dump.specs.CaptureText.{link_json, sender_end_json};
+ghost use Rattle.babel_dump.specs.CaptureText.{sender_front_json, vlans_json};
+ghost use Rattle.babel_dump.specs.JsonText.{addressed_json, announcement_json, answer_json};
+ghost use Rattle.babel_dump.specs.JsonText.{answered_line, counts_json, differ_json};
+ghost use Rattle.babel_dump.specs.JsonText.{count_json, kept_json, pair_json, quoted};
 ghost use Rattle.babel_dump.specs.Slices.{HasRoom, TookRoom};
 
 use crate::push::{
@@ -82,13 +85,15 @@ pub(crate) fn push_counts_json(buffer: &mut Vec<u8>, rows: usize, pairs: usize)
     push_octet(buffer, b'\n');
 }
 
-/// Appends how many differences there are: an object.
-pub(crate) fn push_difference_count_json(buffer: &mut Vec<u8>, count: usize)
-    requires { HasRoom buffer.old 38 }
-    ensures text { buffer.new.items ≡ buffer.old.items ++ difference_count_json count }
-    ensures room { TookRoom buffer.old buffer.new 38 }
+/// Appends how many there are of what has this name: an object.
+pub(crate) fn push_count_json(buffer: &mut Vec<u8>, name: &str, count: usize)
+    requires { HasRoom buffer.old (length name.now + 27) }
+    ensures text { buffer.new.items ≡ buffer.old.items ++ count_json name.now count }
+    ensures room { TookRoom buffer.old buffer.new (length name.now + 27) }
 {
-    push_text(buffer, r#"{"differences":"#);
+    push_text(buffer, r#"{""#);
+    push_text(buffer, name);
+    push_text(buffer, r#"":"#);
     push_decimal(buffer, count);
     push_text(buffer, "}");
     push_octet(buffer, b'\n');

@@ -31,7 +31,7 @@ fn push_ignored(buffer: &mut Vec<u8>, report: &Report, reasons: &[Reason])
     }
 }
 
-/// Appends how many TLVs were ignored for a reason, and where the first lies: a line, or nothing if
+/// Appends how many TLVs were ignored for a reason, and where the first is: a line, or nothing if
 /// none was.
 fn push_ignored_line(buffer: &mut Vec<u8>, reason: Reason, counted: Option<(u64, u64)>)
     requires { HasRoom buffer.old 75 }
@@ -79,7 +79,7 @@ fn push_ignored_json(buffer: &mut Vec<u8>, report: &Report, reasons: &[Reason])
     }
 }
 
-/// Appends how many TLVs were ignored for a reason, and where the first lies: an object.
+/// Appends how many TLVs were ignored for a reason, and where the first is: an object.
 fn push_ignored_object(buffer: &mut Vec<u8>, reason: Reason, count: u64, first: u64)
     requires { HasRoom buffer.old 89 }
     ensures text { buffer.new.items ≡ buffer.old.items ++ ignored_object reason (count, first) }

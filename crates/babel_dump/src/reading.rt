@@ -1,5 +1,6 @@
 ghost use Rattle.std.specs.Prelude.{◌≡◌};
-ghost use Rattle.babel_dump.specs.CapturedDump.{capture_limit, capture_reading_of, wanted_by};
+ghost use Rattle.babel_dump.specs.CapturedDump.{capture_reading_of};
+ghost use Rattle.babel_dump.specs.Drained.{capture_limit, wanted_by};
 ghost use Rattle.babel_dump.specs.Given.{usual_reading};
 
 use crate::capture_reading::CaptureReading;
@@ -68,7 +69,7 @@ impl Reading {
     }
 }
 
-/// How many octets a capture may have whose dump may have so many.
+/// How many octets a capture may have if its dump may have this many.
 fn capture_limit(dump: u32) -> u32
     ensures { result ≡ capture_limit dump }
 {

@@ -5,7 +5,7 @@ ghost use Rattle.babel_dump.specs.RunText.{reason_name};
 use babel_tlv::Reason;
 use std::fmt;
 
-/// How many TLVs were ignored for a reason, and where the first lies.
+/// How many TLVs were ignored for a reason, and where the first is.
 #[derive(Clone, Copy)]
 pub(crate) struct Counted(pub Reason, pub u64, pub u64);
 

@@ -29,7 +29,7 @@ impl Side {
 }
 
 impl fmt::Display for Side {
-    /// What stands before the text of a fault of the input on this side.
+    /// The text before a fault of the input on this side.
     fn fmt<W: fmt::Write>(&self, f: &mut fmt::Formatter<W>) -> fmt::Result {
         match self {
             Side::First => Ok(()),
@@ -41,8 +41,8 @@ impl fmt::Display for Side {
 /// Why a run gave no status. `Display` gives the line for standard error.
 #[derive(Debug, Drop, PartialEq, Eq, Error)]
 pub enum RunFault {
-    /// Nothing could be made of the input on this side. Want of memory is the first input's but
-    /// while the other is read.
+    /// The input on this side is refused, could not be read, or there was no memory for it. Running
+    /// out of memory is the other input's fault only while that is read.
     #[error("{0}{1}")]
     Input(Side, InputFault),
     /// The pairs of `--each` are refused.
@@ -71,7 +71,8 @@ impl From<Fault> for RunFault {
     ghost use Rattle.babel_dump.specs.declared.run_fault.Side.TheVariants as sides;
     ghost use Rattle.babel_dump.specs.declared.run_fault.RunFault.TheVariants as run_faults;
 
-    ghost from_gives = { λ fault run. run ≡ run_faults.Input sides.First (input_faults.Dump fault) };
+    ghost from_gives = { λ fault run.
+        run ≡ run_faults.Input sides.First (input_faults.Dump fault) };
 
     fn from(fault: Fault) -> RunFault {
         RunFault::Input(Side::First, InputFault::Dump(fault))

@@ -17,7 +17,7 @@ use crate::slice_buffer::SliceBuffer;
 use crate::slices::{Found, Rows, finish};
 use babel_prefix::Addr;
 use babel_table::Limits;
-use babel_tlv::Mode;
+use babel_tlv::{Mode, View};
 use std::alloc::Global;
 
 /// Reads a dump that this sender sent, and writes a line for each row of its table, how many TLVs
@@ -25,7 +25,7 @@ use std::alloc::Global;
 ///
 /// # Errors
 ///
-/// `Dump` with the dump's fault, or with `Memory`; `Read` where a read failed; `Write` where a
+/// `Input` where the dump is refused, where memory ran out, or where a read failed; `Write` where a
 /// write or the flush failed.
 pub fn run_show<R: ByteIn, W: ByteOut>(
     alloc: Global,
@@ -65,7 +65,7 @@ pub(crate) fn find_rows<R: ByteIn>(
         status: 0,
         reports: Reports::Dump(*table.report()),
     };
-    let rows = Rows::Table(table);
+    let rows = Rows::Table(View::all(), table);
     Ok(Found {
         format,
         rows,

@@ -1,9 +1,8 @@
 //! Lines that are written in slices: a buffer takes them, and is written out where it has no room
-//! for one more. So a text of any length takes no more memory than the buffer, which is there before
-//! the first octet is written.
+//! for one more. So a text of any length takes no more memory than the buffer, which is there
+//! before the first octet is written.
 ghost use Rattle.std.specs.Prelude.{◌≡◌, ◌++◌, ◌-◌, ◌^◌, ◌<◌, ◌≤◌, [], IfOk, OnOk, vec_capacity};
 ghost use Rattle.std.specs.List.{flat_map};
-ghost use Rattle.babel_tlv.specs.Views.{keeps_all};
 ghost use Rattle.babel_dump.specs.CaptureText.{escape, escaped, sender_in, senders_in};
 ghost use Rattle.babel_dump.specs.Device.{HasRoomToWrite};
 ghost use Rattle.babel_dump.specs.InFormat.{pairs_in};
@@ -29,8 +28,8 @@ use std::alloc::{AllocError, Global};
 /// Rows of which each has a line.
 #[derive(Drop)]
 pub(crate) enum Rows {
-    /// The rows of a table.
-    Table(Table),
+    /// The rows of a table, as a view shows them.
+    Table(View, Table),
     /// Pairs, as a view shows them.
     Pairs(View, CanonicalPairs),
     /// What is answered for destinations and sources.
@@ -121,7 +120,7 @@ fn write_rows<W: ByteOut>(
         (lines_of format rows) buffer.new.items result }
 {
     match rows {
-        Rows::Table(table) => write_table(writer, format, &table, buffer),
+        Rows::Table(view, table) => write_table(writer, format, view, &table, buffer),
         Rows::Pairs(view, pairs) => write_pairs(writer, format, view, pairs, buffer),
         Rows::Answers(answers) => write_lines(writer, format, View::all(), &answers, buffer),
         Rows::Differences(view, listed) => write_lines(writer, format, view, &listed, buffer),
@@ -134,6 +133,7 @@ fn write_rows<W: ByteOut>(
 fn write_table<W: ByteOut>(
     writer: &mut W,
     format: Format,
+    view: View,
     table: &Table,
     buffer: &mut Vec<u8>,
 ) -> Result<(), WriteFailed>
@@ -141,11 +141,11 @@ fn write_table<W: ByteOut>(
     requires empty { buffer.old.items ≡ [] }
     requires room { 384 ≤ vec_capacity buffer.old }
     ensures { WroteFront (output (W.state writer.old) (W.state writer.new))
-        (pairs_in format keeps_all table.now.rows) buffer.new.items result }
+        (pairs_in format view table.now.rows) buffer.new.items result }
 {
     for (key, held) in table.rows() {
         make_room(writer, buffer)?;
-        push_line(buffer, format, View::all(), key, held);
+        push_line(buffer, format, view, key, held);
     }
     Ok(())
 }

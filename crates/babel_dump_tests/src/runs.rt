@@ -25,8 +25,8 @@ use std::test::Fail;
 /// The words of `compare` with a dump that 192.0.2.1 sent.
 const COMPARE_V4: &str = "compare a b --other-from 192.0.2.1";
 
-/// How many octets a read gives and a write takes, and which read of the reader, which of the other and which call of
-/// the writer fails, counted from 1, if any.
+/// How many octets a read gives and a write takes, and which read of the reader, which of the other
+/// and which call of the writer fails, counted from 1, if any.
 #[derive(Clone, Copy, Debug)]
 struct Script {
     read: usize,
@@ -59,7 +59,8 @@ struct Case<'a> {
     script: Script,
 }
 
-/// What a run gave, its status or its fault, how often it read the dump and the other, and what it wrote.
+/// What a run gave, its status or its fault, how often it read the dump and the other, and what it
+/// wrote.
 #[derive(Drop)]
 struct Ran {
     outcome: Result<u8, RunFault>,
@@ -104,10 +105,19 @@ fn job(alloc: Global, limits: Limits, mode: Mode, sender: &str, asked: &str) -> 
     let line = format!(in alloc;
         "{asked} --from {sender} {hold} --max-octets {octets} --max-routes {routes}"
     )?;
-    match read_words(alloc, &split(alloc, line.as_str())?) {
-        Ok(job) => Ok(job),
-        Err(_refusal) => Err(Fail::from("no job")),
+    one_job(alloc, line.as_str())
+}
+
+/// The one job of the words of a line.
+fn one_job(alloc: Global, line: &str) -> Result<Job, Fail> {
+    let jobs = match read_words(alloc, &split(alloc, line)?) {
+        Ok(jobs) => jobs,
+        Err(_refusal) => return Err(Fail::from("no job")),
+    };
+    if jobs.len() != 1 {
+        return Err(Fail::from("several jobs"));
     }
+    Ok(jobs.into_iter().next().ok_or("no job")?)
 }
 
 /// Runs a case.
@@ -135,8 +145,8 @@ fn run(alloc: Global, case: &Case<'_>) -> Result<Ran, Fail>
     })
 }
 
-/// A case ends in this fault, if any, with this status, and writes these octets. The answer is how often it read the dump
-/// and the other.
+/// A case ends in this fault, if any, with this status, and writes these octets. The answer is how
+/// often it read the dump and the other.
 fn expect_run(
     rt: &impl Abort,
     alloc: Global,

@@ -1,5 +1,6 @@
-//! The canonical form of worked dumps, by the public calls. Expected values are those of RFC 8966 and RFC 9079, worked by
-//! hand. What else dumps are normalised to, and how they compare, the runs show, which write just that.
+//! The canonical form of worked dumps, by the public calls. Expected values are those of RFC 8966
+//! and RFC 9079, worked by hand. What else dumps are normalised to, and how they compare, the runs
+//! show, which write just that.
 mod changed;
 mod refused_memory;
 mod sinks;

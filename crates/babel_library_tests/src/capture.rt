@@ -16,13 +16,16 @@ const BIG: &str = "a1b23c4d0002000400000000000000000004000000000001";
 
 /// A packet of fe80::5eff:fe00:c602, and two of fe80::5eff:fe00:c601.
 const OTHER: &str =
-    "33330001000602005e00c60286dd6c03079800181101fe8000000000000000005efffe00c602ff0200000000000000000000000100061a281a28001820b72a02000c04060000c980006409020000";
+    "33330001000602005e00c60286dd6c03079800181101fe8000000000000000005efffe00c602ff0200000000000000\
+     000000000100061a281a28001820b72a02000c04060000c980006409020000";
 
 const FIRST: &str =
-    "33330001000602005e00c60186dd6c04230000181101fe8000000000000000005efffe00c601ff0200000000000000000000000100061a281a28001820b62a02000c0406000040ff006409020000";
+    "33330001000602005e00c60186dd6c04230000181101fe8000000000000000005efffe00c601ff0200000000000000\
+     000000000100061a281a28001820b62a02000c0406000040ff006409020000";
 
 const SECOND: &str =
-    "33330001000602005e00c60186dd6c04230000201101fe8000000000000000005efffe00c601ff0200000000000000000000000100061a281a28002020be2a0200140406000041000064080a00000000ffff269effff";
+    "33330001000602005e00c60186dd6c04230000201101fe8000000000000000005efffe00c601ff0200000000000000\
+     000000000100061a281a28002020be2a0200140406000041000064080a00000000ffff269effff";
 
 /// What is read of a capture of so many octets at most: the dump of fe80::5eff:fe00:c601 in
 /// hexadecimal, or the fault.
@@ -115,7 +118,8 @@ static CAPTURES: [(&[&str], u64, &str); 21] = [
         &[
             LITTLE,
             "0000000000000000460000004e000000",
-            "33330001000602005e00c60186dd6c04230000181101fe8000000000000000005efffe00c601ff0200000000000000000000000100061a281a28001820b62a02000c04060000",
+            "33330001000602005e00c60186dd6c04230000181101fe8000000000000000005efffe00c601ff02000000\
+             00000000000000000100061a281a28001820b62a02000c04060000",
         ],
         4096,
         "datagram cut by the recorder at 24",
@@ -173,7 +177,8 @@ static CAPTURES: [(&[&str], u64, &str); 21] = [
         &[
             LITTLE,
             "00000000000000004600000046000000",
-            "33330001000602005e00c60186dd6c04230000181101fe8000000000000000005efffe00c601ff0200000000000000000000000100061a281a28001820b62a02000c04060000",
+            "33330001000602005e00c60186dd6c04230000181101fe8000000000000000005efffe00c601ff02000000\
+             00000000000000000100061a281a28001820b62a02000c04060000",
         ],
         4096,
         "datagram cut short at 24",
@@ -182,7 +187,8 @@ static CAPTURES: [(&[&str], u64, &str); 21] = [
         &[
             LITTLE,
             "00000000000000005600000056000000",
-            "33330001000602005e00c60186dd6c04230000202c01fe8000000000000000005efffe00c601ff0200000000000000000000000100061100000100000007",
+            "33330001000602005e00c60186dd6c04230000202c01fe8000000000000000005efffe00c601ff02000000\
+             00000000000000000100061100000100000007",
             "1a281a28001820b62a02000c0406000040ff006409020000",
         ],
         4096,
@@ -192,7 +198,8 @@ static CAPTURES: [(&[&str], u64, &str); 21] = [
         &[
             LITTLE,
             "00000000000000004e0000004e000000",
-            "33330001000602005e00c60186dd6c04230000181101fe8000000000000000005efffe00c601ff02000000000000000000000001000614e91a28001820b62a02000c0406000040ff006409020000",
+            "33330001000602005e00c60186dd6c04230000181101fe8000000000000000005efffe00c601ff02000000\
+             000000000000000001000614e91a28001820b62a02000c0406000040ff006409020000",
         ],
         4096,
         "",
@@ -276,8 +283,8 @@ fn gathered_of(
     capture.finish()
 }
 
-/// The addresses of the frame `FIRST`, and the parts of its IP packet: what is before the source, the source, the destination,
-/// the ports, and what is after them.
+/// The addresses of the frame `FIRST`, and the parts of its IP packet: what is before the source,
+/// the source, the destination, the ports, and what is after them.
 const ADDRESSES: &str = "33330001000602005e00c601";
 
 const HEAD: &str = "6c04230000181101";
@@ -295,9 +302,10 @@ const RECORD: &str = "00000000000000004000000040000000";
 
 const RAW: &str = "d4c3b2a10200040000000000000000000000040065000000";
 
-/// What is seen in captures: a line for each sender at each place, with the interface, its name in hexadecimal, the link, the
-/// VLANs, and its packets, octets and Updates; for each reason how many datagrams were left out and the first one's number; and
-/// how many frames were too short to tell, and how many packets came in frames of Linux cooked, version 1.
+/// What is seen in captures: a line for each sender at each place, with the interface, its name in
+/// hexadecimal, the link, the VLANs, and its packets, octets and Updates; for each reason how many
+/// datagrams were left out and the first one's number; and how many frames were too short to tell,
+/// and how many packets came in frames of Linux cooked, version 1.
 static SEEN: [(&[&str], &str); 6] = [
     (
         &[

@@ -1,5 +1,5 @@
-//! Tests of the libraries below the runs, by their public calls alone. They stand in a crate of their own, since a crate that
-//! has tests is proved a second time with them.
+//! Tests of the libraries below the runs, by their public calls alone. They stand in a crate of
+//! their own, since a crate that has tests is proved a second time with them.
 #![tactic(auto)]
 
 #[cfg(test)]

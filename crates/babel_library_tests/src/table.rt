@@ -1,5 +1,6 @@
-//! How dumps are read, by the public calls: in pieces, cut off, with an octet changed, with a fault. Expected values are those
-//! of RFC 8966 and RFC 9079, worked by hand. Which rows and reports whole dumps give the runs show, which print just these.
+//! How dumps are read, by the public calls: in pieces, cut off, with an octet changed, with a
+//! fault. Expected values are those of RFC 8966 and RFC 9079, worked by hand. Which rows and
+//! reports whole dumps give the runs show, which print just these.
 mod changes;
 mod faults;
 mod pieces;

@@ -8,12 +8,13 @@ use crate::dumps::{
     TWO_ROUTES_FORM, V4, V6, octets,
 };
 use babel_prefix::parse_addr;
-use babel_tlv::{Event, Fault, Frame, Route, State, Tlvs, check_body, frame};
+use babel_tlv::{Event, Fault, Frame, State, Tlvs, check_body, frame};
 use std::alloc::Global;
 use std::process::Abort;
 use std::test::Fail;
 
-/// A sender, its dump, and what the dump's TLVs say, each at its offset, but for those that say nothing.
+/// A sender, its dump, and what the dump's TLVs say, each at its offset, but for those that say
+/// nothing.
 #[rattlefmt::skip]
 static SAID: [(&str, &str, &str); 19] = [
     (
@@ -46,7 +47,8 @@ static SAID: [(&str, &str, &str); 19] = [
     (
         V6,
         ROUTER_ID_BY_FLAG,
-        "4 2001:db8:0:0:200:0:0:7/128 from 0:0:0:0:0:0:0:0/0 via fe80:0:0:0:0:0:0:1 id 0200000000000007 seqno 1 metric 256\n\
+        "4 2001:db8:0:0:200:0:0:7/128 from 0:0:0:0:0:0:0:0/0 via fe80:0:0:0:0:0:0:1 id \
+         0200000000000007 seqno 1 metric 256\n\
         36 ignored: NoRouterId\n",
     ),
     // The router-id of an IPv4 address.
@@ -58,16 +60,20 @@ static SAID: [(&str, &str, &str); 19] = [
     // A Next Hop of each encoding, and a route after each.
     (
         V4,
-        "2a02005f 060a0000 0200000000000001 07060100c6336401 080b010008000640000101000a 0712020020010db8000000000000000000000001
+        "2a02005f 060a0000 0200000000000001 07060100c6336401 080b010008000640000101000a \
+         0712020020010db8000000000000000000000001
          080e02002000064000010100 20010db8 070a03000000000000000009 080c02001000064000010200 2001",
         "24 10.0.0.0/8 from 0.0.0.0/0 via 198.51.100.1 id 0200000000000001 seqno 1 metric 256\n\
-        57 2001:db8:0:0:0:0:0:0/32 from 0:0:0:0:0:0:0:0/0 via 2001:db8:0:0:0:0:0:1 id 0200000000000001 seqno 1 metric 256\n\
-        85 2001:0:0:0:0:0:0:0/16 from 0:0:0:0:0:0:0:0/0 via fe80:0:0:0:0:0:0:9 id 0200000000000001 seqno 1 metric 512\n",
+        57 2001:db8:0:0:0:0:0:0/32 from 0:0:0:0:0:0:0:0/0 via 2001:db8:0:0:0:0:0:1 id \
+        0200000000000001 seqno 1 metric 256\n\
+        85 2001:0:0:0:0:0:0:0/16 from 0:0:0:0:0:0:0:0/0 via fe80:0:0:0:0:0:0:9 id \
+        0200000000000001 seqno 1 metric 512\n",
     ),
     // Faulty ones change nothing; one that is ignored for a mandatory sub-TLV counts.
     (
         V4,
-        "2a020049 060a0000 0200000000000001 07020000 07020400 07050100c00002 070101 060400000200 07080100c63364018000
+        "2a020049 060a0000 0200000000000001 07020000 07020400 07050100c00002 070101 060400000200 \
+         07080100c63364018000
          080b010008000640000101000a 07060100c6336402 07040300 fe80",
         "16 ignored: UnknownEncoding\n\
         20 ignored: UnknownEncoding\n\
@@ -83,7 +89,8 @@ static SAID: [(&str, &str, &str); 19] = [
     (
         V6,
         ONE_V6_ROUTE,
-        "16 2001:db8:0:0:0:0:0:1/128 from 0:0:0:0:0:0:0:0/0 via fe80:0:0:0:0:0:0:1 id 0200000000000001 seqno 1 metric 256\n",
+        "16 2001:db8:0:0:0:0:0:1/128 from 0:0:0:0:0:0:0:0/0 via fe80:0:0:0:0:0:0:1 id \
+         0200000000000001 seqno 1 metric 256\n",
     ),
     (V4, ONE_V6_ROUTE, "16 ignored: NoNextHop\n"),
     (
@@ -153,10 +160,9 @@ fn said_in(alloc: Global, sender: &str, body: &[u8], at: u64) -> Result<String, 
     requires { at + length body.now < 2 ^ 64 }
 {
     let mut state = State::new(parse_addr(sender).ok_or("no address")?);
-    let mut route = Route::unwritten();
     let mut said = String::new(alloc);
     for tlv in Tlvs::new(body, at) {
-        let event = state.step(&tlv, &mut route)?.event(&route);
+        let event = state.step(&tlv)?;
         said.push_str(line(alloc, tlv.at, &event)?.as_str())?;
     }
     Ok(said)
@@ -215,7 +221,8 @@ static BODIES: [(&str, Result<(), Fault>); 7] = [
     ("", Ok(())),
 ];
 
-/// The fault for which octets at this offset of a dump begin no packet; none where they are less than a packet.
+/// The fault for which octets at this offset of a dump begin no packet; none where they are less
+/// than a packet.
 fn framed(rt: &impl Abort, alloc: Global, text: &str, at: u64) -> Result<Option<Fault>, Fail>
     requires { at < 65536 }
 {

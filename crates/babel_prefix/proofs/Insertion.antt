@@ -42,7 +42,8 @@ module _ {K X : Type 0} {R : K → K → Ordering} (o : IsTotalOrder R) where
       by_apart false true x y z apart = refl
       by_apart false false x y z apart = refl
 
-      by : lookup (is_at (R q)) (insert_entry R es k v) ≡ cond (is_at (R k) q) (Some v) (lookup (is_at (R q)) es) → (r : Ordering) → R k e.0 ≡ r → lookup (is_at (R q)) (match_ordering r ((k, v) ∷ e ∷ es) ((e.0, v) ∷ es) (e ∷ insert_entry R es k v)) ≡ cond (is_at (R k) q) (Some v) (lookup (is_at (R q)) (e ∷ es))
+      by : lookup (is_at (R q)) (insert_entry R es k v) ≡ cond (is_at (R k) q) (Some v) (lookup (is_at (R q)) es) → (r : Ordering) → R k e.0 ≡ r
+          → lookup (is_at (R q)) (match_ordering r ((k, v) ∷ e ∷ es) ((e.0, v) ∷ es) (e ∷ insert_entry R es k v)) ≡ cond (is_at (R k) q) (Some v) (lookup (is_at (R q)) (e ∷ es))
       by again Less is = rw (is_at-sym o q k) refl
       by again Equal is =
           let same : is_at (R k) q ≡ is_at (R q) e.0 = ap is_eq (o.congr k e.0 q is) ∙ is_at-sym o e.0 q in
@@ -56,7 +57,8 @@ module _ {K X : Type 0} {R : K → K → Ordering} (o : IsTotalOrder R) where
   below_insert x k v [] less below = (less, tt)
   below_insert x k v (e ∷ es) less below = by (below_insert x k v es less below.1) (R k e.0)
     where
-      by : AllByRecursion (λ y. R x y ≡ Less) (keys_of (insert_entry R es k v)) → (r : Ordering) → AllByRecursion (λ y. R x y ≡ Less) (keys_of (match_ordering r ((k, v) ∷ e ∷ es) ((e.0, v) ∷ es) (e ∷ insert_entry R es k v)))
+      by : AllByRecursion (λ y. R x y ≡ Less) (keys_of (insert_entry R es k v)) → (r : Ordering)
+          → AllByRecursion (λ y. R x y ≡ Less) (keys_of (match_ordering r ((k, v) ∷ e ∷ es) ((e.0, v) ∷ es) (e ∷ insert_entry R es k v)))
       by again Less = (less, below)
       by again Equal = below
       by again Greater = (below.0, again)
@@ -66,7 +68,8 @@ module _ {K X : Type 0} {R : K → K → Ordering} (o : IsTotalOrder R) where
   sorted-insert k v [] sorted = (tt, tt)
   sorted-insert k v (e ∷ es) sorted = by (sorted-insert k v es sorted.1) (R k e.0) refl
     where
-      by : IsStrictlySortedBy R (keys_of (insert_entry R es k v)) → (r : Ordering) → R k e.0 ≡ r → IsStrictlySortedBy R (keys_of (match_ordering r ((k, v) ∷ e ∷ es) ((e.0, v) ∷ es) (e ∷ insert_entry R es k v)))
+      by : IsStrictlySortedBy R (keys_of (insert_entry R es k v)) → (r : Ordering) → R k e.0 ≡ r
+          → IsStrictlySortedBy R (keys_of (match_ordering r ((k, v) ∷ e ∷ es) ((e.0, v) ∷ es) (e ∷ insert_entry R es k v)))
       by again Less is = ((is, below_all o k e.0 (keys_of es) is sorted.0), sorted)
       by again Equal is = sorted
       by again Greater is =

@@ -45,3 +45,8 @@ address_equality a b = (address_exact a b, λ same. subst (λ c. address_cmp a c
 
 pub prefix_equality : (p q : AddressPrefix) → (prefix_cmp p q ≡ Equal) ↔ (p ≡ q)
 prefix_equality p q = (prefix_exact p q, λ same. subst (λ r. prefix_cmp p r ≡ Equal) same (tied_itself prefix_total p))
+
+-- what the laws of `laws` are proved by
+pub ruleset totality = (family_total, address_total, prefix_total)
+
+pub ruleset equality = (family_equality, address_equality, prefix_equality)

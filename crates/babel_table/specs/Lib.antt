@@ -12,6 +12,7 @@ pub mod Streams
 pub mod BestMatch
 pub mod Answers
 pub mod Lookup
+pub mod Nested
 pub mod OneOutcome
 pub mod Compact
 pub mod Left

@@ -2,10 +2,11 @@ ghost use Rattle.std.specs.Prelude.{◌≡◌, ◌↔◌, IsTrue};
 ghost use Rattle.std.specs.Cmp.Rules.{comparing};
 ghost use Rattle.std.proofs.Common.{rules};
 ghost use Rattle.babel_prefix.specs.Covers.{Covers};
+ghost use Rattle.babel_prefix.specs.Width.{width_of};
 ghost use Rattle.babel_table.specs.Compact.{address_in};
 
 use crate::word::Word;
-use babel_prefix::Prefix;
+use babel_prefix::{Addr, Prefix};
 use std::cmp::Ordering;
 use std::marker::Model;
 
@@ -99,6 +100,15 @@ impl<W: Word> CompactPrefix<W> {
         }
     }
 
+    /// The prefix that has this address alone.
+    pub fn host(addr: &Addr) -> CompactPrefix<W>
+        requires { addr.now.family ≡ W.family }
+        ensures { result ≡ record { address = addr.now; len = width_of addr.now.family } }
+    {
+        let prefix = Prefix::new(*addr, addr.family().width()).unwrap();
+        CompactPrefix::of(&prefix)
+    }
+
     /// The prefix that is kept.
     pub fn prefix(&self) -> Prefix
         ensures { result ≡ self.now }
@@ -111,5 +121,12 @@ impl<W: Word> CompactPrefix<W> {
         ensures { IsTrue result ↔ Covers self.now (address_in W.family (W.number addr)) }
     {
         addr.agrees(self.word, self.len)
+    }
+
+    /// Whether the prefix has the other's first address.
+    pub fn has_start_of(&self, other: &CompactPrefix<W>) -> bool
+        ensures { IsTrue result ↔ Covers self.now other.now.address }
+    {
+        self.contains(other.word)
     }
 }

@@ -1,4 +1,5 @@
-ghost use Rattle.std.specs.Prelude.{◌≡◌, ◌<◌, ◌+◌, ◌^◌, if◌then◌else◌, [], IfOk, OnErr, OnOk, length, is_some};
+ghost use Rattle.std.specs.Prelude.{◌≡◌, ◌<◌, ◌+◌, ◌^◌, if◌then◌else◌, [], length, is_some};
+ghost use Rattle.std.specs.Prelude.{IfOk, OnErr, OnOk};
 ghost use Rattle.std.specs.List.Sorted.{IsStrictlySortedBy};
 ghost use Rattle.std.specs.BTreeMap.{insert_entry, is_at};
 ghost use Rattle.std.specs.Map.{keys_of, lookup, remove_entry};
@@ -10,6 +11,7 @@ ghost use Rattle.babel_table.specs.TableRows.{AreRows};
 
 use crate::family_rows::FamilyRows;
 use crate::halves::Halves;
+use crate::nested_rows::NestedRows;
 use crate::sorted_rows::SortedRows;
 use babel_prefix::{Addr, Family};
 use babel_tlv::{Held, Key};
@@ -107,7 +109,12 @@ impl KeptRows {
     {
         let v4 = self.v4.listed(alloc, wipes)?;
         let v6 = self.v6.listed(alloc, wipes)?;
-        Ok(SortedRows { v4, v6 })
+        let nested_v4 = NestedRows::of(alloc, v4)?;
+        let nested_v6 = NestedRows::of(alloc, v6)?;
+        Ok(SortedRows {
+            v4: nested_v4,
+            v6: nested_v6,
+        })
     }
 
     /// What the best matching row stands for behind so many wipes, for two addresses of one family.

@@ -58,7 +58,7 @@ impl SoFar {
             (TakesTlv self.old state.old (tlv_value tlv.now) self.new state.new) }
         ensures fails { IfErr result (FailsAtTlv self.old state.old (tlv_value tlv.now)) }
     {
-        let verdict = state.step(tlv, route)?;
+        let verdict = state.step_into(tlv, route)?;
         self.take(tlv, verdict, route)
     }
 

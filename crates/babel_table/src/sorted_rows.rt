@@ -4,11 +4,9 @@ ghost use Rattle.babel_table.specs.Left.{rows_left};
 ghost use Rattle.babel_table.specs.Seen.{seen_rows};
 ghost use Rattle.babel_table.specs.TableRows.{AreRows, family_rows};
 
-use crate::compact_row::CompactRow;
 use crate::halves::Halves;
-use crate::lookup::best_match;
+use crate::nested_rows::NestedRows;
 use crate::table_rows::TableRows;
-use crate::word::Word;
 use babel_prefix::{Addr, Family};
 use babel_tlv::{Held, View};
 use std::marker::Model;
@@ -16,8 +14,8 @@ use std::marker::Model;
 /// Rows in rising order: of IPv4, then of IPv6.
 #[derive(Drop)]
 pub struct SortedRows {
-    pub v4: Vec<CompactRow<u32>>,
-    pub v6: Vec<CompactRow<Halves>>,
+    pub v4: NestedRows<u32>,
+    pub v6: NestedRows<Halves>,
 }
 
 impl Model for SortedRows {
@@ -29,10 +27,10 @@ impl Model for SortedRows {
 
     ghost Value = { List Pair };
 
-    ghost view = { λ r. r.v4.items ++ r.v6.items };
+    ghost view = { λ r. r.v4 ++ r.v6 };
 
-    ghost invariant = { λ r. AreOf V4 r.v4.items × AreOf V6 r.v6.items
-        × AreRows (r.v4.items ++ r.v6.items) };
+    ghost invariant = { λ r. AreOf V4 r.v4 × AreOf V6 r.v6
+        × AreRows (r.v4 ++ r.v6) };
 }
 
 impl SortedRows {
@@ -42,8 +40,8 @@ impl SortedRows {
         ensures valid { AreRows self.now }
     {
         TableRows {
-            v4: &self.v4,
-            v6: &self.v6,
+            v4: self.v4.as_slice(),
+            v6: self.v6.as_slice(),
         }
     }
 
@@ -54,12 +52,12 @@ impl SortedRows {
     {
         match family {
             Family::V4 => TableRows {
-                v4: &self.v4,
+                v4: self.v4.as_slice(),
                 v6: &[],
             },
             Family::V6 => TableRows {
                 v4: &[],
-                v6: &self.v6,
+                v6: self.v6.as_slice(),
             },
         }
     }
@@ -71,8 +69,8 @@ impl SortedRows {
         ensures best { IsBestMatch self.now dst.now src.now result }
     {
         match dst.family() {
-            Family::V4 => best_match(&self.v4, dst, src),
-            Family::V6 => best_match(&self.v6, dst, src),
+            Family::V4 => self.v4.best_match(dst, src),
+            Family::V6 => self.v6.best_match(dst, src),
         }
     }
 
@@ -82,17 +80,8 @@ impl SortedRows {
         ensures { result ≡ seen_rows view self }
     {
         let SortedRows { mut v4, mut v6 } = self;
-        see_rows(&mut v4, view);
-        see_rows(&mut v6, view);
+        v4.see(view);
+        v6.see(view);
         SortedRows { v4, v6 }
-    }
-}
-
-/// Puts what the view sees in place of what each row holds.
-fn see_rows<W: Word>(rows: &mut [CompactRow<W>], view: View)
-    ensures { rows.new ≡ seen_rows view rows.old }
-{
-    for row in rows.iter_mut() {
-        row.1.see(view);
     }
 }

@@ -123,7 +123,8 @@ pub moved_up-is : (family : Family) (number count : ℕ) → count ≤ octet_cou
     → number * 2 ^ (8 * (octet_count family - count)) % 2 ^ 128 ≡ number * 256 ^ (octet_count family - count)
 moved_up-is family number count few fits =
     let k = octet_count family - count in
-    let wide : 2 ^ width_of family ≤ 2 ^ 128 = subst (λ (m : ℕ). m ≤ 2 ^ 128) (sym (width-octets family)) (pow-le-pow_right {n = 256} (omega arith) {i = octet_count family} {j = 16} (few_octets family)) in
+    let wide : 2 ^ width_of family ≤ 2 ^ 128 = subst (λ (m : ℕ). m ≤ 2 ^ 128) (sym (width-octets family))
+    (pow-le-pow_right {n = 256} (omega arith) {i = octet_count family} {j = 16} (few_octets family)) in
     ap (λ (m : ℕ). number * m % 2 ^ 128) (sym (pow_256 k))
     ∙ mod-eq_of_lt (omega (arith, wide, moved_up-fits family number count few fits))
 

@@ -84,3 +84,8 @@ announcement_equality a b = (announcement_exact a b, λ same. subst (λ c. annou
 
 pub held_equality : (a b : Held) → (held_cmp a b ≡ Equal) ↔ (a ≡ b)
 held_equality a b = (held_exact a b, λ same. subst (λ c. held_cmp a c ≡ Equal) same (tied_itself held_total a))
+
+-- what the laws of `laws` are proved by
+pub ruleset totality = (key_total, announcement_total, held_total)
+
+pub ruleset equality = (key_equality, announcement_equality, held_equality)

@@ -88,7 +88,8 @@ BeginsTlv-shorter octets zero body rest begins = omega (arith, ap length begins.
 BeginsTlv-shorter octets (suc kind) body rest begins = omega (arith, ap length begins.whole, length-append body rest)
 
 -- an item that isn't mandatory is passed over
-pub SubTlvsSoFar-pass : (place : Place) (octets rest behind : List ℕ) (source : Option AddressPrefix) (kind : ℕ) (body : List ℕ) → SubTlvsSoFar place octets rest source → BeginsTlv rest kind body behind
+pub SubTlvsSoFar-pass : (place : Place) (octets rest behind : List ℕ) (source : Option AddressPrefix) (kind : ℕ) (body : List ℕ)
+    → SubTlvsSoFar place octets rest source → BeginsTlv rest kind body behind
     → kind < 128 → SubTlvsSoFar place octets behind source
 SubTlvsSoFar-pass place octets rest behind source kind body so_far begins optional =
     let item = one so_far.at kind body in
@@ -102,7 +103,8 @@ SubTlvsSoFar-pass place octets rest behind source kind body so_far begins option
     so_far.of_family
 
 -- a Source Prefix that isn't at fault is the one
-pub SubTlvsSoFar-source : (place : Place) (octets rest behind : List ℕ) (source : Option AddressPrefix) (body : List ℕ) (prefix : AddressPrefix) → SubTlvsSoFar place octets rest source → BeginsTlv rest 128 body behind
+pub SubTlvsSoFar-source : (place : Place) (octets rest behind : List ℕ) (source : Option AddressPrefix) (body : List ℕ) (prefix : AddressPrefix)
+    → SubTlvsSoFar place octets rest source → BeginsTlv rest 128 body behind
     → item_reason place (is_some source) (one 0 128 body) ≡ None → is_some source ≡ false
     → ((family : Family) → place ≡ places.InUpdate family → prefix ≡ source_prefix family body)
     → SubTlvsSoFar place octets behind (Some prefix)

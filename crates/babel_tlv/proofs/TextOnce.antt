@@ -32,11 +32,26 @@ first_differ (pair ∷ one) [] behind_one behind_other e = inr (inr (record { ne
 first_differ (pair ∷ one) (first ∷ other) behind_one behind_other e =
     let heads : pair ≡ first = cc in
     let tails : one ++ behind_one ≡ other ++ behind_other = cc in
-    elim (first_differ one other behind_one behind_other tails) as (λ _. ((pair ∷ one) ≡ (first ∷ other)) ⊎ GoesOn (pair ∷ one) (first ∷ other) behind_one ⊎ GoesOn (first ∷ other) (pair ∷ one) behind_other) [
+    elim (first_differ one other behind_one behind_other tails) as (λ _. ((pair ∷ one) ≡ (first ∷ other))
+    ⊎ GoesOn (pair ∷ one) (first ∷ other) behind_one ⊎ GoesOn (first ∷ other) (pair ∷ one) behind_other) [
       | inl same ↦ inl (ap (λ (p : Pair). p ∷ one) heads ∙ ap (λ (ps : List Pair). first ∷ ps) same)
       | inr differ ↦ elim differ as (λ _. ((pair ∷ one) ≡ (first ∷ other)) ⊎ GoesOn (pair ∷ one) (first ∷ other) behind_one ⊎ GoesOn (first ∷ other) (pair ∷ one) behind_other) [
-        | inl on ↦ inr (inl (record { next = on.next; more = on.more; rest = on.rest; other_is = ap (λ (p : Pair). p ∷ other) (sym heads) ∙ ap (λ (ps : List Pair). pair ∷ ps) on.other_is; behind_is = on.behind_is }))
-        | inr on ↦ inr (inr (record { next = on.next; more = on.more; rest = on.rest; other_is = ap (λ (p : Pair). p ∷ one) heads ∙ ap (λ (ps : List Pair). first ∷ ps) on.other_is; behind_is = on.behind_is }))
+        | inl on ↦ inr (inl (record {
+          next = on.next;
+          more = on.more;
+          rest = on.rest;
+          other_is = ap (λ (p : Pair). p ∷ other) (sym heads)
+              ∙ ap (λ (ps : List Pair). pair ∷ ps) on.other_is;
+          behind_is = on.behind_is;
+        }))
+        | inr on ↦ inr (inr (record {
+          next = on.next;
+          more = on.more;
+          rest = on.rest;
+          other_is = ap (λ (p : Pair). p ∷ one) heads
+              ∙ ap (λ (ps : List Pair). first ∷ ps) on.other_is;
+          behind_is = on.behind_is;
+        }))
       ]
     ]
 

@@ -17,7 +17,8 @@ use Rattle.babel_tlv.specs.Framing.{TlvAt, ArePackets, IsBody, framed, packet_oc
 use Rattle.babel_tlv.specs.Forming.{encoding, link_local}
 use Rattle.babel_tlv.specs.Context.{context_after}
 use Rattle.babel_tlv.specs.Says.{Saying, sayings, sayings_behind}
-use Rattle.babel_tlv.specs.Group.{pair_family, is_id, is_hop, router_id_tlv, next_hop_tlv, next_hop_octets, held_seqno, held_metric, shared_octets, update_tlv, update_body, group, groups_behind, body_of, ArePacked}
+use Rattle.babel_tlv.specs.Group.{pair_family, is_id, is_hop, router_id_tlv, next_hop_tlv, next_hop_octets, held_seqno, held_metric}
+use Rattle.babel_tlv.specs.Group.{shared_octets, update_tlv, update_body, group, groups_behind, body_of, ArePacked}
 use Rattle.babel_tlv.specs.Writing.{route_in, Written, written_after, hop_in, dst_in, group_in}
 use Rattle.babel_tlv.specs.Pair.{Pair}
 use Rattle.babel_tlv.specs.Pairs.{FitsKey, IsPair}

@@ -42,7 +42,8 @@ as_said event = Ok event
 -- an Update of a family is told by that family's default prefix
 said_by : (context : Context) (at : ℕ) (family : Family) (len omit seqno metric : ℕ) (field sub : List ℕ)
     → said context (one at 8 (update_octets (encoding family) len omit seqno metric field sub))
-    ≡ Ok (prefix_event family context (update_octets (encoding family) len omit seqno metric field sub) (formed family (default_in family context) (update_octets (encoding family) len omit seqno metric field sub)))
+    ≡ Ok (prefix_event family context (update_octets (encoding family) len omit seqno metric field sub)
+    (formed family (default_in family context) (update_octets (encoding family) len omit seqno metric field sub)))
 said_by context at V4 len omit seqno metric field sub =
     let enough : ltb (length (update_octets 1 len omit seqno metric field sub)) 10 ≡ false = le-ltb _ _ (omega arith) in rw enough refl
 said_by context at V6 len omit seqno metric field sub =
@@ -71,7 +72,8 @@ prefix_told family context dst src ae omit seqno metric event dst_fits src_fits 
     let read = source_told src src_fits in
     let fine : sub_reason (places.InUpdate family) (source_sub src) ≡ None = subst (λ (f : Family). sub_reason (places.InUpdate f) (source_sub src) ≡ None) one_family read.fine in
     let given : source_of family (tlvs_of 0 (source_sub src)) ≡ src = subst (λ (f : Family). source_of f (tlvs_of 0 (source_sub src)) ≡ src) one_family read.given in
-    ap (λ (octets : List ℕ). unless_ignored (sub_reason (places.InUpdate family) octets) (key_event family context body dst (key_of dst (source_of family (tlvs_of 0 octets))))) (behind_field dst ae omit seqno metric (source_sub src) dst_fits)
+    ap (λ (octets : List ℕ). unless_ignored (sub_reason (places.InUpdate family) octets) (key_event family context body dst (key_of dst (source_of family (tlvs_of 0 octets)))))
+    (behind_field dst ae omit seqno metric (source_sub src) dst_fits)
     ∙ ap (λ (fault : Option Reason). unless_ignored fault (key_event family context body dst (key_of dst (source_of family (tlvs_of 0 (source_sub src)))))) fine
     ∙ ap (λ (p : AddressPrefix). key_event family context body dst (key_of dst p)) given
     ∙ says

@@ -98,3 +98,6 @@ seen_tells_apart view family (helds.Route ann) (helds.Route other) fits other_fi
 seen_tells_apart view family (helds.Route ann) helds.Unreachable fits other_fits = ((λ never. absurd never), (λ equal. absurd cc))
 seen_tells_apart view family helds.Unreachable (helds.Route other) fits other_fits = ((λ never. absurd never), (λ equal. absurd cc))
 seen_tells_apart view family helds.Unreachable helds.Unreachable fits other_fits = ((λ _. refl), (λ _. tt))
+
+-- what the law of views is proved by
+pub ruleset views_tell = (seen_tells_apart, all_is_seen, seen_twice_is_seen, seen_fits)

@@ -1,4 +1,5 @@
--- What a parser keeps between two TLVs, and an address of each family, if one is known: RFC 8966, 4.5.
+-- What a parser keeps between two TLVs, and an address of each family, if one is known: RFC 8966,
+-- 4.5.
 use Rattle.std.specs.Prelude.{◌≡◌, ◌^◌, ◌<◌, ℕ, List, length, slice_index, IfSome, Option, Some}
 use Rattle.babel_prefix.specs.declared.family.Family.{Family}
 use Rattle.babel_prefix.specs.declared.family.Family.TheVariants.{V4, V6}

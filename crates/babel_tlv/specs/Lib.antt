@@ -12,6 +12,7 @@ pub mod Fields
 pub mod SubTlv
 pub mod Context
 pub mod Updating
+pub mod Nearest
 pub mod Kept
 pub mod Says
 pub mod Group

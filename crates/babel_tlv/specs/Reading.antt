@@ -1,5 +1,6 @@
 -- What the readings of one TLV give: RFC 8966, 4.6.8, 4.6.9; RFC 9079, 7.2.
-use Rattle.std.specs.Prelude.{◌≡◌, ℕ, ◌+◌, ◌++◌, List, drop, take, slice_index, Option, Some, None, Result, Ok, MatchResult}
+use Rattle.std.specs.Prelude.{◌≡◌, ℕ, ◌+◌, ◌++◌, List, drop, take, slice_index, Option}
+use Rattle.std.specs.Prelude.{Some, None, Result, Ok, MatchResult}
 use Rattle.std.specs.List.{find}
 use Rattle.std.specs.Option.{option_map}
 use Rattle.babel_prefix.specs.declared.family.Family.{Family}
@@ -13,7 +14,8 @@ use Rattle.babel_tlv.specs.declared.router_id.RouterId.{RouterId}
 use Rattle.babel_tlv.specs.declared.verdict.Verdict.{Verdict}
 use Rattle.babel_tlv.specs.Context.{Context}
 use Rattle.babel_tlv.specs.Updating.{default_in}
-use Rattle.babel_tlv.specs.Forming.{default_octets, field_len, formed, hop_len, next_hop_in, omitted, router_id_in}
+use Rattle.babel_tlv.specs.Forming.{default_octets, field_len, formed, hop_len}
+use Rattle.babel_tlv.specs.Forming.{next_hop_in, omitted, router_id_in}
 use Rattle.babel_tlv.specs.Framing.{TlvAt}
 use Rattle.babel_tlv.specs.Route.{Announcement}
 use Rattle.babel_tlv.specs.Says.{prefix_event}
@@ -37,11 +39,13 @@ source_in family items = option_map (λ item. source_prefix family item.body) (f
 
 -- the octets of an Update's prefix: those omitted, of the default prefix, and those that it brings
 abbrev pub joined_octets : Option Address → List ℕ → List ℕ
-joined_octets default body = take (omitted body) (default_octets default) ++ take (field_len body) (drop 10 body)
+joined_octets default body =
+    take (omitted body) (default_octets default) ++ take (field_len body) (drop 10 body)
 
 -- what an Update of the family says
 abbrev pub family_event : Family → Context → List ℕ → Event
-family_event family context body = prefix_event family context body (formed family (default_in family context) body)
+family_event family context body =
+    prefix_event family context body (formed family (default_in family context) body)
 
 -- a route by the fields of its announcement
 abbrev pub announcement_of : List ℕ → ℕ → ℕ → Address → Announcement
@@ -55,7 +59,8 @@ HasFault fault result = MatchResult result (λ _. fault ≡ None) (λ reason. fa
 -- a reading and a route say this, or it is the reason to ignore the TLV
 abbrev pub GivesEvent : Event → Route → Result Verdict Reason → Type 0
 GivesEvent event route result =
-    MatchResult result (λ verdict. event ≡ event_of verdict route) (λ reason. event ≡ events.Ignored reason)
+    MatchResult result (λ verdict. event ≡ event_of verdict route)
+    (λ reason. event ≡ events.Ignored reason)
 
 -- RFC 8966, 4.6.7: the router-id, and the sub-TLVs behind it
 abbrev pub IsRouterIdIn : List ℕ → RouterId → Type 0

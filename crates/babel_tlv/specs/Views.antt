@@ -24,7 +24,8 @@ HeldSameUnder view (helds.Route ann) (helds.Route other) = AgreeUnder view ann o
 HeldSameUnder view helds.Unreachable helds.Unreachable = Unit {0}
 HeldSameUnder view held other = ⊥
 
--- two answers are the same under a view: both none, both unreachable, or both routes whose kept fields are equal
+-- two answers are the same under a view: both none, both unreachable, or both routes whose kept
+-- fields are equal
 abbrev pub SameUnder : View → Option Held → Option Held → Type 0
 SameUnder view None None = Unit {0}
 SameUnder view (Some held) (Some other) = HeldSameUnder view held other

@@ -1,4 +1,5 @@
--- What a packet being written keeps of the pairs that are in it, and how it goes on by a pair: RFC 8966, 4.5.
+-- What a packet being written keeps of the pairs that are in it, and how it goes on by a pair:
+-- RFC 8966, 4.5.
 use Rattle.std.specs.Prelude.{ℕ, List, ◌++◌, Option, Some}
 use Rattle.babel_prefix.specs.declared.family.Family.{Family}
 use Rattle.babel_prefix.specs.declared.family.Family.TheVariants.{V4, V6}
@@ -7,7 +8,8 @@ use Rattle.babel_tlv.specs.declared.held.Held.{Held}
 use Rattle.babel_tlv.specs.declared.held.Held.TheVariants as helds
 use Rattle.babel_tlv.specs.Route.{Announcement}
 use Rattle.babel_tlv.specs.Pair.{Pair}
-use Rattle.babel_tlv.specs.Group.{pair_family, written_id, written_hop, written_dst, route_tlvs, update_tlv}
+use Rattle.babel_tlv.specs.Group.{pair_family, written_id, written_hop}
+use Rattle.babel_tlv.specs.Group.{written_dst, route_tlvs, update_tlv}
 use Rattle.babel_tlv.specs.Group.{shared_octets, held_seqno, held_metric}
 
 -- what is current in the packet, for each family
@@ -48,8 +50,10 @@ group_in so_far pair =
 
 -- a route's Router-Id and Next Hop are current
 abbrev pub with_route : Family → Announcement → Written → Written
-with_route V4 ann old = record old { router_id = Some ann.router_id; next_hop_v4 = Some ann.next_hop }
-with_route V6 ann old = record old { router_id = Some ann.router_id; next_hop_v6 = Some ann.next_hop }
+with_route V4 ann old =
+    record old { router_id = Some ann.router_id; next_hop_v4 = Some ann.next_hop }
+with_route V6 ann old =
+    record old { router_id = Some ann.router_id; next_hop_v6 = Some ann.next_hop }
 
 -- an unreachable pair brings neither
 abbrev pub with_held : Family → Held → Written → Written
@@ -62,4 +66,5 @@ with_dst V4 dst old = record old { dst_v4 = Some dst }
 with_dst V6 dst old = record old { dst_v6 = Some dst }
 
 abbrev pub with_pair : Pair → Written → Written
-with_pair pair old = with_dst (pair_family pair) pair.0.dst.address (with_held (pair_family pair) pair.1 old)
+with_pair pair old =
+    with_dst (pair_family pair) pair.0.dst.address (with_held (pair_family pair) pair.1 old)

@@ -1,4 +1,5 @@
-ghost use Rattle.std.specs.Prelude.{◌≡◌, ℕ, IfSome, IsSome, ◌≤◌, ◌<◌, ◌+◌, ◌-◌, ◌*◌, ◌^◌, ◌++◌, length, take};
+ghost use Rattle.std.specs.Prelude.{◌≡◌, ℕ, IfSome, IsSome, ◌≤◌, ◌<◌, ◌+◌, ◌-◌, ◌*◌};
+ghost use Rattle.std.specs.Prelude.{◌^◌, ◌++◌, length, take};
 ghost use Rattle.std.specs.Int.Digits.{number_from_digits, number_from_digits_after};
 ghost use Rattle.babel_prefix.specs.Width.{octet_count, width_of};
 ghost use Rattle.babel_prefix.specs.Address.{address_of, octets_of};
@@ -72,7 +73,8 @@ fn omitted_octets(default: Option<Addr>, count: usize) -> u128
     }
 }
 
-/// The address of the first octets of a default prefix, these after them, and zeros: RFC 8966, 4.6.9.
+/// The address of the first octets of a default prefix, these after them, and zeros: RFC 8966,
+/// 4.6.9.
 pub(crate) fn completed(
     family: Family,
     default: Option<Addr>,

@@ -1,8 +1,9 @@
-//! Laws about the orders of this crate's types, and about views.
+//! Laws about the orders of this crate's types, about views, and about the parser state.
 ghost use Rattle.std.specs.Prelude.{◌≡◌, ◌↔◌};
 ghost use Rattle.std.specs.Cmp.{IsTotalOrder};
 ghost use Rattle.std.specs.declared.cmp.Ordering.TheVariants.{Equal};
 ghost use Rattle.babel_tlv.specs.declared.held.Held.{Held as HeldValue};
+ghost use Rattle.babel_tlv.specs.Nearest.{DefaultIsNearest, NextHopIsNearest, RouterIdIsNearest};
 ghost use Rattle.babel_tlv.specs.Pairs.{held_cmp};
 ghost use Rattle.babel_tlv.specs.ViewsTell.{AllIsSeen, SeenFits, SeenTellsApart, SeenTwiceIsSeen};
 ghost use Rattle.babel_tlv.specs.Route.{RouteKey, Announcement};
@@ -27,17 +28,17 @@ pub fn held_order()
     ensures { (a b : HeldValue) → ⟦<Held as Ord>⟧.cmp a b ≡ held_cmp a b }
 {}
 
-/// The orders of keys, announcements and held values are total: any two compare, one way round, and
-/// what is less chains.
-#[tactic(auto, using(crate::proofs::OrderLaws::key_total, crate::proofs::OrderLaws::announcement_total, crate::proofs::OrderLaws::held_total))]
+/// The orders of keys, announcements and held values are total: any two compare one way, and
+/// they are transitive.
+#[tactic(auto, using(crate::proofs::OrderLaws::totality))]
 pub fn orders_are_total()
     ensures keys { IsTotalOrder key_cmp }
     ensures announcements { IsTotalOrder announcement_cmp }
     ensures held { IsTotalOrder held_cmp }
 {}
 
-/// The orders agree with equality: two are equal in their order exactly if they are one.
-#[tactic(auto, using(crate::proofs::OrderLaws::key_equality, crate::proofs::OrderLaws::announcement_equality, crate::proofs::OrderLaws::held_equality))]
+/// The orders agree with equality: two are equal in their order exactly if they are the same.
+#[tactic(auto, using(crate::proofs::OrderLaws::equality))]
 pub fn equal_are_one()
     ensures keys { (a b : RouteKey) → (key_cmp a b ≡ Equal) ↔ (a ≡ b) }
     ensures announcements { (a b : Announcement) → (announcement_cmp a b ≡ Equal) ↔ (a ≡ b) }
@@ -47,10 +48,19 @@ pub fn equal_are_one()
 /// What a view sees of two values with next hops of one family is equal exactly where these are
 /// both unreachable, or both routes whose kept fields are equal. The view that keeps every field
 /// changes nothing; what is seen is seen so again, and fits its key.
-#[tactic(auto, using(crate::proofs::ViewLaws::seen_tells_apart, crate::proofs::ViewLaws::all_is_seen, crate::proofs::ViewLaws::seen_twice_is_seen, crate::proofs::ViewLaws::seen_fits))]
+#[tactic(auto, using(crate::proofs::ViewLaws::views_tell))]
 pub fn views_tell()
     ensures tells_apart { SeenTellsApart }
     ensures all { AllIsSeen }
     ensures twice { SeenTwiceIsSeen }
     ensures fits { SeenFits }
+{}
+
+/// What stands before a TLV of a packet is what the nearest earlier TLV of the packet set that sets
+/// it, or else what a packet begins with: RFC 8966, 4.5.
+#[tactic(auto, using(crate::proofs::NearestLaws::default_is_nearest, crate::proofs::NearestLaws::next_hop_is_nearest))]
+pub fn state_is_nearest()
+    ensures default_prefix { DefaultIsNearest }
+    ensures next_hop { NextHopIsNearest }
+    ensures router_id { RouterIdIsNearest }
 {}

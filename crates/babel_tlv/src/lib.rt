@@ -2,7 +2,7 @@
 //! says of routes, and the octets that say one route.
 //!
 //! The crate reads octets that are in memory and keeps nothing of them but a parser state of a few
-//! addresses; no call takes memory. The faults of dumps stand here, too, since later crates share
+//! addresses; no call takes memory. The faults of dumps are here, too, since later crates share
 //! them. It knows nothing of how rows are kept, of files, or of where a packet came from.
 #![tactic(auto)]
 

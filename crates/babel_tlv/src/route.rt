@@ -2,7 +2,8 @@ use crate::ann::Ann;
 use crate::key::Key;
 use babel_prefix::{Addr, Family, Prefix};
 
-/// The place where `State::step` writes what an Update announces or retracts.
+/// The place where `State::step_into` writes what an Update announces or retracts: moving this
+/// through each layer, for each TLV, took a third of the time of reading.
 #[derive(Clone, Copy, Debug, PartialEq, Eq)]
 pub struct Route {
     /// What the route is for.
@@ -12,7 +13,7 @@ pub struct Route {
 }
 
 impl Route {
-    /// A place where nothing was written: no verdict speaks of what stands there.
+    /// A place where nothing was written. No verdict speaks of it.
     pub fn unwritten() -> Route {
         let everywhere = Prefix::whole(Family::V4);
         Route {

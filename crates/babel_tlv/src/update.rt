@@ -1,7 +1,8 @@
 ghost use Rattle.std.specs.Prelude.{◌≡◌, ◌≤◌, ◌<◌, ◌+◌, length, IsSome, IfOk, OnOk, MatchOption};
 ghost use Rattle.babel_prefix.specs.Width.{octet_count, width_of};
 ghost use Rattle.babel_tlv.specs.Kept.{IsOfFamily};
-ghost use Rattle.babel_tlv.specs.Forming.{field_len, formed, omitted, prefix_from, prefix_len, sets_default, sets_router_id, update_encoding};
+ghost use Rattle.babel_tlv.specs.Forming.{field_len, formed, omitted, prefix_from, prefix_len};
+ghost use Rattle.babel_tlv.specs.Forming.{sets_default, sets_router_id, update_encoding};
 ghost use Rattle.babel_tlv.specs.Pairs.{EventFits};
 ghost use Rattle.babel_tlv.specs.Says.{wildcard_event};
 ghost use Rattle.babel_tlv.specs.Encodings.{IsNamedBy};
@@ -107,7 +108,8 @@ impl<'a> Update<'a> {
         Prefix::new(addr, self.plen).unwrap()
     }
 
-    /// The source prefix of a route in this family, or what is wrong with the sub-TLVs: RFC 9079, 7.2.
+    /// The source prefix of a route in this family, or what is wrong with the sub-TLVs: RFC 9079,
+    /// 7.2.
     pub fn source(&self, family: Family) -> Result<Prefix, Reason>
         requires { 10 + field_len self.now.body.now ≤ length self.now.body.now }
         ensures fault { HasFault

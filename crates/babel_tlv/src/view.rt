@@ -7,7 +7,7 @@ use crate::ann::Ann;
 use crate::held::Held;
 use babel_prefix::{Addr, Family, Prefix};
 
-/// The router-id that stands for one that is ignored. It is not reserved (RFC 8966, 4.1.3).
+/// The router-id in place of one that is ignored. It is not reserved (RFC 8966, 4.1.3).
 const STATED_ID: [u8; 8] = [0, 0, 0, 0, 0, 0, 0, 1];
 
 /// Which fields of an announcement (RFC 8966, 4.6.9) count: those that are true are kept, and the
@@ -24,7 +24,7 @@ pub struct View {
     pub metric: bool,
 }
 
-/// The address that stands for a next hop that is ignored: `0.0.0.0` or `::`.
+/// The address in place of a next hop that is ignored: `0.0.0.0` or `::`.
 fn no_address(family: Family) -> Addr
     ensures { result ≡ no_address family }
 {

@@ -1,9 +1,9 @@
 //! The runs over captures, over devices that follow a script, and the words that ask for them.
 use super::devices::{ScriptedIn, ScriptedOut};
-use super::split;
+use super::one_job;
 use super::words::expect_file;
 use babel_capture::Fault;
-use babel_dump::{InputFault, Job, RunFault, Side, read_words, run_job, status_of};
+use babel_dump::{InputFault, Job, RunFault, Side, run_job, status_of};
 use std::alloc::Global;
 use std::process::Abort;
 use std::test::Fail;
@@ -12,11 +12,13 @@ use std::test::Fail;
 #[rattlefmt::skip]
 pub static CAPTURE: [u8; 122] = [
     // pcap, least octet first, raw IP
-    0xd4, 0xc3, 0xb2, 0xa1, 0x02, 0x00, 0x04, 0x00, 0x00, 0x00, 0x00, 0x00, 0x00, 0x00, 0x00, 0x00, 0x00, 0x00, 0x04, 0x00, 0x65, 0x00, 0x00, 0x00,
+    0xd4, 0xc3, 0xb2, 0xa1, 0x02, 0x00, 0x04, 0x00, 0x00, 0x00, 0x00, 0x00, 0x00, 0x00, 0x00, 0x00,
+    0x00, 0x00, 0x04, 0x00, 0x65, 0x00, 0x00, 0x00,
     // packet 1
     0x00, 0x00, 0x00, 0x00, 0x00, 0x00, 0x00, 0x00, 0x20, 0x00, 0x00, 0x00, 0x20, 0x00, 0x00, 0x00,
     // IPv4, from 192.0.2.1
-    0x45, 0x00, 0x00, 0x20, 0x00, 0x00, 0x00, 0x00, 0x01, 0x11, 0x00, 0x00, 0xc0, 0x00, 0x02, 0x01, 0xe0, 0x00, 0x00, 0x6f,
+    0x45, 0x00, 0x00, 0x20, 0x00, 0x00, 0x00, 0x00, 0x01, 0x11, 0x00, 0x00, 0xc0, 0x00, 0x02, 0x01,
+    0xe0, 0x00, 0x00, 0x6f,
     // UDP of port 6696
     0x1a, 0x28, 0x1a, 0x28, 0x00, 0x0c, 0x00, 0x00,
     // an empty packet
@@ -24,15 +26,16 @@ pub static CAPTURE: [u8; 122] = [
     // packet 2
     0x00, 0x00, 0x00, 0x00, 0x00, 0x00, 0x00, 0x00, 0x22, 0x00, 0x00, 0x00, 0x22, 0x00, 0x00, 0x00,
     // IPv4, from 192.0.2.2
-    0x45, 0x00, 0x00, 0x22, 0x00, 0x00, 0x00, 0x00, 0x01, 0x11, 0x00, 0x00, 0xc0, 0x00, 0x02, 0x02, 0xe0, 0x00, 0x00, 0x6f,
+    0x45, 0x00, 0x00, 0x22, 0x00, 0x00, 0x00, 0x00, 0x01, 0x11, 0x00, 0x00, 0xc0, 0x00, 0x02, 0x02,
+    0xe0, 0x00, 0x00, 0x6f,
     // UDP of port 6696
     0x1a, 0x28, 0x1a, 0x28, 0x00, 0x0e, 0x00, 0x00,
     // an empty packet, and a trailer
     0x2a, 0x02, 0x00, 0x00, 0x12, 0x34,
 ];
 
-pub const SENDERS: &str =
-    "192.0.2.1 interface 0 packets 1 octets 4 updates 0\n192.0.2.2 interface 0 packets 1 octets 4 updates 0\n";
+pub const SENDERS: &str = "192.0.2.1 interface 0 packets 1 octets 4 updates 0\n\
+     192.0.2.2 interface 0 packets 1 octets 4 updates 0\n";
 
 /// What the two commands write of the capture.
 static WRITTEN: [(&str, &str); 3] = [
@@ -44,14 +47,6 @@ static WRITTEN: [(&str, &str); 3] = [
 /// How many octets one write takes.
 const TAKEN: usize = 7;
 
-/// What the words of a line ask for.
-fn job(alloc: Global, line: &str) -> Result<Job, Fail> {
-    match read_words(alloc, &split(alloc, line)?) {
-        Ok(job) => Ok(job),
-        Err(_refusal) => Err(Fail::from("no job")),
-    }
-}
-
 /// How a run ended, its status or its fault, and what it wrote.
 #[derive(Drop)]
 struct Ran {
@@ -59,9 +54,10 @@ struct Ran {
     taken: Vec<u8>,
 }
 
-/// The run of what is asked of octets that come one by one, of which this read and this call of the writer fail, from 1.
+/// The run of what is asked of octets that come one by one, of which this read and this call of the
+/// writer fail, from 1.
 fn run(alloc: Global, line: &str, octets: &[u8], failing: (u64, u64)) -> Result<Ran, Fail> {
-    let job = job(alloc, line)?;
+    let job = one_job(alloc, line)?;
     let mut reader = ScriptedIn::new(octets, 1, failing.0);
     let mut other = ScriptedIn::new(&[], 1, 0);
     let mut writer = ScriptedOut::new(alloc, TAKEN, failing.1);
@@ -75,7 +71,8 @@ fn run(alloc: Global, line: &str, octets: &[u8], failing: (u64, u64)) -> Result<
     })
 }
 
-/// What is asked of these octets ends in this fault, if any, with this status, and writes these octets.
+/// What is asked of these octets ends in this fault, if any, with this status, and writes these
+/// octets.
 pub fn expect_run(
     rt: &impl Abort,
     alloc: Global,
@@ -197,7 +194,8 @@ fn a_capture_cut_at_each_octet(rt: HostRuntime) -> Result<(), Fail> {
     Ok(())
 }
 
-/// Words, how many octets they allow, whether they ask for no notes, and the file; standard input where there is none.
+/// Words, how many octets they allow, whether they ask for no notes, and the file; standard input
+/// where there is none.
 static WORDS: [(&str, u32, bool, Option<&str>); 2] = [
     ("senders x.pcap", 1_073_741_824, false, Some("x.pcap")),
     ("extract --from :: --quiet --max-octets 7 -", 7, true, None),
@@ -206,7 +204,7 @@ static WORDS: [(&str, u32, bool, Option<&str>); 2] = [
 #[test]
 fn words_of_captures(rt: HostRuntime) -> Result<(), Fail> {
     for (line, limit, quiet, file) in &WORDS {
-        let asked = job(rt.alloc(), line)?;
+        let asked = one_job(rt.alloc(), line)?;
         if let Job::Senders { reading, .. } | Job::Extract { reading, .. } = &asked {
             assert_eq!(rt; reading.limit, *limit, "of {line}");
         } else {

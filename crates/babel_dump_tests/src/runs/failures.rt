@@ -67,7 +67,8 @@ fn each_read(rt: HostRuntime) -> Result<(), Fail> {
     Ok(())
 }
 
-/// Each read of the dump, also the one that meets its end, is answered where it fails, before the other dump is read.
+/// Each read of the dump, also the one that meets its end, is answered where it fails, before the
+/// other dump is read.
 fn expect_read_faults<'a>(
     rt: &impl Abort,
     alloc: Global,
@@ -108,7 +109,8 @@ fn each_read_of_the_other_dump(rt: HostRuntime) -> Result<(), Fail> {
     Ok(())
 }
 
-/// Each read of the other dump, also the one that meets its end, is answered where it fails, after all of the dump.
+/// Each read of the other dump, also the one that meets its end, is answered where it fails, after
+/// all of the dump.
 fn expect_other_read_faults<'a>(
     rt: &impl Abort,
     alloc: Global,
@@ -150,7 +152,8 @@ fn each_write_and_the_flush(rt: HostRuntime) -> Result<(), Fail> {
     Ok(())
 }
 
-/// Each write, and the flush after them, is answered where it fails, and what was written is a part of the whole.
+/// Each write, and the flush after them, is answered where it fails, and what was written is a part
+/// of the whole.
 fn expect_write_faults<'a>(
     rt: &impl Abort,
     alloc: Global,
@@ -187,15 +190,16 @@ fn many_routes(alloc: Global) -> Result<(Vec<u8>, String), Fail> {
         dump.extend_from_slice(&[8, 13, 1, 0, 24, 0, 6, 64, 0, 1, 1, 0, 10, high, low])?;
         write!(
             text,
-            "10.{high}.{low}.0/24 from 0.0.0.0/0 via 192.0.2.1 id 0200000000000001 seqno 1 metric 256\n"
+            "10.{high}.{low}.0/24 from 0.0.0.0/0 via 192.0.2.1 id 0200000000000001 seqno 1 metric \
+             256\n"
         )?;
     }
     write!(text, "tlvs 2001\n")?;
     Ok((dump, text))
 }
 
-/// Each write of several slices, and the flush behind them, is answered where it fails, and what was written is a part of
-/// the whole that grows with each write.
+/// Each write of several slices, and the flush behind them, is answered where it fails, and what
+/// was written is a part of the whole that grows with each write.
 #[test]
 fn each_write_of_several_slices(rt: HostRuntime) -> Result<(), Fail> {
     let (dump, text) = many_routes(rt.alloc())?;
@@ -246,8 +250,9 @@ fn a_write_that_takes_nothing(rt: HostRuntime) -> Result<(), Fail> {
     Ok(())
 }
 
-/// A dump in pieces of so many octets, of which the second read fails, the fault and its status, and how often it is read:
-/// a read that fails after octets, and a fault of octets before a read that would fail.
+/// A dump in pieces of so many octets, of which the second read fails, the fault and its status,
+/// and how often it is read: a read that fails after octets, and a fault of octets before a read
+/// that would fail.
 const SECOND_READS: [(&str, usize, RunFault, u8, u64); 2] = [
     (
         ONE_ROUTE,

@@ -23,8 +23,8 @@ const OCTETS: &str = "normalise";
 const DIGITS: &str = "normalise --hex";
 
 /// As ONE_IGNORED, but the second Update sets the default prefix, too.
-const FROM_IGNORED: &str =
-    "2a02002a 060a0000 0200000000000001 080f018018000640000101000a0100 8100 080b0180180206400001020002";
+const FROM_IGNORED: &str = "2a02002a 060a0000 0200000000000001 080f018018000640000101000a0100 8100 \
+     080b0180180206400001020002";
 
 /// Routes in the address encodings 4 and 3.
 const OTHER_ENCODINGS: &str = "2a02001a 080b040008000640000101000a 080b030008000640000101000a";
@@ -137,7 +137,8 @@ fn expect_written(
     Ok(())
 }
 
-/// How many octets a write takes, which call of the writer fails, if any, and what is written of the digits of a dump.
+/// How many octets a write takes, which call of the writer fails, if any, and what is written of
+/// the digits of a dump.
 static WRITTEN: [(usize, u64, &str); 3] = [
     (10, 2, "2a02002106"),
     (0, 0, ""),

@@ -1,10 +1,12 @@
-//! One call of a device over a reader or a writer of std is one call of that, whose answer it gives.
+//! One call of a device over a reader or a writer of std is one call of that, whose answer it
+//! gives.
 use babel_dump::{ByteIn, ByteOut, FromReader, FromWriter};
 use std::io;
 use std::io::{ErrorKind, Read, Write};
 use std::test::Fail;
 
-/// Gives the number of the call in each read, and takes as many octets in each write. One call fails, if any.
+/// Gives the number of the call in each read, and takes as many octets in each write. One call
+/// fails, if any.
 #[derive(Drop)]
 struct Numbered {
     calls: u8,
@@ -80,7 +82,8 @@ fn each_read_is_one_call(rt: HostRuntime) -> Result<(), Fail> {
     Ok(())
 }
 
-/// What a write, a flush and a write of a device answered: how many octets were taken, none by a flush; or how it failed.
+/// What a write, a flush and a write of a device answered: how many octets were taken, none by a
+/// flush; or how it failed.
 fn write_flush_write(failing_call: u8) -> [Result<usize, ErrorKind>; 3] {
     let mut writer = FromWriter::new(Numbered::failing_at(failing_call));
     let first = taken(writer.write(b"12345678"));

@@ -1,4 +1,5 @@
-//! The run of each command by itself, without a job, answers: over a dump of one route, which 192.0.2.1 sent.
+//! The run of each command by itself, without a job, answers: over a dump of one route, which
+//! 192.0.2.1 sent.
 use super::address;
 use super::devices::{ScriptedIn, ScriptedOut};
 use babel_canon::Body;

@@ -8,7 +8,8 @@ use babel_table::Limits;
 use babel_tlv::Mode;
 use std::test::Fail;
 
-/// The pairs that are looked up in a dump of 10.1.0.0/24 and 10.1.2.0/24, the fault, the status, and what is answered.
+/// The pairs that are looked up in a dump of 10.1.0.0/24 and 10.1.2.0/24, the fault, the status,
+/// and what is answered.
 #[rattlefmt::skip]
 const OF_EACH: [(&str, Option<RunFault>, u8, &str); 7] = [
     (
@@ -27,7 +28,8 @@ const OF_EACH: [(&str, Option<RunFault>, u8, &str); 7] = [
         10.1.2.9 from 0.0.0.0 via 192.0.2.1 id 0200000000000001 seqno 1 metric 512\n",
     ),
     ("", None, 0, ""),
-    ("10.1.2.9 0.0.0.0\n10.1.2.9 ::\n", Some(RunFault::Pairs(PairsFault::NotAPair { line: 2 })), 2, ""),
+    ("10.1.2.9 0.0.0.0\n10.1.2.9 ::\n",
+     Some(RunFault::Pairs(PairsFault::NotAPair { line: 2 })), 2, ""),
     ("\n#\n10.1.2.9 0.0.0.0 x\n", Some(RunFault::Pairs(PairsFault::NotAPair { line: 3 })), 2, ""),
     ("10.1.2.9\n", Some(RunFault::Pairs(PairsFault::NotAPair { line: 1 })), 2, ""),
     ("10.1.2.9 0.0.0.0/0", Some(RunFault::Pairs(PairsFault::NotAPair { line: 1 })), 2, ""),

@@ -17,7 +17,8 @@ const PACKET: &[u8] = b"*\x02\0\0";
 
 const LOOKUP: &str = "lookup --to 10.1.2.3 --src 10.1.2.3";
 
-/// Whatever is asked of these dumps, also of a comparison's other, they are refused with these faults.
+/// Whatever is asked of these dumps, also of a comparison's other, they are refused with these
+/// faults.
 fn expect_refusals(
     rt: &impl Abort,
     alloc: Global,
@@ -32,7 +33,8 @@ fn expect_refusals(
     Ok(())
 }
 
-/// Whatever is asked of this dump, it is refused with this fault, and so is a comparison of another with it.
+/// Whatever is asked of this dump, it is refused with this fault, and so is a comparison of another
+/// with it.
 fn expect_refusal<'a>(
     rt: &impl Abort,
     alloc: Global,
@@ -125,15 +127,18 @@ fn dumps_that_are_refused(rt: HostRuntime) -> Result<(), Fail> {
 /// Dumps past 83 octets or one route, or with another fault there, and their faults.
 static PAST_LIMITS: [(&str, Fault); 5] = [
     (
-        "2a020050 0000000000000000000000000000000000000000000000000000000000000000000000000000000000000000000000000000000000000000000000000000000000000000000000000000000000000000",
+        "2a020050 000000000000000000000000000000000000000000000000000000000000000000000000000000000\
+         0000000000000000000000000000000000000000000000000000000000000000000000000000000",
         Fault::TooLong,
     ),
     (
-        "2b020050 0000000000000000000000000000000000000000000000000000000000000000000000000000000000000000000000000000000000000000000000000000000000000000000000000000000000000000",
+        "2b020050 000000000000000000000000000000000000000000000000000000000000000000000000000000000\
+         0000000000000000000000000000000000000000000000000000000000000000000000000000000",
         Fault::BadMagic { at: 0 },
     ),
     (
-        "2a020027 060a0000 0200000000000001 080b010008000640000101000a 080b0100080006400001020014 04",
+        "2a020027 060a0000 0200000000000001 080b010008000640000101000a 080b0100080006400001020014 \
+         04",
         Fault::TlvPastEnd { at: 42 },
     ),
     (
@@ -141,7 +146,8 @@ static PAST_LIMITS: [(&str, Fault); 5] = [
         Fault::TooManyRoutes { at: 29 },
     ),
     (
-        "2a020026 060a0000 0200000000000001 080b010008000640000101000a 080b0100080006400001020014 2b020000",
+        "2a020026 060a0000 0200000000000001 080b010008000640000101000a 080b0100080006400001020014 \
+         2b020000",
         Fault::TooManyRoutes { at: 29 },
     ),
 ];
@@ -158,11 +164,12 @@ fn dumps_past_their_limits(rt: HostRuntime) -> Result<(), Fail> {
 
 /// A dump of 83 octets.
 const LONGEST: &str =
-    "2a02004f 00000000000000000000000000000000000000000000000000000000000000000000000000000000000000000000000000000000000000000000000000000000000000000000000000000000000000";
+    "2a02004f 0000000000000000000000000000000000000000000000000000000000000000000000000000000000000\
+     0000000000000000000000000000000000000000000000000000000000000000000000000";
 
 /// What is asked of dumps of 83 octets and of one route, and what is written.
 #[rattlefmt::skip]
-static AT_LIMITS: [(&str, &str, &str); 4] = [
+static AT_LIMITS: [(&str, &str, &str); 5] = [
     ("show", LONGEST, "tlvs 79\n"),
     ("normalise", LONGEST, ""),
     (
@@ -174,6 +181,12 @@ static AT_LIMITS: [(&str, &str, &str); 4] = [
         "normalise --hex",
         HELD_AFTER_ONE,
         "2a020021060a0000020000000000000107060100c0000201080b018008000640000101000a\n",
+    ),
+    // The SHA-256 of these octets, by Python's hashlib.
+    (
+        "key",
+        HELD_AFTER_ONE,
+        "00be56280407dcc55b6ceb81c984660bdd5733fad97f46b1b8081d13b9e38c59  -\n",
     ),
 ];
 

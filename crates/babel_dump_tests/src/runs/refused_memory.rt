@@ -1,5 +1,6 @@
-//! Each allocation refused in turn, by `./check memory`, which runs each test here once for each of its allocations.
-//! A test here passes where nothing was refused, and fails with `REFUSED` where a refusal was answered with `Memory`.
+//! Each allocation refused in turn, by `./check memory`, which runs each test here once for each of
+//! its allocations. A test here passes where nothing was refused, and fails with `REFUSED` where a
+//! refusal was answered with `Memory`.
 ghost use Rattle.std.specs.Prelude.{None};
 
 use super::address;
@@ -8,8 +9,8 @@ use super::devices::ScriptedIn;
 use babel_canon::Body;
 use babel_capture::Place;
 use babel_dump::{
-    AddrPair, ByteOut, CaptureReading, DumpFile, Format, InputFault, Job, Reading, RunFault,
-    run_job, status_of,
+    AddrPair, ByteOut, CaptureReading, DumpFile, Format, InputFault, Job, Listed, Reading,
+    RunFault, run_job, status_of,
 };
 use babel_library_tests::dumps::{NESTED_SOURCES, ONE_FAMILY, TWO_FAMILIES, V4, V6};
 use babel_table::Limits;
@@ -23,24 +24,35 @@ const REFUSED: &str = "memory was refused, and Memory answered";
 
 const OTHER: &str = "neither the known answer nor Memory";
 
-const ROWS: &str =
-    "0.0.0.0/0 from 0.0.0.0/0 via 192.0.2.1 id 0200000000000001 seqno 1 metric 512\n0.0.0.0/0 from 10.0.0.0/8 via 192.0.2.1 id 0200000000000001 seqno 1 metric 256\ntlvs 3\n";
+const ROWS: &str = "0.0.0.0/0 from 0.0.0.0/0 via 192.0.2.1 id 0200000000000001 seqno 1 metric 512\n\
+     0.0.0.0/0 from 10.0.0.0/8 via 192.0.2.1 id 0200000000000001 seqno 1 metric 256\ntlvs 3\n";
 
 const ANSWER: &str = "via 192.0.2.1 id 0200000000000001 seqno 1 metric 256\n";
 
 const COUNTS: &str = "rows 2\npairs 9\n";
 
 const PAIRS: &str =
-    "255.255.255.255/32 from 0.0.0.1/32 via 192.0.2.1 id 0200000000000001 seqno 1 metric 256\n0:0:0:0:0:0:0:0/0 from 0:0:0:0:0:0:0:0/0 via fe80:0:0:0:0:0:0:1 id 0200000000000001 seqno 1 metric 256\n";
+    "255.255.255.255/32 from 0.0.0.1/32 via 192.0.2.1 id 0200000000000001 seqno 1 metric 256\n\
+     0:0:0:0:0:0:0:0/0 from 0:0:0:0:0:0:0:0/0 via fe80:0:0:0:0:0:0:1 id 0200000000000001 seqno 1 \
+     metric 256\n";
 
 const DIGITS: &str =
-    "2a0200a4060a0000020000000000000107060100c0000201080e0180000006400001020080020500080e0180000006400001020080020708080e018000000640000101008002080a080e018000000640000102008002080b080e018000000640000102008002060c080e0180000006400001020080020410080e0180000006400001020080020320080e0180000006400001020080020240080e0180000006400001020080020180\n";
+    "2a0200a4060a0000020000000000000107060100c0000201080e0180000006400001020080020500080e0180000006\
+     400001020080020708080e018000000640000101008002080a080e018000000640000102008002080b080e01800000\
+     0640000102008002060c080e0180000006400001020080020410080e0180000006400001020080020320080e018000\
+     0006400001020080020240080e0180000006400001020080020180\n";
 
-const DIFFERENCE: &str =
-    "differ 255.255.255.255 from 0.0.0.1\nleft via 192.0.2.1 id 0200000000000001 seqno 1 metric 256\nright none\n";
+const ROUTE_DIGITS: &str =
+    "2a020030060a0000020000000000000107060100c0000201080a01800000064000010200080e018000000640000101\
+     008002080a\n";
+/// The SHA-256 of these octets, by Python's hashlib.
+const KEY: &str = "a09e7eab69ba475e3a473d23d6ab7febff1679ff53e5e6d5e1edfd229359f523  -\n";
 
-const DIFFERENCES: &str =
-    "differ 255.255.255.255/32 from 0.0.0.1/32\nleft via 192.0.2.1 id 0200000000000001 seqno 1 metric 256\nright none\n";
+const DIFFERENCE: &str = "differ 255.255.255.255 from 0.0.0.1\n\
+     left via 192.0.2.1 id 0200000000000001 seqno 1 metric 256\nright none\n";
+
+const DIFFERENCES: &str = "differ 255.255.255.255/32 from 0.0.0.1/32\n\
+     left via 192.0.2.1 id 0200000000000001 seqno 1 metric 256\nright none\n";
 
 /// Takes this text alone, and needs no memory.
 #[derive(Drop)]
@@ -156,6 +168,17 @@ fn refused_memory_of_normalise(rt: HostRuntime) -> Result<(), Fail> {
     outcome(rt.alloc(), &job, NESTED_SOURCES, "", 0, DIGITS)
 }
 
+#[test]
+fn refused_memory_of_key(rt: HostRuntime) -> Result<(), Fail> {
+    let job = Job::Key {
+        reading: reading(V4)?,
+        view: View::all(),
+        file: DumpFile::StandardInput,
+        quiet: true,
+    };
+    outcome(rt.alloc(), &job, NESTED_SOURCES, "", 0, KEY)
+}
+
 /// The job of `pairs`, over a dump that this sender sent.
 fn pairs(sender: &str, count: bool) -> Result<Job, Fail> {
     Ok(Job::Pairs {
@@ -207,6 +230,47 @@ fn differences(count: bool) -> Result<Job, Fail> {
 }
 
 #[test]
+fn refused_memory_of_route_octets(rt: HostRuntime) -> Result<(), Fail> {
+    let job = Job::RouteOctets {
+        reading: reading(V4)?,
+        view: View::all(),
+        body: Body::usual(),
+        hex: true,
+        file: DumpFile::StandardInput,
+        quiet: true,
+    };
+    outcome(rt.alloc(), &job, NESTED_SOURCES, "", 0, ROUTE_DIGITS)
+}
+
+#[test]
+fn refused_memory_of_route_rows(rt: HostRuntime) -> Result<(), Fail> {
+    let job = Job::RouteRows {
+        reading: reading(V6)?,
+        view: View::all(),
+        count: false,
+        format: Format::Text,
+        file: DumpFile::StandardInput,
+        quiet: true,
+    };
+    outcome(rt.alloc(), &job, TWO_FAMILIES, "", 0, PAIRS)
+}
+
+#[test]
+fn refused_memory_of_route_differences(rt: HostRuntime) -> Result<(), Fail> {
+    let job = Job::CompareRoutes {
+        reading: reading(V6)?,
+        other_reading: reading(V6)?,
+        view: View::all(),
+        listed: Listed::All,
+        format: Format::Text,
+        file: DumpFile::StandardInput,
+        other: DumpFile::StandardInput,
+        quiet: true,
+    };
+    outcome(rt.alloc(), &job, TWO_FAMILIES, ONE_FAMILY, 1, DIFFERENCES)
+}
+
+#[test]
 fn refused_memory_of_differences(rt: HostRuntime) -> Result<(), Fail> {
     let job = differences(false)?;
     outcome(rt.alloc(), &job, TWO_FAMILIES, ONE_FAMILY, 1, DIFFERENCES)
@@ -218,7 +282,8 @@ fn refused_memory_of_their_count(rt: HostRuntime) -> Result<(), Fail> {
     outcome(rt.alloc(), &job, TWO_FAMILIES, ONE_FAMILY, 1, text)
 }
 
-/// The run of a capture's job, in pieces of seven octets, with status 0. At `Memory` nothing was written.
+/// The run of a capture's job, in pieces of seven octets, with status 0. At `Memory` nothing was
+/// written.
 fn capture_outcome(alloc: Global, job: &Job, text: &str) -> Result<(), Fail> {
     let mut reader = ScriptedIn::new(&CAPTURE, 7, 0);
     let mut other = ScriptedIn::new(&[], 7, 0);

@@ -1,4 +1,5 @@
-//! Dumps that are refused for TLVs that are ignored, for datagrams that were left out, and for want of Updates.
+//! Dumps that are refused for TLVs that are ignored, for datagrams that were left out, and for want
+//! of Updates.
 use super::devices::{ScriptedIn, ScriptedOut};
 use super::{Case, ONE_BY_ONE, expect_run, job};
 use babel_capture::Reason as LeftOutReason;
@@ -10,9 +11,11 @@ use std::alloc::Global;
 use std::process::Abort;
 use std::test::Fail;
 
-/// A Router-Id, a route, an Update of length 33, one with 5 octets omitted, one of 2 and another of length 33.
+/// A Router-Id, a route, an Update of length 33, one with 5 octets omitted, one of 2 and another of
+/// length 33.
 const VAIN: &str =
-    "2a020044 060a0000 0200000000000001 080b010008000640000101000a 080b010021000640000101000a 080b010008050640000101000a 08020100 080b010021000640000101000a";
+    "2a020044 060a0000 0200000000000001 080b010008000640000101000a 080b010021000640000101000a \
+     080b010008050640000101000a 08020100 080b010021000640000101000a";
 
 /// The first TLV of VAIN that is ignored.
 const FIRST: IgnoredTlv = IgnoredTlv {
@@ -31,7 +34,8 @@ const LEFT_OUT: LeftOutDatagram = LeftOutDatagram {
 
 /// Two routes that are nine pairs, and an Update of 2 octets.
 const NINE_PAIRS: &str =
-    "2a020029 060a0000 0200000000000001 080a010000000640 00010200 080b010008000640000101000a 08020100";
+    "2a020029 060a0000 0200000000000001 080a010000000640 00010200 080b010008000640000101000a \
+     08020100";
 
 /// The commands that can be strict.
 static STRICT: [&str; 6] = [
@@ -45,8 +49,8 @@ static STRICT: [&str; 6] = [
 
 const COMPARE: &str = "compare --strict a b --other-from 192.0.2.1";
 
-/// What is asked of these dumps under these limits ends in this fault, if any, with this status, and writes this text. The
-/// answer is how often the other dump was read.
+/// What is asked of these dumps under these limits ends in this fault, if any, with this status,
+/// and writes this text. The answer is how often the other dump was read.
 fn expect<'a>(
     rt: &impl Abort,
     alloc: Global,

@@ -1,6 +1,6 @@
 //! The program's words: jobs, refusals and help.
-use super::{address, split};
-use babel_dump::{DumpFile, Format, Job, Reading, Refusal, read_words};
+use super::{address, one_job, split};
+use babel_dump::{DumpFile, Format, Job, Listed, Reading, Refusal, read_words};
 use babel_prefix::Addr;
 use babel_table::Limits;
 use babel_tlv::Mode;
@@ -8,7 +8,8 @@ use std::alloc::Global;
 use std::process::Abort;
 use std::test::Fail;
 
-/// What a job is to be, with its addresses as texts. What its command doesn't have is `None` or false.
+/// What a job is to be, with its addresses as texts. What its command doesn't have is `None` or
+/// false.
 #[derive(Clone, Copy)]
 struct Wanted<'a> {
     command: &'a str,
@@ -21,6 +22,7 @@ struct Wanted<'a> {
     format: Format,
     hex: bool,
     body: Option<u16>,
+    routes: bool,
     all: bool,
     count: bool,
     file: Option<&'a str>,
@@ -39,6 +41,7 @@ const SHOW: Wanted<'static> = Wanted {
     format: Format::Text,
     hex: false,
     body: None,
+    routes: false,
     all: false,
     count: false,
     file: None,
@@ -58,6 +61,11 @@ const NORMALISE: Wanted<'static> = Wanted {
     ..SHOW
 };
 
+const KEY: Wanted<'static> = Wanted {
+    command: "key",
+    ..SHOW
+};
+
 const PAIRS: Wanted<'static> = Wanted {
     command: "pairs",
     ..SHOW
@@ -73,7 +81,7 @@ const COMPARE: Wanted<'static> = Wanted {
 
 /// Words, and the job that they ask for.
 #[rattlefmt::skip]
-static JOBS: [(&str, Wanted<'static>); 34] = [
+static JOBS: [(&str, Wanted<'static>); 42] = [
     (
         "lookup --from fe80::1 --to 10.1.2.3 --src=0.0.0.0 --hold x",
         Wanted {
@@ -111,7 +119,8 @@ static JOBS: [(&str, Wanted<'static>); 34] = [
     ("compare --from :: --other-from :: --json a b", Wanted { format: Format::Json, ..COMPARE }),
     ("lookup --from :: --each p d", Wanted { file: Some("d"), other: Some("p"), ..LOOKUP }),
     ("lookup --from :: --each - --strict d", Wanted { strict: true, file: Some("d"), ..LOOKUP }),
-    ("lookup --from :: --each p --json d", Wanted { format: Format::Json, file: Some("d"), other: Some("p"), ..LOOKUP }),
+    ("lookup --from :: --each p --json d",
+     Wanted { format: Format::Json, file: Some("d"), other: Some("p"), ..LOOKUP }),
     ("normalise --from :: --hex", Wanted { hex: true, ..NORMALISE }),
     ("pairs --from :: --count", Wanted { count: true, ..PAIRS }),
     ("normalise --from :: --body 128", Wanted { body: Some(128), ..NORMALISE }),
@@ -120,22 +129,45 @@ static JOBS: [(&str, Wanted<'static>); 34] = [
     ("show --from :: -", SHOW),
     ("compare --from :: --other-from :: - b", Wanted { file: None, ..COMPARE }),
     ("compare --from :: --other-from :: a -", Wanted { other: None, ..COMPARE }),
-    ("compare --all --from :: --other-from ::1 a b", Wanted { all: true, other_from: Some("::1"), ..COMPARE }),
-    ("compare --count --from :: --other-from :: --all a b", Wanted { all: true, count: true, ..COMPARE }),
+    ("compare --all --from :: --other-from ::1 a b",
+     Wanted { all: true, other_from: Some("::1"), ..COMPARE }),
+    ("compare --count --from :: --other-from :: --all a b",
+     Wanted { all: true, count: true, ..COMPARE }),
     ("compare --from ::1 --other-from :: --all --hold --json - b", Wanted {
         all: true, from: "::1", mode: Mode::Hold, format: Format::Json, file: None, ..COMPARE
     }),
     ("compare --from :: a b", COMPARE),
-    ("compare --from :: --other-from :: --all --strict a -", Wanted { all: true, strict: true, other: None, ..COMPARE }),
+    ("normalise --from :: --routes --hex", Wanted { routes: true, hex: true, ..NORMALISE }),
+    ("pairs --from :: --routes", Wanted { routes: true, ..PAIRS }),
+    ("pairs --from :: --count --routes", Wanted { routes: true, count: true, ..PAIRS }),
+    ("compare --from :: --routes a b", Wanted { routes: true, ..COMPARE }),
+    ("compare --from :: --routes --all a b", Wanted { routes: true, all: true, ..COMPARE }),
+    ("compare --from :: --routes --count a b", Wanted { routes: true, count: true, ..COMPARE }),
+    ("key --from ::", KEY),
+    ("key --strict x --from ::1 --hold", Wanted {
+        from: "::1", strict: true, mode: Mode::Hold, file: Some("x"), ..KEY
+    }),
+    ("compare --from :: --other-from :: --all --strict a -",
+     Wanted { all: true, strict: true, other: None, ..COMPARE }),
 ];
 
 #[test]
 fn words_of_jobs(rt: HostRuntime) -> Result<(), Fail> {
     for (line, wanted) in &JOBS {
-        match read_words(rt.alloc(), &split(rt.alloc(), line)?) {
-            Ok(job) => expect_job(&rt, line, &job, wanted)?,
-            Err(_refusal) => assert!(rt; false, "no job of {line}"),
-        }
+        expect_job(&rt, line, &one_job(rt.alloc(), line)?, wanted)?;
+    }
+    Ok(())
+}
+
+#[test]
+fn words_of_a_job_for_each_file(rt: HostRuntime) -> Result<(), Fail> {
+    let words = ["key", "a", "--from", "::", "-", "b"];
+    let Ok(jobs) = read_words(rt.alloc(), &words) else {
+        return Err(Fail::from("no jobs"));
+    };
+    assert_eq!(rt; jobs.len(), 3);
+    for (job, file) in jobs.iter().zip([Some("a"), None, Some("b")]) {
+        expect_file(&rt, "key", job.file(), file);
     }
     Ok(())
 }
@@ -178,6 +210,9 @@ fn expect_job(rt: &impl Abort, line: &str, job: &Job, wanted: &Wanted<'_>) -> Re
             assert_eq!(rt; *hex, wanted.hex, "of {line}");
             expect_reading(rt, line, "normalise", reading, Format::Text, wanted)
         }
+        Job::Key { reading, .. } => {
+            expect_reading(rt, line, "key", reading, Format::Text, wanted)
+        }
         Job::Pairs {
             reading,
             count,
@@ -194,7 +229,7 @@ fn expect_job(rt: &impl Abort, line: &str, job: &Job, wanted: &Wanted<'_>) -> Re
             other,
             ..
         } => {
-            assert!(rt; !wanted.all, "of {line}");
+            assert!(rt; !wanted.all && !wanted.routes, "of {line}");
             expect_file(rt, line, other, wanted.other);
             expect_readings(rt, line, reading, other_reading, *format, wanted)
         }
@@ -206,8 +241,43 @@ fn expect_job(rt: &impl Abort, line: &str, job: &Job, wanted: &Wanted<'_>) -> Re
             other,
             ..
         } => {
-            assert!(rt; wanted.all, "of {line}");
+            assert!(rt; wanted.all && !wanted.routes, "of {line}");
             assert_eq!(rt; *count, wanted.count, "of {line}");
+            expect_file(rt, line, other, wanted.other);
+            expect_readings(rt, line, reading, other_reading, *format, wanted)
+        }
+        Job::RouteOctets {
+            reading,
+            body,
+            hex,
+            ..
+        } => {
+            assert!(rt; wanted.routes, "of {line}");
+            assert_eq!(rt; Some(body.octets()), wanted.body, "of {line}");
+            assert_eq!(rt; *hex, wanted.hex, "of {line}");
+            expect_reading(rt, line, "normalise", reading, Format::Text, wanted)
+        }
+        Job::RouteRows {
+            reading,
+            count,
+            format,
+            ..
+        } => {
+            assert!(rt; wanted.routes, "of {line}");
+            assert_eq!(rt; *count, wanted.count, "of {line}");
+            expect_reading(rt, line, "pairs", reading, *format, wanted)
+        }
+        Job::CompareRoutes {
+            reading,
+            other_reading,
+            listed,
+            format,
+            other,
+            ..
+        } => {
+            assert!(rt; wanted.routes, "of {line}");
+            assert_eq!(rt; *listed == Listed::All, wanted.all, "of {line}");
+            assert_eq!(rt; *listed == Listed::Count, wanted.count, "of {line}");
             expect_file(rt, line, other, wanted.other);
             expect_readings(rt, line, reading, other_reading, *format, wanted)
         }
@@ -279,26 +349,43 @@ fn usage(rt: &impl Abort, alloc: Global, line: &str) -> Result<String, Fail> {
     }
 }
 
-/// Words that are no addresses, and others that go together with no other, with the text that they are refused with. Of
-/// several that are no addresses the first is named, in the order `--from`, `--other-from`, `--to`, `--src`.
+/// Words that are no addresses, and others that go together with no other, with the text that they
+/// are refused with. Of several that are no addresses the first is named, in the order `--from`,
+/// `--other-from`, `--to`, `--src`.
 #[rattlefmt::skip]
-static NO_JOBS: [(&str, &str); 16] = [
-    ("lookup --src v --to w --from q", "not an address: q\nhint: --from takes an IPv4 or IPv6 address\n"),
-    ("lookup --src v --to w --from ::", "not an address: w\nhint: --to takes an IPv4 or IPv6 address\n"),
-    ("lookup --src 01.2.3.4 --to :: --from ::", "not an address: 01.2.3.4\nhint: --src takes an IPv4 or IPv6 address\n"),
-    ("lookup --src :: --to :: --from ''", "not an address: \nhint: --from takes an IPv4 or IPv6 address\n"),
-    ("compare --other-from w --from q a b", "not an address: q\nhint: --from takes an IPv4 or IPv6 address\n"),
-    ("compare --other-from w --from :: a b", "not an address: w\nhint: --other-from takes an IPv4 or IPv6 address\n"),
-    ("show --from fe80::1%eth0", "not an address: fe80::1%eth0\nhint: --from takes an address without a zone\n"),
-    ("lookup --from :: --to :: --src ::/0", "not an address: ::/0\nhint: --src takes an address without a prefix length\n"),
+static NO_JOBS: [(&str, &str); 17] = [
+    ("lookup --src v --to w --from q",
+     "not an address: q\nhint: --from takes an IPv4 or IPv6 address\n"),
+    ("lookup --src v --to w --from ::",
+     "not an address: w\nhint: --to takes an IPv4 or IPv6 address\n"),
+    ("lookup --src 01.2.3.4 --to :: --from ::",
+     "not an address: 01.2.3.4\nhint: --src takes an IPv4 or IPv6 address\n"),
+    ("lookup --src :: --to :: --from ''",
+     "not an address: \nhint: --from takes an IPv4 or IPv6 address\n"),
+    ("compare --other-from w --from q a b",
+     "not an address: q\nhint: --from takes an IPv4 or IPv6 address\n"),
+    ("compare --other-from w --from :: a b",
+     "not an address: w\nhint: --other-from takes an IPv4 or IPv6 address\n"),
+    ("show --from fe80::1%eth0",
+     "not an address: fe80::1%eth0\nhint: --from takes an address without a zone\n"),
+    ("lookup --from :: --to :: --src ::/0",
+     "not an address: ::/0\nhint: --src takes an address without a prefix length\n"),
     ("show --from \u{7}q", "not an address: \\u{7}q\nhint: --from takes an IPv4 or IPv6 address\n"),
-    ("extract --from q --interface x", "not an address: q\nhint: --from takes an IPv4 or IPv6 address\n"),
-    ("extract --from :: --interface x", "not an interface: x\nhint: --interface takes the number of an interface, as 1, with its link and VLANs, as 1/3, 1:10 or 1/3:10.20\n"),
-    ("lookup --from 192.0.2.1 --to 10.0.0.1 --src ::1 x", "--to and --src are of different families\n"),
-    ("lookup --from 192.0.2.1 --to ::1 --src 10.0.0.1 x", "--to and --src are of different families\n"),
+    ("extract --from q --interface x",
+     "not an address: q\nhint: --from takes an IPv4 or IPv6 address\n"),
+    ("extract --from :: --interface x",
+     "not an interface: x\n\
+      hint: --interface takes the number of an interface, as 1, with its link and VLANs, as 1/3, \
+      1:10 or 1/3:10.20\n"),
+    ("lookup --from 192.0.2.1 --to 10.0.0.1 --src ::1 x",
+     "--to and --src are of different families\n"),
+    ("lookup --from 192.0.2.1 --to ::1 --src 10.0.0.1 x",
+     "--to and --src are of different families\n"),
     ("compare --from :: --other-from :: - -", "both dumps are standard input\n"),
+    ("key --from :: - a -", "two files are standard input\n"),
     ("lookup --from :: --each - -", "the dump and the pairs cannot both be standard input\n"),
-    ("show --from :: --max-octets 82 --max-routes 1", "--max-octets 82 is less than 83 for each of 1 routes\nhint: lower --max-routes too\n"),
+    ("show --from :: --max-octets 82 --max-routes 1",
+     "--max-octets 82 is less than 83 for each of 1 routes\nhint: lower --max-routes too\n"),
 ];
 
 #[test]
@@ -315,7 +402,7 @@ const USAGE: &str = "Usage: babel-dump";
 const BODY: &str = "'--body <OCTETS>'";
 
 /// Words that are refused, and a part of the text.
-static REFUSED: [(&str, &str); 27] = [
+static REFUSED: [(&str, &str); 30] = [
     ("", USAGE),
     ("shows", USAGE),
     ("show x", USAGE),
@@ -329,7 +416,7 @@ static REFUSED: [(&str, &str); 27] = [
     ("compare --from :: --other-from :: a", USAGE),
     (
         "compare --from :: --other-from :: --count a b",
-        "not provided:\n  --all\n",
+        "not provided:\n  <--all|--routes>\n",
     ),
     ("pairs --from :: --all", USAGE),
     ("show --from :: x y", USAGE),
@@ -337,6 +424,9 @@ static REFUSED: [(&str, &str); 27] = [
     ("show --from :: --hex", USAGE),
     ("show --from :: --strict", USAGE),
     ("normalise --from :: --json", USAGE),
+    ("key --from :: --json", USAGE),
+    ("key --from :: --hex", USAGE),
+    ("key x", USAGE),
     ("pairs --from :: --body 128", USAGE),
     ("normalise --from :: --count", USAGE),
     ("normalise --from :: --body 127", BODY),
@@ -394,18 +484,14 @@ static ORDERS: [(&str, u32, u32, bool); 9] = [
 
 /// The limits that words ask for, and whether they ask for no notes.
 fn asked(rt: &impl Abort, alloc: Global, line: &str) -> Result<(Limits, bool), Fail> {
-    match read_words(alloc, &split(alloc, line)?) {
-        Ok(job) => match &job {
-            Job::Show { reading, .. }
-            | Job::Normalise { reading, .. }
-            | Job::Pairs { reading, .. }
-            | Job::Compare { reading, .. } => Ok((reading.limits, job.is_quiet())),
-            _ => Err(Fail::from("another job")),
-        },
-        Err(_refusal) => {
-            assert!(rt; false, "no job of {line}");
-            Err(Fail::from("no job"))
-        }
+    let job = one_job(alloc, line)?;
+    match &job {
+        Job::Show { reading, .. }
+        | Job::Normalise { reading, .. }
+        | Job::Key { reading, .. }
+        | Job::Pairs { reading, .. }
+        | Job::Compare { reading, .. } => Ok((reading.limits, job.is_quiet())),
+        _ => Err(Fail::from("another job")),
     }
 }
 
@@ -434,17 +520,19 @@ const OF_ONE_DUMP: [&str; 6] = [
     "--from <ADDRESS>         The source address of the packets",
     "--hold                   Keep a retracted route as unreachable, so",
     "--quiet                  Suppress the notes on standard error",
-    "--max-routes <ROUTES>    How many routes, and how many canonical pairs or differences, there may be",
+    "--max-routes <ROUTES>    How many routes, and how many canonical pairs or differences, there \
+     may be",
     "--max-octets <OCTETS>    How many octets a dump may have",
     "[FILE]  The dump, or the capture that has it; standard input if omitted or -",
 ];
 
 const OF_JSON: &str = "--json                   Print one JSON object per line";
 
-const COMMANDS: [&str; 5] = [
+const COMMANDS: [&str; 6] = [
     "  show  ",
     "  lookup  ",
     "  normalise  ",
+    "  key  ",
     "  pairs  ",
     "  compare  ",
 ];
@@ -458,28 +546,32 @@ const OF_LOOKUP: [&str; 6] = [
     "  1  an answer is none or unreachable",
 ];
 
-const OF_NORMALISE: [&str; 4] = [
+const OF_NORMALISE: [&str; 5] = [
     "--strict                 Reject a dump in which any TLV was ignored",
-    "--body <OCTETS>          How long the body of a packet may be, from 128 to 65535 octets [default: 1024]",
+    "--body <OCTETS>          How long the body of a packet may be, from 128 to 65535 octets \
+     [default: 1024]",
     "--hex                    Write the octets as lower-case hexadecimal digits on one line",
+    "--routes                 Write the octets of the routes, not of the answers",
     "babel-dump normalise --from",
 ];
 
-const OF_PAIRS: [&str; 4] = [
+const OF_PAIRS: [&str; 5] = [
     OF_JSON,
     "--strict                 Reject a dump in which any TLV was ignored",
     "--count                  Print only how many rows and how many canonical pairs there are",
+    "--routes                 Print the routes, a line for each, in place of the pairs",
     "babel-dump pairs --from",
 ];
 
-const OF_COMPARE: [&str; 11] = [
+const OF_COMPARE: [&str; 12] = [
     "--json                         Print one JSON object per line",
     "--strict                       Reject a dump in which any TLV was ignored",
     "--from <ADDRESS>               The address that the packets of FILE were sent from",
     "--other-from <ADDRESS>         The address that the packets of OTHER were sent from",
     "--hold                         Keep a retracted route as unreachable, so",
     "--all                          List every largest block of destinations and sources",
-    "--count                        With --all: print only how many such blocks there are",
+    "--routes                       Compare the routes, not the answers",
+    "--count                        With --all or --routes: print only how many",
     "<FILE>   The first dump, or the capture that has it; - is standard input",
     "<OTHER>  The other dump, or the capture that has it; - is standard input",
     "babel-dump compare --from",
@@ -492,8 +584,8 @@ const ENDS: [&str; 3] = [
     "\n  5  out of memory",
 ];
 
-/// The words that ask for a help text, and its parts beside `ENDS`. Each names its options, each with a sentence, and
-/// has the exit statuses and examples.
+/// The words that ask for a help text, and its parts beside `ENDS`. Each names its options, each
+/// with a sentence, and has the exit statuses and examples.
 static HELPS: [(&str, &[&str], &[&str]); 7] = [
     ("--help", &COMMANDS, &["babel-dump lookup --from"]),
     ("help", &COMMANDS, &["babel-dump lookup --from"]),

@@ -22,7 +22,8 @@ fn is_form(alloc: Global, mode: Mode, sender: Addr, octets: &[u8]) -> bool {
     }
 }
 
-/// Whether a dump is refused with its own fault or for its pairs, or else with canonical octets that are their own form.
+/// Whether a dump is refused with its own fault or for its pairs, or else with canonical octets
+/// that are their own form.
 fn is_settled(alloc: Global, mode: Mode, sender: Addr, dump: &[u8]) -> bool {
     let own = read_dump(alloc, Limits::usual(), mode, sender, dump).err();
     match (form(alloc, mode, sender, dump), own) {

@@ -1,5 +1,6 @@
-//! Each allocation refused in turn, by `./check memory`, which runs each test here once for each of its allocations.
-//! A test here passes where nothing was refused, and fails with `REFUSED` where a refusal was answered with `Memory`.
+//! Each allocation refused in turn, by `./check memory`, which runs each test here once for each of
+//! its allocations. A test here passes where nothing was refused, and fails with `REFUSED` where a
+//! refusal was answered with `Memory`.
 use super::addr;
 use crate::dumps::{
     BY_FLAG_FORM, NESTED_SOURCES, NESTED_SOURCES_FORM, ONE_FAMILY, ONE_ROUTE, ONE_ROUTE_FORM,

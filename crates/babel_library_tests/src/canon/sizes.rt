@@ -55,8 +55,8 @@ fn form(alloc: Global, body: Body, dump: &[u8]) -> Result<Vec<u8>, Fail> {
     Ok(normalise(alloc, Limits::usual(), Mode::Plain, body, addr(V4)?, dump)?)
 }
 
-/// With so many routes of length 16 and bodies of this size: the length of each packet's body and how many pairs it has, and
-/// how many octets there are in all.
+/// With so many routes of length 16 and bodies of this size: the length of each packet's body and
+/// how many pairs it has, and how many octets there are in all.
 static SIZES: [(u8, u16, &[(usize, usize)], usize); 5] = [
     (3, 1024, &[(1024, 77)], 1028),
     (4, 1024, &[(1012, 76), (33, 1)], 1053),

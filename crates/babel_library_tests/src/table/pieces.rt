@@ -117,8 +117,8 @@ fn after_packets(octets: &[u8]) -> &[u8] {
     rest
 }
 
-/// Whether the dump, cut off at each place, gives what its whole packets give, and if they have no fault is truncated
-/// where the next one begins.
+/// Whether the dump, cut off at each place, gives what its whole packets give, and if they have no
+/// fault is truncated where the next one begins.
 fn is_cut_off(alloc: Global, mode: Mode, sender: Addr, dump: &[u8]) -> bool {
     for len in 0..dump.len() {
         let front = &dump[..len];

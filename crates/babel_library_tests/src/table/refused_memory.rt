@@ -1,5 +1,6 @@
-//! Each allocation refused in turn, by `./check memory`, which runs each test here once for each of its allocations.
-//! A test here passes where nothing was refused, and fails with `REFUSED` where a refusal was answered with `Memory`.
+//! Each allocation refused in turn, by `./check memory`, which runs each test here once for each of
+//! its allocations. A test here passes where nothing was refused, and fails with `REFUSED` where a
+//! refusal was answered with `Memory`.
 use super::{are, key, route, router, router_v6, v6};
 use crate::dumps::{
     ALL_RETRACTED, NESTED_SOURCES, ROUTER_ID_BY_FLAG, TWO_ROUTES, TWO_ROUTES_FORM, octets,
@@ -17,7 +18,8 @@ const OTHER: &str = "neither the known answer nor Memory";
 
 type Row = (Option<Key>, Option<Held>);
 
-/// Fails with `REFUSED` where the answer is `Memory`, and with `OTHER` where it is not the known one.
+/// Fails with `REFUSED` where the answer is `Memory`, and with `OTHER` where it is not the known
+/// one.
 fn known(answer: Result<Table, Fault>, want: &[Row]) -> Result<(), Fail> {
     match answer {
         Ok(table) if are(&table, want) => Ok(()),

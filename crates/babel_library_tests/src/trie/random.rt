@@ -105,7 +105,8 @@ fn parent(prefix: (u128, u8)) -> (u128, u8) {
     }
 }
 
-/// What sixteen destinations are answered for sixteen sources differently, both answers as one number.
+/// What sixteen destinations are answered for sixteen sources differently, both answers as one
+/// number.
 fn differing(lines: &[Line], others: &[Line]) -> Answers {
     let mut differing = [[None; 16]; 16];
     for (dst, row) in differing.iter_mut().enumerate() {
@@ -201,7 +202,8 @@ fn boxes_by_definition(rt: HostRuntime) -> Result<(), Fail> {
     Ok(())
 }
 
-/// The first pair of addresses at which these lists of rows answer differently is the one by definition.
+/// The first pair of addresses at which these lists of rows answer differently is the one by
+/// definition.
 fn expect_difference(
     rt: &impl Abort,
     alloc: Global,

@@ -1,11 +1,13 @@
-//! Each allocation refused in turn, by `./check memory`, which runs each test here once for each of its allocations.
-//! A test here passes where nothing was refused, and fails with `AllocError` where a refusal was answered with it.
+//! Each allocation refused in turn, by `./check memory`, which runs each test here once for each of
+//! its allocations. A test here passes where nothing was refused, and fails with `AllocError` where
+//! a refusal was answered with it.
 use super::rows::{Line, Rows, answer, last, wanted_at};
 use babel_prefix::Family;
 use std::alloc::Global;
 use std::test::Fail;
 
-/// A grid of these rows has as many pairs as are known, each with the best row's value at its corners.
+/// A grid of these rows has as many pairs as are known, each with the best row's value at its
+/// corners.
 fn known(alloc: Global, family: Family, lines: &[Line], count: usize) -> Result<(), Fail> {
     let grid = Rows::of(alloc, family, lines)?.grid(alloc)?;
     let pairs = grid.pairs(alloc)?;

@@ -4,8 +4,8 @@ use babel_prefix::Family;
 use std::alloc::{AllocError, Global};
 use std::test::Fail;
 
-/// 1,100 sources of all destinations, each with a value of its own, and three destinations that have
-/// one of them otherwise.
+/// 1,100 sources of all destinations, each with a value of its own, and three destinations that
+/// have one of them otherwise.
 fn shared(alloc: Global) -> Result<Vec<Line>, AllocError> {
     let mut lines = Vec::new(alloc);
     for source in 0..1100u32 {

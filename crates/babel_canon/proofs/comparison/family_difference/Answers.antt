@@ -24,7 +24,8 @@ module _ (family : Family) (rows others : List Pair) (values : List Held) (once 
     (mine_are : AreNumberedEntries family rows values mine) (theirs_are : AreNumberedEntries family others values theirs) where
   by_value : {E : Type 0} (result : Result (Option (Address × Address)) E)
       → IfOk result (λ found. IfSome found (λ p. (p.0.family ≡ family) × (p.1.family ≡ family)))
-      → IfOk result (λ found. MatchOption found (SameAnswers (width_of family) (answers_in family mine) (answers_in family theirs)) (λ p. IsLeastDifference (width_of family) (answers_in family mine) (answers_in family theirs) p.0.bits p.1.bits))
+      → IfOk result (λ found. MatchOption found (SameAnswers (width_of family) (answers_in family mine) (answers_in family theirs))
+      (λ p. IsLeastDifference (width_of family) (answers_in family mine) (answers_in family theirs) p.0.bits p.1.bits))
       → IfOk result (IsFirstInFamily family rows others)
   by_value (Ok None) of_family same =
       same_by_value values (width_of family) (answers_in family mine) (answers_in family theirs) (answers_in family (entries_of rows)) (answers_in family (entries_of others))

@@ -7,5 +7,11 @@ pub returns-clause-ok : goal.returns-clause-ok
 returns-clause-ok c = record {
   differences = _;
   are_differences = c.in_ok-grids.ensures.differences;
-  count_is = omega (arith, c.count.ensures, c.in_ok-grids.ensures.few, c.entries-valid.ensures.value, valued-length c.counted_differences.new.values.list.items c.in_ok-grids.grids.v4.boxes c.in_ok-grids.grids.v6.boxes);
+  count_is = omega (
+    arith,
+    c.count.ensures,
+    c.in_ok-grids.ensures.few,
+    c.entries-valid.ensures.value,
+    valued-length c.counted_differences.new.values.list.items c.in_ok-grids.grids.v4.boxes c.in_ok-grids.grids.v6.boxes,
+  );
 }

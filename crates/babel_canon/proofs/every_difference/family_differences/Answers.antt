@@ -43,7 +43,8 @@ returns-clause-boxes c =
     let boxes = c.in_ok-grid.grid.boxes in
     let same = c.of-rows.ensures ∙ ap (packed_entries left) c.as_slice.ensures.value in
     let same_others = c.of-others.ensures ∙ ap (packed_entries right) c.as_slice-2.ensures.value in
-    let there = subst (λ (es : List (Entry PackedValue)). AreDifferences width (answers_in family es) (answers_in family (packed_entries (rows_left c.of-others.result.rows) c.of-others.result.values.now)) boxes) same c.in_ok-grid.ensures.boxes in
+    let there = subst (λ (es : List (Entry PackedValue)).
+    AreDifferences width (answers_in family es) (answers_in family (packed_entries (rows_left c.of-others.result.rows) c.of-others.result.values.now)) boxes) same c.in_ok-grid.ensures.boxes in
     record {
       mine = mine;
       theirs = theirs;

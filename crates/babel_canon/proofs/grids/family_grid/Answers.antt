@@ -28,7 +28,8 @@ returns-clause-many c is =
     let mine = family_rows c.args.family c.args.table.now.rows in
     let entries = packed_entries mine c.in_ok-packed.packed.items in
     let same = c.of-rows.ensures ∙ ap (packed_entries mine) c.as_slice.ensures.value in
-    more_by_value values.list.items (distinct values.list.items values.numbers c.in_ok-packed.ensures.numbered) c.args.family c.args.table.now.rows entries c.args.limits.entries c.in_ok-packed.ensures.entries
+    more_by_value values.list.items
+    (distinct values.list.items values.numbers c.in_ok-packed.ensures.numbered) c.args.family c.args.table.now.rows entries c.args.limits.entries c.in_ok-packed.ensures.entries
     (rw c.entries.ensures.value at (rw same at (c.in_ok-grid.ensures.many is)))
 
 pub returns-clause-boxes : goal.returns-clause-boxes

@@ -1,9 +1,12 @@
 use Rattle.babel_canon.proofs.AnswersTell.{answers_are_told}
-use Rattle.babel_canon.proofs.TableAnswers.{table_answers}
+use Rattle.babel_canon.proofs.TableAnswers.{answer_is_one, table_answers}
 use Rattle.babel_canon.proofs.laws.answers_are_told.Goals as goal
 
 pub returns-clause-table : goal.returns-clause-table
 returns-clause-table c = table_answers
+
+pub returns-clause-one : goal.returns-clause-one
+returns-clause-one c = answer_is_one
 
 pub returns-clause-headline : goal.returns-clause-headline
 returns-clause-headline c = answers_are_told

@@ -21,9 +21,11 @@ returns-then-from_be_bytes c is =
     let octets = be_bytes_8 c.router_id.result bytes.result (search rules) (λ i. search rules) bytes.ensures in
     let other_octets = be_bytes_8 c.router_id-in-Route-Route.result others.result (search rules) (λ i. search rules) others.ensures in
     let ids : a.router_id ≡ b.router_id = sym c.router_id.ensures.value ∙ sym octets ∙ ap (to_be_bytes w64) c.if-from_be_bytes.true ∙ other_octets ∙ c.router_id-in-Route-Route.ensures.value in
-    let numbers : (c.seqno.result ≡ c.seqno-then-from_be_bytes.result) × (c.metric.result ≡ c.metric-then-from_be_bytes.result) × (c.next_hop.result.bits ≡ c.next_hop-then-from_be_bytes.result.bits) = grind (arith, nat_tests, c.eq.ensures, is) in
+    let numbers : (c.seqno.result ≡ c.seqno-then-from_be_bytes.result) × (c.metric.result ≡ c.metric-then-from_be_bytes.result)
+    × (c.next_hop.result.bits ≡ c.next_hop-then-from_be_bytes.result.bits) = grind (arith, nat_tests, c.eq.ensures, is) in
     let family : c.next_hop.result.family ≡ c.next_hop-then-from_be_bytes.result.family = search rules in
-    let hop : a.next_hop ≡ b.next_hop = sym c.next_hop.ensures.value ∙ ap (λ (f : Family). address f c.next_hop.result.bits) family ∙ ap (address _) numbers.2 ∙ c.next_hop-then-from_be_bytes.ensures.value in
+    let hop : a.next_hop ≡ b.next_hop = sym c.next_hop.ensures.value ∙ ap (λ (f : Family). address f c.next_hop.result.bits) family
+    ∙ ap (address _) numbers.2 ∙ c.next_hop-then-from_be_bytes.ensures.value in
     let same : a ≡ b =
     ap (λ (id : List ℕ). announcement_of id a.seqno a.metric a.next_hop) ids
     ∙ ap (λ (n : ℕ). announcement_of b.router_id n a.metric a.next_hop) (sym c.seqno.ensures.value ∙ numbers.0 ∙ c.seqno-then-from_be_bytes.ensures.value)

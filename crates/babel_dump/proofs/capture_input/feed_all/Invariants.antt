@@ -7,7 +7,7 @@ abbrev pub invariant-reads : goal.invariant-reads
 invariant-reads g l = record {
   from : IsReadFrom l.capture l.fn.reading l.initial.capture.progress.gathering.wanted;
   no_fault : l.capture.fault ≡ None;
-  given : IsFedSoFar l.capture (g.R.ByteIn.state l.initial.reader).left (g.R.ByteIn.state l.reader).left l.counter;
+  given : IsFedSoFar l.capture (g.R.ByteIn.state l.initial.reader) (g.R.ByteIn.state l.reader) l.counter;
   no_failure : (g.R.ByteIn.state l.reader).failures ≡ (g.R.ByteIn.state l.initial.reader).failures;
   no_end : (g.R.ByteIn.state l.reader).ends ≡ (g.R.ByteIn.state l.initial.reader).ends;
   reads : (g.R.ByteIn.state l.reader).reads ≡ (g.R.ByteIn.state l.initial.reader).reads + l.counter;

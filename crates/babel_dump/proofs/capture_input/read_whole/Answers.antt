@@ -7,7 +7,8 @@ use Rattle.babel_dump.proofs.capture_input.read_whole.Goals as goal
 pub returns : goal.returns
 returns g c =
     let fed = c.in_ok-feed_all.ensures in record {
-      made = rw (← c.new-capture.ensures.made.1) (given_capture _ c.feed_all.new.capture _ _ (record { limit = fed.limit; wanted = fed.wanted }) fed.gathered.made c.in_ok-read.ensures.read c.in_ok-read.ensures.wanted);
+      made = rw (← c.new-capture.ensures.made.1)
+          (given_capture _ c.feed_all.new.capture _ _ (record { limit = fed.limit; wanted = fed.wanted }) fed.gathered.made c.in_ok-read.ensures.read c.in_ok-read.ensures.wanted);
       cause = search rules;
       called = search rules;
     }

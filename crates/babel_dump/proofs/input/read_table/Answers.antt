@@ -8,6 +8,6 @@ returns-in_err-refuse_unread g c =
     let exit = err_from_is_err_and c.from_residual-in_err-refuse_unread.result c.from_residual-in_err-refuse_unread.ensures.1 in
     let unread = c.in_err-refuse_unread.ensures.unread in record {
       made = search rules;
-      cause = rw (exit.1, exit.2) (unread_cause _ _ c.in_ok-table.table _ c.in_ok-table.ensures.made unread.0 (rw (c.left_out-left_out.ensures, c.report.ensures) at unread.1));
+      cause = rw (exit.1, exit.2) (unread_cause _ _ c.in_ok-table.table _ c.in_ok-table.ensures.made unread.0 (rw (c.left_out.ensures, c.report.ensures) at unread.1));
       called = search rules;
     }

@@ -1,9 +1,6 @@
-use Rattle.std.proofs.Common.{List, ◌++◌, ap, sym, ◌∙◌, arith}
+use Rattle.std.proofs.Common.{List, ap, arith}
 use Rattle.babel_tlv.specs.Pair.{Pair}
-use Rattle.babel_tlv.specs.Views.{keeps_all}
-use Rattle.babel_tlv.specs.declared.view.View.{View}
-use Rattle.babel_table.specs.Left.{rows_left}
-use Rattle.babel_dump.specs.InFormat.{line_in, pairs_in}
+use Rattle.babel_dump.specs.InFormat.{pairs_in}
 use Rattle.babel_dump.proofs.SliceLaws.{broke_on, front_at_err, pushed, took_more}
 use Rattle.babel_dump.proofs.slices.write_table.Goals as goal
 
@@ -17,8 +14,7 @@ loop-key-preserved g c =
     let format = c.args.format in
     let left = c.make_room.new.buffer.items in
     let took = took_more _ _ _ _ c.loop-key.buffer.items left _ c.loop-key.invariant.took c.in_ok-make_room.ensures.front in
-    let next = ap (λ (rows : List Pair). pairs_in format keeps_all rows) c.in-Some.ensures.steps
-    ∙ ap (λ (view : View). line_in format view (c.in-Some.key, c.in-Some.held) ++ pairs_in format keeps_all (rows_left c.next.new.self)) (sym c.all.ensures) in record {
+    let next = ap (λ (rows : List Pair). pairs_in format c.args.view rows) c.in-Some.ensures.steps in record {
       took = pushed _ _ left _ _ _ _ took c.push_line.ensures.text next;
       room = omega (arith, c.push_line.ensures.room, c.in_ok-make_room.ensures.room);
     }

@@ -22,6 +22,8 @@ returns c =
     let ae : c.match-family.encoding ≡ encoding key.dst.address.family = search rules in
     let plen : c.len-2.result ≡ key.dst.len = search rules in
     rw (c.to_be_bytes.ensures, c.to_be_bytes-2.ensures, c.to_be_bytes-3.ensures)
-    (sym (ap (λ (n : ℕ). 8 ∷ n ∷ c.match-family.encoding ∷ 128 ∷ c.len-2.result ∷ c.args.omit ∷ to_be_bytes w16 1600 ++ to_be_bytes w16 c.args.seqno ++ to_be_bytes w16 c.args.metric ++ field ++ source) len
+    (sym (ap (λ (n : ℕ). 8 ∷ n ∷ c.match-family.encoding ∷ 128 ∷ c.len-2.result ∷ c.args.omit ∷ to_be_bytes
+    w16 1600 ++ to_be_bytes w16 c.args.seqno ++ to_be_bytes w16 c.args.metric ++ field ++ source) len
     ∙ ap (λ (n : ℕ). 8 ∷ length body ∷ n ∷ 128 ∷ c.len-2.result ∷ c.args.omit ∷ to_be_bytes w16 1600 ++ to_be_bytes w16 c.args.seqno ++ to_be_bytes w16 c.args.metric ++ field ++ source) ae
-    ∙ ap (λ (n : ℕ). 8 ∷ length body ∷ encoding key.dst.address.family ∷ 128 ∷ n ∷ c.args.omit ∷ to_be_bytes w16 1600 ++ to_be_bytes w16 c.args.seqno ++ to_be_bytes w16 c.args.metric ++ field ++ source) plen))
+    ∙ ap (λ (n : ℕ). 8 ∷ length body ∷ encoding key.dst.address.family ∷ 128 ∷ n ∷ c.args.omit ∷ to_be_bytes
+    w16 1600 ++ to_be_bytes w16 c.args.seqno ++ to_be_bytes w16 c.args.metric ++ field ++ source) plen))

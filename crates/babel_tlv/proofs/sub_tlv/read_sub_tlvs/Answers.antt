@@ -12,8 +12,10 @@ loop-rest-init c = SubTlvsSoFar-start c.args.place c.args.octets.now
 
 pub returns-in_err-source-clause-fault : goal.returns-in_err-source-clause-fault
 returns-in_err-source-clause-fault c =
-    let is : BeginsTlv c.loop-rest.rest.now 128 c.in-Some.body.now c.in-Some.behind.now = subst (λ (k : ℕ). BeginsTlv c.loop-rest.rest.now k c.in-Some.body.now c.in-Some.behind.now) c.if-kind.true c.in-Some.ensures in
-    let fault : sub_reason c.args.place c.args.octets.now ≡ Some c.in_err-source.field-0.0 = FaultSoFar-fault c.args.place c.args.octets.now c.loop-rest.rest.now c.in-Some.behind.now (is_some c.loop-rest.source) 128 c.in-Some.body.now _
+    let is : BeginsTlv c.loop-rest.rest.now 128 c.in-Some.body.now c.in-Some.behind.now =
+    subst (λ (k : ℕ). BeginsTlv c.loop-rest.rest.now k c.in-Some.body.now c.in-Some.behind.now) c.if-kind.true c.in-Some.ensures in
+    let fault : sub_reason c.args.place c.args.octets.now ≡ Some c.in_err-source.field-0.0 =
+    FaultSoFar-fault c.args.place c.args.octets.now c.loop-rest.rest.now c.in-Some.behind.now (is_some c.loop-rest.source) 128 c.in-Some.body.now _
     (SubTlvsSoFar-fault c.args.place c.args.octets.now c.loop-rest.rest.now c.loop-rest.source c.loop-rest.invariant) is c.in_err-source.ensures.fault in
     search (rules, fault)
 
@@ -32,7 +34,8 @@ loop-rest-smaller c = BeginsTlv-shorter c.loop-rest.rest.now c.in-Some.kind c.in
 
 pub loop-rest-preserved-in_ok-source : goal.loop-rest-preserved-in_ok-source
 loop-rest-preserved-in_ok-source c =
-    let is : BeginsTlv c.loop-rest.rest.now 128 c.in-Some.body.now c.in-Some.behind.now = subst (λ (k : ℕ). BeginsTlv c.loop-rest.rest.now k c.in-Some.body.now c.in-Some.behind.now) c.if-kind.true c.in-Some.ensures in
+    let is : BeginsTlv c.loop-rest.rest.now 128 c.in-Some.body.now c.in-Some.behind.now =
+    subst (λ (k : ℕ). BeginsTlv c.loop-rest.rest.now k c.in-Some.body.now c.in-Some.behind.now) c.if-kind.true c.in-Some.ensures in
     SubTlvsSoFar-source c.args.place c.args.octets.now c.loop-rest.rest.now c.in-Some.behind.now c.loop-rest.source c.in-Some.body.now c.in_ok-source.field-0
     c.loop-rest.invariant is c.in_ok-source.ensures.fault c.in_ok-source.ensures.first c.in_ok-source.ensures.source
 

@@ -13,4 +13,5 @@ returns-in_default-2-clause-many c _ =
 
 pub returns-clause-v4_boxes : goal.returns-clause-v4_boxes
 returns-clause-v4_boxes c =
-    boxes_still c.family_grid.new.values.list.items c.family_grid-2.new.values.list.items c.in_ok-v6.ensures.keeps V4 c.args.table.now.rows c.in-Some.v4.boxes (rw c.in-Some.is at c.in_ok-v4.ensures.boxes)
+    boxes_still c.family_grid.new.values.list.items c.family_grid-2.new.values.list.items c.in_ok-v6.ensures.keeps V4 c.args.table.now.rows c.in-Some.v4.boxes
+    (rw c.in-Some.is at c.in_ok-v4.ensures.boxes)

@@ -16,7 +16,8 @@ returns-then-limit-saturating_add c body pairs is =
     let size : IsBodySize body = subst IsBodySize is.limit c.octets-limit.ensures.valid in
     let group_len : c.len.result ≡ length (group_in old.writing pair) = c.len.ensures.value ∙ ap (λ (o : List ℕ). length o) c.put_group-group.ensures.octets in
     let few : length (group_in old.writing pair) ≤ 96 = subst (λ (o : List ℕ). length o ≤ 96) c.put_group-group.ensures.octets c.put_group-group.ensures.few in
-    let past : body < old.len + length (group_in old.writing pair) = omega (arith, group_len, size.said, is.limit, c.octets-limit.ensures.value, c.saturating_add.ensures, c.if-limit-saturating_add.true) in
+    let past : body < old.len + length (group_in old.writing pair) =
+    omega (arith, group_len, size.said, is.limit, c.octets-limit.ensures.value, c.saturating_add.ensures, c.if-limit-saturating_add.true) in
     let again : c.put_group-group-then-limit-saturating_add.result.items ≡ first =
     c.put_group-group-then-limit-saturating_add.ensures.octets ∙ ap (λ w. group_in w pair) c.in_ok-begin.ensures.writing in
     let group_is : c.deref.result.now ≡ first = c.deref.ensures.0 ∙ again in
@@ -35,7 +36,8 @@ returns c body pairs is =
     let size : IsBodySize body = subst IsBodySize is.limit c.octets-limit.ensures.valid in
     let group_len : c.len.result ≡ length (group_in old.writing pair) = c.len.ensures.value ∙ ap (λ (o : List ℕ). length o) c.put_group-group.ensures.octets in
     let group_is : c.deref-2.result.now ≡ group_in old.writing pair = c.deref-2.ensures.0 ∙ c.put_group-group.ensures.octets in
-    let room : old.len + length (group_in old.writing pair) ≤ body = omega (arith, group_len, size.said, is.limit, c.octets-limit.ensures.value, c.saturating_add.ensures, c.if-limit-saturating_add.false) in
+    let room : old.len + length (group_in old.writing pair) ≤ body =
+    omega (arith, group_len, size.said, is.limit, c.octets-limit.ensures.value, c.saturating_add.ensures, c.if-limit-saturating_add.false) in
     let longer : new.len ≡ old.len + length (group_in old.writing pair) = c.in_ok-append-2.ensures.len ∙ ap (λ (o : List ℕ). old.len + length o) group_is in
     let octets : Appended old new (group_in old.writing pair) = subst (Appended old new) group_is c.in_ok-append-2.ensures.octets in
     in_last body pairs pair old new old.writing is refl c.in_ok-append-2.ensures.body c.in_ok-append-2.ensures.at longer

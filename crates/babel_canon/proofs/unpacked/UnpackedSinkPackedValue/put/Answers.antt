@@ -10,10 +10,12 @@ pub returns-clause-ok : goal.returns-clause-ok
 returns-clause-ok g c =
     let pair : Pair = (c.unwrap-key.result, c.value.result) in
     let is : pair ≡ numbered_pair c.args.self.now.values.now.list.items c.args.row = search rules in
-    on_ok_weaker c.put.result (λ more start rows so. unpacked_more g.S.PairSink.has g.S.PairSink.has start.values.now.list.items c.args.self.now.values.now.list.items start.out c.args.self.now.out _ rows c.args.row pair refl is more so) c.put.ensures.ok
+    on_ok_weaker c.put.result (λ more start rows so. unpacked_more g.S.PairSink.has g.S.PairSink.has start.values.now.list.items
+    c.args.self.now.values.now.list.items start.out c.args.self.now.out _ rows c.args.row pair refl is more so) c.put.ensures.ok
 
 pub returns-clause-err : goal.returns-clause-err
 returns-clause-err g c =
     let pair : Pair = (c.unwrap-key.result, c.value.result) in
     let is : pair ≡ numbered_pair c.args.self.now.values.now.list.items c.args.row = search rules in
-    on_err_weaker c.put.result (λ more start rows so. unpacked_more g.S.PairSink.has g.S.PairSink.stopped start.values.now.list.items c.args.self.now.values.now.list.items start.out c.args.self.now.out _ rows c.args.row pair refl is more so) c.put.ensures.err
+    on_err_weaker c.put.result (λ more start rows so. unpacked_more g.S.PairSink.has g.S.PairSink.stopped start.values.now.list.items
+    c.args.self.now.values.now.list.items start.out c.args.self.now.out _ rows c.args.row pair refl is more so) c.put.ensures.err

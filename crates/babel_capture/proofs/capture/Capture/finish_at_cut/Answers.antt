@@ -1,7 +1,8 @@
-use Rattle.std.proofs.Common.{ap, sym, ◌∙◌}
-use Rattle.babel_capture.specs.Capture.{State}
-use Rattle.babel_capture.proofs.StreamLaws.{failed-fault}
+use Rattle.std.proofs.Common.{[]}
+use Rattle.std.proofs.lemmas.Result.{err_from_is_err_and}
 use Rattle.babel_capture.proofs.capture.Capture.finish_at_cut.Goals as goal
 
-pub returns-in-Some-clause-fault : goal.returns-in-Some-clause-fault
-returns-in-Some-clause-fault c not fed = failed-fault c.args.self c.in-Some.fault fed (ap (λ (s : State). s.fault) (sym c.self.view_is) ∙ c.in-Some.is) not
+pub returns-in_err-cut-clause-fault : goal.returns-in_err-cut-clause-fault
+returns-in_err-cut-clause-fault c =
+    let exit = err_from_is_err_and c.from_residual.result c.from_residual.ensures.1 in
+    rw (exit.1, exit.2) (λ not fed. c.in_err-cut.ensures.fault not [] fed)

@@ -1,11 +1,13 @@
 -- The tally of a sender that is kept has one packet more.
 use Rattle.std.proofs.Common.{rules, ◌≡◌, ◌∙◌, sym, subst}
-use Rattle.std.specs.Prelude.{None, Some}
+use Rattle.std.specs.Prelude.{None, Option, Some}
 use Rattle.std.specs.BTreeMap.{is_at}
 use Rattle.std.specs.List.Sorted.{IsStrictlySortedBy}
 use Rattle.std.specs.Map.{keys_of, lookup, set_value}
-use Rattle.babel_capture.specs.Tallies.{Senders, one_more}
+use Rattle.babel_capture.specs.declared.tallies.Tally.{Tally}
+use Rattle.babel_capture.specs.Tallies.{CountNeedsMemory, Senders, one_more}
 use Rattle.babel_capture.specs.contracts.tallies.OriginOrd.TheImpl.{ghosts}
+use Rattle.babel_capture.proofs.MemoryLaws.{if-memory}
 use Rattle.babel_capture.proofs.TallyLaws.{unknown-by, updated-by}
 use Rattle.babel_capture.proofs.tallies.Tallies.add.Goals as goal
 
@@ -22,3 +24,13 @@ returns-clause-ok c =
     let written : (c.get_mut.follows.lender c.in-Some-with.more).entries ≡ set_value (is_at (ghosts.cmp c.args.origin)) c.args.self.now c.in-Some-with.more =
     subst (λ (s : Senders). (c.get_mut.follows.lender c.in-Some-with.more).entries ≡ set_value (is_at (ghosts.cmp c.args.origin)) s c.in-Some-with.more) c.self.view_is (c.get_mut.follows.holds c.in-Some-with.more).0 in
     updated-by c.args.self.now (c.get_mut.follows.lender c.in-Some-with.more).entries c.args.origin c.args.packet.now c.in-Some.tally.now c.in-Some-with.more found more sorted written
+
+pub returns-in_default-clause-memory : goal.returns-in_default-clause-memory
+returns-in_default-clause-memory c =
+    let none : lookup (is_at (ghosts.cmp c.args.origin)) c.args.self.now ≡ None = search rules in
+    if-memory c.add_first.result _ (subst (λ (t : Option Tally). CountNeedsMemory t c.args.packet.now) (sym none ∙ unknown-by c.args.self.now c.args.origin) tt)
+
+pub returns-in_default-with-clause-memory : goal.returns-in_default-with-clause-memory
+returns-in_default-with-clause-memory c memory =
+    let found : lookup (is_at (ghosts.cmp c.args.origin)) c.args.self.now ≡ Some c.in-Some.tally.now = search rules in
+    subst (λ (t : Option Tally). CountNeedsMemory t c.args.packet.now) (sym found ∙ unknown-by c.args.self.now c.args.origin) (search rules)

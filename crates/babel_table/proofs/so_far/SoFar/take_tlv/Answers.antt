@@ -9,11 +9,11 @@ use Rattle.babel_table.proofs.so_far.SoFar.take_tlv.Goals as goal
 
 pub returns-clause-ok : goal.returns-clause-ok
 returns-clause-ok c = tlv-taken c.args.self.now.rows.mode c.args.self.now.rows.entries (routes c.args.self.now.rows.rows c.args.self.now.report) _ c.args.state.now _ (tlv_value c.args.tlv.now)
-    (event_of c.in_ok-verdict.verdict c.step.new.route) c.take.result c.in_ok-verdict.ensures.said c.in_ok-verdict.ensures.state c.take.ensures.ok
+    (event_of c.in_ok-verdict.verdict c.step_into.new.route) c.take.result c.in_ok-verdict.ensures.said c.in_ok-verdict.ensures.state c.take.ensures.ok
 
 pub returns-clause-fails : goal.returns-clause-fails
 returns-clause-fails c = tlv-failed c.args.self.now.rows.mode c.args.self.now.rows.entries (routes c.args.self.now.rows.rows c.args.self.now.report) (routes c.args.self.now.rows.rows c.args.self.now.report) c.args.state.now c.args.state.now (tlv_value c.args.tlv.now)
-    (event_of c.in_ok-verdict.verdict c.step.new.route) c.take.result c.in_ok-verdict.ensures.said c.take.ensures.refused
+    (event_of c.in_ok-verdict.verdict c.step_into.new.route) c.take.result c.in_ok-verdict.ensures.said c.take.ensures.refused
 
 pub returns-in_err-verdict-clause-fails : goal.returns-in_err-verdict-clause-fails
 returns-in_err-verdict-clause-fails c =

@@ -9,22 +9,22 @@ use Rattle.babel_table.proofs.sorted_rows.SortedRows.of_family.Goals as goal
 
 pub returns-in-V4-clause-value : goal.returns-in-V4-clause-value
 returns-in-V4-clause-value c =
-    let v4 : List Pair = c.self.inside.v4.items in
-    let v6 : List Pair = c.self.inside.v6.items in
+    let v4 : List Pair = c.self.inside.v4 in
+    let v6 : List Pair = c.self.inside.v6 in
     let family : c.args.family ≡ V4 = search rules in
     let rows : c.args.self.now ≡ v4 ++ v6 = search rules in
-    ap (λ (rs : List Pair). rs ++ []) c.deref.ensures.value
+    ap (λ (rs : List Pair). rs ++ []) c.as_slice.ensures
     ∙ of_v4 v4 v6 c.self.invariant.0 c.self.invariant.1
     ∙ ap (family_rows V4) (sym rows)
     ∙ ap (λ (f : Family). family_rows f c.args.self.now) (sym family)
 
 pub returns-in-V6-clause-value : goal.returns-in-V6-clause-value
 returns-in-V6-clause-value c =
-    let v4 : List Pair = c.self.inside.v4.items in
-    let v6 : List Pair = c.self.inside.v6.items in
+    let v4 : List Pair = c.self.inside.v4 in
+    let v6 : List Pair = c.self.inside.v6 in
     let family : c.args.family ≡ V6 = search rules in
     let rows : c.args.self.now ≡ v4 ++ v6 = search rules in
-    c.deref-in-V6.ensures.value
+    c.as_slice-in-V6.ensures
     ∙ of_v6 v4 v6 c.self.invariant.0 c.self.invariant.1
     ∙ ap (family_rows V6) (sym rows)
     ∙ ap (λ (f : Family). family_rows f c.args.self.now) (sym family)

@@ -1,0 +1,125 @@
+-- No fault of the octets is want of memory.
+use Rattle.std.proofs.Common.{◌≡◌, ◌≢◌, ℕ, List, arith, inl, inr, length, subst, sym, ◌∙◌}
+use Rattle.std.specs.Prelude.{Err, IfErr, None, Ok, Option, Result, Some}
+use Rattle.babel_capture.specs.declared.fault.Fault.{Fault}
+use Rattle.babel_capture.specs.declared.fault.Fault.TheVariants as faults
+use Rattle.babel_capture.specs.declared.lack.Lack.{Lack}
+use Rattle.babel_capture.specs.declared.lack.Lack.TheVariants as lacks
+use Rattle.babel_capture.specs.declared.layout.Interface.{Interface}
+use Rattle.babel_capture.specs.declared.layout.Layout.{Layout}
+use Rattle.babel_capture.specs.declared.layout.Layout.TheVariants as layouts
+use Rattle.babel_capture.specs.declared.link.Link.{Link}
+use Rattle.babel_capture.specs.declared.order.Order.{Order}
+use Rattle.babel_capture.specs.Blocks.{HasHeader, context_behind, header_of, octets_of, start}
+use Rattle.babel_capture.specs.Capture.{CaptureFault, IsShortBy}
+use Rattle.babel_capture.specs.Contents.{Content, file, section, describes, holds, nothing, block_said, first_said, holds_by, kept_said, layout_said, packet_of, section_of, simple_of, typed_said}
+use Rattle.babel_capture.specs.Context.{Before}
+use Rattle.babel_capture.specs.Lack.{lack_fault}
+use Rattle.babel_capture.specs.Lengths.{block_len, first_len, layout_len, len_within, pcap_order, section_order, total_in}
+use Rattle.babel_capture.specs.Gathering.{IsRefused}
+use Rattle.babel_capture.specs.Link.{link_of}
+use Rattle.babel_capture.specs.Reading.{StopsAt}
+use Rattle.babel_capture.specs.Tallies.{Senders, senders_of}
+use Rattle.babel_capture.specs.declared.wanted.Wanted.{Wanted}
+
+pub if-memory : {A : Type 0} (r : Result A Fault) (P : Type 0) → P → IfErr r (λ fault. fault ≡ faults.Memory → P)
+if-memory (Ok value) P fact = tt
+if-memory (Err fault) P fact = λ is. fact
+
+pub lack-other : (at : ℕ) (lack : Lack) → lack_fault at lack ≢ faults.Memory
+lack-other at lacks.Fragment is = cc
+lack-other at lacks.CutShort is = cc
+lack-other at lacks.Snapped is = cc
+
+-- ---- what blocks say
+
+linked : (at interface number : ℕ) (frame : List ℕ) (whole : ℕ) (link : Option Link) → holds_by at interface number frame whole link ≢ Err faults.Memory
+linked at interface number frame whole None is = cc
+linked at interface number frame whole (Some link) is = cc
+
+packets : (at interface : ℕ) (frame : List ℕ) (whole : ℕ) (described : Option Interface) → packet_of at interface frame whole described ≢ Err faults.Memory
+packets at interface frame whole None is = cc
+packets at interface frame whole (Some described) is = linked at interface described.link frame whole (link_of described.link) is
+
+kept : (before : Before) (at : ℕ) (order : Order) (block : List ℕ) (number captured : ℕ) → kept_said before at order block number captured ≢ Err faults.Memory
+kept before at order block number captured is = grind (arith, packets)
+
+order_other : (at : ℕ) (header : List ℕ) → section_order at header ≢ Err faults.Memory
+order_other at header is = grind arith
+
+sections : (at : ℕ) (block : List ℕ) (order : Result Order Fault) → order ≢ Err faults.Memory → section_of at block order ≢ Err faults.Memory
+sections at block (Err fault) not is = (let same : fault ≡ faults.Memory = cc in not cc)
+sections at block (Ok order) not is = grind arith
+
+simples : (before : Before) (at : ℕ) (order : Order) (block : List ℕ) (described : Option Interface) → simple_of before at order block described ≢ Err faults.Memory
+simples before at order block None is = cc
+simples before at order block (Some described) is = grind (arith, packets)
+
+typed : (before : Before) (at : ℕ) (order : Order) (block : List ℕ) (kind : ℕ) → typed_said before at order block kind ≢ Err faults.Memory
+typed before at order block kind is = grind (arith, kept, simples)
+
+firsts : (before : Before) (at : ℕ) (block : List ℕ) (order : Option Order) → first_said before at block order ≢ Err faults.Memory
+firsts before at block (Some order) is = grind arith
+firsts before at block None is = sections at block (section_order at block) (order_other at block) is
+
+layouts_other : (layout : Layout) (before : Before) (at : ℕ) (block : List ℕ) → layout_said layout before at block ≢ Err faults.Memory
+layouts_other layouts.Start before at block is = firsts before at block (pcap_order block) is
+layouts_other (layouts.Pcap order) before at block is = grind (arith, packets)
+layouts_other (layouts.Section order) before at block is =
+    let section = sections at block (section_order at block) (order_other at block) in
+    grind (arith, section, typed)
+
+pub said_other : (before : Before) (at : ℕ) (block : List ℕ) → block_said before at block ≢ Err faults.Memory
+unfolding block_said
+said_other before at block = layouts_other before.layout before at block
+
+-- ---- how long they are
+
+totals : (at : ℕ) (header : List ℕ) (order : Result Order Fault) → order ≢ Err faults.Memory → total_in at header order ≢ Err faults.Memory
+totals at header (Ok order) not is = grind arith
+totals at header (Err fault) not is = (let same : fault ≡ faults.Memory = cc in not cc)
+
+first_other : (at : ℕ) (header : List ℕ) (order : Option Order) → first_len at header order ≢ Err faults.Memory
+first_other at header (Some order) is = cc
+first_other at header None is =
+    let section = totals at header (section_order at header) (order_other at header) in
+    grind (arith, section)
+
+layout_other : (layout : Layout) (at : ℕ) (header : List ℕ) → layout_len layout at header ≢ Err faults.Memory
+layout_other layouts.Start at header is = first_other at header (pcap_order header) is
+layout_other (layouts.Pcap order) at header is = grind arith
+layout_other (layouts.Section order) at header is =
+    let section = totals at header (section_order at header) (order_other at header) in
+    grind (arith, section)
+
+within : (limit at : ℕ) (len : Result ℕ Fault) → len ≢ Err faults.Memory → len_within limit at len ≢ Err faults.Memory
+within limit at (Err fault) not is = not is
+within limit at (Ok len) not is = grind arith
+
+pub header-other : (before : Before) (at : ℕ) (octets : List ℕ) (fault : Fault) → HasHeader before octets × (block_len before at (header_of before octets) ≡ Err fault) → fault ≢ faults.Memory
+header-other before at octets fault (whole, is) memory =
+    within before.limit at (layout_len before.layout at (header_of before octets)) (layout_other before.layout at (header_of before octets))
+    (subst (λ (f : Fault). block_len before at (header_of before octets) ≡ Err f) memory is)
+
+-- ---- the fault of a capture
+
+refused-other : (wanted : Wanted) (senders : Senders) (at : ℕ) (content : Content) (fault : Fault) → IsRefused wanted senders at content fault → fault ≢ faults.Memory
+refused-other wanted senders at (file order interface) fault refused is = absurd refused
+refused-other wanted senders at (section order) fault refused is = absurd refused
+refused-other wanted senders at (describes interface name) fault refused is = absurd refused
+refused-other wanted senders at (holds packet) fault (inl (lack, told, finds)) is = lack-other at lack (sym told ∙ is)
+refused-other wanted senders at (holds packet) fault (inr (told, many)) is = cc
+refused-other wanted senders at nothing fault refused is = absurd refused
+
+stops-other : (wanted : Wanted) (senders : Senders) (before : Before) (at : ℕ) (octets : List ℕ) (fault : Fault) → StopsAt wanted senders before at octets fault → fault ≢ faults.Memory
+stops-other wanted senders before at octets fault (inl header) is = header-other before at octets fault header is
+stops-other wanted senders before at octets fault (inr (block, begins, inl said)) is = said_other before at block (subst (λ (f : Fault). block_said before at block ≡ Err f) is said)
+stops-other wanted senders before at octets fault (inr (block, begins, inr (content, said, refused))) is = refused-other wanted senders at content fault refused is
+
+short-other : (before : Before) (at : ℕ) (rest : List ℕ) (fault : Fault) → IsShortBy before at rest fault → fault ≢ faults.Memory
+short-other before at rest fault (inl (not, told)) is = cc
+short-other before at rest fault (inr (started, some, told)) is = cc
+
+pub fault-other : (limit : ℕ) (wanted : Wanted) (octets : List ℕ) (fault : Fault) → CaptureFault limit wanted octets fault → fault ≢ faults.Memory
+fault-other limit wanted octets fault (inl stops) = stops-other wanted (senders_of stops.made) (context_behind (start limit) stops.blocks) (length (octets_of stops.blocks)) stops.rest fault stops.stops
+fault-other limit wanted octets fault (inr short) = short-other (context_behind (start limit) short.blocks) (length (octets_of short.blocks)) short.rest fault short.short

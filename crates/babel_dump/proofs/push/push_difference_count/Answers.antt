@@ -1,7 +1,0 @@
-use Rattle.babel_dump.proofs.TextLemmas.{appended}
-use Rattle.babel_dump.proofs.push.push_difference_count.Goals as goal
-
-pub returns-clause-text : goal.returns-clause-text
-returns-clause-text c =
-    let before = c.args.buffer.now.items in
-    appended before _ _ _ _ (appended before _ _ _ _ c.push_text.ensures.text c.push_decimal.ensures.text) c.push_octet.ensures.text

@@ -1,8 +1,0 @@
-use Rattle.babel_dump.proofs.TextLemmas.{appended}
-use Rattle.babel_dump.proofs.push_json.push_difference_count_json.Goals as goal
-
-pub returns-clause-text : goal.returns-clause-text
-returns-clause-text c =
-    let before = c.args.buffer.now.items in
-    let count = appended before _ _ _ _ c.push_text.ensures.text c.push_decimal.ensures.text in
-    appended before _ _ _ _ (appended before _ _ _ _ count c.push_text-2.ensures.text) c.push_octet.ensures.text

@@ -1,0 +1,58 @@
+-- The parser state in the words of RFC 8966, 4.5: what stands before a TLV of a packet is what the
+-- nearest earlier TLV set that sets it, or else what a packet begins with.
+use Rattle.std.specs.Prelude.{◌≡◌, ℕ, List, [], ◌∷◌, ◌++◌, Option, Some, None, ◌⊎◌}
+use Rattle.babel_prefix.specs.declared.family.Family.{Family}
+use Rattle.babel_prefix.specs.declared.family.Family.TheVariants.{V4, V6}
+use Rattle.babel_prefix.specs.Address.{Address}
+use Rattle.babel_tlv.specs.Framing.{TlvAt}
+use Rattle.babel_tlv.specs.Context.{context_after, given_default, given_next_hop, given_router_id}
+use Rattle.babel_tlv.specs.Context.{next_hop_in_context, of_family}
+use Rattle.babel_tlv.specs.Updating.{default_in}
+
+-- `sets before tlv` is what a TLV sets where these TLVs came before it in its packet, if it sets
+-- any. All lists of TLVs have the latest first.
+
+-- no TLV of `later` sets it, where `before` came before them
+abbrev pub SetsNone : (X : Type 0) → (List TlvAt → TlvAt → Option X) → (later before : List TlvAt)
+    → Type 0
+SetsNone X sets later before =
+    (front : List TlvAt) (tlv : TlvAt) (back : List TlvAt) → later ≡ front ++ tlv ∷ back
+    → sets (back ++ before) tlv ≡ None
+
+-- one of the earlier TLVs sets it to this value, and none after that one sets it
+pub record IsSetTo (X : Type 0) (sets : List TlvAt → TlvAt → Option X) (earlier : List TlvAt)
+    (value : X) : Type 0 where
+  pub later : List TlvAt
+  pub tlv : TlvAt
+  pub before : List TlvAt
+  pub whole : earlier ≡ later ++ tlv ∷ before
+  pub sets_it : sets before tlv ≡ Some value
+  pub none_later : SetsNone X sets later (tlv ∷ before)
+
+-- what stands is what an earlier TLV sets it to, if one does, or else what a packet begins with
+abbrev pub IsNearest : (X : Type 0) → (List TlvAt → TlvAt → Option X) → (begins : Option X)
+    → (earlier : List TlvAt) → (stands : Option X) → Type 0
+IsNearest X sets begins earlier stands =
+    ((value : X) × IsSetTo X sets earlier value × (stands ≡ Some value))
+    ⊎ (SetsNone X sets earlier [] × (stands ≡ begins))
+
+-- the default prefix of a family, which a packet begins without
+abbrev pub DefaultIsNearest : Type 0
+DefaultIsNearest = (sender : Address) (family : Family) (earlier : List TlvAt)
+    → IsNearest Address
+    (λ before tlv. given_default family (default_in family (context_after sender before)) tlv)
+    None earlier (default_in family (context_after sender earlier))
+
+-- the next hop of a family; a packet begins with the sender as that of its family
+abbrev pub NextHopIsNearest : Type 0
+NextHopIsNearest = (sender : Address) (family : Family) (earlier : List TlvAt)
+    → IsNearest Address (λ before tlv. given_next_hop family tlv)
+    (of_family family sender) earlier (next_hop_in_context family (context_after sender earlier))
+
+-- the router-id, which a packet begins without
+abbrev pub RouterIdIsNearest : Type 0
+RouterIdIsNearest = (sender : Address) (earlier : List TlvAt)
+    → IsNearest (List ℕ)
+    (λ before tlv. given_router_id (default_in V4 (context_after sender before))
+    (default_in V6 (context_after sender before)) tlv)
+    None earlier (context_after sender earlier).router_id
