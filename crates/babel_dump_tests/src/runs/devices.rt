@@ -43,6 +43,7 @@ impl<'a> ScriptedIn<'a> {
 impl ByteIn for ScriptedIn<'_> {
     ghost state = { λ d. record {
       left = Some d.rest.now;
+      captured = None;
       left_out = None;
       failures = d.failures;
       reads = d.reads;
@@ -98,6 +99,7 @@ impl<'a> EndlessIn<'a> {
 impl ByteIn for EndlessIn<'_> {
     ghost state = { λ d. record {
       left = None;
+      captured = None;
       left_out = None;
       failures = d.failures;
       reads = d.reads;
