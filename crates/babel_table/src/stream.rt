@@ -1,6 +1,8 @@
-ghost use Rattle.std.specs.Prelude.{◌≡◌, ◌≢◌, ◌≤◌, ◌<◌, ◌+◌, ◌-◌, ◌^◌, ◌++◌, [], length, take, OnOk, IfOk, IfErr};
+ghost use Rattle.std.specs.Prelude.{◌≡◌, ◌≢◌, ◌≤◌, ◌<◌, ◌+◌, ◌-◌, ◌^◌, ◌++◌, [], length, take};
+ghost use Rattle.std.specs.Prelude.{OnOk, IfOk, IfErr};
 ghost use Rattle.babel_table.specs.Feeding.{IsPartial, IsReady};
-ghost use Rattle.babel_table.specs.Streams.{KeepsSettings, StopsInLimit, StopsInOctets, TakesOctets};
+ghost use Rattle.babel_table.specs.Streams.{KeepsSettings, TakesOctets};
+ghost use Rattle.babel_table.specs.Streams.{StopsInLimit, StopsInOctets};
 
 use crate::pending::Pending;
 use crate::so_far::SoFar;
