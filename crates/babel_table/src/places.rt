@@ -150,7 +150,7 @@ impl<W: Word> Places<W> {
     }
 }
 
-/// How far behind the start the first slot is that has no place.
+/// How far after the start the first slot is that has no place.
 fn free_slot(slots: &[Slot], start: usize) -> Option<usize>
     requires { start + 8 ≤ length slots.now }
     ensures { MatchOption result (AreTaken slots.now start 8) (IsFree slots.now start) }
