@@ -81,8 +81,10 @@ def cases():
             yield load, ["lookup", *FROM, *lookup]
             for command in (["show"], ["pairs"], ["pairs", "--count"], ["normalise"]):
                 yield load, [*command, *FROM]
+            yield load, ["normalise", "--routes", *FROM]
     for load, other in COMPARED:
-        yield load, ["compare", *FROM, "--other-from", "192.0.2.1", f"{other}.dump"]
+        for routes in [], ["--routes"]:
+            yield load, ["compare", *routes, *FROM, "--other-from", "192.0.2.1", f"{other}.dump"]
     for kind in ("growth", "growth-hosts"):
         for size in SIZES:
             for command in ("show", "normalise"):
@@ -129,8 +131,8 @@ def numbers_of(plain, words):
 
 
 def size_of(plain, load, command, loads, sizes):
-    """How much there is to do: KiB of a capture, TLVs of a dump that is read, or else the rows or
-    pairs, whichever are more."""
+    """How much there is to do: KiB of a capture, TLVs of a dump that is read, rows, or else the
+    rows or pairs, whichever are more."""
     if is_capture(load):
         return file_of(load, loads).stat().st_size / 1024
     if load not in sizes:
@@ -140,9 +142,11 @@ def size_of(plain, load, command, loads, sizes):
         pairs = numbers_of(plain, ["pairs", "--count", *dump]).get("pairs", 0)
         sizes[load] = {"tlvs": read["tlvs"], "rows": rows, "most": max(rows, pairs)}
     size = sizes[load]
-    if command in ("show", "lookup"):
+    if command[0] in ("show", "lookup"):
         return size["tlvs"]
-    return 2 * size["rows"] if command == "compare" else size["most"]
+    if command[0] == "compare":
+        return 2 * size["rows"]
+    return size["rows" if "--routes" in command else "most"]
 
 
 def rounds_of(measurer, sides, reference, count):
@@ -208,7 +212,7 @@ def main():
             scaled = standards * REFERENCE_SECONDS
             low, mid = min(own), statistics.median(own)
             low_2, mid_2 = min(plain_own), statistics.median(plain_own)
-            size = size_of(plain, load, command[0], options.loads, sizes)
+            size = size_of(plain, load, command, options.loads, sizes)
             most = MOST_OVER_CAPTURES if is_capture(load) else MOST
             answer = verdict(most, ratio, mid, memory, memory_2)
             differing += not same

@@ -6,8 +6,8 @@
 Each dump is one of examples/routers, with one to four octets changed, and in one of eight dumps the
 end cut off. Both programs must write the same octets and texts and give the same status in each
 run: `show`, `pairs`, also with `--count`, `normalise` at some size of a packet's body, two lookups,
-and `compare` with the dump as it was, each with and without `--hold`. Exits 1 where they do not.
-The same seed makes the same dumps.
+and `compare` with the dump as it was, each with and without `--hold`; `normalise` and `compare`
+with `--routes`, too. Exits 1 where they do not. The same seed makes the same dumps.
 """
 
 import argparse
@@ -48,6 +48,8 @@ def runs(sender, original, dump, body):
         yield ["lookup", *sent, "--to", "10.0.0.1", "--src", "192.0.2.7", dump]
         yield ["lookup", *sent, "--to", "2001:db8::1", "--src", "2001:db8::2", dump]
         yield ["compare", *sent, "--other-from", sender, dump, original]
+        yield ["normalise", "--routes", *sent, "--body", str(body), dump]
+        yield ["compare", "--routes", "--all", *sent, "--other-from", sender, dump, original]
 
 
 def compared(program, plain, folder, dumps, seed):

@@ -5,14 +5,15 @@
 //!     limit show [--hold] --from A [FILE]
 //!     limit lookup [--hold] --from A --to D --src S [FILE]
 //!     limit lookup [--hold] --from A --each PAIRS [FILE]
-//!     limit pairs [--hold] [--count] --from A [FILE]
-//!     limit normalise [--hold] [--hex] [--body N] --from A [FILE]
-//!     limit compare [--hold] --from A --other-from B FILE OTHER
+//!     limit pairs [--hold] [--count] [--routes] --from A [FILE]
+//!     limit normalise [--hold] [--hex] [--body N] [--routes] --from A [FILE]
+//!     limit compare [--hold] [--routes [--all] [--count]] --from A --other-from B FILE OTHER
 //!
 //! It reads packets where they lie in one buffer into rows, which it sorts once. Sorted rows are a
 //! tree whose brackets are the destination prefixes: one pass over them gives runs of destinations
 //! with one function of the source. The canonical pairs are the largest aligned blocks of the runs,
-//! and a comparison is two such passes side by side.
+//! and a comparison is two such passes side by side. Routes are the rows themselves, and those of
+//! two tables are compared row by row.
 
 use std::cmp::Ordering;
 use std::collections::hash_map::RandomState;
@@ -883,6 +884,11 @@ impl<A: Address> Rows<A> {
 
     fn source(&self, row: &Row<A>) -> Prefix<A> {
         self.sources[row.key.source()]
+    }
+
+    /// The place of a row among those of any table: by destination, then source.
+    fn place(&self, row: &Row<A>) -> (Prefix<A>, Prefix<A>) {
+        (row.key.dst(), self.source(row))
     }
 
     /// RFC 9079, 4: the longest destination prefix that has both, then the longest source prefix.
@@ -2066,6 +2072,37 @@ fn first_difference<A: Address>(left: &Rows<A>, right: &Rows<A>) -> Option<Diffe
     }
 }
 
+/// A key for which two tables hold what differs.
+struct RouteDifference<A> {
+    key: (Prefix<A>, Prefix<A>),
+    left: u64,
+    right: u64,
+}
+
+/// The next key for which two sorted tables hold what differs, after so many rows of each.
+fn next_route<A: Address>(
+    left: &Rows<A>,
+    right: &Rows<A>,
+    at: &mut (usize, usize),
+) -> Option<RouteDifference<A>> {
+    loop {
+        let rows = (left.rows.get(at.0), right.rows.get(at.1));
+        let places = (
+            rows.0.map(|row| left.place(row)),
+            rows.1.map(|row| right.place(row)),
+        );
+        let key = places.0.into_iter().chain(places.1).min()?;
+        let (in_left, in_right) = (places.0 == Some(key), places.1 == Some(key));
+        at.0 += usize::from(in_left);
+        at.1 += usize::from(in_right);
+        let held = |row: Option<&Row<A>>, is_in| row.filter(|_| is_in).map_or(NOTHING, Row::value);
+        let (left, right) = (held(rows.0, in_left), held(rows.1, in_right));
+        if left != right {
+            return Some(RouteDifference { key, left, right });
+        }
+    }
+}
+
 // ---- what is written
 
 const DIGITS: [u8; 16] = *b"0123456789abcdef";
@@ -2274,6 +2311,15 @@ impl<W: Write> Writer<W> {
         canon.each_pair(|dst, src, value| self.put_pair(&mut said, owners, dst, src, value))
     }
 
+    fn put_rows<A: Address>(&mut self, table: &Rows<A>) -> io::Result<()> {
+        let mut said = Said::NOTHING;
+        for row in &table.rows {
+            let (dst, src) = table.place(row);
+            self.put_pair(&mut said, &table.owners.list, dst, src, row.value())?;
+        }
+        Ok(())
+    }
+
     /// Puts a pair into the open packet if it fits there, else into a new one.
     fn put_pair<A: Address>(
         &mut self,
@@ -2384,7 +2430,9 @@ fn read_words(mut words: impl Iterator<Item = String>) -> Option<Words> {
     let (mut options, mut flags, mut files) = (HashMap::new(), Vec::new(), Vec::new());
     while let Some(word) = words.next() {
         match word.strip_prefix("--") {
-            Some(flag @ ("hex" | "hold" | "count")) => flags.push(flag.to_string()),
+            Some(flag @ ("hex" | "hold" | "count" | "all" | "routes")) => {
+                flags.push(flag.to_string());
+            }
             Some(option) => {
                 options.insert(option.to_string(), words.next()?);
             }
@@ -2457,11 +2505,9 @@ fn run(words: &Words) -> Result<u8, Failure> {
     match words.command.as_str() {
         "show" => show(words.only_table()?),
         "lookup" => lookup(words),
+        "pairs" if words.has("routes") => rows(words.only_table()?, words.has("count")),
         "pairs" => pairs(&canonical(words.only_table()?)?, words.has("count")),
-        "normalise" => {
-            let body = words.body()?;
-            normalise(&canonical(words.only_table()?)?, words.has("hex"), body)
-        }
+        "normalise" => normalise(words),
         "compare" => compare(words),
         other => Err(Failure::Usage(format!("no command {other}"))),
     }
@@ -2484,7 +2530,7 @@ fn show(mut table: Table) -> Result<u8, Failure> {
 
 fn put_rows<A: Address>(out: &mut Out<impl Write>, table: &Rows<A>) -> io::Result<()> {
     for row in &table.rows {
-        let (dst, src) = (row.key.dst(), table.source(row));
+        let (dst, src) = table.place(row);
         out.line(&table.owners.list, dst, src, row.value())?;
     }
     Ok(())
@@ -2584,6 +2630,21 @@ fn canonical(mut table: Table) -> Result<Canons, Failure> {
     })
 }
 
+/// The rows of a table, or how many there are.
+fn rows(mut table: Table, count: bool) -> Result<u8, Failure> {
+    table.sort();
+    let out = &mut Out::new(io::stdout().lock(), false);
+    if count {
+        let rows = table.v4.rows.len() + table.v6.rows.len();
+        out.words(&format!("rows {rows}\n"));
+    } else {
+        put_rows(out, &table.v4)?;
+        put_rows(out, &table.v6)?;
+    }
+    out.finish()?;
+    Ok(0)
+}
+
 fn pairs(canons: &Canons, count: bool) -> Result<u8, Failure> {
     let out = &mut Out::new(io::stdout().lock(), false);
     if count {
@@ -2605,15 +2666,24 @@ fn put_pair_lines<A: Address>(
     canon.each_pair(|dst, src, value| out.line(owners, dst, src, value))
 }
 
-fn normalise(canons: &Canons, hex: bool, body: usize) -> Result<u8, Failure> {
+fn normalise(words: &Words) -> Result<u8, Failure> {
+    let body = words.body()?;
+    let mut table = words.only_table()?;
     let mut writer = Writer {
-        out: Out::new(io::stdout().lock(), hex),
+        out: Out::new(io::stdout().lock(), words.has("hex")),
         body,
         start: None,
         router_id: None,
     };
-    writer.put_pairs(&canons.v4, &canons.owners.v4.list)?;
-    writer.put_pairs(&canons.v6, &canons.owners.v6.list)?;
+    if words.has("routes") {
+        table.sort();
+        writer.put_rows(&table.v4)?;
+        writer.put_rows(&table.v6)?;
+    } else {
+        let canons = canonical(table)?;
+        writer.put_pairs(&canons.v4, &canons.owners.v4.list)?;
+        writer.put_pairs(&canons.v6, &canons.owners.v6.list)?;
+    }
     writer.close_packet();
     writer.out.finish()?;
     Ok(0)
@@ -2626,6 +2696,9 @@ fn compare(words: &Words) -> Result<u8, Failure> {
     let mut right = words.table(dumps.1, senders.1, left.take_owners(), "other: ")?;
     left.sort();
     right.sort();
+    if words.has("routes") {
+        return compare_routes(words, &left, &right);
+    }
     let out = &mut Out::new(io::stdout().lock(), false);
     let differ =
         put_difference(out, &left.v4, &right.v4) || put_difference(out, &left.v6, &right.v6);
@@ -2650,6 +2723,52 @@ fn put_difference<A: Address>(out: &mut Out<impl Write>, left: &Rows<A>, right: 
     out.text(b"right ");
     out.answer(owners, found.right);
     true
+}
+
+/// The keys for which two sorted tables hold what differs: the first, all, or how many.
+fn compare_routes(words: &Words, left: &Table, right: &Table) -> Result<u8, Failure> {
+    let (all, count) = (words.has("all"), words.has("count"));
+    let most = if all || count { usize::MAX } else { 1 };
+    let out = &mut Out::new(io::stdout().lock(), false);
+    let mut found = put_routes(out, &left.v4, &right.v4, most, !count)?;
+    found += put_routes(out, &left.v6, &right.v6, most - found, !count)?;
+    if count {
+        out.words(&format!("differences {found}\n"));
+    } else if found == 0 {
+        out.text(b"same\n");
+    }
+    out.finish()?;
+    Ok(u8::from(found > 0))
+}
+
+/// How many keys of a family there are, up to so many, for which two sorted tables hold what
+/// differs; and their lines, if they are listed.
+fn put_routes<A: Address>(
+    out: &mut Out<impl Write>,
+    left: &Rows<A>,
+    right: &Rows<A>,
+    most: usize,
+    listed: bool,
+) -> io::Result<usize> {
+    let (owners, mut at, mut count) = (&right.owners.list, (0, 0), 0);
+    while count < most {
+        let Some(found) = next_route(left, right, &mut at) else {
+            break;
+        };
+        count += 1;
+        if listed {
+            out.text(b"differ ");
+            out.prefix(found.key.0);
+            out.text(b" from ");
+            out.prefix(found.key.1);
+            out.text(b"\nleft ");
+            out.answer(owners, found.left);
+            out.text(b"right ");
+            out.answer(owners, found.right);
+            out.hand_over_if_full()?;
+        }
+    }
+    Ok(count)
 }
 
 fn main() -> ExitCode {

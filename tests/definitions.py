@@ -1,6 +1,6 @@
 #!/usr/bin/env python3
 """docs/DEFINITIONS.md: how long each file of definitions is, that each uses only those above it,
-those that the headline needs, and the clauses that are quoted.
+those that the headline needs, and the clauses that are quoted. docs/PROMISES.md: what it names.
 
 Run by itself, this prints the lists and the numbers of that page anew, into it.
 """
@@ -9,6 +9,7 @@ import re
 import textwrap
 
 import headline
+import promises
 import transcript
 from checks import TOP
 
@@ -60,6 +61,7 @@ def check(tally, _long):
     hint = "python3 tests/definitions.py prints them anew\n"
     tally.check("the lists and numbers of docs/DEFINITIONS.md", told and told + hint)
     check_order(tally)
+    promises.check(tally)
     lengths = {}
     for file in headline.files():
         lengths[file[0]] = lengths.get(file[0], 0) + length_of(file)

@@ -163,8 +163,8 @@ FRAGMENTS = {
     "not to be fragmented": 0x4000,
 }
 DATAGRAMS = {
-    "trailers behind the bodies": lambda packet: made.udp(packet + b"\x10\x22" + b"\x2a\2" * 17),
-    "octets behind the datagrams": lambda packet: made.udp(packet) + b"\x2a\2\0\0",
+    "trailers after the bodies": lambda packet: made.udp(packet + b"\x10\x22" + b"\x2a\2" * 17),
+    "octets after the datagrams": lambda packet: made.udp(packet) + b"\x2a\2\0\0",
     "sent from the port alone": lambda packet: made.udp(packet, destination=6_697),
     "sent to the port alone": lambda packet: made.udp(packet, source=5_353),
     "other ports": lambda packet: made.udp(packet, 6_697, 6_695),
@@ -219,7 +219,7 @@ NOISE = [
 
 
 def among_others(dump, interface=0):
-    """The records of a dump, each behind two that are not of it."""
+    """The records of a dump, each after two that are not of it."""
     rng = random.Random(1)
     for record in records_of(dump, interface=interface):
         yield from (made.Record(frame, interface) for frame in rng.choices(NOISE, k=2))

@@ -76,12 +76,26 @@ def try_long_bodies(tally):
         tally.check("rt must-fail", told)
 
 
+def wrong_texts(edit):
+    """The old texts of a wrong body that do not stand once in their file."""
+    code = ""
+    for line in edit.read_text().splitlines():
+        name, _, text = line.partition(": ")
+        if name == "file":
+            code = (edit.parent.parent / text).read_text()
+        elif name == "old" and code.count(text) != 1:
+            yield text
+
+
 def check_bodies(tally):
-    """The kit passes over files of other names without a word."""
+    """The kit passes over files of other names without a word, and those of the long form are
+    seldom tried."""
     folders = ["must-fail", "must-fail-long"]
-    files = [file for name in folders for file in TOP.glob(f"crates/*/{name}/*")]
-    odd = [str(file.relative_to(TOP)) for file in files if file.suffix != ".edit"]
-    tally.check("wrong bodies", "".join(f"{file} is never tried: no .edit\n" for file in odd))
+    for file in (file for name in folders for file in sorted(TOP.glob(f"crates/*/{name}/*"))):
+        told = "".join(f"not once in its file: {text}\n" for text in wrong_texts(file))
+        if file.suffix != ".edit":
+            told = "it is never tried: no .edit\n"
+        tally.check(f"the wrong body {file.relative_to(TOP)}", told)
 
 
 def check(tally, long):

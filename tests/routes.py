@@ -138,7 +138,8 @@ def wrong_of(program, folder, turn):
 
 def rows_of(program, file):
     """The rows that `show` prints, by destination and source."""
-    done = subprocess.run([program, "show", *BIRD, file], capture_output=True, text=True, check=True)
+    shown = [program, "show", *BIRD, file]
+    done = subprocess.run(shown, capture_output=True, text=True, check=True)
     lines = [line.split(" via ") for line in done.stdout.splitlines() if " via " in line]
     return dict(lines)
 

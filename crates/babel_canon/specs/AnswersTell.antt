@@ -13,7 +13,7 @@ use Rattle.babel_canon.specs.DumpAnswers.{IsSettled, AnswerAlike}
 -- * the dump has one answer for each two addresses;
 -- * octets made of any other dump are the same exactly where both dumps answer alike;
 -- * read with any sender, the octets answer as the dump does, what is made of them is themselves
---   and nothing else, and nothing but want of memory keeps them from it.
+--   and nothing else, and only running out of memory keeps them from it.
 pub record AnswersTell (Made : Sent → List ℕ → Type 0) (Refused : Sent → Fault → Type 0)
     (mode : Mode) (one : Sent) (octets : List ℕ) : Type 0 where
   pub settled : IsSettled mode one

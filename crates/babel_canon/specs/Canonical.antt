@@ -45,7 +45,7 @@ abbrev pub HasManyBoxes : Bounds → List Pair → Type 0
 HasManyBoxes limits rows =
     (boxes : List Pair) × AreBoxes rows boxes × (limits.entries < length boxes)
 
--- too many pairs, or want of memory
+-- too many pairs, or out of memory
 abbrev pub CanonicalFault : Bounds → List Pair → Fault → Type 0
 CanonicalFault limits rows fault =
     ((fault ≡ faults.TooManyPairs) × HasManyBoxes limits rows) ⊎ (fault ≡ faults.Memory)

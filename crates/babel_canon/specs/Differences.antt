@@ -50,7 +50,7 @@ HasManyDifferences limits rows others =
     (differences : List Difference)
     × AreDifferences rows others differences × (limits.entries < length differences)
 
--- too many differences, or want of memory
+-- too many differences, or out of memory
 abbrev pub DifferencesFault : Bounds → List Pair → List Pair → Fault → Type 0
 DifferencesFault limits rows others fault =
     ((fault ≡ faults.TooManyPairs) × HasManyDifferences limits rows others)

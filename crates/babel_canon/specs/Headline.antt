@@ -32,7 +32,7 @@ TellsApart Same Made limits mode one octets =
     → ((octets ≡ other_octets) ↔ DumpsAnswer Same limits mode one other)
 
 -- These octets of one dump, read with `any` sender, have no fault and answer as the dump does;
--- what is made of them is themselves, and nothing else; and nothing but want of memory keeps them
+-- what is made of them is themselves, and nothing else; and only running out of memory keeps them
 -- from it.
 pub record ReadsAgain (Same : List Pair → List Pair → Type 0) (Made : Sent → List ℕ → Type 0)
     (Refused : Sent → Fault → Type 0) (limits : Bounds) (mode : Mode) (one : Sent) (octets : List ℕ)

@@ -1,4 +1,4 @@
--- Laws of the definitions: a dump has one canonical text or one fault, want of memory aside, and
+-- Laws of the definitions: a dump has one canonical text or one fault, out of memory aside, and
 -- two tables have one verdict. These are this project's own.
 use Rattle.std.specs.Prelude.{◌≡◌, ◌≢◌, ℕ, List}
 use Rattle.babel_tlv.specs.declared.fault.Fault.{Fault}
@@ -18,7 +18,7 @@ NormalFormIsOne =
     → Normalises as_they_are limits mode body one octets
     → Normalises as_they_are limits mode body one other → octets ≡ other
 
--- a dump has at most one fault that keeps it from a canonical text, want of memory aside
+-- a dump has at most one fault that keeps it from a canonical text, out of memory aside
 abbrev pub NormaliseFaultIsOne : Type 0
 NormaliseFaultIsOne =
     (limits : Bounds) (mode : Mode) (one : Sent) (fault other : Fault)

@@ -1,4 +1,4 @@
--- A packet that is put behind others (RFC 8966, 4.2), and the laws of the text, which is this
+-- A packet that is put after others (RFC 8966, 4.2), and the laws of the text, which is this
 -- project's own.
 use Rattle.std.specs.Prelude.{◌≡◌, ℕ, List, ◌∷◌, ◌++◌, length}
 use Rattle.std.specs.Int.{w16, to_be_bytes}
@@ -12,7 +12,7 @@ use Rattle.babel_canon.specs.Sizes.{IsBodySize}
 abbrev pub headed : ℕ → List ℕ → List ℕ
 headed len body = 42 ∷ 2 ∷ to_be_bytes w16 len ++ body
 
--- a header at this offset that says some length, with a body behind it, now says this length
+-- a header at this offset that says some length, with a body after it, now says this length
 abbrev pub HasLength : ℕ → ℕ → List ℕ → List ℕ → Type 0
 HasLength at len old new =
     (front body : List ℕ) (before : ℕ) → length front ≡ at → old ≡ front ++ headed before body →

@@ -43,7 +43,7 @@ pub record TellsPairs (sender : Address) (octets : List ℕ) (pairs : List Pair)
   pub fine : map (λ saying. saying.what) (sayings sender packets) ≡ map (λ event. Ok event) said
   pub news : spoken said ≡ map pair_event pairs
 
--- Read with this sender, the octets tell the pairs, and exactly these stand behind them; they have
+-- Read with this sender, the octets tell the pairs, and exactly these stand after them; they have
 -- no fault where a table has room for the pairs, and are no more than 83 octets for each; and every
 -- table of them has the pairs as its rows.
 pub record ReadsBack (mode : Mode) (sender : Address) (octets : List ℕ)

@@ -47,7 +47,7 @@ pub record SaysRoutes (view : View) (limits : Bounds) (mode : Mode) (body : ℕ)
   pub rows : AreRows table.rows
   pub text : IsCanonicalText body (seen_rows view table.rows) octets
 
--- the dump's own fault, or want of memory: its rows are never too many
+-- the dump's own fault, or out of memory: its rows are never too many
 abbrev pub RoutesFault : Bounds → Mode → Sent → Fault → Type 0
 RoutesFault limits mode one fault =
     DumpFault limits mode one.sender one.dump fault ⊎ (fault ≡ faults.Memory)

@@ -7,12 +7,12 @@ use Rattle.babel_tlv.specs.Group.{body_of, ArePacked, IsCanonicalText}
 use Rattle.babel_tlv.specs.Writing.{written_after}
 use Rattle.babel_canon.specs.declared.text.Text.{Text}
 
--- the earlier pairs, the latest first, behind further ones
+-- the earlier pairs, the latest first, after further ones
 abbrev pub latest_first : List Pair → List Pair → List Pair
 latest_first earlier [] = earlier
 latest_first earlier (pair ∷ pairs) = latest_first (pair ∷ earlier) pairs
 
--- The text has these pairs: packets that are closed, and behind them the last one, which can take
+-- The text has these pairs: packets that are closed, and after them the last one, which can take
 -- more. Whatever pairs come next, what the last packet's pairs and these are packed into makes the
 -- text of all.
 pub record IsTextOf (body : ℕ) (text : Text) (pairs : List Pair) : Type 0 where

@@ -91,9 +91,9 @@ pub fn differences_are_one()
     ensures many { ManyAreMore }
 {}
 
-/// What a dump answers for two addresses is what its table answers, and is one; and canonical octets
-/// tell dumps apart exactly where these answers do, and, read with any sender, answer alike and are
-/// their own canonical form.
+/// What a dump answers for two addresses is what its table answers, and is one; and canonical
+/// octets tell dumps apart exactly where these answers do, and, read with any sender, answer alike
+/// and are their own canonical form.
 pub fn answers_are_told()
     ensures table { TableAnswers }
     ensures one { AnswerIsOne }

@@ -64,7 +64,7 @@ pub record State : Type 0 where
   pub pending : List ℕ
   pub fault : Option Fault
 
--- want of memory, or the fault of the octets
+-- out of memory, or the fault of the octets
 abbrev pub HasFailed : State → Fault → List ℕ → Type 0
 HasFailed state fault fed = (fault ≡ faults.Memory)
     ⊎ Stops state.limit state.progress.gathering.wanted fed fault

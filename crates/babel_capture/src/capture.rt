@@ -66,13 +66,13 @@ impl Capture {
         ensures ok { OnOk result ((self.old.fault ≡ None) × (self.new.fault ≡ None)) }
         ensures err { IfErr result (λ fault. self.new.fault ≡ Some fault) }
 
-        // A fault other than want of memory is that of the octets so far, however they go on.
+        // A fault other than out of memory is that of the octets so far, however they go on.
         ensures fault { IfErr result (λ fault. fault ≢ Fault.Memory → (fed more : List ℕ)
             → HasRead self.old fed
             → CaptureFault self.old.limit self.old.progress.gathering.wanted
             ((fed ++ piece.now) ++ more) fault) }
 
-        // Want of memory was answered before, or a block did not come in one piece, or memory is
+        // Out of memory was answered before, or a block did not come in one piece, or memory is
         // needed for a block of this piece: it is not whole, or describes an interface, or has a
         // packet that is added to the dump or whose sender is listed.
         ensures memory { IfErr result (λ fault. fault ≡ Fault.Memory

@@ -133,7 +133,7 @@ pub fn fault_stays()
         → Stops limit wanted (octets ++ more) fault }
 {}
 
-/// The fault of a capture is never want of memory.
+/// The fault of a capture is never out of memory.
 pub fn fault_is_of_octets()
     ensures { (limit : ℕ) (wanted : Wanted) (octets : List ℕ) (fault : Fault)
         → CaptureFault limit wanted octets fault → fault ≢ Memory }

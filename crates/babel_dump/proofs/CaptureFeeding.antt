@@ -47,6 +47,8 @@ fed_within f a b turns so_far none =
     let _some = so_far.some_each in
     omega arith
 
+pub ruleset feeding = (fed_more, fed_whole, fed_within)
+
 -- the capture is read so
 pub record IsReadFrom (f : State) (reading : CaptureReading) (whose : Wanted) : Type 0 where
   pub limit : f.limit ≡ reading.limit

@@ -26,7 +26,8 @@ kept_given (Some xs) (Some ys) kept = sym kept
 
 -- nothing was read yet
 pub begun : (source : CaptureSource) → HasRead source.capture [] → source.capture.limit ≡ capture_limit source.reading.limits.bytes
-    → source.capture.progress.gathering.wanted ≡ wanted_by source.reading → source.capture.progress.gathering.dump ≡ [] → source.capture.fault ≡ None → source.end ≡ None → HasDrained source.left source []
+    → source.capture.progress.gathering.wanted ≡ wanted_by source.reading → source.capture.progress.gathering.dump ≡ [] → source.capture.fault ≡ None
+    → source.end ≡ None → HasDrained source.left source []
 begun source read limit wanted no_more sound going = record {
   fed = [];
   gave = none_given source.left;
@@ -61,7 +62,8 @@ pub drained_end : (first : Option (List ℕ)) (old new : CaptureSource) (dump : 
     → ((fed dump : List ℕ) → HasGiven new.capture dump fed → Stands new fed dump new.end)
     → HasDrained first old dump → HasDrained first new dump
 drained_end first old new dump reading same gave stands drained =
-    let all = drained_more first old new [] [] dump reading (ap (λ (s : State). s.limit) same) (ap (λ (s : State). s.progress.gathering.wanted) same) (ap (λ (s : State). s.progress.gathering.dump) same ∙ drained.no_more) gave
+    let all = drained_more first old new [] [] dump reading (ap (λ (s : State). s.limit) same) (ap (λ (s : State). s.progress.gathering.wanted) same)
+    (ap (λ (s : State). s.progress.gathering.dump) same ∙ drained.no_more) gave
     (λ taken fed given. rw (append-nil taken, append-nil fed, same) given) stands drained in
     subst (HasDrained first new) (append-nil dump) all
 

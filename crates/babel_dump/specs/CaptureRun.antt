@@ -23,7 +23,7 @@ capture_calls reader =
     record { old = reader.old; new = reader.new; most = reader.reading.limit + 24 }
 
 -- Each fault of reading a capture has its cause: a failed read of its reader, or what its reader
--- gave. Want of memory has none that a contract can see.
+-- gave. Out of memory has none that a contract can see.
 abbrev pub CaptureCause : CaptureInput → (Interfaces → Type 0) → InputFault → Type 0
 CaptureCause reader Several input_faults.Read = reader.old.failures < reader.new.failures
 CaptureCause reader Several (input_faults.Capture fault) =

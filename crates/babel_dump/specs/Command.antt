@@ -167,7 +167,7 @@ InTurn reader other untouched (run_faults.Input sides.Other fault) =
     GaveSound reader × InputCause other (IsFaultOfGiven other) fault
 InTurn reader other untouched fault = ⊥
 
--- want of memory that is told as the first dump's
+-- out of memory that is told as the first dump's
 abbrev pub IsOfMemory : RunFault → Type 0
 IsOfMemory fault = fault ≡ run_faults.Input sides.First (input_faults.Dump faults.Memory)
 
@@ -175,7 +175,7 @@ IsOfMemory fault = fault ≡ run_faults.Input sides.First (input_faults.Dump fau
 abbrev pub IsOfMany : RunFault → Type 0
 IsOfMany fault = fault ≡ run_faults.Input sides.First (input_faults.Dump faults.TooManyPairs)
 
--- A fault of a comparison: that of one of its dumps; or, where neither has one, want of memory.
+-- A fault of a comparison: that of one of its dumps; or, where neither has one, out of memory.
 abbrev pub CompareCause : Input → Input → (untouched : Type 0) → RunFault → Type 0
 CompareCause reader other untouched fault =
     InTurn reader other untouched fault ⊎ (IsOfMemory fault × GaveSound reader × GaveSound other)

@@ -39,7 +39,7 @@ pub record GaveWrong (reader : Input) (line : ℕ) : Type 0 where
   pub gave : GaveText reader text
   pub wrong : IsFirstWrong (lines_of text) line
 
--- why there is no text, by what the reader gave; want of memory has no cause that a contract can
+-- why there is no text, by what the reader gave; out of memory has no cause that a contract can
 -- see
 abbrev pub RefusesText : Input → RunFault → Type 0
 RefusesText reader (run_faults.Pairs pairs_faults.TooLong) = GaveTooMany reader

@@ -126,7 +126,7 @@ abbrev pub octets_at : Side → (contents other : Contents) → List ℕ
 octets_at sides.First contents other = contents.octets
 octets_at sides.Other contents other = other.octets
 
--- A dump's fault is that of all octets that its reader had; but for want of memory, and for too
+-- A dump's fault is that of all octets that its reader had; but for out of memory, and for too
 -- many pairs, which no octets have.
 abbrev pub FaultIsOfAll : Type 0
 FaultIsOfAll =

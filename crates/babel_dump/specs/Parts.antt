@@ -64,7 +64,7 @@ pub record Gathered {T E : Type 0} (calls : Calls) (Cause : E → Type 0) (Made 
 abbrev pub Says : (List ℕ → Outcome → Type 0) → Found → Type 0
 Says Holds found = Holds (found_text found) found.outcome
 
--- a fault of lines: the first that is wrong, or want of memory
+-- a fault of lines: the first that is wrong, or out of memory
 abbrev pub IsFaultOfLines : List (List ℕ) → RunFault → Type 0
 IsFaultOfLines lines (run_faults.Pairs (pairs_faults.NotAPair line)) = IsFirstWrong lines line
 IsFaultOfLines lines (run_faults.Pairs fault) = ⊥

@@ -91,7 +91,7 @@ fn finished(capture: Capture, accept_cut: bool) -> Result<CaptureRead, Fault>
 }
 
 /// Feeds what the reader gives, piece by piece, to its end or to the first fault.
-#[tactic(auto, using(crate::proofs::Devices::gave_none, crate::proofs::CaptureFeeding::fed_more, crate::proofs::CaptureFeeding::fed_whole, crate::proofs::CaptureFeeding::fed_within))]
+#[tactic(auto, using(crate::proofs::Devices::gave_none, crate::proofs::CaptureFeeding::feeding))]
 pub(crate) fn feed_all<R: ByteIn>(
     capture: &mut Capture,
     reading: CaptureReading,

@@ -137,7 +137,7 @@ pub(crate) fn find_route_differences<R: ByteIn, S: ByteIn>(
     found_routes(alloc, view, listed, format, &seen)
 }
 
-/// The lines of the keys for which two tables hold what differs. Want of memory is the first
+/// The lines of the keys for which two tables hold what differs. Out of memory is the first
 /// dump's.
 fn found_routes(
     alloc: Global,

@@ -9,7 +9,7 @@ use crate::byte_out::ByteOut;
 pub(crate) struct WriteFailed;
 
 /// Writes the octets, by as many calls as it takes.
-#[tactic(auto, using(crate::proofs::Devices::taken_more, crate::proofs::Devices::prefix_more, crate::proofs::Devices::prefix_kept, crate::proofs::SliceLaws::took_all))]
+#[tactic(auto, using(crate::proofs::Devices::taking, crate::proofs::SliceLaws::took_all))]
 pub(crate) fn write_all<W: ByteOut>(writer: &mut W, octets: &[u8]) -> Result<(), WriteFailed>
     requires { (W.state writer.old).failures < 2 ^ 64 - 1 }
     ensures { WroteFront (output (W.state writer.old) (W.state writer.new)) octets.now [] result }

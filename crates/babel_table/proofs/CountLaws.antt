@@ -41,7 +41,8 @@ map-same f g same [] = refl
 map-same f g same (r ∷ rs) = ap (λ (x : Count). x ∷ map f rs) (same r) ∙ ap (λ (t : List Count). g r ∷ t) (map-same f g same rs)
 
 -- one more ignored TLV changes the place of its reason
-set_one : (f : Reason → Count) (at : ℕ) (reason : Reason) → map (λ (r : Reason). bumped (is_ignored_for r (Ok (events.Ignored reason))) at (f r)) all_reasons ≡ ignored_with (map f all_reasons) (events.Ignored reason) at
+set_one : (f : Reason → Count) (at : ℕ) (reason : Reason) → map (λ (r : Reason). bumped (is_ignored_for r (Ok (events.Ignored reason))) at (f r))
+    all_reasons ≡ ignored_with (map f all_reasons) (events.Ignored reason) at
 set_one f at reasons.Short = refl
 set_one f at reasons.UnknownEncoding = refl
 set_one f at reasons.WildcardFinite = refl

@@ -37,7 +37,8 @@ placed-append at place [] b placed here later = subst (λ (n : ℕ). ArePackets 
 placed-append at place (tlvs ∷ a) b placed here later =
     (placed.0, placed.1, placed-append (at + length (packet_octets tlvs)) place a b placed.2 (omega (arith, here, length-append (packet_octets tlvs) (flat_map packet_octets a))) later)
 
-whole-append : (octets more rest behind : List ℕ) (a b : List (List TlvAt)) → octets ≡ flat_map packet_octets a ++ rest → rest ++ more ≡ flat_map packet_octets b ++ behind → octets ++ more ≡ flat_map packet_octets (a ++ b) ++ behind
+whole-append : (octets more rest behind : List ℕ) (a b : List (List TlvAt)) → octets ≡ flat_map packet_octets a ++ rest
+    → rest ++ more ≡ flat_map packet_octets b ++ behind → octets ++ more ≡ flat_map packet_octets (a ++ b) ++ behind
 whole-append octets more rest behind a b first second =
     ap (λ (t : List ℕ). t ++ more) first ∙ append_assoc (flat_map packet_octets a) rest more ∙ ap (λ (t : List ℕ). flat_map packet_octets a ++ t) second
     ∙ sym (append_assoc (flat_map packet_octets a) (flat_map packet_octets b) behind) ∙ ap (λ (t : List ℕ). t ++ behind) (sym (flat-append a b))
@@ -98,14 +99,16 @@ begins-more rest more body (fits, behind, is) = (fits, behind ++ more, ap (λ (t
 -- ---- taking on
 
 module _ (mode : Mode) (entries : ℕ) (sender : Address) where
-  takes-then : (a b : List (List TlvAt)) (old mid new : Routes) → Takes mode entries (sayings sender a) old mid → Takes mode entries (sayings sender b) mid new → Takes mode entries (sayings sender (a ++ b)) old new
+  takes-then : (a b : List (List TlvAt)) (old mid new : Routes) → Takes mode entries (sayings sender a) old mid
+      → Takes mode entries (sayings sender b) mid new → Takes mode entries (sayings sender (a ++ b)) old new
   takes-then a b old mid new first second before stands =
       subst (λ (s : List Saying). StandsBehind mode entries new s)
       (append_assoc before (sayings sender a) (sayings sender b) ∙ ap (λ (s : List Saying). before ++ s) (sym (sayings-append sender a b)))
       (second (before ++ sayings sender a) (first before stands))
 
   -- whole packets, and then more of them
-  pub took-on : (at place end : ℕ) (octets rest left : List ℕ) (old mid new : Routes) → TookPackets mode entries sender at octets old mid rest place → TookPackets mode entries sender place rest mid new left end
+  pub took-on : (at place end : ℕ) (octets rest left : List ℕ) (old mid new : Routes) → TookPackets mode entries sender at octets old mid rest place
+      → TookPackets mode entries sender place rest mid new left end
       → TookPackets mode entries sender at octets old new left end
   took-on at place end octets rest left old mid new first second = record {
     packets = first.packets ++ second.packets;
@@ -115,7 +118,8 @@ module _ (mode : Mode) (entries : ℕ) (sender : Address) where
     takes = takes-then first.packets second.packets old mid new first.takes second.takes;
   }
 
-  pub stops-on : (at place : ℕ) (octets rest : List ℕ) (old mid : Routes) (fault : Fault) → TookPackets mode entries sender at octets old mid rest place → StopsBehind mode entries sender place rest mid fault
+  pub stops-on : (at place : ℕ) (octets rest : List ℕ) (old mid : Routes) (fault : Fault)
+      → TookPackets mode entries sender at octets old mid rest place → StopsBehind mode entries sender place rest mid fault
       → StopsBehind mode entries sender at octets old fault
   stops-on at place octets rest old mid fault first stops = record {
     now = stops.now;
@@ -126,7 +130,8 @@ module _ (mode : Mode) (entries : ℕ) (sender : Address) where
   }
 
   -- octets behind those that were looked at change nothing
-  pub took-more : (at place : ℕ) (octets rest more : List ℕ) (old new : Routes) → TookPackets mode entries sender at octets old new rest place → TookPackets mode entries sender at (octets ++ more) old new (rest ++ more) place
+  pub took-more : (at place : ℕ) (octets rest more : List ℕ) (old new : Routes) → TookPackets mode entries sender at octets old new rest place
+      → TookPackets mode entries sender at (octets ++ more) old new (rest ++ more) place
   took-more at place octets rest more old new took = record {
     packets = took.packets;
     whole = ap (λ (t : List ℕ). t ++ more) took.whole ∙ append_assoc (flat_map packet_octets took.packets) rest more;
@@ -152,7 +157,8 @@ module _ (mode : Mode) (entries : ℕ) (sender : Address) where
   took-end at place octets rest old new took = omega (arith, took.here, ap length took.whole, length-append (flat_map packet_octets took.packets) rest)
 
   -- of octets that are one packet at most, if any are taken then all are
-  pub one-taken : (at used : ℕ) (octets rest : List ℕ) (old new : Routes) → TookPackets mode entries sender at octets old new rest (at + used) → (HasHeader octets → length octets ≤ 4 + body_len octets) → used ≢ 0 → rest ≡ []
+  pub one-taken : (at used : ℕ) (octets rest : List ℕ) (old new : Routes) → TookPackets mode entries sender at octets old new rest (at + used)
+      → (HasHeader octets → length octets ≤ 4 + body_len octets) → used ≢ 0 → rest ≡ []
   one-taken at used octets rest old new took one some = by took.packets took.whole took.placed took.here
     where
       by : (packets : List (List TlvAt)) → octets ≡ flat_map packet_octets packets ++ rest → ArePackets at packets → at + used ≡ at + length (flat_map packet_octets packets) → rest ≡ []
@@ -171,7 +177,8 @@ module _ (mode : Mode) (entries : ℕ) (sender : Address) where
 
 -- the rest of the octets, taken or not in a second step
 module _ (mode m : Mode) (entries e : ℕ) (sender s : Address) (settings : (m ≡ mode) × (e ≡ entries) × (s ≡ sender)) where
-  pub took-last : (r : Result (Unit {0}) Fault) (at place end : ℕ) (octets front rest left : List ℕ) (old mid new : Routes) → TookPackets mode entries sender at octets old mid (front ++ rest) place → front ≡ []
+  pub took-last : (r : Result (Unit {0}) Fault) (at place end : ℕ) (octets front rest left : List ℕ) (old mid new : Routes)
+      → TookPackets mode entries sender at octets old mid (front ++ rest) place → front ≡ []
       → OnOk r (TookPackets m e s place rest mid new left end) → OnOk r (TookPackets mode entries sender at octets old new left end)
   took-last (Err fault) at place end octets front rest left old mid new first none second = tt
   took-last (Ok u) at place end octets front rest left old mid new first none second =
@@ -191,7 +198,8 @@ module _ (mode m : Mode) (entries e : ℕ) (sender s : Address) (settings : (m �
       stops-on mode entries sender at place octets rest old mid fault
       (subst (λ (t : List ℕ). TookPackets mode entries sender at octets old mid (t ++ rest) place) none first) at_sender
 
-pub ready-next : (mode : Mode) (entries : ℕ) (sender : Address) (r : Result (Unit {0}) Fault) (bytes tlvs count at place : ℕ) (pending rest octets : List ℕ) (old new : Routes) → IsReady bytes tlvs at pending
+pub ready-next : (mode : Mode) (entries : ℕ) (sender : Address) (r : Result (Unit {0}) Fault) (bytes tlvs count at place : ℕ)
+    (pending rest octets : List ℕ) (old new : Routes) → IsReady bytes tlvs at pending
     → OnOk r (count ≤ place) → OnOk r (IsPartial rest) → OnOk r (TookPackets mode entries sender at (pending ++ octets) old new rest place) → at + (length pending + length octets) ≤ bytes
     → OnOk r (IsReady bytes count place rest)
 ready-next mode entries sender (Err fault) bytes tlvs count at place pending rest octets old new ready counted partial took fits = tt
@@ -294,7 +302,8 @@ module _ (mode : Mode) (entries : ℕ) (sender : Address) where
       (subst IsBody parts.whole begins.0, subst (λ (n : ℕ). ArePlaced (n + 4) tlvs) here parts.placed, tt) in
       by tlvs begins.1 more_read fails
     where
-      by : (tlvs : List TlvAt) (behind : List ℕ) → ReadsAs octets (packets ++ tlvs ∷ []) behind → Fails mode entries (sayings_behind sender [] tlvs) table fault → HasStopped mode entries sender octets fault
+      by : (tlvs : List TlvAt) (behind : List ℕ) → ReadsAs octets (packets ++ tlvs ∷ []) behind
+          → Fails mode entries (sayings_behind sender [] tlvs) table fault → HasStopped mode entries sender octets fault
       by tlvs behind reads_on (inl (lasting, refuses)) =
           inr (
             lasting,
@@ -344,7 +353,8 @@ partial-truncated place rest fault (inl short) (inr (inl header)) = absurd (omeg
 partial-truncated place rest fault (inr lacks) (inr (inl header)) = absurd (header-good place rest fault header lacks.1 lacks.2)
 partial-truncated place rest fault partial (inr (inr (body, begins, past))) = absurd (partial-no_packet rest body partial begins)
 
-pub packet-no_fault : (place : ℕ) (rest behind : List ℕ) (tlvs : List TlvAt) (fault : Fault) → IsBody (body_octets tlvs) → ArePlaced (place + 4) tlvs → rest ≡ framed (body_octets tlvs) ++ behind → PacketFault place rest fault → ⊥
+pub packet-no_fault : (place : ℕ) (rest behind : List ℕ) (tlvs : List TlvAt) (fault : Fault) → IsBody (body_octets tlvs) → ArePlaced (place + 4) tlvs
+    → rest ≡ framed (body_octets tlvs) ++ behind → PacketFault place rest fault → ⊥
 packet-no_fault place rest behind tlvs fault fits placed is (inl (is_fault, partial)) = partial-no_packet rest (body_octets tlvs) partial (fits, behind, is)
 packet-no_fault place rest behind tlvs fault fits placed is (inr (inl header)) =
     header-good place rest fault header (ap (λ (t : List ℕ). slice_index t 0) is) (ap (λ (t : List ℕ). slice_index t 1) is)
@@ -355,11 +365,13 @@ packet-no_fault place rest behind tlvs fault fits placed is (inr (inr (body, beg
 module _ (mode : Mode) (entries : ℕ) (sender : Address) (table : Routes) (at : ℕ) (pending octets : List ℕ) (taken : HasTakenTo mode entries sender table at pending octets) where
   pub only_truncated : (fault : Fault) → StreamFault mode entries sender octets fault → IsTruncated fault × (pending ≢ [])
   only_truncated fault (packets, rest, reads, why) =
-      let one = packets_one 0 at taken.packets packets pending rest (omega (arith, taken.place)) taken.reads.placed reads.placed (partial-stuck at pending taken.partial) (sym taken.reads.whole ∙ reads.whole) in
+      let one = packets_one 0 at taken.packets packets pending rest (omega (arith, taken.place)) taken.reads.placed reads.placed
+      (partial-stuck at pending taken.partial) (sym taken.reads.whole ∙ reads.whole) in
       by packets rest one.0 one.1 one.2 why
     where
       by : (packets : List (List TlvAt)) (rest : List ℕ) (more : List (List TlvAt)) → taken.packets ≡ packets ++ more → rest ≡ flat_map packet_octets more ++ pending
-          → (((said : List Event) × AreFine mode entries [] (sayings sender packets) said × (rest ≢ []) × PacketFault (length (flat_map packet_octets packets)) rest fault) ⊎ RefusedBy mode entries (sayings sender packets) fault)
+          → (((said : List Event) × AreFine mode entries [] (sayings sender packets) said × (rest ≢ [])
+          × PacketFault (length (flat_map packet_octets packets)) rest fault) ⊎ RefusedBy mode entries (sayings sender packets) fault)
           → IsTruncated fault × (pending ≢ [])
       by packets rest more is is_rest (inr refused) =
           absurd (fine-not-refused mode entries (sayings sender packets) (sayings sender more) taken.stands.events fault

@@ -113,7 +113,8 @@ module _ (p : Progress) where
   }
 
   -- why octets are not taken is why the feeder has failed
-  failed-within : (octets fed : List ℕ) (fault : Fault) → HasTaken p fed → StopsWithin p.limits.bytes p.mode p.limits.entries p.sender p.at p.pending octets p.table fault → HasFailed p fault (fed ++ octets)
+  failed-within : (octets fed : List ℕ) (fault : Fault) → HasTaken p fed → StopsWithin p.limits.bytes p.mode p.limits.entries p.sender p.at p.pending
+      octets p.table fault → HasFailed p fault (fed ++ octets)
   failed-within octets fed fault taken why =
       subst (HasFailed p fault) (append_assoc fed near far ∙ ap (λ (t : List ℕ). fed ++ t) (take-append-drop room octets)) (by why)
     where
@@ -188,7 +189,8 @@ module _ (p : Progress) where
   pub stays-read : (octets fed : List ℕ) (fault : Fault) → p.fault ≡ Some fault → HasRead p fed → HasRead p (fed ++ octets)
   stays-read octets fed fault is read = subst (λ (f : Option Fault). HasReadTo p f (fed ++ octets)) (sym is) (stays-failed octets fed fault is read)
 
-  pub stops-failed : (octets fed : List ℕ) (fault : Fault) → p.fault ≡ None → StopsWithin p.limits.bytes p.mode p.limits.entries p.sender p.at p.pending octets p.table fault → HasRead p fed → HasFailed p fault (fed ++ octets)
+  pub stops-failed : (octets fed : List ℕ) (fault : Fault) → p.fault ≡ None
+      → StopsWithin p.limits.bytes p.mode p.limits.entries p.sender p.at p.pending octets p.table fault → HasRead p fed → HasFailed p fault (fed ++ octets)
   stops-failed octets fed fault is why read = failed-within octets fed fault (read-taken fed is read) why
 
 -- the next value of a feeder

@@ -55,7 +55,8 @@ one_event a b r p q = cc
 no_fault : (a : Event) (fault : Fault) (r : Result Event Fault) → r ≡ Ok a → r ≡ Err fault → ⊥
 no_fault a fault r p q = cc
 
-pub refuses-not : (mode : Mode) (entries : ℕ) (events : List Event) (at : ℕ) (what : Result Event Fault) (event : Event) (fault : Fault) → what ≡ Ok event → HoldsAtMost mode entries (events ++ event ∷ [])
+pub refuses-not : (mode : Mode) (entries : ℕ) (events : List Event) (at : ℕ) (what : Result Event Fault) (event : Event) (fault : Fault)
+    → what ≡ Ok event → HoldsAtMost mode entries (events ++ event ∷ [])
     → Refuses mode entries events at what fault → ⊥
 refuses-not mode entries events at (Err f) event fault is few refuses = no_fault event f (Err f) is refl
 refuses-not mode entries events at (Ok e) event fault is few (isf, more) =
@@ -70,14 +71,17 @@ fine-refused mode entries before (x ∷ front) one later said mid fault (e, is, 
     (subst (λ (v : Event). AreFine mode entries (before ++ v ∷ []) front mid) (one_event d e x.what is_d is) rest_d) refuses
 
 -- sayings that are all fine refuse no dump, nor does any front of them
-pub fine-not-refused : (mode : Mode) (entries : ℕ) (said more : List Saying) (events : List Event) (fault : Fault) → AreFine mode entries [] (said ++ more) events → RefusedBy mode entries said fault → ⊥
+pub fine-not-refused : (mode : Mode) (entries : ℕ) (said more : List Saying) (events : List Event) (fault : Fault)
+    → AreFine mode entries [] (said ++ more) events → RefusedBy mode entries said fault → ⊥
 fine-not-refused mode entries said more events fault fine (front, one, later, before, is, fine_front, refuses) =
     fine-refused mode entries [] front one (later ++ more) events before fault
     (subst (λ (s : List Saying). AreFine mode entries [] s events) (ap (λ (s : List Saying). s ++ more) is ∙ append_assoc front (one ∷ later) more) fine) fine_front refuses
 
-pub taken-stands : (mode : Mode) (entries : ℕ) (old new : List (RouteKey × Held)) (report counted : Counts) (tlv : TlvAt) (event : Event) (r : Result (Unit {0}) Fault) → OnOk r (Follows mode event old new)
+pub taken-stands : (mode : Mode) (entries : ℕ) (old new : List (RouteKey × Held)) (report counted : Counts) (tlv : TlvAt) (event : Event)
+    (r : Result (Unit {0}) Fault) → OnOk r (Follows mode event old new)
     → length new ≤ entries → counted ≡ counted_with report tlv event
     → OnOk r ((said : List Saying) → StandsBehind mode entries (routes old report) said → StandsBehind mode entries (routes new counted) (said ++ event_at tlv event ∷ []))
 taken-stands mode entries old new report counted tlv event (Ok u) follows few is =
-    λ said stands. subst (λ (c : Counts). StandsBehind mode entries (routes new c) (said ++ event_at tlv event ∷ [])) (sym is) (stands-push mode entries old new report tlv event follows few said stands)
+    λ said stands. subst (λ (c : Counts). StandsBehind mode entries (routes new c) (said ++ event_at tlv event ∷ [])) (sym is)
+    (stands-push mode entries old new report tlv event follows few said stands)
 taken-stands mode entries old new report counted tlv event (Err fault) follows few is = tt

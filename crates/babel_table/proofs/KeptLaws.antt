@@ -81,7 +81,8 @@ module _ {V : Type 0} where
   remove-v4 k [] b is are = all_stay k b is are
   remove-v4 k (e ∷ a) b is are = by (remove-v4 k a b is are) (is_at (key_cmp k) e.0)
     where
-      by : remove_entry (is_at (key_cmp k)) (a ++ b) ≡ remove_entry (is_at (key_cmp k)) a ++ b → (t : Bool) → cond t (a ++ b) (e ∷ remove_entry (is_at (key_cmp k)) (a ++ b)) ≡ cond t a (e ∷ remove_entry (is_at (key_cmp k)) a) ++ b
+      by : remove_entry (is_at (key_cmp k)) (a ++ b) ≡ remove_entry (is_at (key_cmp k)) a ++ b → (t : Bool)
+          → cond t (a ++ b) (e ∷ remove_entry (is_at (key_cmp k)) (a ++ b)) ≡ cond t a (e ∷ remove_entry (is_at (key_cmp k)) a) ++ b
       by again true = refl
       by again false = ap (λ (t : List (RouteKey × V)). e ∷ t) again
 
@@ -106,7 +107,8 @@ module _ {V : Type 0} where
   below_both k [] (e ∷ b) is are below = (v4_first k e.0 is are.0, below_both k [] b is are.1 below)
   below_both k (e ∷ a) b is are below = (below.0, below_both k a b is are below.1)
 
-  pub rising-both : (a b : List (RouteKey × V)) → AreOf V4 a → AreOf V6 b → IsStrictlySortedBy key_cmp (keys_of a) → IsStrictlySortedBy key_cmp (keys_of b) → IsStrictlySortedBy key_cmp (keys_of (a ++ b))
+  pub rising-both : (a b : List (RouteKey × V)) → AreOf V4 a → AreOf V6 b → IsStrictlySortedBy key_cmp (keys_of a)
+      → IsStrictlySortedBy key_cmp (keys_of b) → IsStrictlySortedBy key_cmp (keys_of (a ++ b))
   unfolding IsStrictlySortedBy
   rising-both [] b v4 v6 left right = right
   rising-both (e ∷ a) b v4 v6 left right = (below_both e.0 a b v4.0 v6 left.0, rising-both a b v4.1 v6 left.1 right)
@@ -137,24 +139,29 @@ module _ {V : Type 0} where
 
   -- ---- what a call that may fail makes of a part
 
-  pub of-put : {T E : Type 0} (r : Result T E) (f : Family) (k : RouteKey) (v : V) (old new : List (RouteKey × V)) → OnOk r (new ≡ insert_entry key_cmp old k v) → OnErr r (new ≡ old) → IsOf f k → AreOf f old → AreOf f new
+  pub of-put : {T E : Type 0} (r : Result T E) (f : Family) (k : RouteKey) (v : V) (old new : List (RouteKey × V))
+      → OnOk r (new ≡ insert_entry key_cmp old k v) → OnErr r (new ≡ old) → IsOf f k → AreOf f old → AreOf f new
   of-put (Ok x) f k v old new ok err is are = rw ok (of-insert f k v old is are)
   of-put (Err e) f k v old new ok err is are = rw err are
 
-  pub put-v4 : {T E : Type 0} (r : Result T E) (k : RouteKey) (v : V) (a new b : List (RouteKey × V)) → IsOf V4 k → AreOf V6 b → OnOk r (new ≡ insert_entry key_cmp a k v) → OnOk r (new ++ b ≡ insert_entry key_cmp (a ++ b) k v)
+  pub put-v4 : {T E : Type 0} (r : Result T E) (k : RouteKey) (v : V) (a new b : List (RouteKey × V)) → IsOf V4 k → AreOf V6 b
+      → OnOk r (new ≡ insert_entry key_cmp a k v) → OnOk r (new ++ b ≡ insert_entry key_cmp (a ++ b) k v)
   put-v4 (Ok x) k v a new b is are ok = ap (λ (t : List (RouteKey × V)). t ++ b) ok ∙ sym (insert-v4 k v a b is are)
   put-v4 (Err e) k v a new b is are ok = tt
 
-  pub put-v6 : {T E : Type 0} (r : Result T E) (k : RouteKey) (v : V) (a b new : List (RouteKey × V)) → IsOf V6 k → AreOf V4 a → OnOk r (new ≡ insert_entry key_cmp b k v) → OnOk r (a ++ new ≡ insert_entry key_cmp (a ++ b) k v)
+  pub put-v6 : {T E : Type 0} (r : Result T E) (k : RouteKey) (v : V) (a b new : List (RouteKey × V)) → IsOf V6 k → AreOf V4 a
+      → OnOk r (new ≡ insert_entry key_cmp b k v) → OnOk r (a ++ new ≡ insert_entry key_cmp (a ++ b) k v)
   put-v6 (Ok x) k v a b new is are ok = ap (λ (t : List (RouteKey × V)). a ++ t) ok ∙ sym (insert-v6 k v a b is are)
   put-v6 (Err e) k v a b new is are ok = tt
 
-  pub len-v4 : {T E : Type 0} (r : Result T E) (k : RouteKey) (a new b : List (RouteKey × V)) → IsOf V4 k → AreOf V6 b → OnOk r (length new ≡ length a + cond (is_some (lookup (is_at (key_cmp k)) a)) 0 1)
+  pub len-v4 : {T E : Type 0} (r : Result T E) (k : RouteKey) (a new b : List (RouteKey × V)) → IsOf V4 k → AreOf V6 b
+      → OnOk r (length new ≡ length a + cond (is_some (lookup (is_at (key_cmp k)) a)) 0 1)
       → OnOk r (length (new ++ b) ≡ length (a ++ b) + cond (is_some (lookup (is_at (key_cmp k)) (a ++ b))) 0 1)
   len-v4 (Ok x) k a new b is are ok = rw (lookup-v4 k a b is are) (omega (arith, ok, length-append new b, length-append a b))
   len-v4 (Err e) k a new b is are ok = tt
 
-  pub len-v6 : {T E : Type 0} (r : Result T E) (k : RouteKey) (a b new : List (RouteKey × V)) → IsOf V6 k → AreOf V4 a → OnOk r (length new ≡ length b + cond (is_some (lookup (is_at (key_cmp k)) b)) 0 1)
+  pub len-v6 : {T E : Type 0} (r : Result T E) (k : RouteKey) (a b new : List (RouteKey × V)) → IsOf V6 k → AreOf V4 a
+      → OnOk r (length new ≡ length b + cond (is_some (lookup (is_at (key_cmp k)) b)) 0 1)
       → OnOk r (length (a ++ new) ≡ length (a ++ b) + cond (is_some (lookup (is_at (key_cmp k)) (a ++ b))) 0 1)
   len-v6 (Ok x) k a b new is are ok = rw (lookup-v6 k a b is are) (omega (arith, ok, length-append a new, length-append a b))
   len-v6 (Err e) k a b new is are ok = tt

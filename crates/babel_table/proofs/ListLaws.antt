@@ -77,11 +77,13 @@ found-listing wipes q (w ∷ ws) distinct = by w.1 (found-listing wipes q ws dis
     by (Some v) again = said v (is_at (key_cmp q) w.0) again
     by None again = retracted (is_at (key_cmp q) w.0) refl again
 
-apart-listing : (wipes : ℕ) (k : RouteKey) (ws : Words) → AllByRecursion (λ y. eq_by_cmp key_cmp k y ≡ false) (keys_of ws) → AllByRecursion (λ y. eq_by_cmp key_cmp k y ≡ false) (keys_of (listing wipes ws))
+apart-listing : (wipes : ℕ) (k : RouteKey) (ws : Words) → AllByRecursion (λ y. eq_by_cmp key_cmp k y ≡ false) (keys_of ws)
+    → AllByRecursion (λ y. eq_by_cmp key_cmp k y ≡ false) (keys_of (listing wipes ws))
 apart-listing wipes k [] apart = tt
 apart-listing wipes k (w ∷ ws) apart = by w.1 (apart-listing wipes k ws apart.1)
   where
-    by : (o : Option Kept) → AllByRecursion (λ y. eq_by_cmp key_cmp k y ≡ false) (keys_of (listing wipes ws)) → AllByRecursion (λ y. eq_by_cmp key_cmp k y ≡ false) (keys_of (with_word wipes w.0 o (listing wipes ws)))
+    by : (o : Option Kept) → AllByRecursion (λ y. eq_by_cmp key_cmp k y ≡ false) (keys_of (listing wipes ws))
+        → AllByRecursion (λ y. eq_by_cmp key_cmp k y ≡ false) (keys_of (with_word wipes w.0 o (listing wipes ws)))
     by (Some v) again = (apart.0, again)
     by None again = again
 

@@ -285,7 +285,8 @@ module _ {family : Family} (keys : List RouteKey) (around : List Around) (nested
         ]
 
 -- before a key to the same destination the keys around are those of the last one
-pub same_around : {family : Family} (keys : List RouteKey) (around : List Around) (c : ℕ) (dst : AddressPrefix) (a : Around) → IsNested family keys around → c < length around → HoldsAt (λ other. other.dst ≡ dst) keys c
+pub same_around : {family : Family} (keys : List RouteKey) (around : List Around) (c : ℕ) (dst : AddressPrefix) (a : Around)
+    → IsNested family keys around → c < length around → HoldsAt (λ other. other.dst ≡ dst) keys c
     → NoneWithin (LeadsAround dst) keys (get_or around c a).dst (c + 1)
 same_around keys around c dst a nested inside at k d low high has =
     elim (cases_lt k c) [
@@ -351,14 +352,17 @@ module _ {family : Family} (keys : List RouteKey) (around : List Around) (nested
 
   module _ (to : AddressPrefix) (c : ℕ) (at : HoldsAt (λ key. key.dst ≡ to) keys c) where
     -- no key after the last one from the source contains both
-    pub found_last : (last : ℕ) → c < length keys → HoldsAt (LeadsFrom to s) keys last → NoneWithin (LeadsFrom to s) keys (last + 1) (length keys) → NoneWithin (ContainsBoth d s) keys (c + 1) (length keys)
+    pub found_last : (last : ℕ) → c < length keys → HoldsAt (LeadsFrom to s) keys last → NoneWithin (LeadsFrom to s) keys (last + 1) (length keys)
+        → NoneWithin (ContainsBoth d s) keys (c + 1) (length keys)
         → NoneWithin (ContainsBoth d s) keys (last + 1) (length keys)
     found_last last inside leads none after k e low high has =
         elim (cases_lt c k) [
           | inl gt ↦ after k e (omega (arith, gt)) high has
           | inr le ↦
-              let first = subst (λ (p : AddressPrefix). is_le (prefix_cmp p (get_or keys k e).dst) ≡ true) (leads e).0 (dst_le (get_or keys last e) (get_or keys k e) (up_to keys last k e nested.rising (omega (arith, low)) high)) in
-              let second = subst (λ (p : AddressPrefix). is_le (prefix_cmp (get_or keys k e).dst p) ≡ true) (at e) (dst_le (get_or keys k e) (get_or keys c e) (up_to keys k c e nested.rising le inside)) in
+              let first = subst (λ (p : AddressPrefix). is_le (prefix_cmp p (get_or keys k e).dst) ≡ true) (leads e).0
+              (dst_le (get_or keys last e) (get_or keys k e) (up_to keys last k e nested.rising (omega (arith, low)) high)) in
+              let second = subst (λ (p : AddressPrefix). is_le (prefix_cmp (get_or keys k e).dst p) ≡ true) (at e)
+              (dst_le (get_or keys k e) (get_or keys c e) (up_to keys k c e nested.rising le inside)) in
               none k e low high (one_prefix _ _ second first, has.1)
         ]
 

@@ -195,8 +195,10 @@ module _ (mode : Mode) (entries : ℕ) (sender : Address) where
       some_more [] some = absurd (some refl)
       some_more (x ∷ xs) some = λ none. absurd cc
 
-      by : (((said : List Event) × AreFine mode entries [] (sayings sender packets) said × (rest ≢ []) × PacketFault (length (flat_map packet_octets packets)) rest fault) ⊎ RefusedBy mode entries (sayings sender packets) fault)
-          → (((said : List Event) × AreFine mode entries [] (sayings sender packets) said × ((rest ++ more) ≢ []) × PacketFault (length (flat_map packet_octets packets)) (rest ++ more) fault) ⊎ RefusedBy mode entries (sayings sender packets) fault)
+      by : (((said : List Event) × AreFine mode entries [] (sayings sender packets) said × (rest ≢ [])
+          × PacketFault (length (flat_map packet_octets packets)) rest fault) ⊎ RefusedBy mode entries (sayings sender packets) fault)
+          → (((said : List Event) × AreFine mode entries [] (sayings sender packets) said × ((rest ++ more) ≢ [])
+          × PacketFault (length (flat_map packet_octets packets)) (rest ++ more) fault) ⊎ RefusedBy mode entries (sayings sender packets) fault)
       by (inl (said, fine, some, framing)) = inl (said, fine, some_more rest some, packet_fault-more (length (flat_map packet_octets packets)) rest more fault framing whole)
       by (inr refused) = inr refused
 
@@ -221,7 +223,8 @@ packets_last : (sender : Address) (packets : List (List TlvAt)) → AllByRecursi
 packets_last sender [] = tt
 packets_last sender (packet ∷ packets) = all_append (sayings_behind sender [] packet) (sayings sender packets) (packet_lasts sender [] packet) (packets_last sender packets)
 
-refuses-lasting : (mode : Mode) (entries : ℕ) (before : List Event) (at : ℕ) (what : Result Event Fault) (fault : Fault) → IfErr what IsLasting → Refuses mode entries before at what fault → IsLasting fault
+refuses-lasting : (mode : Mode) (entries : ℕ) (before : List Event) (at : ℕ) (what : Result Event Fault) (fault : Fault) → IfErr what IsLasting
+    → Refuses mode entries before at what fault → IsLasting fault
 refuses-lasting mode entries before at (Ok event) fault lasts why = subst IsLasting (sym why.0) tt
 refuses-lasting mode entries before at (Err refused) fault lasts why = subst IsLasting (sym why) lasts
 

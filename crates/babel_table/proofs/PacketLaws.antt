@@ -25,13 +25,19 @@ packets-none mode entries sender at octets old = record {
 length-framed : (body : List ℕ) → length (framed body) ≡ 4 + length body
 length-framed body = omega arith
 
-placed-push : (at : ℕ) (packets : List (List TlvAt)) (tlvs : List TlvAt) (place : ℕ) → ArePackets at packets → place ≡ at + length (flat_map packet_octets packets) → IsBody (body_octets tlvs) → ArePlaced (place + 4) tlvs
+placed-push : (at : ℕ) (packets : List (List TlvAt)) (tlvs : List TlvAt) (place : ℕ) → ArePackets at packets
+    → place ≡ at + length (flat_map packet_octets packets) → IsBody (body_octets tlvs) → ArePlaced (place + 4) tlvs
     → ArePackets at (packets ++ tlvs ∷ [])
 placed-push at [] tlvs place placed here fits parts = (fits, subst (λ (p : ℕ). ArePlaced (p + 4) tlvs) (omega (arith, here)) parts, tt)
-placed-push at (first ∷ packets) tlvs place placed here fits parts =
-    (placed.0, placed.1, placed-push (at + length (packet_octets first)) packets tlvs place placed.2 (omega (arith, here, length-append (packet_octets first) (flat_map packet_octets packets))) fits parts)
+placed-push at (first ∷ packets) tlvs place placed here fits parts = (
+  placed.0,
+  placed.1,
+  placed-push (at + length (packet_octets first)) packets tlvs place placed.2
+      (omega (arith, here, length-append (packet_octets first) (flat_map packet_octets packets))) fits parts,
+)
 
-pub packets-next : (mode : Mode) (entries : ℕ) (sender : Address) (at : ℕ) (octets : List ℕ) (old now next : Routes) (rest body : List ℕ) (place : ℕ) → TookPackets mode entries sender at octets old now rest place
+pub packets-next : (mode : Mode) (entries : ℕ) (sender : Address) (at : ℕ) (octets : List ℕ) (old now next : Routes) (rest body : List ℕ) (place : ℕ)
+    → TookPackets mode entries sender at octets old now rest place
     → BeginsPacket rest body → AreTlvs (place + 4) body (tlvs_of (place + 4) body) → Takes mode entries (sayings_behind sender [] (tlvs_of (place + 4) body)) now next
     → TookPackets mode entries sender at octets old next (drop (4 + length body) rest) (place + (4 + length body))
 packets-next mode entries sender at octets old now next rest body place took (fits, behind, is_rest) parts takes =
@@ -49,7 +55,8 @@ packets-next mode entries sender at octets old now next rest body place took (fi
           ∙ ap (λ (t : List ℕ). t ++ behind) (sym joined) ∙ ap (λ (t : List ℕ). flat_map packet_octets (took.packets ++ tlvs ∷ []) ++ t) (sym dropped);
       placed = placed-push at took.packets tlvs place took.placed took.here (subst IsBody (sym is_body) fits) parts.placed;
       here = rw joined (omega (arith, took.here, length-append (flat_map packet_octets took.packets) (framed body), length-framed body));
-      takes = λ before stands. subst (λ (s : List Saying). StandsBehind mode entries next s) (append_assoc before (sayings sender took.packets) (sayings_behind sender [] tlvs) ∙ ap (λ (s : List Saying). before ++ s) (sym said))
+      takes = λ before stands. subst (λ (s : List Saying). StandsBehind mode entries next s)
+          (append_assoc before (sayings sender took.packets) (sayings_behind sender [] tlvs) ∙ ap (λ (s : List Saying). before ++ s) (sym said))
           (takes (before ++ sayings sender took.packets) (took.takes before stands));
     }
 
@@ -69,14 +76,17 @@ pub body-stops : (m mode : Mode) (e entries : ℕ) → m ≡ mode → e ≡ entr
 body-stops m mode e entries is_m is_e said now fault (inl past) = inl past
 body-stops m mode e entries is_m is_e said now fault (inr (whole, fails)) = inr (whole, fails-at m mode e entries is_m is_e said now fault fails)
 
-pub packets-next_used : (mode : Mode) (entries : ℕ) (sender : Address) (at : ℕ) (octets : List ℕ) (old now next : Routes) (rest body : List ℕ) (place used : ℕ) → used ≡ 4 + length body → TookPackets mode entries sender at octets old now rest place
+pub packets-next_used : (mode : Mode) (entries : ℕ) (sender : Address) (at : ℕ) (octets : List ℕ) (old now next : Routes) (rest body : List ℕ)
+    (place used : ℕ) → used ≡ 4 + length body → TookPackets mode entries sender at octets old now rest place
     → BeginsPacket rest body → AreTlvs (place + 4) body (tlvs_of (place + 4) body) → Takes mode entries (sayings_behind sender [] (tlvs_of (place + 4) body)) now next
     → TookPackets mode entries sender at octets old next (drop used rest) (place + used)
 packets-next_used mode entries sender at octets old now next rest body place used is took begins parts takes =
-    subst (λ (n : ℕ). TookPackets mode entries sender at octets old next (drop n rest) (place + n)) (sym is) (packets-next mode entries sender at octets old now next rest body place took begins parts takes)
+    subst (λ (n : ℕ). TookPackets mode entries sender at octets old next (drop n rest) (place + n)) (sym is)
+    (packets-next mode entries sender at octets old now next rest body place took begins parts takes)
 
 -- how many octets were taken says what the rest is, and where it begins
-module _ (mode : Mode) (entries : ℕ) (sender : Address) (at : ℕ) (octets : List ℕ) (old now : Routes) (rest : List ℕ) (place : ℕ) (took : TookPackets mode entries sender at octets old now rest place) where
+module _ (mode : Mode) (entries : ℕ) (sender : Address) (at : ℕ) (octets : List ℕ) (old now : Routes) (rest : List ℕ) (place : ℕ)
+    (took : TookPackets mode entries sender at octets old now rest place) where
   lengths : length octets ≡ length (flat_map packet_octets took.packets) + length rest
   lengths = ap length took.whole ∙ length-append (flat_map packet_octets took.packets) rest
 

@@ -40,21 +40,24 @@ start_is places key tag len t l = cc
 
 module _ (keys : List RouteKey) (places : Places) (key : RouteKey) where
   -- what a search is past is not the key's slot
-  not_passed : (step place : ℕ) → ((before : ℕ) → before < step → IsPassed keys places.slots key (start_of places key + before)) → IsPlace keys key place → (listed : IsListed places key place) → step ≤ 8 → listed.far < step → ⊥
+  not_passed : (step place : ℕ) → ((before : ℕ) → before < step → IsPassed keys places.slots key (start_of places key + before))
+      → IsPlace keys key place → (listed : IsListed places key place) → step ≤ 8 → listed.far < step → ⊥
   not_passed step place passed at listed near lt = elim listed.here [
     | inl here ↦ (passed listed.far lt (0, 0)).1 place (here.1 (0, 0)) at
     | inr over ↦ omega (arith, over.0, lt, near)
   ]
 
   -- a slot that has no place ends a search
-  pub ends_at_free : (step : ℕ) → ((before : ℕ) → before < step → IsPassed keys places.slots key (start_of places key + before)) → step < 8 → HoldsAt (λ slot. slot.1 ≡ 4294967295) places.slots (start_of places key + step)
+  pub ends_at_free : (step : ℕ) → ((before : ℕ) → before < step → IsPassed keys places.slots key (start_of places key + before)) → step < 8
+      → HoldsAt (λ slot. slot.1 ≡ 4294967295) places.slots (start_of places key + step)
       → IsUnlisted keys places key
   ends_at_free step passed near free place at listed = elim (cases_lt listed.far step) [
     | inl lt ↦ not_passed step place passed at listed (omega (arith, near)) lt
     | inr le ↦ elim (eq-or-lt_of_le le) [
       | inl is ↦ elim listed.here [
         | inl here ↦
-            let slot : get_or places.slots (start_of places key + step) (0, 0) ≡ (tag_of key, place) = subst (λ n. get_or places.slots (start_of places key + n) (0, 0) ≡ (tag_of key, place)) (sym is) (here.1 (0, 0)) in
+            let slot : get_or places.slots (start_of places key + step) (0, 0) ≡ (tag_of key, place) =
+            subst (λ n. get_or places.slots (start_of places key + n) (0, 0) ≡ (tag_of key, place)) (sym is) (here.1 (0, 0)) in
             let none : place ≡ 4294967295 = sym (ap (λ (s : ℕ × ℕ). s.1) slot) ∙ free (0, 0) in
             omega (arith, none, listed.small)
         | inr over ↦ omega (arith, over.0, is, near)
@@ -73,7 +76,8 @@ module _ (keys : List RouteKey) (places : Places) (key : RouteKey) where
     ]
   ]
 
-  pub ends_at_other : (other : ℕ) → ((before : ℕ) → before < 8 → IsPassed keys places.slots key (start_of places key + before)) → lookup (is_at (key_cmp key)) places.overflow ≡ Some other → (IsPlace keys key other → ⊥)
+  pub ends_at_other : (other : ℕ) → ((before : ℕ) → before < 8 → IsPassed keys places.slots key (start_of places key + before))
+      → lookup (is_at (key_cmp key)) places.overflow ≡ Some other → (IsPlace keys key other → ⊥)
       → IsUnlisted keys places key
   ends_at_other other passed some apart place at listed = elim (cases_lt listed.far 8) [
     | inl lt ↦ not_passed 8 place passed at listed (omega arith) lt
@@ -89,13 +93,15 @@ module _ (slots : List (ℕ × ℕ)) (overflow : List (RouteKey × ℕ)) (key : 
   abbrev old : Places
   old = record { slots = slots; overflow = overflow }
 
-  module _ (step : ℕ) (at : ℕ) (is : at ≡ start_of old key + step) (near : step < 8) (inside : at < length slots) (passed : (before : ℕ) → before < step → IsTaken slots (start_of old key + before)) (free : HoldsAt (λ slot. slot.1 ≡ 4294967295) slots at) where
+  module _ (step : ℕ) (at : ℕ) (is : at ≡ start_of old key + step) (near : step < 8) (inside : at < length slots)
+      (passed : (before : ℕ) → before < step → IsTaken slots (start_of old key + before)) (free : HoldsAt (λ slot. slot.1 ≡ 4294967295) slots at) where
     abbrev slotted : Places
     slotted = record { slots = set slots at (tag_of key, place); overflow = overflow }
 
     taken : (n : ℕ) → IsTaken slots n → IsTaken (set slots at (tag_of key, place)) n
     taken n was d = elim (cases_eq n at) [
-      | inl same ↦ let here : get_or (set slots at (tag_of key, place)) n d ≡ (tag_of key, place) = ap (λ m. get_or (set slots at (tag_of key, place)) m d) same ∙ get_or-set_same slots at (tag_of key, place) d inside in
+      | inl same ↦ let here : get_or (set slots at (tag_of key, place)) n d ≡ (tag_of key, place) =
+          ap (λ m. get_or (set slots at (tag_of key, place)) m d) same ∙ get_or-set_same slots at (tag_of key, place) d inside in
           omega (arith, ap (λ (s : ℕ × ℕ). s.1) here, small)
       | inr apart ↦ let here = get_or-set_other slots at n (tag_of key, place) d apart in
           omega (arith, ap (λ (s : ℕ × ℕ). s.1) here, was d)
@@ -137,17 +143,23 @@ module _ (slots : List (ℕ × ℕ)) (overflow : List (RouteKey × ℕ)) (key : 
   abbrev mapped : List (RouteKey × ℕ) → Places
   mapped entries = record { slots = slots; overflow = entries }
 
-  pub map_listed : (entries : List (RouteKey × ℕ)) → ((before : ℕ) → before < 8 → IsTaken slots (start_of old key + before)) → entries ≡ insert_entry key_cmp overflow key place → IsListed (mapped entries) key place
+  pub map_listed : (entries : List (RouteKey × ℕ)) → ((before : ℕ) → before < 8 → IsTaken slots (start_of old key + before))
+      → entries ≡ insert_entry key_cmp overflow key place → IsListed (mapped entries) key place
   map_listed entries passed is = record {
     room = room;
     small = small;
     far = 8;
     near = omega arith;
     passed = passed;
-    here = inr (refl, ap (λ t. lookup (is_at (key_cmp key)) t) is ∙ lookup-insert key_total key key place overflow ∙ ap (λ b. cond b (Some place) (lookup (is_at (key_cmp key)) overflow)) (at_itself key));
+    here = inr (
+      refl,
+      ap (λ t. lookup (is_at (key_cmp key)) t) is ∙ lookup-insert key_total key key place overflow
+          ∙ ap (λ b. cond b (Some place) (lookup (is_at (key_cmp key)) overflow)) (at_itself key),
+    );
   }
 
-  pub map_others : (entries : List (RouteKey × ℕ)) (other : RouteKey) (n : ℕ) → entries ≡ insert_entry key_cmp overflow key place → is_at (key_cmp key) other ≡ false → IsListed old other n → IsListed (mapped entries) other n
+  pub map_others : (entries : List (RouteKey × ℕ)) (other : RouteKey) (n : ℕ) → entries ≡ insert_entry key_cmp overflow key place
+      → is_at (key_cmp key) other ≡ false → IsListed old other n → IsListed (mapped entries) other n
   map_others entries other n is apart listed = record {
     room = room;
     small = listed.small;
@@ -156,7 +168,11 @@ module _ (slots : List (ℕ × ℕ)) (overflow : List (RouteKey × ℕ)) (key : 
     passed = listed.passed;
     here = elim listed.here [
       | inl here ↦ inl here
-      | inr over ↦ inr (over.0, ap (λ t. lookup (is_at (key_cmp other)) t) is ∙ lookup-insert key_total other key place overflow ∙ ap (λ b. cond b (Some place) (lookup (is_at (key_cmp other)) overflow)) apart ∙ over.1)
+      | inr over ↦ inr (
+        over.0,
+        ap (λ t. lookup (is_at (key_cmp other)) t) is ∙ lookup-insert key_total other key place overflow
+            ∙ ap (λ b. cond b (Some place) (lookup (is_at (key_cmp other)) overflow)) apart ∙ over.1,
+      )
     ];
   }
 
@@ -171,7 +187,8 @@ none_listed keys first places key place from to at = absurd (omega (arith, from,
 pub all_listed : (ws : Words) (first last : ℕ) (places : Places) → length ws ≤ last → AreListedBefore (keys_of ws) first last places → AreListed (keys_of ws) first places
 all_listed ws first last places whole listed key place from at = listed key place from (omega (arith, at.inside, whole, length-keys_of ws)) at
 
-pub listed_more : (ws : Words) (first last : ℕ) (old new : Places) (k : RouteKey) → AreDistinct (keys_of ws) → IsPlace (keys_of ws) k last → AreListedBefore (keys_of ws) first last old → IsListed new k last
+pub listed_more : (ws : Words) (first last : ℕ) (old new : Places) (k : RouteKey) → AreDistinct (keys_of ws) → IsPlace (keys_of ws) k last
+    → AreListedBefore (keys_of ws) first last old → IsListed new k last
     → ((other : RouteKey) (at : ℕ) → is_at (key_cmp k) other ≡ false → IsListed old other at → IsListed new other at) → AreListedBefore (keys_of ws) first (last + 1) new
 listed_more ws first last old new k distinct here listed one others key place from to at = elim (cases_lt place last) [
   | inl lt ↦ others key place (apart_places k key (keys_of ws) place last distinct lt at here) (listed key place from lt at)

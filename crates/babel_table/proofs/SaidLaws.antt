@@ -1,5 +1,6 @@
 -- What was said of each key, whatever the order in which the keys came.
-use Rattle.std.proofs.Common.{◌≡◌, ℕ, zero, suc, ◌+◌, ◌-◌, ◌^◌, ◌<◌, ◌≤◌, Bool, true, false, cond, T, List, [], ◌∷◌, ◌++◌, length, set, get_or, take, Option, Some, None, Ok, Err, MatchOption, inl, inr, refl, sym, ap, subst, ◌∙◌, length-append, arith}
+use Rattle.std.proofs.Common.{◌≡◌, ℕ, zero, suc, ◌+◌, ◌-◌, ◌^◌, ◌<◌, ◌≤◌, Bool, true, false, cond, T, List, [], ◌∷◌, ◌++◌, length, set, get_or, take}
+use Rattle.std.proofs.Common.{Option, Some, None, Ok, Err, MatchOption, inl, inr, refl, sym, ap, subst, ◌∙◌, length-append, arith}
 use mir.Val.{bool_byte}
 use Rattle.std.specs.Prelude.{◌&&◌, ◌||◌, not, OnErr, Result}
 use Rattle.std.specs.Cmp.{IsStrictWeakOrder}
@@ -179,7 +180,8 @@ keys_take : (n : ℕ) (ws : Words) → keys_of (take n ws) ≡ take n (keys_of w
 keys_take n ws = sym (take-map (λ (w : RouteKey × Option Kept). w.0) n ws)
 
 -- in the rows in front
-pub place-searched : (ws : Words) (k : RouteKey) (i n : ℕ) → n ≤ length (keys_of ws) → IsSearchInRange (Ok i) (length (take n ws)) → IsBinarySearchResult (λ word. key_cmp word.0 k) (take n ws) (Ok i) → IsPlace (keys_of ws) k i
+pub place-searched : (ws : Words) (k : RouteKey) (i n : ℕ) → n ≤ length (keys_of ws) → IsSearchInRange (Ok i) (length (take n ws))
+    → IsBinarySearchResult (λ word. key_cmp word.0 k) (take n ws) (Ok i) → IsPlace (keys_of ws) k i
 place-searched ws k i n le inside at =
     let front = subst (λ ks. IsPlace ks k i) (keys_take n ws) (record {
       inside = subst (λ m. i < m) (sym (length-keys_of (take n ws))) inside;
@@ -244,7 +246,8 @@ pub whole-rising : (ws : Words) (rising : ℕ) (places : Places) → AreIndexed 
 whole-rising ws rising places indexed whole = subst (λ t. IsRising t) (take_all rising ws (omega (arith, whole))) (front-rising ws rising places indexed)
 
 -- a key that a search misses in front, or that is greater than all there, is where it is listed
-pub searched-behind : (ws : Words) (k : RouteKey) (rising : ℕ) (places : Places) (i : ℕ) (o : Option ℕ) → AreIndexed (keys_of ws) rising places → IsBinarySearchResult (λ word. key_cmp word.0 k) (take rising ws) (Err i)
+pub searched-behind : (ws : Words) (k : RouteKey) (rising : ℕ) (places : Places) (i : ℕ) (o : Option ℕ) → AreIndexed (keys_of ws) rising places
+    → IsBinarySearchResult (λ word. key_cmp word.0 k) (take rising ws) (Err i)
     → MatchOption o (IsUnlisted (keys_of ws) places k) (IsPlace (keys_of ws) k) → MatchOption o (found k ws ≡ None) (IsPlace (keys_of ws) k)
 searched-behind ws k rising places i o indexed point found_there =
     absent-behind ws k rising places o indexed (absent-searched (take rising ws) k i (front-rising ws rising places indexed) point) found_there
@@ -331,7 +334,8 @@ length-unsaid k (e ∷ es) = by (length-unsaid k es) (is_at (key_cmp k) e.0)
 -- ---- a word in its place
 
 -- a key is at its place alone
-apart_place : (k : RouteKey) (w : RouteKey × Option Kept) (ws : Words) (i : ℕ) (d : RouteKey × Option Kept) → AreDistinct (keys_of (w ∷ ws)) → i < length ws → (get_or ws i d).0 ≡ k → is_at (key_cmp k) w.0 ≡ false
+apart_place : (k : RouteKey) (w : RouteKey × Option Kept) (ws : Words) (i : ℕ) (d : RouteKey × Option Kept) → AreDistinct (keys_of (w ∷ ws))
+    → i < length ws → (get_or ws i d).0 ≡ k → is_at (key_cmp k) w.0 ≡ false
 apart_place k w ws i d distinct inside at =
     let key : RouteKey × Option Kept → RouteKey = λ v. v.0 in
     let here : get_or (keys_of ws) i d.0 ≡ k = get_or-map key ws i d ∙ at in
@@ -520,7 +524,8 @@ apart-filter : (k : RouteKey) (ws : Words) → AllByRecursion (λ y. eq_by_cmp k
 apart-filter k [] apart = tt
 apart-filter k (w ∷ ws) apart = by (is_said w) (apart-filter k ws apart.1)
   where
-    by : (b : Bool) → AllByRecursion (λ y. eq_by_cmp key_cmp k y ≡ false) (keys_of (filter is_said ws)) → AllByRecursion (λ y. eq_by_cmp key_cmp k y ≡ false) (keys_of (cond b (w ∷ filter is_said ws) (filter is_said ws)))
+    by : (b : Bool) → AllByRecursion (λ y. eq_by_cmp key_cmp k y ≡ false) (keys_of (filter is_said ws))
+        → AllByRecursion (λ y. eq_by_cmp key_cmp k y ≡ false) (keys_of (cond b (w ∷ filter is_said ws) (filter is_said ws)))
     by true again = (apart.0, again)
     by false again = again
 
@@ -557,7 +562,8 @@ indexed-rising ks places distinct rising = record {
 }
 
 -- one more in front
-indexed-front : (ks : List RouteKey) (places : Places) (k : RouteKey) → AreIndexed ks (length ks) places → IsAbsent k ks → IsStrictlySortedBy key_cmp (ks ++ k ∷ []) → AreIndexed (ks ++ k ∷ []) (length ks + 1) places
+indexed-front : (ks : List RouteKey) (places : Places) (k : RouteKey) → AreIndexed ks (length ks) places → IsAbsent k ks
+    → IsStrictlySortedBy key_cmp (ks ++ k ∷ []) → AreIndexed (ks ++ k ∷ []) (length ks + 1) places
 indexed-front ks places k indexed absent rising =
     let more : length (ks ++ k ∷ []) ≡ length ks + 1 = length-append ks (k ∷ []) in
     let all : take (length ks + 1) (ks ++ k ∷ []) ≡ ks ++ k ∷ [] = take_all (length ks + 1) (ks ++ k ∷ []) (omega (arith, more)) in
@@ -711,7 +717,8 @@ module _ (n : ℕ) (ws : Words) (rising : ℕ) (places : Places) (all : AreCount
         let order : IsRising ws = whole-rising ws rising places all.indexed full in
         let longer : IsStrictlySortedBy key_cmp (keys_of ws ++ k ∷ []) = subst (λ t. IsStrictlySortedBy key_cmp t) (keys-push k (Some v) ws) (rising-push k (Some v) ws above order) in
         let more : length (keys_of ws) + 1 ≡ m = omega (arith, long, length-keys_of ws, length-append ws ((k, Some v) ∷ [])) in
-        counted-more v m places few (subst (λ t. AreIndexed t m places) (sym (keys-push k (Some v) ws)) (subst (λ t. AreIndexed (keys_of ws ++ k ∷ []) t places) more (indexed-front (keys_of ws) places k whole (absent_of k ws none) longer)))
+        counted-more v m places few (subst (λ t. AreIndexed t m places) (sym (keys-push k (Some v) ws))
+        (subst (λ t. AreIndexed (keys_of ws ++ k ∷ []) t places) more (indexed-front (keys_of ws) places k whole (absent_of k ws none) longer)))
 
 pub counted-nothing : (places : Places) → AreCounted 0 [] 0 places
 counted-nothing places = record { indexed = indexed-nothing places; count = refl; small = omega arith }
@@ -721,7 +728,8 @@ pub counted_again : (n : ℕ) (ws : Words) (rising : ℕ) (old new : Places) →
 counted_again n ws rising old new all indexed = record { indexed = indexed; count = all.count; small = all.small }
 
 -- the rows that are not retracted, in order
-pub counted-sorted : (n : ℕ) (ws vs : Words) (rising : ℕ) (places after : Places) → AreCounted n ws rising places → IsRising vs → standing vs ≡ standing (filter is_said ws) → AreCounted n vs (length vs) after
+pub counted-sorted : (n : ℕ) (ws vs : Words) (rising : ℕ) (places after : Places) → AreCounted n ws rising places → IsRising vs
+    → standing vs ≡ standing (filter is_said ws) → AreCounted n vs (length vs) after
 counted-sorted n ws vs rising places after all order same = record {
   indexed = subst (λ m. AreIndexed (keys_of vs) m after) (length-keys_of vs) (indexed-rising (keys_of vs) after (IsDistinct-from_sorted key_cmp (keys_of vs) order) order);
   count = all.count ∙ ap (λ (t : List (RouteKey × Kept)). length t) (sym (same ∙ standing-filter ws all.indexed.distinct));
@@ -746,7 +754,8 @@ one_more n ws rising places old all is few =
     let len : n ≡ length old = all.count ∙ ap (λ (t : List (RouteKey × Kept)). length t) is in
     omega (arith, len, few)
 
-pub said-length : (k : RouteKey) (v : Kept) (ws : Words) (old new : List (RouteKey × Kept)) → standing ws ≡ old → new ≡ insert_entry key_cmp old k v → length new ≡ length old + cond (is_some (found k old)) 0 1
+pub said-length : (k : RouteKey) (v : Kept) (ws : Words) (old new : List (RouteKey × Kept)) → standing ws ≡ old → new ≡ insert_entry key_cmp old k v
+    → length new ≡ length old + cond (is_some (found k old)) 0 1
 said-length k v ws old new view is = ap (λ (t : List (RouteKey × Kept)). length t) is ∙ length-said k v old (subst (λ t. IsRising t) view (sorted-standing ws))
 
 -- ---- the end of a list

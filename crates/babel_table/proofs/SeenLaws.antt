@@ -45,6 +45,8 @@ pub seen_append : (view : View) (rows others : List Pair) → seen_rows view (ro
 seen_append view [] others = refl
 seen_append view (row ∷ rows) others = ap (λ (l : List Pair). seen_row view row ∷ l) (seen_append view rows others)
 
+pub ruleset seeing = (seen_are_rows, seen_are_of, seen_append)
+
 -- the view that keeps all changes nothing
 pub all_rows : (rows : List Pair) → seen_rows keeps_all rows ≡ rows
 all_rows [] = refl

@@ -57,7 +57,8 @@ module _ (rows : List Pair) (d s : Address) (row : Pair) where
     ];
   }
     where
-      not_better : (best : Option Pair) → IsBestOf rows d s best → IfSome best (λ b. IsMoreSpecific row.0 b.0) → (other : Pair) → Contains rows other → ContainsBoth d s other.0 → ¬ IsMoreSpecific other.0 row.0
+      not_better : (best : Option Pair) → IsBestOf rows d s best → IfSome best (λ b. IsMoreSpecific row.0 b.0) → (other : Pair) → Contains rows other
+          → ContainsBoth d s other.0 → ¬ IsMoreSpecific other.0 row.0
       not_better None none more other c both = absurd (none.none other c both)
       not_better (Some b) best more other c both = λ longer. best.best other c both (longer_still other.0 row.0 b.0 longer more)
 

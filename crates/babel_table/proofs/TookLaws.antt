@@ -43,7 +43,8 @@ said-lasting : (context : Context) (tlv : TlvAt) (fault : Fault) → said contex
 said-lasting context tlv fault is = subst (λ (r : Result Event Fault). IfErr r IsLasting) is (said_lasts context tlv).lasts
 
 module _ (mode : Mode) (entries : ℕ) (sender : Address) (old : Routes) (all : List TlvAt) where
-  here_said : (context : Context) (tlv : TlvAt) (some : List TlvAt) (event : Event) → context ≡ context_after sender some → said context tlv ≡ Ok event → said (context_after sender some) tlv ≡ Ok event
+  here_said : (context : Context) (tlv : TlvAt) (some : List TlvAt) (event : Event) → context ≡ context_after sender some
+      → said context tlv ≡ Ok event → said (context_after sender some) tlv ≡ Ok event
   here_said context tlv some event is e = subst (λ (c : Context). said c tlv ≡ Ok event) is e
 
   abbrev what : TlvAt → Result Event Fault → Saying
@@ -76,7 +77,9 @@ module _ (mode : Mode) (entries : ℕ) (sender : Address) (old : Routes) (all : 
         said-lasting (context_after sender some.earlier) tlv fault here,
         λ before later stands.
             subst (λ (s : List Saying). RefusedBy mode entries s fault)
-            (append_assoc before some.done (one ∷ rest ++ later) ∙ ap (λ (s : List Saying). before ++ s) (sym (append_assoc some.done (one ∷ rest) later)) ∙ ap (λ (s : List Saying). before ++ (s ++ later)) (sym whole) ∙ sym (append_assoc before (sayings_behind sender [] all) later))
+            (append_assoc before some.done (one ∷ rest ++ later)
+            ∙ ap (λ (s : List Saying). before ++ s) (sym (append_assoc some.done (one ∷ rest) later))
+            ∙ ap (λ (s : List Saying). before ++ (s ++ later)) (sym whole) ∙ sym (append_assoc before (sayings_behind sender [] all) later))
             (refused_by mode entries now (before ++ some.done) one (rest ++ later) fault (some.stands before stands)
             (λ events are. subst (λ (r : Result Event Fault). Refuses mode entries events tlv.at r fault) (sym here) refl)),
       )
@@ -93,7 +96,9 @@ module _ (mode : Mode) (entries : ℕ) (sender : Address) (old : Routes) (all : 
         subst IsLasting (sym is) tt,
         λ before later stands.
             subst (λ (s : List Saying). RefusedBy mode entries s fault)
-            (append_assoc before some.done (one ∷ rest ++ later) ∙ ap (λ (s : List Saying). before ++ s) (sym (append_assoc some.done (one ∷ rest) later)) ∙ ap (λ (s : List Saying). before ++ (s ++ later)) (sym whole) ∙ sym (append_assoc before (sayings_behind sender [] all) later))
+            (append_assoc before some.done (one ∷ rest ++ later)
+            ∙ ap (λ (s : List Saying). before ++ s) (sym (append_assoc some.done (one ∷ rest) later))
+            ∙ ap (λ (s : List Saying). before ++ (s ++ later)) (sym whole) ∙ sym (append_assoc before (sayings_behind sender [] all) later))
             (refused_by mode entries now (before ++ some.done) one (rest ++ later) fault (some.stands before stands)
             (λ events are. subst (λ (r : Result Event Fault). Refuses mode entries events tlv.at r fault) (sym here) (is, over events are))),
       )
@@ -139,12 +144,14 @@ module _ (mode : Mode) (entries : ℕ) (now next : Routes) (context after : Cont
   tlv-taken event (Err fault) is_said goes takes = tt
 
   pub tlv-failed : {T : Type 0} (event : Event) (taken : Result T Fault) → Ok event ≡ said context tlv → IfErr taken (IsRefused mode entries tlv.at event now.rows)
-      → IfErr taken (λ fault. (sender : Address) (old : Routes) (all left : List TlvAt) → TookSome mode entries sender old all now context (tlv ∷ left) → Fails mode entries (sayings_behind sender [] all) old fault)
+      → IfErr taken (λ fault. (sender : Address) (old : Routes) (all left : List TlvAt) → TookSome mode entries sender old all now context
+      (tlv ∷ left) → Fails mode entries (sayings_behind sender [] all) old fault)
   tlv-failed event (Ok x) is_said refused = tt
   tlv-failed event (Err fault) is_said refused = λ sender old all left some. took-failed mode entries sender old all now context tlv left event fault some (sym is_said) refused
 
 -- a TLV is the next of its packet, at the mode and the limit of the packet's start
-module _ (mode m : Mode) (entries e : ℕ) (is_m : m ≡ mode) (is_e : e ≡ entries) (sender : Address) (old : Routes) (all : List TlvAt) (now : Routes) (context : Context) (tlv : TlvAt) (all_left left : List TlvAt) (is_left : all_left ≡ tlv ∷ left) where
+module _ (mode m : Mode) (entries e : ℕ) (is_m : m ≡ mode) (is_e : e ≡ entries) (sender : Address) (old : Routes) (all : List TlvAt) (now : Routes)
+    (context : Context) (tlv : TlvAt) (all_left left : List TlvAt) (is_left : all_left ≡ tlv ∷ left) where
   here : TookSome mode entries sender old all now context all_left → TookSome m e sender old all now context (tlv ∷ left)
   here some = subst (λ (o : Mode). TookSome o e sender old all now context (tlv ∷ left)) (sym is_m)
       (subst (λ (n : ℕ). TookSome mode n sender old all now context (tlv ∷ left)) (sym is_e) (subst (λ (l : List TlvAt). TookSome mode entries sender old all now context l) is_left some))

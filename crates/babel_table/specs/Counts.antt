@@ -1,6 +1,7 @@
--- What a report says of the TLVs of a dump (RFC 8966, 4.3). It is this project's own: it counts what RFC 8966, 4.4 to 4.6, and
--- RFC 9079, 5 have a reader ignore.
-use Rattle.std.specs.Prelude.{ℕ, Bool, false, ◌==◌, List, [], ◌∷◌, length, map, Option, Result, Ok, slice_get, count_by}
+-- What a report says of the TLVs of a dump (RFC 8966, 4.3). It is this project's own: it counts
+-- what RFC 8966, 4.4 to 4.6, and RFC 9079, 5 have a reader ignore.
+use Rattle.std.specs.Prelude.{ℕ, Bool, false, ◌==◌, List, [], ◌∷◌, length, map}
+use Rattle.std.specs.Prelude.{Option, Result, Ok, slice_get, count_by}
 use Rattle.std.specs.List.{find}
 use Rattle.std.specs.Option.{option_map, option_flatten}
 use Rattle.babel_tlv.specs.declared.reason.Reason.{Reason}
@@ -10,8 +11,8 @@ use Rattle.babel_tlv.specs.declared.event.Event.TheVariants as events
 use Rattle.babel_tlv.specs.declared.fault.Fault.{Fault}
 use Rattle.babel_tlv.specs.Says.{Saying}
 
--- how many TLVs there are, how many of them are Updates, and for each reason, in the order of the reasons, how many were
--- ignored for it and where the first lies
+-- how many TLVs there are, how many of them are Updates, and for each reason, in the order of the
+-- reasons, how many were ignored for it and where the first lies
 pub record Counts : Type 0 where
   pub tlvs : ℕ
   pub updates : ℕ
@@ -38,10 +39,11 @@ reason_place reasons.NoNextHop = 15
 
 abbrev pub all_reasons : List Reason
 all_reasons =
-    reasons.Short ∷ reasons.UnknownEncoding ∷ reasons.WildcardFinite ∷ reasons.WildcardPrefix ∷ reasons.BadPlen
-    ∷ reasons.BadOmitted ∷ reasons.NoDefault ∷ reasons.ShortPrefix ∷ reasons.BadSub ∷ reasons.UnknownMandatory
-    ∷ reasons.TwoSources ∷ reasons.BadSource ∷ reasons.WildcardSource ∷ reasons.NoRouterId ∷ reasons.ReservedRouterId
-    ∷ reasons.NoNextHop ∷ []
+    reasons.Short ∷ reasons.UnknownEncoding ∷ reasons.WildcardFinite ∷ reasons.WildcardPrefix
+    ∷ reasons.BadPlen ∷ reasons.BadOmitted ∷ reasons.NoDefault ∷ reasons.ShortPrefix
+    ∷ reasons.BadSub ∷ reasons.UnknownMandatory ∷ reasons.TwoSources ∷ reasons.BadSource
+    ∷ reasons.WildcardSource ∷ reasons.NoRouterId ∷ reasons.ReservedRouterId ∷ reasons.NoNextHop
+    ∷ []
 
 abbrev pub count_at : List (Option (ℕ × ℕ)) → ℕ → Option (ℕ × ℕ)
 count_at counts place = option_flatten (slice_get counts place)

@@ -27,7 +27,7 @@ use Rattle.babel_table.specs.DumpFault.{RefusedBy, DumpFault, HoldsMoreThan}
 -- ---- the table so far
 
 -- the rows and the counts are those of these sayings, each of which is an event, with no more than
--- so many keys held behind any of them
+-- so many keys held after any of them
 pub record StandsBehind (mode : Mode) (entries : ℕ) (table : Routes)
     (said : List Saying) : Type 0 where
   pub events : List Event
@@ -51,17 +51,17 @@ MayGrow mode events.RetractAll = ⊥
 MayGrow mode events.Nothing = ⊥
 MayGrow mode (events.Ignored reason) = ⊥
 
--- rows behind events become the rows behind these and one more
+-- rows after events become the rows after these and one more
 abbrev pub Follows : Mode → Event → List (RouteKey × Held) → List (RouteKey × Held) → Type 0
 Follows mode event old new =
     (said : List Event) → AreRowsOf mode said old → AreRowsOf mode (said ++ event ∷ []) new
 
--- behind the events of these rows, one more would make more rows than may be
+-- after the events of these rows, one more would make more rows than may be
 abbrev pub Overflows : Mode → ℕ → Event → List (RouteKey × Held) → Type 0
 Overflows mode entries event rows =
     (said : List Event) → AreRowsOf mode said rows → HoldsMoreThan mode entries (said ++ event ∷ [])
 
--- why an event is not taken into the rows: there would be too many, or want of memory
+-- why an event is not taken into the rows: there would be too many, or out of memory
 abbrev pub IsRefused : Mode → ℕ → ℕ → Event → List (RouteKey × Held) → Fault → Type 0
 IsRefused mode entries at event rows fault =
     ((fault ≡ faults.TooManyRoutes at) × Overflows mode entries event rows)
@@ -75,8 +75,8 @@ MayGrowAt mode (Err fault) = ⊥
 abbrev pub SomeMayGrow : Mode → List Saying → Type 0
 SomeMayGrow mode said = (saying : Saying) × Contains said saying × MayGrowAt mode saying.what
 
--- Behind the earlier TLVs of a packet, some of its TLVs are taken: what the others say, in this
--- context, is all that is left of what the packet says, and the table stands behind what was said
+-- After the earlier TLVs of a packet, some of its TLVs are taken: what the others say, in this
+-- context, is all that is left of what the packet says, and the table stands after what was said
 -- before.
 pub record TookSome (mode : Mode) (entries : ℕ) (sender : Address) (old : Routes) (all : List TlvAt)
     (now : Routes) (context : Context) (left : List TlvAt) : Type 0 where
@@ -87,7 +87,7 @@ pub record TookSome (mode : Mode) (entries : ℕ) (sender : Address) (old : Rout
   pub stands : (said : List Saying) → StandsBehind mode entries old said →
       StandsBehind mode entries now (said ++ done)
 
--- The table takes these sayings: it then stands behind what was said before, and these.
+-- The table takes these sayings: it then stands after what was said before, and these.
 abbrev pub Takes : Mode → ℕ → List Saying → Routes → Routes → Type 0
 Takes mode entries said old new =
     (before : List Saying) → StandsBehind mode entries old before →
@@ -105,7 +105,7 @@ IsLasting faults.TooLong = Unit {0}
 IsLasting faults.TooManyPairs = ⊥
 IsLasting faults.Memory = ⊥
 
--- one of these sayings refuses the dump, whatever comes behind, or needs memory that there is none
+-- one of these sayings refuses the dump, whatever comes after, or needs memory that there is none
 -- of
 abbrev pub Fails : Mode → ℕ → List Saying → Routes → Fault → Type 0
 Fails mode entries said old fault =
@@ -146,7 +146,7 @@ pub record StopsBehind (mode : Mode) (entries : ℕ) (sender : Address) (at : �
 abbrev pub IsPartial : List ℕ → Type 0
 IsPartial octets = (length octets < 4) ⊎ LacksBody octets
 
--- Why octets behind some that are pending are not taken. Those past the limit on all are not looked
+-- Why octets after some that are pending are not taken. Those past the limit on all are not looked
 -- at: among the others some packets are taken and then comes the fault, or all are taken, and there
 -- are too many octets.
 abbrev pub StopsWithin : ℕ → Mode → ℕ → Address → ℕ → List ℕ → List ℕ → Routes → Fault → Type 0
@@ -193,7 +193,7 @@ NeedsMemory mode sender octets =
     (packets : List (List TlvAt)) × (rest : List ℕ) × ReadsAs octets packets rest
     × SomeMayGrow mode (sayings sender packets)
 
--- want of memory, or the fault of the octets, which it stays however they go on
+-- out of memory, or the fault of the octets, which it stays however they go on
 abbrev pub HasFailed : Progress → Fault → List ℕ → Type 0
 HasFailed progress fault fed =
     ((fault ≡ faults.Memory) × NeedsMemory progress.mode progress.sender fed)

@@ -31,7 +31,7 @@ TableIsOne =
     → IsTableOf limits mode sender dump table → IsTableOf limits mode sender dump other
     → table ≡ other
 
--- too many pairs is no fault of a dump, nor is want of memory
+-- too many pairs is no fault of a dump, nor is out of memory
 abbrev pub FaultIsOfOctets : Type 0
 FaultIsOfOctets =
     (limits : Bounds) (mode : Mode) (sender : Address) (dump : List ℕ) (fault : Fault)

@@ -76,7 +76,7 @@ IsFree slots start step =
     (step < 8) × AreTaken slots start step
     × HoldsAt (λ slot. slot.1 ≡ 4294967295) slots (start + step)
 
--- a search for the key comes to the place: so far behind the start, or where all slots in reach are
+-- a search for the key comes to the place: so far after the start, or where all slots in reach are
 -- taken
 pub record IsListed (places : Places) (key : RouteKey) (place : ℕ) : Type 0 where
   pub room : 8 < length places.slots

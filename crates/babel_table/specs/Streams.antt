@@ -74,7 +74,7 @@ TakesOctets old octets new left =
 abbrev pub StopsInOctets : Stream → List ℕ → Fault → Type 0
 StopsInOctets old octets fault = StopsInPackets old.so_far old.sender old.at octets fault
 
--- the same behind what is pending, without looking at octets past so many in all
+-- the same after what is pending, without looking at octets past so many in all
 abbrev pub StopsInLimit : ℕ → Stream → List ℕ → Fault → Type 0
 StopsInLimit bytes old octets fault =
     StopsWithin bytes old.so_far.rows.mode old.so_far.rows.entries old.sender old.at old.pending

@@ -1,4 +1,5 @@
-ghost use Rattle.std.specs.Prelude.{◌≡◌, ◌<◌, ◌+◌, ◌^◌, ◌∷◌, ◌++◌, ◌↔◌, if◌then◌else◌, [], IfOk, OnOk, OnErr, MatchOption, length, is_some, IsTrue, None};
+ghost use Rattle.std.specs.Prelude.{◌≡◌, ◌<◌, ◌+◌, ◌^◌, ◌∷◌, ◌++◌, ◌↔◌, if◌then◌else◌, [], length};
+ghost use Rattle.std.specs.Prelude.{IfOk, OnOk, OnErr, MatchOption, is_some, IsTrue, None};
 ghost use Rattle.std.specs.List.Sorted.{IsPermutation, IsStrictlySortedBy};
 ghost use Rattle.std.specs.BTreeMap.{insert_entry, is_at};
 ghost use Rattle.std.specs.Map.{keys_of, lookup, remove_entry};
@@ -31,19 +32,19 @@ const MOST_ROWS: usize = u32::MAX as usize;
 pub(crate) type WordRow<W> = (CompactKey<W>, Option<Stored<W>>);
 
 /// What is kept for the keys of the family whose addresses are kept in these words. A router
-/// repeats its routes in one order, whichever it is, so the row behind the one found last is tried
+/// repeats its routes in one order, whichever it is, so the row after the one found last is tried
 /// before any search; and what came last may be retracted at once.
 #[derive(Drop)]
 pub struct FamilyRows<W: Word> {
     alloc: Global,
     /// A row for each key, in the order in which the keys came.
     rows: Vec<WordRow<W>>,
-    /// The place that is tried first: behind the row that was found last, or of the row that came
+    /// The place that is tried first: after the row that was found last, or of the row that came
     /// last.
     next: usize,
     /// So many rows at the front are in the order of their keys.
     rising: usize,
-    /// The places of the keys behind those.
+    /// The places of the keys after those.
     places: Places<W>,
     /// For how many keys there is something.
     count: usize,
@@ -178,7 +179,7 @@ impl<W: Word> FamilyRows<W> {
         self.count = 0;
     }
 
-    /// The rows that these stand for behind so many wipes, in order.
+    /// The rows that these stand for after so many wipes, in order.
     pub fn listed(self, alloc: Global, wipes: u64) -> Result<Vec<CompactRow<W>>, AllocError>
         ensures { IfOk result (λ rows. rows.items ≡ live_rows wipes self) }
     {
@@ -193,7 +194,7 @@ impl<W: Word> FamilyRows<W> {
         Ok(listed)
     }
 
-    /// What the best matching row stands for behind so many wipes, for two addresses of the family.
+    /// What the best matching row stands for after so many wipes, for two addresses of the family.
     pub fn best_match(&self, wipes: u64, dst: &Addr, src: &Addr) -> Option<Held>
         requires dst_family { dst.now.family ≡ W.family }
         requires src_family { src.now.family ≡ W.family }

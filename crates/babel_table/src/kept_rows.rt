@@ -102,7 +102,7 @@ impl KeptRows {
         self.v6.clear();
     }
 
-    /// The rows that these stand for behind so many wipes.
+    /// The rows that these stand for after so many wipes.
     pub fn listed(self, alloc: Global, wipes: u64) -> Result<SortedRows, AllocError>
         requires { AreRows (live_rows wipes self) }
         ensures { IfOk result (λ rows. rows ≡ live_rows wipes self) }
@@ -117,7 +117,7 @@ impl KeptRows {
         })
     }
 
-    /// What the best matching row stands for behind so many wipes, for two addresses of one family.
+    /// What the best matching row stands for after so many wipes, for two addresses of one family.
     pub fn best_match(&self, wipes: u64, dst: &Addr, src: &Addr) -> Option<Held>
         requires one_family { dst.now.family ≡ src.now.family }
         ensures { IsBestMatch (live_rows wipes self.now) dst.now src.now result }

@@ -1,5 +1,6 @@
 //! Laws of the definitions.
-ghost use Rattle.babel_table.specs.OneOutcome.{FaultIsOne, FaultIsOfOctets, FaultStays, TableIsOne, RoutesNeedMemory, KeysNeedMemory};
+ghost use Rattle.babel_table.specs.OneOutcome.{FaultIsOne, FaultIsOfOctets, FaultStays, TableIsOne};
+ghost use Rattle.babel_table.specs.OneOutcome.{RoutesNeedMemory, KeysNeedMemory};
 
 /// A dump has at most one fault.
 pub fn fault_is_one()

@@ -168,7 +168,7 @@ impl LiveRows {
         ensures ok { OnOk result
             (Follows self.old.mode (event_of verdict route.now) self.old.rows self.new.rows) }
 
-        // It is refused where there would be more rows than may be, or for want of memory.
+        // It is refused where there would be more rows than may be, or memory ran out.
         ensures refused { IfErr result (IsRefused self.old.mode self.old.entries at
             (event_of verdict route.now) self.old.rows) }
     {

@@ -74,7 +74,7 @@ impl Pending {
         behind
     }
 
-    /// Adds what belongs to the packet, and gives the octets behind it.
+    /// Adds what belongs to the packet, and gives the octets after it.
     pub fn fill<'a>(&mut self, octets: &'a [u8]) -> &'a [u8]
         requires { IsPartial self.old }
         ensures whole { self.new ++ result.now ≡ self.old ++ octets.now }

@@ -1,10 +1,12 @@
 //! Where the rows of keys stand.
-ghost use Rattle.std.specs.Prelude.{◌≡◌, ◌<◌, ◌≤◌, ◌+◌, ℕ, [], length, false, MatchOption, IfOk, OnOk, OnErr};
+ghost use Rattle.std.specs.Prelude.{◌≡◌, ◌<◌, ◌≤◌, ◌+◌, ℕ, [], length, false};
+ghost use Rattle.std.specs.Prelude.{MatchOption, IfOk, OnOk, OnErr};
 ghost use Rattle.std.specs.BTreeMap.{is_at};
 ghost use Rattle.std.specs.Map.{keys_of};
 ghost use Rattle.babel_tlv.specs.Route.{RouteKey};
 ghost use Rattle.babel_tlv.specs.Keys.{key_cmp};
-ghost use Rattle.babel_table.specs.Said.{AreDistinct, AreListed, AreTaken, IsFree, IsListed, IsPlace, IsUnlisted};
+ghost use Rattle.babel_table.specs.Said.{AreDistinct, AreListed, AreTaken};
+ghost use Rattle.babel_table.specs.Said.{IsFree, IsListed, IsPlace, IsUnlisted};
 
 use crate::compact_key::CompactKey;
 use crate::family_rows::{WordRow, has_key};
@@ -148,7 +150,7 @@ impl<W: Word> Places<W> {
     }
 }
 
-/// How far behind the start the first slot is that has no place.
+/// How far after the start the first slot is that has no place.
 fn free_slot(slots: &[Slot], start: usize) -> Option<usize>
     requires { start + 8 ≤ length slots.now }
     ensures { MatchOption result (AreTaken slots.now start 8) (IsFree slots.now start) }

@@ -1,4 +1,5 @@
-ghost use Rattle.std.specs.Prelude.{◌≡◌, ◌≤◌, ◌<◌, ◌+◌, ◌^◌, ◌∷◌, [], length, drop, OnOk, IfOk, IfErr};
+ghost use Rattle.std.specs.Prelude.{◌≡◌, ◌≤◌, ◌<◌, ◌+◌, ◌^◌, ◌∷◌, [], length, drop};
+ghost use Rattle.std.specs.Prelude.{OnOk, IfOk, IfErr};
 ghost use Rattle.babel_table.specs.Feeding.{IsRefused, IsPartial, event_at};
 ghost use Rattle.babel_tlv.specs.Pairs.{EventFits};
 ghost use Rattle.babel_tlv.specs.Verdicts.{event_of};
@@ -34,7 +35,7 @@ impl SoFar {
         ensures entries { self.new.rows.entries ≡ self.old.rows.entries }
         ensures tlvs { self.new.report.tlvs ≡ self.old.report.tlvs + 1 }
 
-        // The table behind some TLVs is then that behind these and this one.
+        // The table after some TLVs is then that after these and this one.
         ensures ok { OnOk result (TakesSayings self.old
             (event_at (tlv_value tlv.now) (event_of verdict route.now) ∷ []) self.new) }
         ensures refused { IfErr result (IsRefused self.old.rows.mode self.old.rows.entries
@@ -46,7 +47,7 @@ impl SoFar {
         taken
     }
 
-    /// Takes a TLV of a packet, behind the TLVs that left this state.
+    /// Takes a TLV of a packet, after the TLVs that left this state.
     fn take_tlv(&mut self, state: &mut State, tlv: &Tlv<'_>, route: &mut Route) -> Result<(), Fault>
         requires { self.old.report.tlvs + 1 < 2 ^ 64 }
         ensures mode { self.new.rows.mode ≡ self.old.rows.mode }
@@ -71,7 +72,7 @@ impl SoFar {
         ensures entries { self.new.rows.entries ≡ self.old.rows.entries }
         ensures tlvs { self.new.report.tlvs ≤ self.old.report.tlvs + length body.now }
 
-        // The table behind some TLVs is then that behind these and those of the body.
+        // The table after some TLVs is then that after these and those of the body.
         ensures whole { OnOk result (AreTlvs at body.now (tlvs_of at body.now)) }
         ensures ok { OnOk result
             (TakesSayings self.old (sayings_behind sender [] (tlvs_of at body.now)) self.new) }

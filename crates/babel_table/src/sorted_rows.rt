@@ -75,7 +75,7 @@ impl SortedRows {
     }
 
     /// The same keys, with what the view sees of what they hold.
-    #[tactic(auto, using(crate::proofs::SeenLaws::seen_are_rows, crate::proofs::SeenLaws::seen_are_of, crate::proofs::SeenLaws::seen_append))]
+    #[tactic(auto, using(crate::proofs::SeenLaws::seeing))]
     pub fn seen(self, view: View) -> SortedRows
         ensures { result ≡ seen_rows view self }
     {

@@ -1,6 +1,8 @@
-ghost use Rattle.std.specs.Prelude.{◌≡◌, ◌≢◌, ◌≤◌, ◌<◌, ◌+◌, ◌-◌, ◌^◌, ◌++◌, [], length, take, OnOk, IfOk, IfErr};
+ghost use Rattle.std.specs.Prelude.{◌≡◌, ◌≢◌, ◌≤◌, ◌<◌, ◌+◌, ◌-◌, ◌^◌, ◌++◌, [], length, take};
+ghost use Rattle.std.specs.Prelude.{OnOk, IfOk, IfErr};
 ghost use Rattle.babel_table.specs.Feeding.{IsPartial, IsReady};
-ghost use Rattle.babel_table.specs.Streams.{KeepsSettings, StopsInLimit, StopsInOctets, TakesOctets};
+ghost use Rattle.babel_table.specs.Streams.{KeepsSettings, TakesOctets};
+ghost use Rattle.babel_table.specs.Streams.{StopsInLimit, StopsInOctets};
 
 use crate::pending::Pending;
 use crate::so_far::SoFar;
@@ -38,7 +40,7 @@ impl Stream {
         Ok(())
     }
 
-    /// Takes the packet that is pending, if these octets make it whole, and gives those behind it.
+    /// Takes the packet that is pending, if these octets make it whole, and gives those after it.
     fn take_pending<'a>(&mut self, octets: &'a [u8]) -> Result<&'a [u8], Fault>
         requires partial { IsPartial self.old.pending }
         requires counted { self.old.so_far.report.tlvs ≤ self.old.at }
@@ -47,7 +49,7 @@ impl Stream {
         ensures counted { IfOk result (λ rest. self.new.so_far.report.tlvs ≤ self.new.at) }
         ensures partial { IfOk result (λ rest. IsPartial self.new.pending) }
 
-        // Octets are given back only behind a whole packet.
+        // Octets are given back only after a whole packet.
         ensures whole { IfOk result (λ rest. rest.now ≢ [] → self.new.pending ≡ []) }
         ensures took { IfOk result (λ rest. TakesOctets
             self.old (self.old.pending ++ octets.now) self.new (self.new.pending ++ rest.now)) }

@@ -78,6 +78,8 @@ next_hop_is_nearest sender family = nearest Address (λ before tlv. given_next_h
     on V4 tlv earlier = refl
     on V6 tlv earlier = refl
 
+pub ruleset of_a_family = (default_is_nearest, next_hop_is_nearest)
+
 pub router_id_is_nearest : RouterIdIsNearest
 router_id_is_nearest sender = nearest (List ℕ)
     (λ before tlv. given_router_id (default_in V4 (context_after sender before)) (default_in V6 (context_after sender before)) tlv) None

@@ -4,7 +4,7 @@ use Rattle.babel_tlv.specs.Forming.{update_encoding, prefix_len, omitted, update
 use Rattle.babel_tlv.specs.Forming.{update_metric, field_len}
 
 -- RFC 8966, 4.6.9: the fixed part of an Update's body, and how many octets of the prefix stand
--- behind it
+-- after it
 pub record AreUpdateFields (body : List ℕ)
     (encoding flags plen omit seqno metric brought : ℕ) : Type 0 where
   pub long : 10 ≤ length body

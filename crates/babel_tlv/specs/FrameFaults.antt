@@ -13,7 +13,7 @@ pub record AreTlvs (at : ℕ) (octets : List ℕ) (tlvs : List TlvAt) : Type 0 w
   pub whole : octets ≡ flat_map tlv_octets tlvs
   pub placed : ArePlaced at tlvs
 
--- octets that begin no TLV: a type other than 0 alone, or with too few octets behind its length
+-- octets that begin no TLV: a type other than 0 alone, or with too few octets after its length
 abbrev pub BeginsNoTlv : List ℕ → Type 0
 BeginsNoTlv [] = ⊥
 BeginsNoTlv (kind ∷ []) = kind ≢ 0

@@ -62,10 +62,10 @@ GivesEvent event route result =
     MatchResult result (λ verdict. event ≡ event_of verdict route)
     (λ reason. event ≡ events.Ignored reason)
 
--- RFC 8966, 4.6.7: the router-id, and the sub-TLVs behind it
+-- RFC 8966, 4.6.7: the router-id, and the sub-TLVs after it
 abbrev pub IsRouterIdIn : List ℕ → RouterId → Type 0
 IsRouterIdIn body read = (read.router_id ≡ router_id_in body) × (read.sub_tlvs.now ≡ drop 10 body)
 
--- RFC 8966, 4.6.8: the next hop, and the sub-TLVs behind it
+-- RFC 8966, 4.6.8: the next hop, and the sub-TLVs after it
 abbrev pub IsNextHopIn : List ℕ → NextHop → Type 0
 IsNextHopIn body read = (next_hop_in body ≡ Ok read.addr) × (read.sub_tlvs.now ≡ hop_sub_tlvs body)

@@ -58,7 +58,7 @@ pub fn views_tell()
 
 /// What stands before a TLV of a packet is what the nearest earlier TLV of the packet set that sets
 /// it, or else what a packet begins with: RFC 8966, 4.5.
-#[tactic(auto, using(crate::proofs::NearestLaws::default_is_nearest, crate::proofs::NearestLaws::next_hop_is_nearest))]
+#[tactic(auto, using(crate::proofs::NearestLaws::of_a_family))]
 pub fn state_is_nearest()
     ensures default_prefix { DefaultIsNearest }
     ensures next_hop { NextHopIsNearest }

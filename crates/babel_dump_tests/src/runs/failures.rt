@@ -198,7 +198,7 @@ fn many_routes(alloc: Global) -> Result<(Vec<u8>, String), Fail> {
     Ok((dump, text))
 }
 
-/// Each write of several slices, and the flush behind them, is answered where it fails, and what
+/// Each write of several slices, and the flush after them, is answered where it fails, and what
 /// was written is a part of the whole that grows with each write.
 #[test]
 fn each_write_of_several_slices(rt: HostRuntime) -> Result<(), Fail> {

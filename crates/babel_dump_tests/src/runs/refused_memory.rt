@@ -300,7 +300,7 @@ fn capture_outcome(alloc: Global, job: &Job, text: &str) -> Result<(), Fail> {
     let is_unwritten = writer.rest == text.as_bytes() && writer.flushes == 0;
     match status {
         0 if is_written => Ok(()),
-        // The status of want of memory alone.
+        // Only the status where memory ran out.
         5 if is_unwritten => Err(Fail::from(REFUSED)),
         _ => Err(Fail::from(OTHER)),
     }

@@ -101,7 +101,7 @@ fn cut_off(rt: HostRuntime) -> Result<(), Fail> {
     Ok(())
 }
 
-/// The octets behind the whole packets, as their headers have it.
+/// The octets after the whole packets, as their headers have it.
 fn after_packets(octets: &[u8]) -> &[u8] {
     let mut rest = octets;
     for _ in 0..octets.len() {

@@ -41,7 +41,7 @@ fn read_whole(
     }
 }
 
-/// Octet by octet, to the end. Whatever comes behind a refusal is refused.
+/// Octet by octet, to the end. Whatever comes after a refusal is refused.
 fn read_by_octet(alloc: Global, sender: Addr, dump: &[u8], want: &[Row]) -> Result<(), Fail> {
     let mut feeder = match Feeder::new(alloc, Limits::usual(), Mode::Plain, sender) {
         Ok(feeder) => feeder,

@@ -42,7 +42,8 @@ pub returns-in_err-push-clause-err : goal.returns-in_err-push-clause-err
 returns-in_err-push-clause-err g c =
     let listed = subst (λ ws. AreListed (keys_of ws) c.args.rising c.make_room.new.self) c.deref.ensures.value c.make_room.ensures.listed in
     let after = listed_besides c.args.rows.now.items c.args.rising c.make_room.new.self c.add.new.self c.args.key c.requires.new listed c.add.ensures.others in
-    on_err c.from_residual-in_err-push.result _ (rw c.in_err-push.ensures.items (refl, still_indexed (keys_of c.args.rows.now.items) c.args.rising c.args.places.now c.add.new.self c.requires.indexed after))
+    on_err c.from_residual-in_err-push.result _ (rw c.in_err-push.ensures.items
+    (refl, still_indexed (keys_of c.args.rows.now.items) c.args.rising c.args.places.now c.add.new.self c.requires.indexed after))
 
 pub returns-clause-ok : goal.returns-clause-ok
 returns-clause-ok g c =

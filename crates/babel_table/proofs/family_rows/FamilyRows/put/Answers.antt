@@ -3,7 +3,8 @@ use Rattle.std.proofs.Common.{◌≡◌, ◌<◌, ◌∙◌, None, length, ap, s
 use Rattle.std.specs.Map.{keys_of}
 use Rattle.babel_table.specs.Live.{kept}
 use Rattle.babel_table.specs.Said.{IsPlace, AreAbove, AreIndexed}
-use Rattle.babel_table.proofs.SaidLaws.{found, key-read, on_err, said-length, one_more, byte_small, inside_of, counted-set, standing-set, counted_again, counted-front, counted-behind, standing-pushed, whole-rising}
+use Rattle.babel_table.proofs.SaidLaws.{found, key-read, on_err, said-length, one_more, byte_small, inside_of, counted-set, standing-set}
+use Rattle.babel_table.proofs.SaidLaws.{counted_again, counted-front, counted-behind, standing-pushed, whole-rising}
 use Rattle.babel_table.proofs.family_rows.FamilyRows.put.Goals as goal
 use Rattle.babel_table.proofs.family_rows.FamilyRows.put.Goals.{then-self-place+then-is_past+in_ok-push, else-self-place+in_ok-push_placed}
 

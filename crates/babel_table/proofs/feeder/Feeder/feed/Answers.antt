@@ -49,7 +49,8 @@ pub returns-in-Err-clause-fed : goal.returns-in-Err-clause-fed
 returns-in-Err-clause-fed c =
     let old = the_view c.self.inside in
     let new = the_view (record { alloc = c.self.inside.alloc; limits = c.self.inside.limits; stream = c.take_within.new.self; fault = Some c.in-Err.fault }) in
-    let stops = stops-within old.limits.bytes c.bytes.result old.mode old.limits.entries c.self.inside.stream.so_far.rows.entries old.sender old.at old.pending c.args.piece.now old.table c.in-Err.fault c.bytes.ensures.value c.self.invariant.0 c.in-Err.ensures.stops in
+    let stops = stops-within old.limits.bytes c.bytes.result old.mode old.limits.entries c.self.inside.stream.so_far.rows.entries old.sender old.at
+    old.pending c.args.piece.now old.table c.in-Err.fault c.bytes.ensures.value c.self.invariant.0 c.in-Err.ensures.stops in
     subst (λ (p : Progress). (fed : List ℕ) → HasRead p fed → HasRead new (fed ++ c.args.piece.now)) c.self.view_is
     (λ fed read. failed-next old new refl c.take_within.ensures.settings.0 c.take_within.ensures.settings.2 (fed ++ c.args.piece.now) c.in-Err.fault
     (stops-failed old c.args.piece.now fed c.in-Err.fault c.in_default.is stops read))
@@ -57,13 +58,16 @@ returns-in-Err-clause-fed c =
 pub returns-in-Err-clause-fault : goal.returns-in-Err-clause-fault
 returns-in-Err-clause-fault c =
     let old = the_view c.self.inside in
-    let stops = stops-within old.limits.bytes c.bytes.result old.mode old.limits.entries c.self.inside.stream.so_far.rows.entries old.sender old.at old.pending c.args.piece.now old.table c.in-Err.fault c.bytes.ensures.value c.self.invariant.0 c.in-Err.ensures.stops in
-    subst (λ (p : Progress). c.in-Err.fault ≢ faults.Memory → (fed more : List ℕ) → HasRead p fed → DumpFault p.limits p.mode p.sender ((fed ++ c.args.piece.now) ++ more) c.in-Err.fault) c.self.view_is
+    let stops = stops-within old.limits.bytes c.bytes.result old.mode old.limits.entries c.self.inside.stream.so_far.rows.entries old.sender old.at
+    old.pending c.args.piece.now old.table c.in-Err.fault c.bytes.ensures.value c.self.invariant.0 c.in-Err.ensures.stops in
+    subst (λ (p : Progress). c.in-Err.fault ≢ faults.Memory → (fed more : List ℕ) → HasRead p fed
+    → DumpFault p.limits p.mode p.sender ((fed ++ c.args.piece.now) ++ more) c.in-Err.fault) c.self.view_is
     (λ not fed more read. failed-fault old (fed ++ c.args.piece.now) c.in-Err.fault (stops-failed old c.args.piece.now fed c.in-Err.fault c.in_default.is stops read) not more)
 
 pub returns-in-Err-clause-memory : goal.returns-in-Err-clause-memory
 returns-in-Err-clause-memory c =
     let old = the_view c.self.inside in
-    let stops = stops-within old.limits.bytes c.bytes.result old.mode old.limits.entries c.self.inside.stream.so_far.rows.entries old.sender old.at old.pending c.args.piece.now old.table c.in-Err.fault c.bytes.ensures.value c.self.invariant.0 c.in-Err.ensures.stops in
+    let stops = stops-within old.limits.bytes c.bytes.result old.mode old.limits.entries c.self.inside.stream.so_far.rows.entries old.sender old.at
+    old.pending c.args.piece.now old.table c.in-Err.fault c.bytes.ensures.value c.self.invariant.0 c.in-Err.ensures.stops in
     subst (λ (p : Progress). c.in-Err.fault ≡ faults.Memory → (fed : List ℕ) → HasRead p fed → NeedsMemory p.mode p.sender (fed ++ c.args.piece.now)) c.self.view_is
     (λ memory fed read. failed-memory old (fed ++ c.args.piece.now) c.in-Err.fault (stops-failed old c.args.piece.now fed c.in-Err.fault c.in_default.is stops read) memory)

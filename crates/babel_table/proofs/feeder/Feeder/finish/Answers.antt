@@ -18,7 +18,8 @@ returns-in_err-check_end-clause-memory c =
 
 pub returns-clause-ok : goal.returns-clause-ok
 returns-clause-ok c =
-    finished c.args.self c.in_ok-check_end.ensures.ok.0 c.in_ok-check_end.ensures.ok.1 c.of.result (subst (λ (p : Progress). IfOk c.of.result (λ table. table ≡ p.table)) c.self.view_is c.of.ensures.ok)
+    finished c.args.self c.in_ok-check_end.ensures.ok.0 c.in_ok-check_end.ensures.ok.1 c.of.result
+    (subst (λ (p : Progress). IfOk c.of.result (λ table. table ≡ p.table)) c.self.view_is c.of.ensures.ok)
 
 pub returns-clause-memory : goal.returns-clause-memory
 returns-clause-memory c = unfinished c.args.self c.in_ok-check_end.ensures.ok.0 c.in_ok-check_end.ensures.ok.1 c.of.result

@@ -6,7 +6,8 @@ use Rattle.babel_table.proofs.feeder.Feeder.new.Goals as goal
 
 pub returns-clause-ok : goal.returns-clause-ok
 returns-clause-ok c = (
-  taken-none c.args.limits c.new-rows.result.mode c.args.sender c.new-rows.result.rows c.new-report.result c.in_ok-pending.pending (ap (λ (l : Live). l.rows) c.new-rows.ensures) c.new-report.ensures c.in_ok-pending.ensures,
+  taken-none c.args.limits c.new-rows.result.mode c.args.sender c.new-rows.result.rows c.new-report.result c.in_ok-pending.pending
+      (ap (λ (l : Live). l.rows) c.new-rows.ensures) c.new-report.ensures c.in_ok-pending.ensures,
   refl,
   ap (λ (l : Live). l.mode) c.new-rows.ensures,
   refl,

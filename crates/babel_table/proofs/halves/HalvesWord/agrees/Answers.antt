@@ -35,7 +35,8 @@ module _ (bits high low len : ℕ) (is : high * 2 ^ 64 + low ≡ bits) (small : 
       ∙ ap (λ n. n * 2 ^ (len - 64) + leading_bits 128 len bits % 2 ^ (len - 64)) (high_bits more most)
       ∙ ap (λ n. high * 2 ^ (len - 64) + n) (low_bits more most)
 
-module _ (bits other high other_high low other_low len : ℕ) (is : high * 2 ^ 64 + low ≡ bits) (small : low < 2 ^ 64) (other_is : other_high * 2 ^ 64 + other_low ≡ other) (other_small : other_low < 2 ^ 64)
+module _ (bits other high other_high low other_low len : ℕ) (is : high * 2 ^ 64 + low ≡ bits) (small : low < 2 ^ 64)
+    (other_is : other_high * 2 ^ 64 + other_low ≡ other) (other_small : other_low < 2 ^ 64)
     (more : 64 < len) (most : len ≤ 128) where
   same_high : leading_bits 128 len bits ≡ leading_bits 128 len other → high ≡ other_high
   same_high same =
@@ -62,10 +63,12 @@ pub returns-then-self-other : goal.returns-then-self-other
 returns-then-self-other c =
     let most : c.args.len ≤ 128 = omega (arith, c.requires) in
     let highs : c.self.inside.high ≡ c.other.inside.high = grind (arith, nat_tests, c.if-self-other.true) in (
-      λ agree. same_both c.args.self c.args.other c.self.inside.high c.other.inside.high c.self.inside.low c.other.inside.low c.args.len c.self.view_is c.self.invariant.1 c.other.view_is c.other.invariant.1
+      λ agree. same_both c.args.self c.args.other c.self.inside.high c.other.inside.high c.self.inside.low c.other.inside.low c.args.len
+          c.self.view_is c.self.invariant.1 c.other.view_is c.other.invariant.1
           c.if-len-le64.false most highs (c.agree-then-self-other.ensures.0 agree),
       λ same. c.agree-then-self-other.ensures.1
-          (same_low c.args.self c.args.other c.self.inside.high c.other.inside.high c.self.inside.low c.other.inside.low c.args.len c.self.view_is c.self.invariant.1 c.other.view_is c.other.invariant.1
+          (same_low c.args.self c.args.other c.self.inside.high c.other.inside.high c.self.inside.low c.other.inside.low c.args.len c.self.view_is
+          c.self.invariant.1 c.other.view_is c.other.invariant.1
           c.if-len-le64.false most same),
     )
 

@@ -12,8 +12,11 @@ invariant_of-self c =
 
 pub invariant_of-self-in-V6 : goal.invariant_of-self-in-V6
 invariant_of-self-in-V6 c =
-    let is : c.args.key.now.dst.address.family ≡ V6 = cc in
-    (c.self.invariant.0, of-put c.put-in-V6.result V6 c.args.key.now (kept c.args.held c.args.wipes) c.self.inside.v6 c.put-in-V6.new.self c.put-in-V6.ensures.ok c.put-in-V6.ensures.err is c.self.invariant.1)
+    let is : c.args.key.now.dst.address.family ≡ V6 = cc in (
+      c.self.invariant.0,
+      of-put c.put-in-V6.result V6 c.args.key.now (kept c.args.held c.args.wipes) c.self.inside.v6 c.put-in-V6.new.self
+          c.put-in-V6.ensures.ok c.put-in-V6.ensures.err is c.self.invariant.1,
+    )
 
 pub returns-in-V4-clause-ok : goal.returns-in-V4-clause-ok
 returns-in-V4-clause-ok c =

@@ -29,7 +29,8 @@ returns-then-place g c =
     let at : ℕ = c.tag-tag.result % (c.len-2.result - 8) + c.loop-step.step in
     let inside : at < length places.slots = omega (arith, len) in
     let slot : c.index.result.now ≡ get_or places.slots at c.index.result.now = c.index.ensures ∙ ap (λ (p : Places). get_or p.slots at c.index.result.now) c.self.view_is in
-    ends_at_free keys places c.args.key.now c.loop-step.step (λ before lt. subst (λ n. IsPassed keys places.slots c.args.key.now (n + before)) (sym start) (c.loop-step.invariant before lt)) c.loop-step-test.true
+    ends_at_free keys places c.args.key.now c.loop-step.step
+    (λ before lt. subst (λ n. IsPassed keys places.slots c.args.key.now (n + before)) (sym start) (c.loop-step.invariant before lt)) c.loop-step-test.true
     (subst (λ n. (d : ℕ × ℕ) → (get_or places.slots (n + c.loop-step.step) d).1 ≡ 4294967295) (sym start)
     (holds_at (λ s. s.1 ≡ 4294967295) places.slots at c.index.result.now c.index.result.now inside slot c.if-place.true))
 
@@ -69,7 +70,8 @@ returns-in_err-place g c =
     let keys = keys_of c.args.rows.now in
     let len : c.len-2.result ≡ length places.slots = c.len-2.ensures ∙ c.self.inside.slots.ok.0 ∙ ap (λ (p : Places). length p.slots) c.self.view_is in
     let start : start_of places c.args.key.now ≡ c.tag-tag.result % (c.len-2.result - 8) = start_is places c.args.key.now c.tag-tag.result c.len-2.result c.tag-tag.ensures len in
-    let none : lookup (is_at (key_cmp c.args.key.now)) places.overflow ≡ None = ap (λ (p : Places). lookup (is_at (key_cmp c.args.key.now)) p.overflow) (sym c.self.view_is) ∙ sym c.in_err-place.ensures.value in
+    let none : lookup (is_at (key_cmp c.args.key.now)) places.overflow ≡ None =
+    ap (λ (p : Places). lookup (is_at (key_cmp c.args.key.now)) p.overflow) (sym c.self.view_is) ∙ sym c.in_err-place.ensures.value in
     rw c.from_residual.ensures
     (ends_at_map keys places c.args.key.now (λ before lt. subst (λ n. IsPassed keys places.slots c.args.key.now (n + before)) (sym start) (c.loop-step.invariant before (omega (arith, lt)))) none)
 
@@ -82,6 +84,8 @@ returns-else-has_key-2 g c =
     let keys = keys_of c.args.rows.now in
     let len : c.len-2.result ≡ length places.slots = c.len-2.ensures ∙ c.self.inside.slots.ok.0 ∙ ap (λ (p : Places). length p.slots) c.self.view_is in
     let start : start_of places c.args.key.now ≡ c.tag-tag.result % (c.len-2.result - 8) = start_is places c.args.key.now c.tag-tag.result c.len-2.result c.tag-tag.ensures len in
-    let some : lookup (is_at (key_cmp c.args.key.now)) places.overflow ≡ Some c.in_ok-place.field-0.now = ap (λ (p : Places). lookup (is_at (key_cmp c.args.key.now)) p.overflow) (sym c.self.view_is) ∙ sym c.in_ok-place.ensures.value in
-    ends_at_other keys places c.args.key.now c.in_ok-place.field-0.now (λ before lt. subst (λ n. IsPassed keys places.slots c.args.key.now (n + before)) (sym start) (c.loop-step.invariant before (omega (arith, lt)))) some
+    let some : lookup (is_at (key_cmp c.args.key.now)) places.overflow ≡ Some c.in_ok-place.field-0.now =
+    ap (λ (p : Places). lookup (is_at (key_cmp c.args.key.now)) p.overflow) (sym c.self.view_is) ∙ sym c.in_ok-place.ensures.value in
+    ends_at_other keys places c.args.key.now c.in_ok-place.field-0.now
+    (λ before lt. subst (λ n. IsPassed keys places.slots c.args.key.now (n + before)) (sym start) (c.loop-step.invariant before (omega (arith, lt)))) some
     (λ there. let yes = c.has_key-2.ensures.1 there in let no = c.if-has_key-2.false in absurd cc)

@@ -20,7 +20,8 @@ loop-place-preserved g c =
       room = omega (arith, c.add.ensures.room, c.loop-place.invariant.room);
       listed = listed_more c.args.rows.now c.args.first c.loop-place.place c.loop-place.places c.add.new.self c.index-rows-place.result.0 c.requires.distinct here c.loop-place.invariant.listed
           (subst (λ x. IsListed c.add.new.self x.0 c.loop-place.place) (sym c.index-rows-place.is) c.in_ok-add.ensures.listed)
-          (subst (λ x. (other : RouteKey) (at : ℕ) → is_at (key_cmp x.0) other ≡ false → IsListed c.loop-place.places other at → IsListed c.add.new.self other at) (sym c.index-rows-place.is) c.in_ok-add.ensures.others);
+          (subst (λ x. (other : RouteKey) (at : ℕ) → is_at (key_cmp x.0) other ≡ false → IsListed c.loop-place.places other at
+          → IsListed c.add.new.self other at) (sym c.index-rows-place.is) c.in_ok-add.ensures.others);
     }
 
 pub returns-clause-listed : goal.returns-clause-listed

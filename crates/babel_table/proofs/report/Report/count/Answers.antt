@@ -17,7 +17,8 @@ one_more-within : (at n : ℕ) (counted : Option (ℕ × ℕ)) → IsWithin n co
 one_more-within at n None within = omega arith
 one_more-within at n (Some counted) within = omega (arith, within)
 
-set-within : (xs : List (Option (ℕ × ℕ))) (place n : ℕ) (counted : Option (ℕ × ℕ)) → ((i : ℕ) → IsWithin n (count_at xs i)) → IsWithin (n + 1) counted → (i : ℕ) → IsWithin (n + 1) (count_at (set xs place counted) i)
+set-within : (xs : List (Option (ℕ × ℕ))) (place n : ℕ) (counted : Option (ℕ × ℕ)) → ((i : ℕ) → IsWithin n (count_at xs i)) → IsWithin (n + 1) counted
+    → (i : ℕ) → IsWithin (n + 1) (count_at (set xs place counted) i)
 set-within [] place n counted each here i = tt
 set-within (x ∷ xs) zero n counted each here zero = here
 set-within (x ∷ xs) zero n counted each here (suc i) = within-more n (count_at xs i) (each (suc i))
@@ -29,5 +30,8 @@ invariant_of-self c =
     let all = c.self.inside.ignored in
     let place = c.place_of-place.result in
     let tlvs = c.self.inside.tlvs in
-    let one = rw (slice_get-get_or all place None (omega (arith, c.self.invariant.0, c.place_of-place.ensures.in_order))) at (c.self.invariant.2 place) in
-    (length-set all place c.one_more_of.result ∙ c.self.invariant.0, omega (arith, c.self.invariant.1, c.one_if_update.ensures.few), set-within all place tlvs c.one_more_of.result c.self.invariant.2 (rw c.one_more_of.ensures (one_more-within c.args.tlv.now.at tlvs _ one)))
+    let one = rw (slice_get-get_or all place None (omega (arith, c.self.invariant.0, c.place_of-place.ensures.in_order))) at (c.self.invariant.2 place) in (
+      length-set all place c.one_more_of.result ∙ c.self.invariant.0,
+      omega (arith, c.self.invariant.1, c.one_if_update.ensures.few),
+      set-within all place tlvs c.one_more_of.result c.self.invariant.2 (rw c.one_more_of.ensures (one_more-within c.args.tlv.now.at tlvs _ one)),
+    )

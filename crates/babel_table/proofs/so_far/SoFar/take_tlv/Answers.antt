@@ -12,11 +12,13 @@ returns-clause-ok c = tlv-taken c.args.self.now.rows.mode c.args.self.now.rows.e
     (event_of c.in_ok-verdict.verdict c.step_into.new.route) c.take.result c.in_ok-verdict.ensures.said c.in_ok-verdict.ensures.state c.take.ensures.ok
 
 pub returns-clause-fails : goal.returns-clause-fails
-returns-clause-fails c = tlv-failed c.args.self.now.rows.mode c.args.self.now.rows.entries (routes c.args.self.now.rows.rows c.args.self.now.report) (routes c.args.self.now.rows.rows c.args.self.now.report) c.args.state.now c.args.state.now (tlv_value c.args.tlv.now)
+returns-clause-fails c = tlv-failed c.args.self.now.rows.mode c.args.self.now.rows.entries (routes c.args.self.now.rows.rows c.args.self.now.report)
+    (routes c.args.self.now.rows.rows c.args.self.now.report) c.args.state.now c.args.state.now (tlv_value c.args.tlv.now)
     (event_of c.in_ok-verdict.verdict c.step_into.new.route) c.take.result c.in_ok-verdict.ensures.said c.take.ensures.refused
 
 pub returns-in_err-verdict-clause-fails : goal.returns-in_err-verdict-clause-fails
 returns-in_err-verdict-clause-fails c =
     let exit = err_from_is_err_and c.from_residual.result c.from_residual.ensures.1 in
-    rw (exit.1, exit.2) (λ sender old all left some. took-refused c.args.self.now.rows.mode c.args.self.now.rows.entries sender old all (routes c.args.self.now.rows.rows c.args.self.now.report) c.args.state.now (tlv_value c.args.tlv.now) left
+    rw (exit.1, exit.2) (λ sender old all left some. took-refused c.args.self.now.rows.mode c.args.self.now.rows.entries sender old all
+    (routes c.args.self.now.rows.rows c.args.self.now.report) c.args.state.now (tlv_value c.args.tlv.now) left
     c.in_err-verdict.field-0.0 some (sym c.in_err-verdict.ensures.said))

@@ -20,13 +20,20 @@ take_packets-requires-clause-fits c =
 
 pub take_packets-requires-clause-room : goal.take_packets-requires-clause-room
 take_packets-requires-clause-room c =
-    omega (arith, packet-within c.octets.result.now c.fill-rest.new.self c.fill-rest.result.now c.args.self.now.pending c.args.octets.now c.octets.ensures c.fill-rest.ensures.whole, c.requires.fits, c.requires.counted)
+    omega (
+      arith,
+      packet-within c.octets.result.now c.fill-rest.new.self c.fill-rest.result.now c.args.self.now.pending c.args.octets.now
+          c.octets.ensures c.fill-rest.ensures.whole,
+      c.requires.fits,
+      c.requires.counted,
+    )
 
 pub returns-then-used-eq0-clause-partial : goal.returns-then-used-eq0-clause-partial
 returns-then-used-eq0-clause-partial c = rw (← c.octets.ensures) (rw c.if-used-eq0.true at c.in_ok-used.ensures.partial)
 
 pub returns-then-used-eq0-clause-whole : goal.returns-then-used-eq0-clause-whole
-returns-then-used-eq0-clause-whole c = λ some. absurd (partial-not_full c.fill-rest.new.self (rw (← c.octets.ensures) (rw c.if-used-eq0.true at c.in_ok-used.ensures.partial)) (c.fill-rest.ensures.full some))
+returns-then-used-eq0-clause-whole c = λ some.
+    absurd (partial-not_full c.fill-rest.new.self (rw (← c.octets.ensures) (rw c.if-used-eq0.true at c.in_ok-used.ensures.partial)) (c.fill-rest.ensures.full some))
 
 pub returns-then-used-eq0-clause-took : goal.returns-then-used-eq0-clause-took
 returns-then-used-eq0-clause-took c =
@@ -48,7 +55,13 @@ returns-in_err-used-clause-stops c =
 
 pub overflow_add-self : goal.overflow_add-self
 overflow_add-self c =
-    omega (arith, c.in_ok-used.ensures.used, packet-within c.octets.result.now c.fill-rest.new.self c.fill-rest.result.now c.args.self.now.pending c.args.octets.now c.octets.ensures c.fill-rest.ensures.whole, c.requires.fits)
+    omega (
+      arith,
+      c.in_ok-used.ensures.used,
+      packet-within c.octets.result.now c.fill-rest.new.self c.fill-rest.result.now c.args.self.now.pending
+          c.args.octets.now c.octets.ensures c.fill-rest.ensures.whole,
+      c.requires.fits,
+    )
 
 pub returns-clause-took : goal.returns-clause-took
 returns-clause-took c =

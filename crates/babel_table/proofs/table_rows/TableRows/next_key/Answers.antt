@@ -29,5 +29,8 @@ returns c =
     let row : Pair = c.index-key-0-2.result in
     let none = none_left v4 c.in_default.len_below in
     let rest = take (length v6 - 1) (drop 1 v6) in
-    let held = (get_or v6 0 row).1 in
-    (held, ap (λ (rs : List Pair). rs ++ v6) none ∙ first_and_rest v6 row c.key-2.result c.in-len1-up-v6.len_at_least c.key-2.ensures.value ∙ ap (λ (rs : List Pair). (c.key-2.result, held) ∷ rs ++ rest) (sym none))
+    let held = (get_or v6 0 row).1 in (
+      held,
+      ap (λ (rs : List Pair). rs ++ v6) none ∙ first_and_rest v6 row c.key-2.result c.in-len1-up-v6.len_at_least c.key-2.ensures.value
+          ∙ ap (λ (rs : List Pair). (c.key-2.result, held) ∷ rs ++ rest) (sym none),
+    )
