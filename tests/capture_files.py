@@ -80,9 +80,9 @@ ROUTING = extension(43, 2, b"\x04\x00")
 DESTINATION = extension(60, 1, b"\x01\x0c")
 
 
-def fragment_header(offset, more):
+def fragment_header(offset, more, reserved=0):
     """RFC 8200, 4.5."""
-    return 44, b"\0" + number(offset * 8 + more) + b"\0\0\0\x07"
+    return 44, b"\0" + number(offset * 8 + reserved * 2 + more) + b"\0\0\0\x07"
 
 
 # ---- frames

@@ -151,7 +151,10 @@ HEADERS = {
     "eight headers": [made.HOP_BY_HOP, made.DESTINATION] * 4,
     "nine headers": [made.HOP_BY_HOP, made.DESTINATION] * 4 + [made.ROUTING],
     "an atomic fragment": [made.DESTINATION, made.fragment_header(0, False)],
+    "an atomic fragment with reserved bits": [made.fragment_header(0, False, 3)],
     "a first fragment": [made.fragment_header(0, True)],
+    "a first fragment with reserved bits": [made.fragment_header(0, True, 3)],
+    "two first fragments": [made.fragment_header(0, True), made.fragment_header(0, True)],
     "a later fragment": [made.fragment_header(185, False)],
     "a header that is not known": [made.extension(139, 0, b"")],
 }
@@ -161,6 +164,8 @@ FRAGMENTS = {
     "a later fragment over IPv4": 0x20B9,
     "a last fragment over IPv4": 0x00B9,
     "not to be fragmented": 0x4000,
+    "the reserved bit of IPv4": 0x8000,
+    "a first fragment over IPv4 with the other bits": 0xE000,
 }
 DATAGRAMS = {
     "trailers after the bodies": lambda packet: made.udp(packet + b"\x10\x22" + b"\x2a\2" * 17),

@@ -1,5 +1,6 @@
 -- What is seen of a frame is in the frame, layer by layer.
-use Rattle.std.proofs.Common.{◌≡◌, ℕ, zero, suc, ◌+◌, ◌-◌, ◌<◌, ◌≤◌, Bool, true, false, List, [], ◌∷◌, ◌++◌, length, take, drop, refl, sym, ap, ◌∙◌, append_assoc, arith, nat_lt, nat_le, slice_index, not, ◌&&◌, ◌||◌, ◌==◌, if◌then◌else◌}
+use Rattle.std.proofs.Common.{◌≡◌, ℕ, zero, suc, ◌+◌, ◌-◌, ◌<◌, ◌≤◌, Bool, true, false, List, [], ◌∷◌, ◌++◌, length, take, drop, refl, sym, ap, ◌∙◌, append_assoc, arith, nat_lt, nat_le, slice_index}
+use Rattle.std.proofs.Common.{not, ◌&&◌, ◌||◌, ◌==◌, if◌then◌else◌}
 use Rattle.std.proofs.lemmas.List.{drop-take, length-drop, length-take, length-take-le, take-append-drop}
 use Rattle.std.proofs.lemmas.Bool.{cond_both}
 use Rattle.std.proofs.lemmas.Bool.Decides.{nat_tests}
@@ -340,7 +341,8 @@ past_tag-part payload =
       octets = drop 4 payload.octets;
       whole = payload.whole - 4;
     } in
-    after_either (is_tag payload.ether_type && nat_le 4 (length payload.octets)) untagged payload payload (record { part = IsPart-after 4 payload.octets payload.whole }) (record { part = IsPart-self payload.octets payload.whole })
+    after_either (is_tag payload.ether_type && nat_le 4 (length payload.octets)) untagged payload payload (record { part = IsPart-after 4 payload.octets payload.whole })
+    (record { part = IsPart-self payload.octets payload.whole })
 
 past_tags-part : (n : ℕ) (payload : Payload)
     → IsPart (past_tags n payload).octets (past_tags n payload).whole payload.octets payload.whole

@@ -72,12 +72,14 @@ nothing_more n = omega arith
 -- the counts with one more, by what is made of it
 by_what : (old : Counts) (link : Link) (what : Found)
     → counts (old.packets + 1) (left_with old.left_out (reason_of what) (old.packets + 1)) (old.short + cond (is_short what) 1 0) (old.cooked + cond (is_cooked link what) 1 0) ≡ counted old link what
-by_what old link passed = ap (λ (n : ℕ). counts (old.packets + 1) old.left_out n (old.cooked + 0)) (nothing_more old.short) ∙ ap (counts (old.packets + 1) old.left_out old.short) (nothing_more old.cooked)
+by_what old link passed = ap (λ (n : ℕ). counts (old.packets + 1) old.left_out n (old.cooked + 0)) (nothing_more old.short)
+    ∙ ap (counts (old.packets + 1) old.left_out old.short) (nothing_more old.cooked)
 by_what old link untold = ap (counts (old.packets + 1) old.left_out (old.short + 1)) (nothing_more old.cooked)
 by_what old link (left reason) =
     let left_out = left_with old.left_out (Some reason) (old.packets + 1) in
     ap (λ (n : ℕ). counts (old.packets + 1) left_out n (old.cooked + 0)) (nothing_more old.short) ∙ ap (counts (old.packets + 1) left_out old.short) (nothing_more old.cooked)
-by_what old link (refused lack) = ap (λ (n : ℕ). counts (old.packets + 1) old.left_out n (old.cooked + 0)) (nothing_more old.short) ∙ ap (counts (old.packets + 1) old.left_out old.short) (nothing_more old.cooked)
+by_what old link (refused lack) = ap (λ (n : ℕ). counts (old.packets + 1) old.left_out n (old.cooked + 0)) (nothing_more old.short)
+    ∙ ap (counts (old.packets + 1) old.left_out old.short) (nothing_more old.cooked)
 by_what old link (found place sender packet) =
     ap (λ (n : ℕ). counts (old.packets + 1) old.left_out n (old.cooked + cond (is_cooked_link link) 1 0)) (nothing_more old.short)
 
@@ -94,5 +96,6 @@ counts-push made one is =
     ap (λ (n : ℕ). counts n (map (left_for all) all_reasons) (count_by (λ (m : Made). is_short m.what) all) (count_by (λ (m : Made). is_cooked m.link m.what) all)) more
     ∙ ap (λ (t : List Count). counts (length made + 1) t (count_by (λ (m : Made). is_short m.what) all) (count_by (λ (m : Made). is_cooked m.link m.what) all)) left_out
     ∙ ap (λ (n : ℕ). counts (length made + 1) (left_with (map (left_for made) all_reasons) (reason_of one.what) (length made + 1)) n (count_by (λ (m : Made). is_cooked m.link m.what) all)) short
-    ∙ ap (counts (length made + 1) (left_with (map (left_for made) all_reasons) (reason_of one.what) (length made + 1)) (count_by (λ (m : Made). is_short m.what) made + cond (is_short one.what) 1 0)) cooked
+    ∙ ap (counts (length made + 1) (left_with (map (left_for made) all_reasons) (reason_of one.what) (length made + 1)) (count_by (λ (m : Made). is_short m.what) made + cond (is_short one.what) 1 0))
+    cooked
     ∙ by_what (counts_of made) one.link one.what

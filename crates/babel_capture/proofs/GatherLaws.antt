@@ -44,7 +44,8 @@ dump-push (wanteds.Sender sender place) made dump one is =
 senders-push : (made : List Made) (one : Made) → senders_of (made ++ one ∷ []) ≡ senders_with (senders_of made) one.what
 senders-push made one = from [] made
   where
-    from : (senders : Senders) (made : List Made) → fold (λ (s : Senders) (m : Made). senders_with s m.what) senders (made ++ one ∷ []) ≡ senders_with (fold (λ (s : Senders) (m : Made). senders_with s m.what) senders made) one.what
+    from : (senders : Senders) (made : List Made) → fold (λ (s : Senders) (m : Made). senders_with s m.what) senders (made ++ one ∷ []) ≡ senders_with
+        (fold (λ (s : Senders) (m : Made). senders_with s m.what) senders made) one.what
     from senders [] = refl
     from senders (first ∷ made) = from (senders_with senders first.what) made
 
@@ -83,6 +84,10 @@ dump-stays (wanteds.Sender sender place) dump = sym (append-nil dump)
 pub on-ok3 : {T E : Type 0} {P Q R S : Type 0} (r : Result T E) → (P → Q → R → S) → OnOk r P → OnOk r Q → OnOk r R → OnOk r S
 on-ok3 (Ok x) goes one two three = goes one two three
 on-ok3 (Err e) goes one two three = tt
+
+pub on-ok : {T E : Type 0} {P Q : Type 0} (r : Result T E) → (P → Q) → OnOk r P → OnOk r Q
+on-ok (Ok x) goes is = goes is
+on-ok (Err e) goes is = tt
 
 -- the senders of packets that were gathered, and the same ones after a packet of which none is found
 few_kept : (before : List Sighting) (old new : Gathering) → new.senders ≡ old.senders → IsGathered before old → length new.senders ≤ 65536
@@ -143,3 +148,12 @@ found-needs (Err fault) wanted before here senders packet origin octets finding 
   subst (Finds before (sight_in packet)) is finds,
   subst (λ (w : Wanted). PacketNeedsMemory w senders origin octets) same (subst (λ (s : Senders). PacketNeedsMemory wanted s origin octets) are (needs memory)),
 )
+
+-- and for what is added to the dump
+pub found-added : {T : Type 0} (r : Result T Fault) (wanted : Wanted) (senders : Senders) (packet : Captured) (origin : Origin) (octets : List ℕ) (finding : Found)
+    → finding ≡ found origin.place origin.sender octets → Finds wanted (sight_in packet) finding → (old new : List ℕ)
+    → OnOk r (new ≡ dump_with wanted old octets) → OnOk r ((new ≡ old) ⊎ BlockNeedsMemory wanted senders (holds packet))
+found-added (Err fault) wanted senders packet origin octets finding is finds old new added = tt
+found-added (Ok x) wanteds.Everyone senders packet origin octets finding is finds old new added = inl added
+found-added (Ok x) (wanteds.Sender sender place) senders packet origin octets finding is finds old new added =
+    inr (origin, octets, subst (Finds (wanteds.Sender sender place) (sight_in packet)) is finds, tt)

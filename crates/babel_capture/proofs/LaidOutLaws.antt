@@ -1,9 +1,11 @@
 -- What is laid out as the headers say is seen as what it carries.
-use Rattle.std.proofs.Common.{◌≡◌, ℕ, zero, suc, ◌+◌, ◌-◌, ◌*◌, ◌/◌, ◌^◌, ◌<◌, ◌≤◌, ◌⊎◌, inl, inr, Bool, true, false, List, [], ◌∷◌, ◌++◌, length, take, drop, refl, sym, ap, subst, ◌∙◌, length-append, append_assoc, arith, nat_lt, slice_index, bit_and, not, ◌==◌, ◌||◌}
-use Rattle.std.proofs.Math.Seq.{drop-append_seam, drop-append-add, take-append_seam, take-append-add, take-length}
+use Rattle.std.proofs.Common.{◌≡◌, ℕ, zero, suc, ◌+◌, ◌-◌, ◌*◌, ◌/◌, ◌^◌, ◌<◌, ◌≤◌, ◌⊎◌, inl, inr, Bool, true, false, List, [], ◌∷◌, ◌++◌, length, take, drop, refl, sym, ap, subst, ◌∙◌, length-append}
+use Rattle.std.proofs.Common.{append_assoc, arith, nat_lt, slice_index, bit_and, not, ◌==◌, ◌||◌}
+use Rattle.std.proofs.Math.Seq.{drop-append_seam, drop-append-add, take-append_seam, take-append-add}
 use Rattle.std.proofs.lemmas.List.{drop_at, length-take-le, take_all}
 use Rattle.std.proofs.lemmas.Bool.Decides.{nat_tests}
 use Rattle.std.proofs.lemmas.Nat.{and_mask}
+use Rattle.std.proofs.lemmas.Nat.Bits.{and_high_mask, and_pow}
 use Rattle.byteorder.specs.Endian.{big_bytes, big_from, big_number, little_bytes, little_number}
 use Rattle.byteorder.specs.Numbers.{big_number-reads_back}
 use Rattle.babel_prefix.specs.Address.{Address}
@@ -22,7 +24,7 @@ use Rattle.babel_capture.specs.Headers.{NextHeader, has_len, past_header, past_h
 use Rattle.babel_capture.specs.Ipv4.{ipv4_sight, ipv4_header_len, total_len, carries_udp, is_later_fragment, has_more_fragments}
 use Rattle.babel_capture.specs.Ipv6.{ipv6_sight, payload_len, first_header}
 use Rattle.babel_capture.specs.LaidOut.{UdpDatagram, udp_octets, udp_size, IsBabel, Ipv4Header, ipv4_header, ipv4_octets, IsIpv4, Ipv6Header, ipv6_header, ipv6_octets, IsIpv6}
-use Rattle.babel_capture.specs.LaidOut.{Extension, IsFragment, IsExtension, extensions, first_number, after_ports, IsFirstFragment, IsOverIp, HasBabel}
+use Rattle.babel_capture.specs.LaidOut.{Extension, IsFragment, IsExtension, extensions, first_number, HasFlags, ports, IsFirstFragment, IsOverIp, HasBabel}
 use Rattle.babel_capture.specs.LinkHeaders.{Tag, IsTag, first_type, after_type, vlans_of, IsTyped, IsCooked2, IsFamily, HasEtherType, HasFamily, IsHeader, IsOtherType, IsOtherFamily}
 use Rattle.babel_capture.specs.Octets.{network_number, ip_version}
 use Rattle.babel_capture.specs.Place.{no_vlans, place_on, with_vlan}
@@ -58,23 +60,29 @@ udp_seen place sender octets payload all source destination may len kept there c
     let same : 8 + length payload - 8 ≡ length payload = omega arith in
     rw (ports, ports_kept, source, destination, may, field, field_kept, len, fits, header, all_kept, same, carried) refl
 
-at_source : (udp : UdpDatagram) → IsBabel udp → source_port (udp_octets udp) ≡ 6696
-at_source udp is =
+-- a datagram's header before these octets
+abbrev pub header_before : UdpDatagram → List ℕ → List ℕ
+header_before udp rest = big_bytes 2 udp.source ++ (big_bytes 2 udp.destination ++ (big_bytes 2 (udp_size udp) ++ (big_bytes 2 udp.checksum ++ rest)))
+
+at_source : (udp : UdpDatagram) (rest : List ℕ) → IsBabel udp → source_port (header_before udp rest) ≡ 6696
+at_source udp rest is =
     let fits : udp.source < 2 ^ 16 = omega (arith, is.source) in
-    number-back [] 2 udp.source (big_bytes 2 udp.destination ++ (big_bytes 2 (udp_size udp) ++ (big_bytes 2 udp.checksum ++ udp.payload))) fits ∙ is.source
+    number-back [] 2 udp.source (big_bytes 2 udp.destination ++ (big_bytes 2 (udp_size udp) ++ (big_bytes 2 udp.checksum ++ rest))) fits ∙ is.source
 
-at_destination : (udp : UdpDatagram) → IsBabel udp → destination_port (udp_octets udp) ≡ 6696
-at_destination udp is =
+at_destination : (udp : UdpDatagram) (rest : List ℕ) → IsBabel udp → destination_port (header_before udp rest) ≡ 6696
+at_destination udp rest is =
     let fits : udp.destination < 2 ^ 16 = omega (arith, is.destination) in
-    number-back (big_bytes 2 udp.source) 2 udp.destination (big_bytes 2 (udp_size udp) ++ (big_bytes 2 udp.checksum ++ udp.payload)) fits ∙ is.destination
+    number-back (big_bytes 2 udp.source) 2 udp.destination (big_bytes 2 (udp_size udp) ++ (big_bytes 2 udp.checksum ++ rest)) fits ∙ is.destination
 
-at_len : (udp : UdpDatagram) → IsBabel udp → udp_len (udp_octets udp) ≡ udp_size udp
-at_len udp is = number-back (big_bytes 2 udp.source ++ big_bytes 2 udp.destination) 2 (udp_size udp) (big_bytes 2 udp.checksum ++ udp.payload) is.len_fits
+at_len : (udp : UdpDatagram) (rest : List ℕ) → IsBabel udp → udp_len (header_before udp rest) ≡ udp_size udp
+at_len udp rest is = number-back (big_bytes 2 udp.source ++ big_bytes 2 udp.destination) 2 (udp_size udp) (big_bytes 2 udp.checksum ++ rest) is.len_fits
 
-udp_laid_out : (place : Place) (sender : Address) (udp : UdpDatagram) (all : ℕ) → IsBabel udp → may_send sender ≡ true → udp_size udp ≤ all
-    → udp_sight place sender false false (udp_octets udp) all ≡ datagram place sender (carries udp.payload)
-udp_laid_out place sender udp all is may there =
-    udp_seen place sender (udp_octets udp) udp.payload all (at_source udp is) (at_destination udp is) may (at_len udp is) (omega arith) there (take-length udp.payload)
+udp_laid_out : (place : Place) (sender : Address) (udp : UdpDatagram) (rest : List ℕ) (all : ℕ) → IsBabel udp → may_send sender ≡ true → udp_size udp ≤ all
+    → udp_sight place sender false false (udp_octets udp ++ rest) all ≡ datagram place sender (carries udp.payload)
+udp_laid_out place sender udp rest all is may there =
+    let behind = udp.payload ++ rest in
+    udp_seen place sender (udp_octets udp ++ rest) udp.payload all (at_source udp behind is) (at_destination udp behind is) may (at_len udp behind is)
+    (omega (arith, length-append udp.payload rest)) there (take-append_seam udp.payload rest)
 
 -- a part of it, ports within
 udp_snapped : (place : Place) (sender : Address) (octets : List ℕ) (size all : ℕ) → source_port octets ≡ 6696 → destination_port octets ≡ 6696 → may_send sender ≡ true → 4 ≤ length octets
@@ -102,20 +110,21 @@ udp_cut : (place : Place) (sender : Address) (udp : UdpDatagram) (n all : ℕ) �
 udp_cut place sender udp n all is may some less there =
     let octets = udp_octets udp in
     let count : length (take n octets) ≡ n = length-take-le n octets (omega arith) in
-    udp_snapped place sender (take n octets) (udp_size udp) all (number-kept 0 2 n octets (omega arith) ∙ at_source udp is) (number-kept 2 2 n octets (omega arith) ∙ at_destination udp is) may
-    (omega arith) (omega arith) (omega arith) there (λ (long : 6 ≤ length (take n octets)). number-kept 4 2 n octets (omega arith) ∙ at_len udp is)
+    udp_snapped place sender (take n octets) (udp_size udp) all (number-kept 0 2 n octets (omega arith) ∙ at_source udp udp.payload is)
+    (number-kept 2 2 n octets (omega arith) ∙ at_destination udp udp.payload is) may
+    (omega arith) (omega arith) (omega arith) there (λ (long : 6 ≤ length (take n octets)). number-kept 4 2 n octets (omega arith) ∙ at_len udp udp.payload is)
 
 -- a first fragment
-udp_fragment : (place : Place) (sender : Address) (more : List ℕ) (all : ℕ) → may_send sender ≡ true → 4 ≤ all
-    → udp_sight place sender true false (after_ports more) all ≡ datagram place sender (lacking lacks.Fragment)
+udp_fragment : (place : Place) (sender : Address) (rest : List ℕ) (all : ℕ) → may_send sender ≡ true → 4 ≤ all
+    → udp_sight place sender true false (ports ++ rest) all ≡ datagram place sender (lacking lacks.Fragment)
 unfolding udp_sight
-udp_fragment place sender more all may there =
-    let octets = after_ports more in
-    let source : source_port octets ≡ 6696 = number-back [] 2 6696 (big_bytes 2 6696 ++ more) (omega arith) in
-    let destination : destination_port octets ≡ 6696 = number-back (big_bytes 2 6696) 2 6696 more (omega arith) in
-    let ports : nat_lt all 4 ≡ false = grind (arith, nat_tests) in
+udp_fragment place sender rest all may there =
+    let octets = ports ++ rest in
+    let source : source_port octets ≡ 6696 = number-back [] 2 6696 (big_bytes 2 6696 ++ rest) (omega arith) in
+    let destination : destination_port octets ≡ 6696 = number-back (big_bytes 2 6696) 2 6696 rest (omega arith) in
+    let enough : nat_lt all 4 ≡ false = grind (arith, nat_tests) in
     let kept : nat_lt (length octets) 4 ≡ false = grind (arith, nat_tests) in
-    rw (ports, kept, source, destination, may) refl
+    rw (enough, kept, source, destination, may) refl
 
 -- ---- extension headers
 
@@ -131,7 +140,7 @@ past-udp zero header udp = refl
 past-udp (suc n) header udp = ap past_header (past-udp n header udp) ∙ past_udp header udp
 
 -- the first of them first
-past-first_header : (n : ℕ) (header : NextHeader) → past_headers (suc n) header ≡ past_headers n (past_header header)
+pub past-first_header : (n : ℕ) (header : NextHeader) → past_headers (suc n) header ≡ past_headers n (past_header header)
 unfolding past_headers
 past-first_header zero header = refl
 past-first_header (suc n) header = ap past_header (past-first_header n header)
@@ -165,6 +174,22 @@ past_fragment flag more bits reserved next id rest all fits offset flags sized =
     let at_rest : drop 8 octets ≡ rest = drop_at front rest 8 eight in
     rw (long, at_bits, offset, flags, at_rest) refl
 
+-- the offset and the flag of a fragment header
+offset_in : (bits flag : ℕ) → bits < 2 ^ 2 → flag < 2 → (bit_and (2 * bits + flag) 0xfff8 == 0) ≡ true
+offset_in bits flag fits low =
+    let none : bit_and (2 * bits + flag) 0xfff8 ≡ 0 = and_high_mask 16 3 (omega arith) (2 * bits + flag) (omega arith) ∙ omega arith in
+    rw none refl
+
+last_in : (bits : ℕ) → not (bit_and (2 * bits + 0) 0x0001 == 0) ≡ false
+last_in bits =
+    let none : bit_and (2 * bits + 0) 0x0001 ≡ 0 = and_mask (2 * bits + 0) 1 ∙ omega arith in
+    rw none refl
+
+more_in : (bits : ℕ) → not (bit_and (2 * bits + 1) 0x0001 == 0) ≡ true
+more_in bits =
+    let one : bit_and (2 * bits + 1) 0x0001 ≡ 1 = and_mask (2 * bits + 1) 1 ∙ omega arith in
+    rw one refl
+
 or_false : (flag : Bool) → (flag || false) ≡ flag
 or_false true = refl
 or_false false = refl
@@ -181,7 +206,7 @@ past_extension flag header next rest all (inr is) =
     let same : all - 8 ≡ all - (1 + length header.holds) = omega arith in
     ap (λ (number : ℕ). past_header (header_of number flag (next ∷ (header.holds ++ rest)) all)) is.is_number
     ∙ ap (λ (holds : List ℕ). past_header (header_of 44 flag (next ∷ (holds ++ rest)) all)) is.is_held
-    ∙ past_fragment flag false 0 is.reserved next is.id rest all (omega arith) refl refl is.sized
+    ∙ past_fragment flag false (2 * is.bits + 0) is.reserved next is.id rest all (omega (arith, is.bits_fit)) (offset_in is.bits 0 is.bits_fit (omega arith)) (last_in is.bits) is.sized
     ∙ ap (λ (f : Bool). header_of next f rest (all - 8)) (or_false flag) ∙ ap (header_of next flag rest) same
 
 past_first : (header : Extension) (next : ℕ) (rest : List ℕ) (all : ℕ) → IsFragment 1 header
@@ -191,7 +216,7 @@ past_first header next rest all is =
     let same : all - 8 ≡ all - (1 + length header.holds) = omega arith in
     ap (λ (number : ℕ). past_header (header_of number false (next ∷ (header.holds ++ rest)) all)) is.is_number
     ∙ ap (λ (holds : List ℕ). past_header (header_of 44 false (next ∷ (holds ++ rest)) all)) is.is_held
-    ∙ past_fragment false true 1 is.reserved next is.id rest all (omega arith) refl refl is.sized
+    ∙ past_fragment false true (2 * is.bits + 1) is.reserved next is.id rest all (omega (arith, is.bits_fit)) (offset_in is.bits 1 is.bits_fit (omega arith)) (more_in is.bits) is.sized
     ∙ ap (header_of next true rest) same
 
 -- headers before what comes after them
@@ -295,18 +320,24 @@ ipv4_seen place octets carried header sender len all more long version at_header
     let count : total - header ≡ len = omega arith in
     rw (some, is_ip, at_header, header_fits, told, at_total, ports, flags_kept, is_first, protocol_kept, udp, header_kept, fits, last, from, kept, count) refl
 
--- no flag but "don't fragment"
-offset_of : (flags : ℕ) → (flags ≡ 0) ⊎ (flags ≡ 0x4000) → not (bit_and flags 0x1fff == 0) ≡ false
-offset_of flags (inl none) = rw none refl
-offset_of flags (inr one) = rw one refl
+-- what the flags of IPv4 say
+flags_fit : (flag flags : ℕ) → flag < 2 → HasFlags flag flags → flags < 2 ^ 16
+flags_fit flag flags low has = omega (arith, has.bits_fit, has.are_flags)
 
-more_of : (flags : ℕ) → (flags ≡ 0) ⊎ (flags ≡ 0x4000) → not (bit_and flags 0x2000 == 0) ≡ false
-more_of flags (inl none) = rw none refl
-more_of flags (inr one) = rw one refl
+offset_of : (flag flags : ℕ) → HasFlags flag flags → not (bit_and flags 0x1fff == 0) ≡ false
+offset_of flag flags has =
+    let none : bit_and flags 0x1fff ≡ 0 = and_mask flags 13 ∙ omega (arith, has.are_flags) in
+    rw none refl
 
-flags_fit : (flags : ℕ) → (flags ≡ 0) ⊎ (flags ≡ 0x4000) → flags < 2 ^ 16
-flags_fit flags (inl none) = omega arith
-flags_fit flags (inr one) = omega arith
+last_of : (flags : ℕ) → HasFlags 0 flags → not (bit_and flags 0x2000 == 0) ≡ false
+last_of flags has =
+    let none : bit_and flags 0x2000 ≡ 0 = and_pow flags 13 ∙ omega (arith, has.are_flags) in
+    rw none refl
+
+more_of : (flags : ℕ) → HasFlags 1 flags → not (bit_and flags 0x2000 == 0) ≡ true
+more_of flags has =
+    let one : bit_and flags 0x2000 ≡ 0x2000 = and_pow flags 13 ∙ omega (arith, has.are_flags) in
+    rw one refl
 
 words_of : (words : ℕ) → words ≤ 10 → bit_and (4 * 2 ^ 4 + (5 + words)) 15 ≡ 5 + words
 words_of words few = and_mask (4 * 2 ^ 4 + (5 + words)) 4 ∙ omega arith
@@ -372,66 +403,69 @@ over_ipv6 place ether_type ip len number all tail octets sight type few laid see
     let same : ip_at place ether_type octets all ≡ sight = rw (type, laid) seen in
     (long, inr (type, ap ip_version laid ∙ ipv6_version ip len number tail few), same)
 
--- what is carried, whole and with padding after it, or its first octets
-ipv4_long : (ip : Ipv4Header) (carried : List ℕ) → length ip.options ≡ 4 * ip.words → length (ipv4_octets ip carried) ≡ 20 + 4 * ip.words + length carried
-ipv4_long ip carried sized = omega (arith, length-append ip.options carried, sized)
+-- what is carried, whole and with octets after it, or its first octets
+ipv4_long : (ip : Ipv4Header) (carried : List ℕ) (more : ℕ) → length ip.options ≡ 4 * ip.words → length (ipv4_octets ip carried more) ≡ 20 + 4 * ip.words + length carried
+ipv4_long ip carried more sized = omega (arith, length-append ip.options carried, sized)
 
-whole_over_ipv4 : (place : Place) (ether_type : ℕ) (ip : Ipv4Header) (carried padding : List ℕ) (all : ℕ) (more : Bool) (sight : Sight) → ether_type ≡ 0x0800 → IsIpv4 ip (length carried)
-    → 4 ≤ length carried
-    → length (ipv4_octets ip carried) ≤ all → ip.flags < 2 ^ 16 → not (bit_and ip.flags 0x1fff == 0) ≡ false → not (bit_and ip.flags 0x2000 == 0) ≡ more
-    → udp_sight place (record { family = V4; bits = ip.sender }) more false carried (length carried) ≡ sight → SeenIn place ether_type (ipv4_octets ip carried ++ padding) all sight
-whole_over_ipv4 place ether_type ip carried padding all more sight type fits some there flags offset flag seen =
-    let len = length carried in
-    let kept : take len (carried ++ padding) ≡ carried = take-append_seam carried padding in
-    let laid = ipv4_laid_out place ip (carried ++ padding) len all more fits some (omega (arith, ipv4_long ip carried fits.options_len)) flags offset flag in
-    over_ipv4 place ether_type ip len all (carried ++ padding) (ipv4_octets ip carried ++ padding) sight type fits.words_fit (append_assoc (ipv4_header ip len) carried padding)
-    (laid ∙ ap (λ (c : List ℕ). udp_sight place (record { family = V4; bits = ip.sender }) more false c len) kept ∙ seen)
+whole_over_ipv4 : (place : Place) (ether_type : ℕ) (ip : Ipv4Header) (carried after : List ℕ) (more all : ℕ) (flag : Bool) (sight : Sight) → ether_type ≡ 0x0800
+    → IsIpv4 ip (length carried + more) → 4 ≤ length carried → length (ipv4_octets ip carried more) + more ≤ all → ip.flags < 2 ^ 16
+    → not (bit_and ip.flags 0x1fff == 0) ≡ false → not (bit_and ip.flags 0x2000 == 0) ≡ flag
+    → ((rest : List ℕ) → udp_sight place (record { family = V4; bits = ip.sender }) flag false (carried ++ rest) (length carried + more) ≡ sight)
+    → SeenIn place ether_type (ipv4_octets ip carried more ++ after) all sight
+whole_over_ipv4 place ether_type ip carried after more all flag sight type fits some there flags offset is_flag seen =
+    let len = length carried + more in
+    let kept : take len (carried ++ after) ≡ carried ++ take more after = take-append-add carried after more in
+    let laid = ipv4_laid_out place ip (carried ++ after) len all flag fits (omega arith) (omega (arith, ipv4_long ip carried more fits.options_len)) flags offset is_flag in
+    over_ipv4 place ether_type ip len all (carried ++ after) (ipv4_octets ip carried more ++ after) sight type fits.words_fit (append_assoc (ipv4_header ip len) carried after)
+    (laid ∙ ap (λ (c : List ℕ). udp_sight place (record { family = V4; bits = ip.sender }) flag false c len) kept ∙ seen (take more after))
 
-cut_over_ipv4 : (place : Place) (ether_type : ℕ) (ip : Ipv4Header) (carried : List ℕ) (n all : ℕ) (sight : Sight) → ether_type ≡ 0x0800 → IsIpv4 ip (length carried) → 4 ≤ length carried
-    → length (ipv4_octets ip carried) ≤ all → (ip.flags ≡ 0) ⊎ (ip.flags ≡ 0x4000) → n ≤ length carried
-    → udp_sight place (record { family = V4; bits = ip.sender }) false false (take n carried) (length carried) ≡ sight
-    → SeenIn place ether_type (take (20 + 4 * ip.words + n) (ipv4_octets ip carried)) all sight
-cut_over_ipv4 place ether_type ip carried n all sight type fits some there no_fragment less seen =
-    let len = length carried in
+cut_over_ipv4 : (place : Place) (ether_type : ℕ) (ip : Ipv4Header) (carried : List ℕ) (more n all : ℕ) (sight : Sight) → ether_type ≡ 0x0800 → IsIpv4 ip (length carried + more)
+    → 4 ≤ length carried → length (ipv4_octets ip carried more) + more ≤ all → HasFlags 0 ip.flags → n ≤ length carried
+    → udp_sight place (record { family = V4; bits = ip.sender }) false false (take n carried) (length carried + more) ≡ sight
+    → SeenIn place ether_type (take (20 + 4 * ip.words + n) (ipv4_octets ip carried more)) all sight
+cut_over_ipv4 place ether_type ip carried more n all sight type fits some there no_fragment less seen =
+    let len = length carried + more in
     let front = ipv4_header ip len in
     let front_len : length front ≡ 20 + 4 * ip.words = omega (arith, fits.options_len) in
-    let part : take (20 + 4 * ip.words + n) (ipv4_octets ip carried) ≡ front ++ take n carried = ap (λ (h : ℕ). take (h + n) (front ++ carried)) (sym front_len)
+    let part : take (20 + 4 * ip.words + n) (ipv4_octets ip carried more) ≡ front ++ take n carried = ap (λ (h : ℕ). take (h + n) (front ++ carried)) (sym front_len)
     ∙ take-append-add front carried n in
     let kept : take len (take n carried) ≡ take n carried = take_all len (take n carried) (omega (arith, length-take-le n carried less)) in
-    let laid = ipv4_laid_out place ip (take n carried) len all false fits some (omega (arith, ipv4_long ip carried fits.options_len)) (flags_fit ip.flags no_fragment)
-    (offset_of ip.flags no_fragment) (more_of ip.flags no_fragment) in
-    over_ipv4 place ether_type ip len all (take n carried) (take (20 + 4 * ip.words + n) (ipv4_octets ip carried)) sight type fits.words_fit part
+    let laid = ipv4_laid_out place ip (take n carried) len all false fits (omega arith) (omega (arith, ipv4_long ip carried more fits.options_len)) (flags_fit 0 ip.flags (omega arith) no_fragment)
+    (offset_of 0 ip.flags no_fragment) (last_of ip.flags no_fragment) in
+    over_ipv4 place ether_type ip len all (take n carried) (take (20 + 4 * ip.words + n) (ipv4_octets ip carried more)) sight type fits.words_fit part
     (laid ∙ ap (λ (c : List ℕ). udp_sight place (record { family = V4; bits = ip.sender }) false false c len) kept ∙ seen)
 
-ipv6_long : (ip : Ipv6Header) (headers : List Extension) (carried : List ℕ) → length (ipv6_octets ip headers carried) ≡ 40 + (length (extensions headers) + length carried)
-ipv6_long ip headers carried = omega (arith, length-append (extensions headers) carried)
+ipv6_long : (ip : Ipv6Header) (headers : List Extension) (carried : List ℕ) (more : ℕ) → length (ipv6_octets ip headers carried more) ≡ 40 + (length (extensions headers) + length carried)
+ipv6_long ip headers carried more = omega (arith, length-append (extensions headers) carried)
 
-whole_over_ipv6 : (place : Place) (ether_type : ℕ) (ip : Ipv6Header) (headers : List Extension) (carried padding : List ℕ) (all : ℕ) (flag : Bool) (sight : Sight) → ether_type ≡ 0x86dd
-    → IsIpv6 ip (length (extensions headers) + length carried) → length (ipv6_octets ip headers carried) ≤ all
+whole_over_ipv6 : (place : Place) (ether_type : ℕ) (ip : Ipv6Header) (headers : List Extension) (carried after : List ℕ) (more all : ℕ) (flag : Bool) (sight : Sight) → ether_type ≡ 0x86dd
+    → IsIpv6 ip (length (extensions headers) + (length carried + more)) → length (ipv6_octets ip headers carried more) + more ≤ all
     → ((rest : List ℕ) (whole : ℕ) → past_headers 8 (headers_of false headers rest whole) ≡ header_of 17 flag rest (whole - length (extensions headers)))
-    → udp_sight place (record { family = V6; bits = ip.sender }) flag false carried (length carried) ≡ sight → SeenIn place ether_type (ipv6_octets ip headers carried ++ padding) all sight
-whole_over_ipv6 place ether_type ip headers carried padding all flag sight type fits there past seen =
-    let len = length carried in
+    → ((rest : List ℕ) → udp_sight place (record { family = V6; bits = ip.sender }) flag false (carried ++ rest) (length carried + more) ≡ sight)
+    → SeenIn place ether_type (ipv6_octets ip headers carried more ++ after) all sight
+whole_over_ipv6 place ether_type ip headers carried after more all flag sight type fits there past seen =
+    let len = length carried + more in
     let inner = extensions headers in
     let total = length inner + len in
     let front = ipv6_header ip total (first_number headers) in
-    let tail = carried ++ padding in
-    let kept : take len tail ≡ carried = take-append_seam carried padding in
+    let tail = carried ++ after in
+    let kept : take len tail ≡ carried ++ take more after = take-append-add carried after more in
     let left : total - length inner ≡ len = omega arith in
     let passed : past_headers 8 (headers_of false headers (take len tail) total) ≡ header_of 17 flag (take len tail) len = past (take len tail) total ∙ ap
     (header_of 17 flag (take len tail)) left in
-    let laid = ipv6_laid_out place ip headers tail len all flag fits passed (omega (arith, ipv6_long ip headers carried)) in
-    let octets_are : ipv6_octets ip headers carried ++ padding ≡ front ++ (inner ++ tail) = append_assoc front (inner ++ carried) padding ∙ ap (λ (o : List ℕ). front ++ o)
-    (append_assoc inner carried padding) in
-    over_ipv6 place ether_type ip total (first_number headers) all (inner ++ tail) (ipv6_octets ip headers carried ++ padding) sight type fits.class_fits octets_are
-    (laid ∙ ap (λ (c : List ℕ). udp_sight place (record { family = V6; bits = ip.sender }) flag false c len) kept ∙ seen)
+    let laid = ipv6_laid_out place ip headers tail len all flag fits passed (omega (arith, ipv6_long ip headers carried more)) in
+    let octets_are : ipv6_octets ip headers carried more ++ after ≡ front ++ (inner ++ tail) = append_assoc front (inner ++ carried) after ∙ ap (λ (o : List ℕ). front ++ o)
+    (append_assoc inner carried after) in
+    over_ipv6 place ether_type ip total (first_number headers) all (inner ++ tail) (ipv6_octets ip headers carried more ++ after) sight type fits.class_fits octets_are
+    (laid ∙ ap (λ (c : List ℕ). udp_sight place (record { family = V6; bits = ip.sender }) flag false c len) kept ∙ seen (take more after))
 
-cut_over_ipv6 : (place : Place) (ether_type : ℕ) (ip : Ipv6Header) (headers : List Extension) (carried : List ℕ) (n all : ℕ) (sight : Sight) → ether_type ≡ 0x86dd
-    → IsIpv6 ip (length (extensions headers) + length carried) → length (ipv6_octets ip headers carried) ≤ all → length headers ≤ 8 → All IsExtension headers → n ≤ length carried
-    → udp_sight place (record { family = V6; bits = ip.sender }) false false (take n carried) (length carried) ≡ sight
-    → SeenIn place ether_type (take (40 + (length (extensions headers) + n)) (ipv6_octets ip headers carried)) all sight
-cut_over_ipv6 place ether_type ip headers carried n all sight type fits there few are less seen =
-    let len = length carried in
+cut_over_ipv6 : (place : Place) (ether_type : ℕ) (ip : Ipv6Header) (headers : List Extension) (carried : List ℕ) (more n all : ℕ) (sight : Sight) → ether_type ≡ 0x86dd
+    → IsIpv6 ip (length (extensions headers) + (length carried + more)) → length (ipv6_octets ip headers carried more) + more ≤ all → length headers ≤ 8 → All IsExtension headers
+    → n ≤ length carried
+    → udp_sight place (record { family = V6; bits = ip.sender }) false false (take n carried) (length carried + more) ≡ sight
+    → SeenIn place ether_type (take (40 + (length (extensions headers) + n)) (ipv6_octets ip headers carried more)) all sight
+cut_over_ipv6 place ether_type ip headers carried more n all sight type fits there few are less seen =
+    let len = length carried + more in
     let inner = extensions headers in
     let total = length inner + len in
     let front = ipv6_header ip total (first_number headers) in
@@ -440,10 +474,10 @@ cut_over_ipv6 place ether_type ip headers carried n all sight type fits there fe
     let left : total - length inner ≡ len = omega arith in
     let passed : past_headers 8 (headers_of false headers (take len tail) total) ≡ header_of 17 false (take len tail) len = past-extensions false headers 8 (take len tail) total few are ∙ ap
     (header_of 17 false (take len tail)) left in
-    let laid = ipv6_laid_out place ip headers tail len all false fits passed (omega (arith, ipv6_long ip headers carried)) in
-    let part : take (40 + (length inner + n)) (ipv6_octets ip headers carried) ≡ front ++ (inner ++ tail) = take-append-add front (inner ++ carried) (length inner + n) ∙ ap
+    let laid = ipv6_laid_out place ip headers tail len all false fits passed (omega (arith, ipv6_long ip headers carried more)) in
+    let part : take (40 + (length inner + n)) (ipv6_octets ip headers carried more) ≡ front ++ (inner ++ tail) = take-append-add front (inner ++ carried) (length inner + n) ∙ ap
     (λ (o : List ℕ). front ++ o) (take-append-add inner carried n) in
-    over_ipv6 place ether_type ip total (first_number headers) all (inner ++ tail) (take (40 + (length inner + n)) (ipv6_octets ip headers carried)) sight type fits.class_fits part
+    over_ipv6 place ether_type ip total (first_number headers) all (inner ++ tail) (take (40 + (length inner + n)) (ipv6_octets ip headers carried more)) sight type fits.class_fits part
     (laid ∙ ap (λ (c : List ℕ). udp_sight place (record { family = V6; bits = ip.sender }) false false c len) kept ∙ seen)
 
 -- ---- datagrams over either
@@ -451,79 +485,75 @@ cut_over_ipv6 place ether_type ip headers carried n all sight type fits there fe
 local_may : (bits : ℕ) → bits / 2 ^ 118 ≡ 0x3fa → may_send (record { family = V6; bits = bits }) ≡ true
 local_may bits local = rw local refl
 
-whole_seen : (place : Place) (ether_type : ℕ) (sender : Address) (udp : UdpDatagram) (packet padding : List ℕ) (all : ℕ) → IsBabel udp → IsOverIp ether_type sender udp packet → length packet ≤ all
-    → SeenIn place ether_type (packet ++ padding) all (datagram place sender (carries udp.payload))
-whole_seen place ether_type sender udp packet padding all babel (inl over) there =
+whole_seen : (place : Place) (ether_type : ℕ) (sender : Address) (udp : UdpDatagram) (packet after : List ℕ) (more all : ℕ) → IsBabel udp → IsOverIp ether_type sender udp packet more
+    → length packet + more ≤ all → SeenIn place ether_type (packet ++ after) all (datagram place sender (carries udp.payload))
+whole_seen place ether_type sender udp packet after more all babel (inl over) there =
     let ip = over.ip in
     let address : Address = record { family = V4; bits = ip.sender } in
     let none = over.no_fragment in
     rw (over.is_packet, over.is_sender)
-    (whole_over_ipv4 place ether_type ip (udp_octets udp) padding all false (datagram place address (carries udp.payload)) over.is_type over.fits (omega arith)
-    (omega (arith, ap length over.is_packet)) (flags_fit ip.flags none)
-    (offset_of ip.flags none) (more_of ip.flags none) (udp_laid_out place address udp (length (udp_octets udp)) babel refl (omega arith)))
-whole_seen place ether_type sender udp packet padding all babel (inr over) there =
+    (whole_over_ipv4 place ether_type ip (udp_octets udp) after more all false (datagram place address (carries udp.payload)) over.is_type over.fits (omega arith)
+    (omega (arith, ap length over.is_packet)) (flags_fit 0 ip.flags (omega arith) none) (offset_of 0 ip.flags none) (last_of ip.flags none)
+    (λ (rest : List ℕ). udp_laid_out place address udp rest (length (udp_octets udp) + more) babel refl (omega arith)))
+whole_seen place ether_type sender udp packet after more all babel (inr over) there =
     let ip = over.ip in
     let address : Address = record { family = V6; bits = ip.sender } in
     rw (over.is_packet, over.is_sender)
-    (whole_over_ipv6 place ether_type ip over.headers (udp_octets udp) padding all false (datagram place address (carries udp.payload)) over.is_type over.fits (omega (arith, ap length over.is_packet))
+    (whole_over_ipv6 place ether_type ip over.headers (udp_octets udp) after more all false (datagram place address (carries udp.payload)) over.is_type over.fits
+    (omega (arith, ap length over.is_packet))
     (λ (rest : List ℕ) (whole : ℕ). past-extensions false over.headers 8 rest whole over.few over.are_headers)
-    (udp_laid_out place address udp (length (udp_octets udp)) babel (local_may ip.sender over.fits.link_local) (omega arith)))
+    (λ (rest : List ℕ). udp_laid_out place address udp rest (length (udp_octets udp) + more) babel (local_may ip.sender over.fits.link_local) (omega arith)))
 
-cut_seen : (place : Place) (ether_type : ℕ) (sender : Address) (udp : UdpDatagram) (packet : List ℕ) (n all : ℕ) → IsBabel udp → IsOverIp ether_type sender udp packet
+cut_seen : (place : Place) (ether_type : ℕ) (sender : Address) (udp : UdpDatagram) (packet : List ℕ) (more n all : ℕ) → IsBabel udp → IsOverIp ether_type sender udp packet more
     → length packet ≤ n + (4 + length udp.payload) → n < length packet
-    → length packet ≤ all → SeenIn place ether_type (take n packet) all (datagram place sender (lacking lacks.Snapped))
-cut_seen place ether_type sender udp packet n all babel (inl over) ports less there =
+    → length packet + more ≤ all → SeenIn place ether_type (take n packet) all (datagram place sender (lacking lacks.Snapped))
+cut_seen place ether_type sender udp packet more n all babel (inl over) some less there =
     let ip = over.ip in
     let address : Address = record { family = V4; bits = ip.sender } in
     let carried = udp_octets udp in
-    let count = ap length over.is_packet ∙ ipv4_long ip carried over.fits.options_len in
+    let count = ap length over.is_packet ∙ ipv4_long ip carried more over.fits.options_len in
     let m = n - (20 + 4 * ip.words) in
     let whole : n ≡ 20 + 4 * ip.words + m = omega arith in
-    let seen = cut_over_ipv4 place ether_type ip carried m all (datagram place address (lacking lacks.Snapped)) over.is_type over.fits (omega arith)
+    let seen = cut_over_ipv4 place ether_type ip carried more m all (datagram place address (lacking lacks.Snapped)) over.is_type over.fits (omega arith)
     (omega (arith, ap length over.is_packet)) over.no_fragment (omega arith)
-    (udp_cut place address udp m (length carried) babel refl (omega arith) (omega arith) (omega arith)) in
+    (udp_cut place address udp m (length carried + more) babel refl (omega arith) (omega arith) (omega arith)) in
     rw (over.is_packet, over.is_sender, whole) seen
-cut_seen place ether_type sender udp packet n all babel (inr over) ports less there =
+cut_seen place ether_type sender udp packet more n all babel (inr over) some less there =
     let ip = over.ip in
     let address : Address = record { family = V6; bits = ip.sender } in
     let carried = udp_octets udp in
     let inner = length (extensions over.headers) in
-    let count = ap length over.is_packet ∙ ipv6_long ip over.headers carried in
+    let count = ap length over.is_packet ∙ ipv6_long ip over.headers carried more in
     let m = n - (40 + inner) in
     let whole : n ≡ 40 + (inner + m) = omega arith in
-    let seen = cut_over_ipv6 place ether_type ip over.headers carried m all (datagram place address (lacking lacks.Snapped)) over.is_type over.fits
+    let seen = cut_over_ipv6 place ether_type ip over.headers carried more m all (datagram place address (lacking lacks.Snapped)) over.is_type over.fits
     (omega (arith, ap length over.is_packet)) over.few over.are_headers (omega arith)
-    (udp_cut place address udp m (length carried) babel (local_may ip.sender over.fits.link_local) (omega arith) (omega arith) (omega arith)) in
+    (udp_cut place address udp m (length carried + more) babel (local_may ip.sender over.fits.link_local) (omega arith) (omega arith) (omega arith)) in
     rw (over.is_packet, over.is_sender, whole) seen
 
-first_seen : (place : Place) (ether_type : ℕ) (sender : Address) (packet padding : List ℕ) (all : ℕ) → IsFirstFragment ether_type sender packet → length packet ≤ all
-    → SeenIn place ether_type (packet ++ padding) all (datagram place sender (lacking lacks.Fragment))
-first_seen place ether_type sender packet padding all (inl is) there =
+first_seen : (place : Place) (ether_type : ℕ) (sender : Address) (packet after : List ℕ) (more all : ℕ) → IsFirstFragment ether_type sender packet more → length packet + more ≤ all
+    → SeenIn place ether_type (packet ++ after) all (datagram place sender (lacking lacks.Fragment))
+first_seen place ether_type sender packet after more all (inl is) there =
     let ip = is.ip in
     let address : Address = record { family = V4; bits = ip.sender } in
-    let carried = after_ports is.more in
-    let flags : ip.flags < 2 ^ 16 = omega (arith, is.flag) in
-    let offset : not (bit_and ip.flags 0x1fff == 0) ≡ false = rw is.flag refl in
-    let flag : not (bit_and ip.flags 0x2000 == 0) ≡ true = rw is.flag refl in
     rw (is.is_packet, is.is_sender)
-    (whole_over_ipv4 place ether_type ip carried padding all true (datagram place address (lacking lacks.Fragment)) is.is_type is.fits (omega arith)
-    (omega (arith, ap length is.is_packet)) flags offset flag
-    (udp_fragment place address is.more (length carried) refl (omega arith)))
-first_seen place ether_type sender packet padding all (inr is) there =
+    (whole_over_ipv4 place ether_type ip ports after more all true (datagram place address (lacking lacks.Fragment)) is.is_type is.fits (omega arith)
+    (omega (arith, ap length is.is_packet)) (flags_fit 1 ip.flags (omega arith) is.is_first) (offset_of 1 ip.flags is.is_first) (more_of ip.flags is.is_first)
+    (λ (rest : List ℕ). udp_fragment place address rest (length ports + more) refl (omega arith)))
+first_seen place ether_type sender packet after more all (inr is) there =
     let ip = is.ip in
     let address : Address = record { family = V6; bits = ip.sender } in
-    let carried = after_ports is.more in
     let few = is.few in
     rw (is.is_packet, is.is_sender)
-    (whole_over_ipv6 place ether_type ip (is.front ++ is.fragment ∷ is.back) carried padding all true (datagram place address (lacking lacks.Fragment)) is.is_type is.fits
+    (whole_over_ipv6 place ether_type ip (is.front ++ is.fragment ∷ is.back) ports after more all true (datagram place address (lacking lacks.Fragment)) is.is_type is.fits
     (omega (arith, ap length is.is_packet))
     (λ (rest : List ℕ) (whole : ℕ). past-fragment is.front is.back is.fragment 8 rest whole (omega arith) is.are_front is.is_fragment is.are_back)
-    (udp_fragment place address is.more (length carried) (local_may ip.sender is.fits.link_local) (omega arith)))
+    (λ (rest : List ℕ). udp_fragment place address rest (length ports + more) (local_may ip.sender is.fits.link_local) (omega arith)))
 
-babel_seen : (place : Place) (ether_type : ℕ) (sender : Address) (packet padding : List ℕ) (carried : Carried) (all : ℕ) → HasBabel ether_type sender packet carried → length packet ≤ all
-    → SeenIn place ether_type (packet ++ padding) all (datagram place sender carried)
-babel_seen place ether_type sender packet padding carried all (inl (udp, babel, over, is)) there = rw is (whole_seen place ether_type sender udp packet padding all babel over there)
-babel_seen place ether_type sender packet padding carried all (inr (first, is)) there = rw is (first_seen place ether_type sender packet padding all first there)
+babel_seen : (place : Place) (ether_type : ℕ) (sender : Address) (packet after : List ℕ) (more : ℕ) (carried : Carried) (all : ℕ) → HasBabel ether_type sender packet more carried
+    → length packet + more ≤ all → SeenIn place ether_type (packet ++ after) all (datagram place sender carried)
+babel_seen place ether_type sender packet after more carried all (inl (udp, babel, over, is)) there = rw is (whole_seen place ether_type sender udp packet after more all babel over there)
+babel_seen place ether_type sender packet after more carried all (inr (first, is)) there = rw is (first_seen place ether_type sender packet after more all first there)
 
 -- ---- VLAN tags
 
@@ -548,7 +578,7 @@ past-no_tag zero payload plain = refl
 past-no_tag (suc n) payload plain = ap past_tag (past-no_tag n payload plain) ∙ past_no_tag payload plain
 
 -- the first of them first
-past-first : (n : ℕ) (payload : Payload) → past_tags (suc n) payload ≡ past_tags n (past_tag payload)
+pub past-first : (n : ℕ) (payload : Payload) → past_tags (suc n) payload ≡ past_tags n (past_tag payload)
 unfolding past_tags
 past-first zero payload = refl
 past-first (suc n) payload = ap past_tag (past-first n payload)
@@ -601,7 +631,7 @@ past-tags (tag ∷ tags) (suc n) ether_type octets vlans all few are fits plain 
     ∙ past-tags tags n ether_type octets (with_vlan vlans tag.number) (all - 4) (omega arith) later fits plain
     ∙ ap (payload_of [] ether_type octets (fold (λ (v : Vlans) (t : Tag). with_vlan v t.number) (with_vlan vlans tag.number) tags)) (omega arith)
 
-after-long : (tags : List Tag) (ether_type : ℕ) → length (after_type tags ether_type) ≡ 4 * length tags
+pub after-long : (tags : List Tag) (ether_type : ℕ) → length (after_type tags ether_type) ≡ 4 * length tags
 after-long [] ether_type = omega arith
 after-long (tag ∷ tags) ether_type = (let later = after-long tags ether_type in omega (arith, length-append (big_bytes 2 (first_type tags ether_type)) (after_type tags ether_type)))
 
@@ -763,20 +793,19 @@ in_frame links.RawIpv4 interface ether_type place header octets all sight (type,
 in_frame links.RawIpv6 interface ether_type place header octets all sight (type, is_place, none) (long, begins, seen) =
     rw none (at_own interface ether_type 0x86dd place octets all sight type is_place (ap (ip_at place ether_type octets) (omega (arith, ap length none)) ∙ seen))
 
-pub seen_in_frame : (link : Link) (interface ether_type : ℕ) (place : Place) (sender : Address) (carried : Carried) (header packet padding : List ℕ) (all : ℕ)
-    → IsHeader link interface ether_type place header
-    → HasBabel ether_type sender packet carried → length header + length packet ≤ all → frame_sight interface link (header ++ (packet ++ padding)) all ≡ datagram place sender carried
-seen_in_frame link interface ether_type place sender carried header packet padding all is babel there =
-    in_frame link interface ether_type place header (packet ++ padding) all (datagram place sender carried) is
-    (babel_seen place ether_type sender packet padding carried (all - length header) babel (omega arith))
+pub seen_in_frame : (link : Link) (interface ether_type : ℕ) (place : Place) (sender : Address) (carried : Carried) (header packet after : List ℕ) (more all : ℕ)
+    → IsHeader link interface ether_type place header → HasBabel ether_type sender packet more carried → length header + (length packet + more) ≤ all
+    → frame_sight interface link (header ++ (packet ++ after)) all ≡ datagram place sender carried
+seen_in_frame link interface ether_type place sender carried header packet after more all is babel there =
+    in_frame link interface ether_type place header (packet ++ after) all (datagram place sender carried) is
+    (babel_seen place ether_type sender packet after more carried (all - length header) babel (omega arith))
 
-pub cut_in_frame : (link : Link) (interface ether_type : ℕ) (place : Place) (sender : Address) (udp : UdpDatagram) (header packet : List ℕ) (n all : ℕ)
-    → IsHeader link interface ether_type place header
-    → IsBabel udp → IsOverIp ether_type sender udp packet → length packet ≤ n + (4 + length udp.payload) → n < length packet → length header + length packet ≤ all
-    → frame_sight interface link (header ++ take n packet) all ≡ datagram place sender (lacking lacks.Snapped)
-cut_in_frame link interface ether_type place sender udp header packet n all is babel over ports less there =
+pub cut_in_frame : (link : Link) (interface ether_type : ℕ) (place : Place) (sender : Address) (udp : UdpDatagram) (header packet : List ℕ) (more n all : ℕ)
+    → IsHeader link interface ether_type place header → IsBabel udp → IsOverIp ether_type sender udp packet more → length packet ≤ n + (4 + length udp.payload) → n < length packet
+    → length header + (length packet + more) ≤ all → frame_sight interface link (header ++ take n packet) all ≡ datagram place sender (lacking lacks.Snapped)
+cut_in_frame link interface ether_type place sender udp header packet more n all is babel over some less there =
     in_frame link interface ether_type place header (take n packet) all (datagram place sender (lacking lacks.Snapped)) is
-    (cut_seen place ether_type sender udp packet n (all - length header) babel over ports less (omega arith))
+    (cut_seen place ether_type sender udp packet more n (all - length header) babel over some less (omega arith))
 
 -- ---- what is no IP
 

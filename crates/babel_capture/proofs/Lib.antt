@@ -1,5 +1,6 @@
 pub mod BackingLaws
 pub mod CountLaws
+pub mod EndLaws
 pub mod Entries
 pub mod FindingLaws
 pub mod FramingLaws
@@ -14,7 +15,10 @@ pub mod OneOrigin
 pub mod PacketLaws
 pub mod PcapLaws
 pub mod PcapngLaws
+pub mod ReadBack
 pub mod ReadingLaws
+pub mod SeenInFrames
+pub mod SeenLaws
 pub mod SenderLaws
 pub mod StreamLaws
 pub mod TallyLaws

@@ -121,5 +121,6 @@ short-other before at rest fault (inl (not, told)) is = cc
 short-other before at rest fault (inr (started, some, told)) is = cc
 
 pub fault-other : (limit : ℕ) (wanted : Wanted) (octets : List ℕ) (fault : Fault) → CaptureFault limit wanted octets fault → fault ≢ faults.Memory
-fault-other limit wanted octets fault (inl stops) = stops-other wanted (senders_of stops.made) (context_behind (start limit) stops.blocks) (length (octets_of stops.blocks)) stops.rest fault stops.stops
+fault-other limit wanted octets fault (inl stops) = stops-other wanted (senders_of stops.made) (context_behind (start limit) stops.blocks) (length (octets_of stops.blocks)) stops.rest fault
+    stops.stops
 fault-other limit wanted octets fault (inr short) = short-other (context_behind (start limit) short.blocks) (length (octets_of short.blocks)) short.rest fault short.short

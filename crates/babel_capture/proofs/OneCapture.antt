@@ -187,7 +187,8 @@ some_header layouts.Start = omega arith
 some_header (layouts.Pcap order) = omega arith
 some_header (layouts.Section order) = omega arith
 
-one_gathering : (one another : Gathering) → one.wanted ≡ another.wanted → one.names ≡ another.names → one.dump ≡ another.dump → one.report ≡ another.report → one.senders ≡ another.senders → one ≡ another
+one_gathering : (one another : Gathering) → one.wanted ≡ another.wanted → one.names ≡ another.names → one.dump ≡ another.dump → one.report ≡ another.report → one.senders ≡ another.senders
+    → one ≡ another
 one_gathering one another wanted names dump report senders =
     let of : Wanted → List (List ℕ) → List ℕ → Counts → Senders → Gathering = λ w n d r s. record { wanted = w; names = n; dump = d; report = r; senders = s } in
     ap (λ (w : Wanted). of w one.names one.dump one.report one.senders) wanted ∙ ap (λ (n : List (List ℕ)). of another.wanted n one.dump one.report one.senders) names
@@ -204,7 +205,8 @@ gathered_one sightings one another is is_too wanted names =
     (is.senders ∙ ap senders_of made ∙ sym is_too.senders)
 
 pub cut_capture_is_one : CutCaptureIsOne
-cut_capture_is_one limit octets one another place other_place is is_too wanted = by (blocks_one (start limit) 0 is.is_read.blocks is_too.is_read.blocks is.rest is_too.rest is.is_read.are_blocks is_too.is_read.are_blocks
+cut_capture_is_one limit octets one another place other_place is is_too wanted = by (blocks_one (start limit) 0 is.is_read.blocks is_too.is_read.blocks is.rest is_too.rest is.is_read.are_blocks
+    is_too.is_read.are_blocks
     (ap (λ (t : List ℕ). t ++ is.rest) (sym is.is_read.whole) ∙ sym is.whole ∙ is_too.whole ∙ ap (λ (t : List ℕ). t ++ is_too.rest) is_too.is_read.whole)
     (subst (λ (n : ℕ). IsPartial (context_behind (start limit) is.is_read.blocks) n is.rest) (omega (arith, ap length is.is_read.whole)) is.partial)
     (subst (λ (n : ℕ). IsPartial (context_behind (start limit) is_too.is_read.blocks) n is_too.rest) (omega (arith, ap length is_too.is_read.whole)) is_too.partial))

@@ -7,7 +7,8 @@ use Rattle.std.proofs.lemmas.List.{take-append-drop, take-append-le}
 use Rattle.babel_capture.specs.declared.fault.Fault.{Fault}
 use Rattle.babel_capture.specs.declared.fault.Fault.TheVariants as faults
 use Rattle.babel_capture.specs.declared.wanted.Wanted.{Wanted}
-use Rattle.babel_capture.specs.Blocks.{AreBlocks, BeginsBlock, BlockAt, IsBlock, IsPartial, Sighting, context_behind, header_of, octets_of, sight_in, sightings_behind, sightings_in, sightings_of, start}
+use Rattle.babel_capture.specs.Blocks.{AreBlocks, BeginsBlock, BlockAt, IsBlock, IsPartial, Sighting, context_behind, header_of, octets_of, sight_in, sightings_behind, sightings_in, sightings_of}
+use Rattle.babel_capture.specs.Blocks.{start}
 use Rattle.babel_capture.specs.Capture.{CaptureFault, EndsShort, IsShortBy}
 use Rattle.babel_capture.specs.Contents.{Content, block_said, context_after, describes, file, holds, nothing, section}
 use Rattle.babel_capture.specs.Context.{Before}
@@ -216,7 +217,8 @@ module _ (wanted : Wanted) (senders : Senders) (before : Before) (at : ℕ) (blo
       → StopsAt wanted (more senders made) (context_behind before (block ∷ blocks)) (at + length (octets_of (block ∷ blocks))) rest fault
       → StopsAt wanted (more (more senders first) later) (context_behind (context_after before block.content) blocks) (at + length block.octets + length (octets_of blocks)) rest fault
   stops_behind made first later whole stops =
-      subst (λ (n : ℕ). StopsAt wanted (more (more senders first) later) (context_behind (context_after before block.content) blocks) n rest fault) (omega (arith, length-append block.octets (octets_of blocks)))
+      subst (λ (n : ℕ). StopsAt wanted (more (more senders first) later) (context_behind (context_after before block.content) blocks) n rest fault)
+      (omega (arith, length-append block.octets (octets_of blocks)))
       (subst (λ (s : Senders). StopsAt wanted s (context_behind before (block ∷ blocks)) (at + length (octets_of (block ∷ blocks))) rest fault)
       (ap (more senders) whole ∙ more-append senders first later) stops)
 

@@ -1,5 +1,6 @@
 -- A pcapng file is read as the packets of its blocks.
-use Rattle.std.proofs.Common.{◌≡◌, ◌≢◌, ℕ, ◌+◌, ◌-◌, ◌%◌, ◌^◌, ◌<◌, ◌≤◌, ◌⊎◌, inl, inr, true, false, List, [], ◌∷◌, ◌++◌, length, take, drop, refl, sym, ap, ◌∙◌, length-append, append_assoc, arith, nat_lt, ◌==◌, ◌||◌}
+use Rattle.std.proofs.Common.{◌≡◌, ◌≢◌, ℕ, ◌+◌, ◌-◌, ◌%◌, ◌^◌, ◌<◌, ◌≤◌, ◌⊎◌, inl, inr, true, false, List, [], ◌∷◌, ◌++◌, length, take, drop, refl, sym, ap, ◌∙◌, length-append, append_assoc, arith}
+use Rattle.std.proofs.Common.{nat_lt, ◌==◌, ◌||◌}
 use Rattle.std.proofs.Math.Seq.{take-append_seam}
 use Rattle.std.proofs.lemmas.Bool.Decides.{nat_tests}
 use Rattle.std.specs.Prelude.{None, Ok, nat_le, slice_range}
@@ -410,7 +411,8 @@ record Laid (order : Order) (limit at first : ℕ) (interfaces : List Interface)
 
 module _ (order : Order) (limit at first : ℕ) (interfaces : List Interface) (octets rest : List ℕ) where
   -- with a packet before them, or a block that holds none
-  with_packet : (packet : Captured) (packets later : List Captured) → IsBlock (inside order limit first interfaces) at octets → block_said (inside order limit first interfaces) at octets ≡ Ok (holds packet)
+  with_packet : (packet : Captured) (packets later : List Captured) → IsBlock (inside order limit first interfaces) at octets
+      → block_said (inside order limit first interfaces) at octets ≡ Ok (holds packet)
       → packets ≡ packet ∷ later → Laid order limit (at + length octets) first interfaces rest later → Laid order limit at first interfaces (octets ++ rest) packets
   with_packet packet packets later is says are laid = record {
     blocks = record { at = at; octets = octets; content = holds packet } ∷ laid.blocks;
@@ -503,7 +505,8 @@ blocks_laid order limit at first interfaces (begins next head ∷ blocks) packet
     let octets = header next head in
     let rest = octets_from next blocks in
     let count = length-append octets rest in
-    with_section order next limit at first interfaces octets rest packets (later_is next head is order limit at first interfaces (omega (arith, count))) (later_says next head is order limit at first interfaces)
+    with_section order next limit at first interfaces octets rest packets (later_is next head is order limit at first interfaces (omega (arith, count)))
+    (later_says next head is order limit at first interfaces)
     (blocks_laid next limit (at + length octets) (length interfaces) interfaces blocks packets hold (omega (arith, count)))
 
 pub pcapng_is_read : (limit : ℕ) (order : Order) (head : SectionHeader) (blocks : List PcapngBlock) (packets : List Captured) → IsSection order head → Hold order 0 [] blocks packets

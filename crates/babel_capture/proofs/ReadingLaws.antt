@@ -6,19 +6,23 @@ use Rattle.std.proofs.Math.Seq.{take-add}
 use Rattle.std.proofs.lemmas.List.Concat.{flat_map-append}
 use Rattle.babel_capture.specs.declared.fault.Fault.{Fault}
 use Rattle.babel_capture.specs.declared.wanted.Wanted.{Wanted}
-use Rattle.babel_capture.specs.Blocks.{names_of, BlockAt, BeginsBlock, HasHeader, header_of, IsBlock, AreBlocks, Sighting, start, context_behind, octets_of, sightings_in, sightings_behind, sightings_of}
+use Rattle.babel_capture.specs.Blocks.{names_of, BlockAt, BeginsBlock, HasHeader, header_of, IsBlock, AreBlocks, Sighting, start, context_behind, octets_of, sightings_in, sightings_behind}
+use Rattle.babel_capture.specs.Blocks.{sightings_of}
 use Rattle.babel_capture.specs.Contents.{Content, block_said, context_after, names_in}
 use Rattle.babel_capture.specs.Context.{Before}
 use Rattle.babel_capture.specs.Counts.{Made, Counts}
-use Rattle.babel_capture.specs.Gathering.{AreMade, AreTaken, BlockNeedsMemory, Gathering, IsGathered, with_taken}
+use Rattle.babel_capture.specs.Gathering.{AreMade, AreTaken, BlockNeedsMemory, Gathering, IsGathered, dump_of, with_taken}
 use Rattle.babel_capture.specs.Lengths.{block_len}
 use Rattle.babel_capture.specs.Reading.{Account, Progress, LeadTo, BlockFails, NeedsMemory, NeedsMemoryAt, StopsAt, Stops}
 use Rattle.babel_capture.specs.Tallies.{Senders, senders_of}
+use Rattle.babel_capture.specs.PacketEnds.{AreEnds}
+use Rattle.babel_capture.proofs.EndLaws.{ends-after, ends-gone, noted}
 use Rattle.babel_capture.proofs.NumberLaws.{rest_is}
 
 -- ---- one block more
 
-sightings-push : (count : ℕ) (blocks : List BlockAt) (b : BlockAt) → sightings_behind count (blocks ++ b ∷ []) ≡ sightings_behind count blocks ++ sightings_in (count + length (sightings_behind count blocks) + 1) b.at b.content
+sightings-push : (count : ℕ) (blocks : List BlockAt) (b : BlockAt) → sightings_behind count (blocks ++ b ∷ []) ≡ sightings_behind count blocks ++ sightings_in
+    (count + length (sightings_behind count blocks) + 1) b.at b.content
 sightings-push count [] b =
     append-nil (sightings_in (count + 1) b.at b.content) ∙ ap (λ (n : ℕ). sightings_in n b.at b.content) (omega arith)
 sightings-push count (first ∷ blocks) b =
@@ -62,15 +66,35 @@ packets-are : (sightings : List Sighting) (gathering : Gathering) → IsGathered
 packets-are sightings gathering gathered =
     ap (λ (c : Counts). c.packets) gathered.report ∙ length-made gathering.wanted sightings gathered.made gathered.taken.are_made
 
+-- nothing was read yet
+pub lead-none : (limit : ℕ) (progress : Progress) → progress.context ≡ start limit → progress.at ≡ 0 → IsGathered [] progress.gathering → progress.gathering.names ≡ []
+    → progress.gathering.dump ≡ [] → progress.ends ≡ [] → LeadTo (record { limit = limit; taken = [] }) [] progress
+lead-none limit progress context place gathered names dump ends = record {
+  blocks = [];
+  whole = refl;
+  are_blocks = tt;
+  place = place;
+  context = context;
+  gathered = gathered;
+  ends = subst (AreEnds progress.gathering.wanted [] gathered.made) (sym ends) (ends-gone progress.gathering.wanted [] [] gathered.made (sym dump ∙ gathered.dump));
+  names = names;
+}
+
 pub lead-push : (account : Account) (read block : List ℕ) (old new : Progress) (content : Content) → IsBlock old.context old.at block → block_said old.context old.at block ≡ Ok content
     → new.context ≡ context_after old.context content → new.at ≡ old.at + length block
-    → ((taken : List ℕ) (before : List Sighting) → IsGathered before (with_taken taken old.gathering) → IsGathered (before ++ sightings_in (old.gathering.report.packets + 1) old.at content) (with_taken taken new.gathering))
-    → new.gathering.names ≡ old.gathering.names ++ names_in content
+    → ((taken : List ℕ) (before : List Sighting) → IsGathered before (with_taken taken old.gathering)
+    → IsGathered (before ++ sightings_in (old.gathering.report.packets + 1) old.at content) (with_taken taken new.gathering))
+    → new.gathering.names ≡ old.gathering.names ++ names_in content → new.gathering.wanted ≡ old.gathering.wanted
+    → new.ends ≡ noted (length old.gathering.dump) (length new.gathering.dump) new.gathering.report.packets old.ends
     → LeadTo account read old → LeadTo account (read ++ block) new
-lead-push account read block old new content is_block said context place gathers names lead =
+lead-push account read block old new content is_block said context place gathers names wanted ends lead =
     let b : BlockAt = record { at = old.at; octets = block; content = content } in
     let count : old.gathering.report.packets ≡ length (sightings_of lead.blocks) = packets-are (sightings_of lead.blocks) (with_taken account.taken old.gathering) lead.gathered in
     let number : old.gathering.report.packets + 1 ≡ 0 + length (sightings_of lead.blocks) + 1 = omega (arith, count) in
+    let gathered = gathers account.taken (sightings_of lead.blocks) lead.gathered in
+    let sightings = sightings_of lead.blocks ++ sightings_in (old.gathering.report.packets + 1) old.at content in
+    let same : sightings ≡ sightings_of (lead.blocks ++ b ∷ []) =
+    ap (λ (n : ℕ). sightings_of lead.blocks ++ sightings_in n old.at content) number ∙ sym (sightings-push 0 lead.blocks b) in
     record {
       blocks = lead.blocks ++ b ∷ [];
       whole = ap (λ (t : List ℕ). t ++ block) lead.whole ∙ sym (octets-push lead.blocks b);
@@ -79,9 +103,19 @@ lead-push account read block old new content is_block said context place gathers
           (subst (λ (c : Before). block_said c old.at block ≡ Ok content) lead.context said);
       place = omega (arith, place, lead.place, length-append read block);
       context = context ∙ ap (λ (c : Before). context_after c content) lead.context ∙ sym (context-push (start account.limit) lead.blocks b);
-      gathered = subst (λ (s : List Sighting). IsGathered s (with_taken account.taken new.gathering))
-          (ap (λ (n : ℕ). sightings_of lead.blocks ++ sightings_in n old.at content) number ∙ sym (sightings-push 0 lead.blocks b))
-          (gathers account.taken (sightings_of lead.blocks) lead.gathered);
+      gathered = record {
+        made = gathered.made;
+        taken = subst (λ (s : List Sighting). AreTaken new.gathering.wanted s gathered.made) same gathered.taken;
+        dump = gathered.dump;
+        report = gathered.report;
+        senders = gathered.senders;
+      };
+      ends = subst (AreEnds new.gathering.wanted account.taken gathered.made) (sym ends)
+          (ends-after new.gathering.wanted account.taken old.gathering.dump new.gathering.dump (old.gathering.report.packets + 1) new.gathering.report.packets old.at content
+          (sightings_of lead.blocks) lead.gathered.made gathered.made old.ends (omega (arith, count)) (packets-are sightings (with_taken account.taken new.gathering) gathered)
+          (subst (λ (w : Wanted). AreMade w (sightings_of lead.blocks) lead.gathered.made) (sym wanted) lead.gathered.taken.are_made) gathered.taken.are_made
+          (subst (λ (w : Wanted). account.taken ++ old.gathering.dump ≡ dump_of w lead.gathered.made) (sym wanted) lead.gathered.dump) gathered.dump
+          (subst (λ (w : Wanted). AreEnds w account.taken lead.gathered.made old.ends) (sym wanted) lead.ends));
       names = names ∙ ap (λ (ns : List (List ℕ)). ns ++ names_in content) lead.names ∙ sym (names-push lead.blocks b);
     }
 
@@ -159,7 +193,8 @@ block-stops account wanted read octets block used now fault same begins fails le
     stops-behind account wanted read octets used now same lead fault
     (subst (λ (t : List ℕ). StopsAt now.gathering.wanted now.gathering.senders now.context now.at t fault) (rest_is used octets) (inr (block, begins, fails)))
 
-pub block-needs : (account : Account) (wanted : Wanted) (read octets block : List ℕ) (used : ℕ) (now : Progress) → now.gathering.wanted ≡ wanted → BeginsBlock now.context now.at (rest_of used octets) block
+pub block-needs : (account : Account) (wanted : Wanted) (read octets block : List ℕ) (used : ℕ) (now : Progress) → now.gathering.wanted ≡ wanted
+    → BeginsBlock now.context now.at (rest_of used octets) block
     → ((content : Content) × (block_said now.context now.at block ≡ Ok content) × BlockNeedsMemory now.gathering.wanted now.gathering.senders content)
     → LeadTo account (read ++ take used octets) now → NeedsMemory account.limit wanted read octets
 block-needs account wanted read octets block used now same begins (content, said, needs) lead =

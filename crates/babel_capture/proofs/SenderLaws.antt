@@ -53,7 +53,8 @@ tally-push (first ∷ packets) packet =
     let before = first ∷ packets in
     let all = before ++ packet ∷ [] in
     ap (λ (n : ℕ). Some (record { packets = n; octets = sum_by length all; updates = sum_by updates_in all })) (length-append before (packet ∷ []))
-    ∙ ap (λ (n : ℕ). Some (record { packets = length before + 1; octets = n; updates = sum_by updates_in all })) (sum_by-append length before (packet ∷ []) ∙ ap (λ (n : ℕ). sum_by length before + n) (omega arith))
+    ∙ ap (λ (n : ℕ). Some (record { packets = length before + 1; octets = n; updates = sum_by updates_in all }))
+    (sum_by-append length before (packet ∷ []) ∙ ap (λ (n : ℕ). sum_by length before + n) (omega arith))
     ∙ ap (λ (n : ℕ). Some (record { packets = length before + 1; octets = sum_by length before + length packet; updates = n }))
     (sum_by-append updates_in before (packet ∷ []) ∙ ap (λ (n : ℕ). sum_by updates_in before + n) (omega arith))
 
@@ -67,14 +68,16 @@ same-tally senders k q same =
 unchanged : (before : List Made) (senders : Senders) (one : Made) → ((origin : Origin) → here origin one.what ≡ []) → AreSenders before senders → AreSenders (before ++ one ∷ []) senders
 unchanged before senders one none are = record {
   in_order = are.in_order;
-  tallies = λ origin. are.tallies origin ∙ ap tally_for (sym (packets-push origin before one ∙ ap (λ (l : List (List ℕ)). packets_from origin before ++ l) (none origin) ∙ append-nil (packets_from origin before)));
+  tallies = λ origin. are.tallies origin ∙ ap tally_for (sym (packets-push origin before one ∙ ap (λ (l : List (List ℕ)). packets_from origin before ++ l) (none origin)
+      ∙ append-nil (packets_from origin before)));
 }
 
 with_packet : (before : List Made) (senders : Senders) (one : Made) (k : Origin) (packet : List ℕ) → ((origin : Origin) → here origin one.what ≡ cond (is_at (origin_cmp origin) k) (packet ∷ []) [])
     → AreSenders before senders → AreSenders (before ++ one ∷ []) (tallied senders k packet)
 with_packet before senders one k packet is are = record {
   in_order = sorted-insert origin_total k after senders are.in_order;
-  tallies = λ q. lookup-insert origin_total q k after senders ∙ by q (is_at (origin_cmp k) q) refl ∙ ap tally_for (sym (packets-push q before one ∙ ap (λ (l : List (List ℕ)). packets_from q before ++ l) (is q)));
+  tallies = λ q. lookup-insert origin_total q k after senders ∙ by q (is_at (origin_cmp k) q) refl ∙ ap tally_for
+      (sym (packets-push q before one ∙ ap (λ (l : List (List ℕ)). packets_from q before ++ l) (is q)));
 }
   where
     after : Tally

@@ -5,13 +5,14 @@ use Rattle.std.proofs.lemmas.List.{append-nil, take-append-drop, take-append-le,
 use Rattle.babel_capture.specs.declared.fault.Fault.{Fault}
 use Rattle.babel_capture.specs.declared.fault.Fault.TheVariants as faults
 use Rattle.babel_capture.specs.declared.wanted.Wanted.{Wanted}
-use Rattle.babel_capture.specs.Blocks.{IsPartial, header_of, octets_of, sightings_of, start, context_behind}
+use Rattle.babel_capture.specs.Blocks.{IsPartial, header_of, octets_of, start, context_behind}
 use Rattle.babel_capture.specs.Capture.{CaptureFault, account_of, HasFailed, HasGiven, HasGivenTo, HasRead, IsRead, IsReadToCut, IsShortBy, State}
 use Rattle.babel_capture.specs.Context.{Before}
-use Rattle.babel_capture.specs.Gathering.{IsGathered, with_taken}
+use Rattle.babel_capture.specs.Gathering.{with_taken}
 use Rattle.babel_capture.specs.Lengths.{header_len, block_len}
 use Rattle.babel_capture.specs.Reading.{Account, Progress, LeadTo, HasStarted, HasTaken, NeedsMemory, Stops, StopsAt, without_dump}
 use Rattle.babel_capture.specs.Tallies.{Senders, senders_of}
+use Rattle.babel_capture.proofs.EndLaws.{ends-gone}
 
 pub taken-next : (account : Account) (fed piece pending all left : List ℕ) (used : ℕ) (old new : Progress) → all ≡ pending ++ piece → left ≡ drop used all
     → ((account : Account) (read : List ℕ) → LeadTo account read old → LeadTo account (read ++ take used all) new) → IsPartial new.context new.at (drop used all)
@@ -34,7 +35,8 @@ needs-here old pending piece none needs account fed taken =
     (needs account taken.read taken.leads)
 
 pub needs-fed : (state : State) (fault : Fault) (piece : List ℕ) → state.fault ≡ None
-    → (fault ≡ faults.Memory → (state.pending ≢ []) ⊎ ((account : Account) (fed : List ℕ) → HasTaken account state.progress state.pending fed → NeedsMemory account.limit state.progress.gathering.wanted fed piece))
+    → (fault ≡ faults.Memory → (state.pending ≢ []) ⊎ ((account : Account) (fed : List ℕ) → HasTaken account state.progress state.pending fed
+    → NeedsMemory account.limit state.progress.gathering.wanted fed piece))
     → fault ≡ faults.Memory → (state.fault ≡ Some faults.Memory) ⊎ (state.pending ≢ []) ⊎ ((fed : List ℕ) → HasRead state fed → NeedsMemory state.limit state.progress.gathering.wanted fed piece)
 needs-fed state fault piece is needs memory = by (needs memory)
   where
@@ -155,13 +157,15 @@ pub cut-short : (account : Account) (progress : Progress) (pending fed : List �
     → CaptureFault account.limit progress.gathering.wanted fed (faults.CutShort progress.at)
 cut-short account progress pending fed started some taken = ends-short account progress pending fed taken (faults.CutShort progress.at) (inr (started, some, refl))
 
-pub all-read : (account : Account) (progress : Progress) (pending fed : List ℕ) → HasStarted progress.context → pending ≡ [] → HasTaken account progress pending fed → IsRead account.limit fed (with_taken account.taken progress.gathering)
+pub all-read : (account : Account) (progress : Progress) (pending fed : List ℕ) → HasStarted progress.context → pending ≡ [] → HasTaken account progress pending fed
+    → IsRead account.limit fed (with_taken account.taken progress.gathering)
 all-read account progress pending fed started none taken =
     subst (λ (t : List ℕ). IsRead account.limit t (with_taken account.taken progress.gathering)) (sym (append-nil taken.read) ∙ ap (λ (t : List ℕ). taken.read ++ t) (sym none) ∙ sym taken.whole)
     (read-before account progress pending fed taken started)
 
 pub read-to-cut : (account : Account) (progress : Progress) (pending fed : List ℕ) (cut : Option ℕ) → HasStarted progress.context
-    → ((pending ≡ []) × (cut ≡ None)) ⊎ ((pending ≢ []) × (cut ≡ Some progress.at)) → HasTaken account progress pending fed → IsReadToCut account.limit fed (with_taken account.taken progress.gathering) cut
+    → ((pending ≡ []) × (cut ≡ None)) ⊎ ((pending ≢ []) × (cut ≡ Some progress.at)) → HasTaken account progress pending fed
+    → IsReadToCut account.limit fed (with_taken account.taken progress.gathering) cut
 read-to-cut account progress pending fed cut started which taken = record {
   read = taken.read;
   rest = pending;
@@ -192,8 +196,14 @@ out_of taken state None fed given = record {
     are_blocks = given.leads.are_blocks;
     place = given.leads.place;
     context = given.leads.context;
-    gathered = subst (λ (d : List ℕ). IsGathered (sightings_of given.leads.blocks) (record state.progress.gathering { dump = d }))
-        (sym (append-nil (taken ++ state.progress.gathering.dump))) given.leads.gathered;
+    gathered = record {
+      made = given.leads.gathered.made;
+      taken = given.leads.gathered.taken;
+      dump = append-nil (taken ++ state.progress.gathering.dump) ∙ given.leads.gathered.dump;
+      report = given.leads.gathered.report;
+      senders = given.leads.gathered.senders;
+    };
+    ends = ends-gone state.progress.gathering.wanted taken state.progress.gathering.dump given.leads.gathered.made given.leads.gathered.dump;
     names = given.leads.names;
   };
   partial = given.partial;
@@ -218,14 +228,16 @@ stays-given state fault taken fed piece is read =
 pub stays-read : (state : State) (fault : Fault) (fed piece : List ℕ) → state.fault ≡ Some fault → HasRead state fed → HasRead state (fed ++ piece)
 stays-read state fault = stays-given state fault []
 
-pub failed-given : (state : State) (fault : Fault) (taken fed : List ℕ) → state.fault ≡ Some fault → fault ≢ faults.Memory → HasGiven state taken fed → CaptureFault state.limit state.progress.gathering.wanted fed fault
+pub failed-given : (state : State) (fault : Fault) (taken fed : List ℕ) → state.fault ≡ Some fault → fault ≢ faults.Memory → HasGiven state taken fed
+    → CaptureFault state.limit state.progress.gathering.wanted fed fault
 failed-given state fault taken fed is not read = by (subst (λ (f : Option Fault). HasGivenTo state taken f fed) is read)
   where
     by : HasFailed state fault fed → CaptureFault state.limit state.progress.gathering.wanted fed fault
     by (inl memory) = absurd (not memory)
     by (inr stops) = inl stops
 
-pub failed-fault : (state : State) (fault : Fault) (fed : List ℕ) → state.fault ≡ Some fault → fault ≢ faults.Memory → HasRead state fed → CaptureFault state.limit state.progress.gathering.wanted fed fault
+pub failed-fault : (state : State) (fault : Fault) (fed : List ℕ) → state.fault ≡ Some fault → fault ≢ faults.Memory → HasRead state fed
+    → CaptureFault state.limit state.progress.gathering.wanted fed fault
 failed-fault state fault = failed-given state fault []
 
 pub failed-next : (state : State) (fault : Fault) (piece : List ℕ) → state.fault ≡ None

@@ -56,13 +56,15 @@ pub record IsOptions (header : Extension) : Type 0 where
   pub is_held : header.holds ≡ units ∷ more
   pub sized : length more ≡ 6 + 8 * units
 
--- RFC 8200, 4.5: the header of the first fragment: a reserved octet, the offset 0 with this flag of
--- more fragments, and an identification
+-- RFC 8200, 4.5: the header of the first fragment: a reserved octet, the offset 0, two reserved
+-- bits, this flag of more fragments, and an identification
 pub record IsFragment (flag : ℕ) (header : Extension) : Type 0 where
   pub is_number : header.number ≡ 44
   pub reserved : ℕ
+  pub bits : ℕ
+  pub bits_fit : bits < 2 ^ 2
   pub id : List ℕ
-  pub is_held : header.holds ≡ reserved ∷ (big_bytes 2 flag ++ id)
+  pub is_held : header.holds ≡ reserved ∷ (big_bytes 2 (2 * bits + flag) ++ id)
   pub sized : length id ≡ 4
 
 -- what a whole packet may have: an atomic fragment, RFC 6946, is all that there is
@@ -85,10 +87,11 @@ ipv6_header ip len number =
     (6 * 2 ^ 4 + ip.class) ∷ (big_bytes 3 ip.flow ++ (big_bytes 2 len ++ number ∷ ip.hop_limit
     ∷ (big_bytes 16 ip.sender ++ big_bytes 16 ip.destination)))
 
--- RFC 8200, 3: a packet of UDP, after these extension headers
-abbrev pub ipv6_octets : Ipv6Header → List Extension → List ℕ → List ℕ
-ipv6_octets ip headers carried =
-    ipv6_header ip (length (extensions headers) + length carried) (first_number headers)
+-- RFC 8200, 3: a packet of UDP, after these extension headers, up to where so many octets more end
+-- the packet
+abbrev pub ipv6_octets : Ipv6Header → List Extension → List ℕ → (more : ℕ) → List ℕ
+ipv6_octets ip headers carried more =
+    ipv6_header ip (length (extensions headers) + (length carried + more)) (first_number headers)
     ++ (extensions headers ++ carried)
 
 -- class, length and sender fit their fields, and the sender begins with the ten bits of fe80::/10:
@@ -121,8 +124,9 @@ ipv4_header ip len =
     ++ (big_bytes 2 ip.id ++ (big_bytes 2 ip.flags ++ ip.ttl ∷ 17 ∷ (big_bytes 2 ip.checksum
     ++ (big_bytes 4 ip.sender ++ (big_bytes 4 ip.destination ++ ip.options))))))
 
-abbrev pub ipv4_octets : Ipv4Header → List ℕ → List ℕ
-ipv4_octets ip carried = ipv4_header ip (length carried) ++ carried
+-- RFC 791, 3.1: a packet of UDP, up to where so many octets more end the packet
+abbrev pub ipv4_octets : Ipv4Header → List ℕ → (more : ℕ) → List ℕ
+ipv4_octets ip carried more = ipv4_header ip (length carried + more) ++ carried
 
 -- options, length and sender fit their fields
 pub record IsIpv4 (ip : Ipv4Header) (len : ℕ) : Type 0 where
@@ -133,47 +137,55 @@ pub record IsIpv4 (ip : Ipv4Header) (len : ℕ) : Type 0 where
 
 -- ---- IP packets of Babel datagrams, with their EtherType: RFC 894; RFC 2464, 3
 
--- a whole one from this sender. Over IPv4 it is no fragment: no flag but "don't fragment".
-pub record OverIpv4 (ether_type : ℕ) (sender : Address) (udp : UdpDatagram)
-    (packet : List ℕ) : Type 0 where
+-- RFC 791, 3.1: a reserved bit and "don't fragment", whatever they are; this flag of more
+-- fragments; and the offset 0
+pub record HasFlags (flag flags : ℕ) : Type 0 where
+  pub bits : ℕ
+  pub bits_fit : bits < 2 ^ 2
+  pub are_flags : flags ≡ (2 * bits + flag) * 2 ^ 13
+
+-- a whole one from this sender, which is no fragment: the packet up to the end of the datagram, and
+-- how many octets more it has, since IP may carry more than the datagram (RFC 9868, 3)
+pub record OverIpv4 (ether_type : ℕ) (sender : Address) (udp : UdpDatagram) (packet : List ℕ)
+    (more : ℕ) : Type 0 where
   pub is_type : ether_type ≡ 0x0800
   pub ip : Ipv4Header
-  pub fits : IsIpv4 ip (length (udp_octets udp))
-  pub no_fragment : (ip.flags ≡ 0) ⊎ (ip.flags ≡ 0x4000)
+  pub fits : IsIpv4 ip (length (udp_octets udp) + more)
+  pub no_fragment : HasFlags 0 ip.flags
   pub is_sender : sender ≡ record { family = V4; bits = ip.sender }
-  pub is_packet : packet ≡ ipv4_octets ip (udp_octets udp)
+  pub is_packet : packet ≡ ipv4_octets ip (udp_octets udp) more
 
-pub record OverIpv6 (ether_type : ℕ) (sender : Address) (udp : UdpDatagram)
-    (packet : List ℕ) : Type 0 where
+pub record OverIpv6 (ether_type : ℕ) (sender : Address) (udp : UdpDatagram) (packet : List ℕ)
+    (more : ℕ) : Type 0 where
   pub is_type : ether_type ≡ 0x86dd
   pub ip : Ipv6Header
   pub is_sender : sender ≡ record { family = V6; bits = ip.sender }
   pub headers : List Extension
   pub few : length headers ≤ 8
   pub are_headers : All IsExtension headers
-  pub fits : IsIpv6 ip (length (extensions headers) + length (udp_octets udp))
-  pub is_packet : packet ≡ ipv6_octets ip headers (udp_octets udp)
+  pub fits : IsIpv6 ip (length (extensions headers) + (length (udp_octets udp) + more))
+  pub is_packet : packet ≡ ipv6_octets ip headers (udp_octets udp) more
 
-abbrev pub IsOverIp : ℕ → Address → UdpDatagram → List ℕ → Type 0
-IsOverIp ether_type sender udp packet =
-    OverIpv4 ether_type sender udp packet ⊎ OverIpv6 ether_type sender udp packet
+abbrev pub IsOverIp : ℕ → Address → UdpDatagram → List ℕ → (more : ℕ) → Type 0
+IsOverIp ether_type sender udp packet more =
+    OverIpv4 ether_type sender udp packet more ⊎ OverIpv6 ether_type sender udp packet more
 
--- the first of several fragments, which has the ports, and whatever comes after them. Over IPv4
--- (RFC 791, 3.1) it has the flag "more fragments", and the offset 0.
-abbrev pub after_ports : List ℕ → List ℕ
-after_ports more = big_bytes 2 6696 ++ (big_bytes 2 6696 ++ more)
+-- the first of several fragments, up to the end of its ports, and how many octets more it has
+abbrev pub ports : List ℕ
+ports = big_bytes 2 6696 ++ big_bytes 2 6696
 
-pub record FirstOverIpv4 (ether_type : ℕ) (sender : Address) (packet : List ℕ) : Type 0 where
+pub record FirstOverIpv4 (ether_type : ℕ) (sender : Address) (packet : List ℕ)
+    (more : ℕ) : Type 0 where
   pub is_type : ether_type ≡ 0x0800
   pub ip : Ipv4Header
-  pub more : List ℕ
-  pub fits : IsIpv4 ip (length (after_ports more))
-  pub flag : ip.flags ≡ 0x2000
+  pub fits : IsIpv4 ip (length ports + more)
+  pub is_first : HasFlags 1 ip.flags
   pub is_sender : sender ≡ record { family = V4; bits = ip.sender }
-  pub is_packet : packet ≡ ipv4_octets ip (after_ports more)
+  pub is_packet : packet ≡ ipv4_octets ip ports more
 
 -- RFC 8200, 4.5: the fragment header stands among the others
-pub record FirstOverIpv6 (ether_type : ℕ) (sender : Address) (packet : List ℕ) : Type 0 where
+pub record FirstOverIpv6 (ether_type : ℕ) (sender : Address) (packet : List ℕ)
+    (more : ℕ) : Type 0 where
   pub is_type : ether_type ≡ 0x86dd
   pub ip : Ipv6Header
   pub is_sender : sender ≡ record { family = V6; bits = ip.sender }
@@ -184,21 +196,20 @@ pub record FirstOverIpv6 (ether_type : ℕ) (sender : Address) (packet : List �
   pub are_front : All IsExtension front
   pub is_fragment : IsFragment 1 fragment
   pub are_back : All IsExtension back
-  pub more : List ℕ
-  pub fits : IsIpv6 ip (length (extensions (front ++ fragment ∷ back)) + length (after_ports more))
-  pub is_packet : packet ≡ ipv6_octets ip (front ++ fragment ∷ back) (after_ports more)
+  pub fits : IsIpv6 ip (length (extensions (front ++ fragment ∷ back)) + (length ports + more))
+  pub is_packet : packet ≡ ipv6_octets ip (front ++ fragment ∷ back) ports more
 
-abbrev pub IsFirstFragment : ℕ → Address → List ℕ → Type 0
-IsFirstFragment ether_type sender packet =
-    FirstOverIpv4 ether_type sender packet ⊎ FirstOverIpv6 ether_type sender packet
+abbrev pub IsFirstFragment : ℕ → Address → List ℕ → (more : ℕ) → Type 0
+IsFirstFragment ether_type sender packet more =
+    FirstOverIpv4 ether_type sender packet more ⊎ FirstOverIpv6 ether_type sender packet more
 
 -- what such a packet is seen as
-abbrev pub IsWhole : ℕ → Address → List ℕ → Carried → Type 0
-IsWhole ether_type sender packet carried =
-    (udp : UdpDatagram) × IsBabel udp × IsOverIp ether_type sender udp packet
+abbrev pub IsWhole : ℕ → Address → List ℕ → (more : ℕ) → Carried → Type 0
+IsWhole ether_type sender packet more carried =
+    (udp : UdpDatagram) × IsBabel udp × IsOverIp ether_type sender udp packet more
     × (carried ≡ carries udp.payload)
 
-abbrev pub HasBabel : ℕ → Address → List ℕ → Carried → Type 0
-HasBabel ether_type sender packet carried =
-    IsWhole ether_type sender packet carried
-    ⊎ (IsFirstFragment ether_type sender packet × (carried ≡ lacking Fragment))
+abbrev pub HasBabel : ℕ → Address → List ℕ → (more : ℕ) → Carried → Type 0
+HasBabel ether_type sender packet more carried =
+    IsWhole ether_type sender packet more carried
+    ⊎ (IsFirstFragment ether_type sender packet more × (carried ≡ lacking Fragment))

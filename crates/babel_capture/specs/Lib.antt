@@ -10,6 +10,7 @@ pub mod Findings
 pub mod Frame
 pub mod Gathering
 pub mod Headers
+pub mod InFrame
 pub mod Ipv4
 pub mod Ipv6
 pub mod Lack
@@ -24,6 +25,7 @@ pub mod Options
 pub mod OneFault
 pub mod OneOrigin
 pub mod Octets
+pub mod PacketEnds
 pub mod Packets
 pub mod PcapFiles
 pub mod PcapngFiles

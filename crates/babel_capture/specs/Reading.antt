@@ -3,6 +3,7 @@ use Rattle.std.specs.Prelude.{◌≡◌, ◌≢◌, ◌≤◌, ℕ, List, [], �
 use Rattle.babel_capture.specs.declared.fault.Fault.{Fault}
 use Rattle.babel_capture.specs.declared.layout.Layout.{Layout}
 use Rattle.babel_capture.specs.declared.layout.Layout.TheVariants as layouts
+use Rattle.babel_capture.specs.declared.packet_end.PacketEnd.{PacketEnd}
 use Rattle.babel_capture.specs.declared.wanted.Wanted.{Wanted}
 use Rattle.babel_capture.specs.Blocks.{BlockAt, HasHeader, IsPartial, header_of, BeginsBlock}
 use Rattle.babel_capture.specs.Blocks.{AreBlocks, start, context_behind, names_of, octets_of}
@@ -13,19 +14,21 @@ use Rattle.babel_capture.specs.Counts.{Made}
 use Rattle.babel_capture.specs.Gathering.{AreTaken, BlockNeedsMemory, Gathering, IsGathered}
 use Rattle.babel_capture.specs.Gathering.{IsRefused, with_taken}
 use Rattle.babel_capture.specs.Lengths.{block_len}
+use Rattle.babel_capture.specs.PacketEnds.{AreEnds}
 use Rattle.babel_capture.specs.Tallies.{Senders, senders_of}
 
--- what the blocks so far say of the capture, what was gathered of their packets, and where the next
--- one begins
+-- what the blocks so far say of the capture, what was gathered of their packets, where each packet
+-- of the dump ends, and where the next block begins
 pub record Progress : Type 0 where
   pub context : Before
   pub gathering : Gathering
+  pub ends : List PacketEnd
   pub at : ℕ
 
 -- with nothing of the dump
 abbrev pub without_dump : Progress → Progress
 without_dump progress =
-    record progress { gathering = record progress.gathering { dump = [] } }
+    record progress { gathering = record progress.gathering { dump = [] }; ends = [] }
 
 -- how many octets are read at most, and what was taken out of the dump until now
 pub record Account : Type 0 where
@@ -40,6 +43,7 @@ pub record LeadTo (account : Account) (octets : List ℕ) (progress : Progress) 
   pub place : progress.at ≡ length octets
   pub context : progress.context ≡ context_behind (start account.limit) blocks
   pub gathered : IsGathered (sightings_of blocks) (with_taken account.taken progress.gathering)
+  pub ends : AreEnds progress.gathering.wanted account.taken gathered.made progress.ends
   pub names : progress.gathering.names ≡ names_of blocks
 
 -- a whole block that can't be read, or whose packet is refused

@@ -6,6 +6,7 @@ ghost use Rattle.babel_capture.specs.Reading.{NeedsMemory, without_dump};
 
 use crate::fault::Fault;
 use crate::gathered::Gathered;
+use crate::packet_end::PacketEnd;
 use crate::reader::Reader;
 use crate::stream::Stream;
 use crate::wanted::Wanted;
@@ -100,8 +101,16 @@ impl Capture {
         self.stream.reader.gathered()
     }
 
-    /// Takes the octets of the dump that were gathered since the last call.
-    #[tactic(auto, using(crate::proofs::StreamLaws::taken_out))]
+    /// Where each packet of the dump ends, of those that were not taken out, and which packet of
+    /// the capture it came from.
+    pub fn ends(&self) -> &[PacketEnd]
+        ensures { result.now ≡ self.now.progress.ends }
+    {
+        self.stream.reader.ends()
+    }
+
+    /// Takes the octets of the dump that were gathered since the last call, with the ends of their
+    /// packets.
     pub fn take_dump(&mut self) -> Vec<u8>
         ensures taken { result.items ≡ self.old.progress.gathering.dump }
         ensures rest { self.new ≡ record self.old { progress = without_dump self.old.progress } }

@@ -129,6 +129,8 @@ impl Gathered {
             (holds (captured_of packet.now)) fault) }
         ensures memory { IfErr result (λ fault. fault ≡ Fault.Memory → BlockNeedsMemory
             self.old.wanted self.old.senders (holds (captured_of packet.now))) }
+        ensures added { OnOk result ((self.new.dump ≡ self.old.dump) ⊎ BlockNeedsMemory
+            self.old.wanted self.old.senders (holds (captured_of packet.now))) }
     {
         let link = packet.link;
         match self.wanted.finding(packet) {
@@ -170,6 +172,10 @@ impl Gathered {
         ensures err { IfErr result (λ fault. (fault ≡ Fault.Memory)
             ⊎ IsRefused self.old.wanted self.old.senders at (content_of said.now) fault) }
         ensures memory { IfErr result (λ fault. fault ≡ Fault.Memory → BlockNeedsMemory
+            self.old.wanted self.old.senders (content_of said.now)) }
+
+        // What is added to the dump needs memory.
+        ensures added { OnOk result ((self.new.dump ≡ self.old.dump) ⊎ BlockNeedsMemory
             self.old.wanted self.old.senders (content_of said.now)) }
     {
         match said {

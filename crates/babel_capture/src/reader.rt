@@ -1,6 +1,6 @@
 ghost use Rattle.std.specs.Prelude.{◌≡◌, ◌↔◌, IsTrue, ◌≤◌, ◌<◌, ◌+◌, ◌-◌, ◌^◌, ◌++◌, ◌⊎◌, ℕ, List};
 ghost use Rattle.std.specs.Prelude.{[], length, take, drop, OnOk, IfOk, IfErr, IfSome, IfNone, Err};
-ghost use Rattle.std.specs.Prelude.{Ok};
+ghost use Rattle.std.specs.Prelude.{Ok, nat_lt, if◌then◌else◌, ◌∷◌};
 ghost use Rattle.babel_capture.specs.Blocks.{BeginsBlock, HasHeader, IsBlock, IsPartial, header_of};
 ghost use Rattle.babel_capture.specs.Blocks.{start};
 ghost use Rattle.babel_capture.specs.Contents.{Content, block_said};
@@ -14,6 +14,7 @@ use crate::context::Context;
 use crate::fault::Fault;
 use crate::gathered::Gathered;
 use crate::layout::Layout;
+use crate::packet_end::PacketEnd;
 use crate::wanted::Wanted;
 use std::alloc::Global;
 use std::marker::Model;
@@ -23,6 +24,7 @@ use std::marker::Model;
 pub struct Reader {
     context: Context,
     gathered: Gathered,
+    ends: Vec<PacketEnd>,
     at: u64,
 }
 
@@ -33,7 +35,12 @@ impl Model for Reader {
 
     ghost Value = { Progress };
 
-    ghost view = { λ r. record { context = r.context; gathering = r.gathered; at = r.at } };
+    ghost view = { λ r. record {
+      context = r.context;
+      gathering = r.gathered;
+      ends = r.ends.items;
+      at = r.at;
+    } };
 
     ghost invariant = { λ r. (r.gathered.report.packets ≤ r.at) × (r.at ≤ r.context.limit) };
 }
@@ -49,6 +56,7 @@ impl Reader {
         Reader {
             context: Context::new(alloc, limit),
             gathered: Gathered::new(alloc, wanted),
+            ends: Vec::new(alloc),
             at: 0,
         }
     }
@@ -79,10 +87,37 @@ impl Reader {
     {
         let said = read_block(&self.context, self.at, block)?;
         let at = self.at;
+        let dump_len = self.gathered.dump().len();
         self.at += block.len() as u64;
         self.gathered.take_said(at, &said)?;
+        self.note_end(dump_len)?;
         self.context.take(&said)?;
         Ok(())
+    }
+
+    /// Notes where the dump ends, if it was so long before its last packet.
+    fn note_end(&mut self, before: usize) -> Result<(), Fault>
+        ensures others { (self.new.context ≡ self.old.context)
+            × (self.new.gathering ≡ self.old.gathering) × (self.new.at ≡ self.old.at) }
+        ensures ends { OnOk result (self.new.ends
+            ≡ (if nat_lt before (length self.old.gathering.dump)
+            then self.old.ends ++ record {
+              end = length self.old.gathering.dump;
+              number = self.old.gathering.report.packets;
+            } ∷ []
+            else self.old.ends)) }
+        ensures err { IfErr result (λ fault. (fault ≡ Fault.Memory)
+            × (before < length self.old.gathering.dump)) }
+    {
+        let end = self.gathered.dump().len();
+        if before >= end {
+            return Ok(());
+        }
+        let number = self.gathered.report().packets();
+        match self.ends.push(PacketEnd { end, number }) {
+            Ok(()) => Ok(()),
+            Err(_) => Err(Fault::Memory),
+        }
     }
 
     /// The whole block that the octets begin with; `None` if they are less than a block.
@@ -149,11 +184,19 @@ impl Reader {
         &self.gathered
     }
 
-    /// Takes the dump out of what was gathered.
+    /// Where each packet of the dump ends, of those that were not taken out.
+    pub fn ends(&self) -> &[PacketEnd]
+        ensures { result.now ≡ self.now.ends }
+    {
+        &self.ends
+    }
+
+    /// Takes the dump out of what was gathered, with the ends of its packets.
     pub fn take_dump(&mut self) -> Vec<u8>
         ensures taken { result.items ≡ self.old.gathering.dump }
         ensures rest { self.new ≡ without_dump self.old }
     {
+        self.ends.clear();
         self.gathered.take_dump()
     }
 

@@ -253,17 +253,44 @@ fn joined(alloc: Global, parts: &[&str]) -> Result<Vec<u8>, Fail> {
 fn read(alloc: Global, limit: u64, octets: &[u8], step: usize) -> Result<String, Fail>
     requires { 1 ≤ step }
 {
-    let Some(sender) = Addr::new(Family::V6, 0xfe80_0000_0000_0000_0000_5eff_fe00_c601) else {
-        return Err(Fail::from("no address"));
-    };
-    let wanted = Wanted::Sender {
-        sender,
-        place: None,
-    };
-    match gathered_of(alloc, limit, wanted, octets, step) {
+    match gathered_of(alloc, limit, of_first()?, octets, step) {
         Ok(gathered) => Ok(hex::encode(alloc, gathered.dump())?),
         Err(fault) => Ok(fault.to_string(alloc)?),
     }
+}
+
+/// The datagrams of fe80::5eff:fe00:c601.
+fn of_first() -> Result<Wanted, Fail> {
+    let Some(sender) = Addr::new(Family::V6, 0xfe80_0000_0000_0000_0000_5eff_fe00_c601) else {
+        return Err(Fail::from("no address"));
+    };
+    Ok(Wanted::Sender {
+        sender,
+        place: None,
+    })
+}
+
+/// The first capture, in two pieces: the first ends after the packet with the number 2.
+#[test]
+fn tells_where_packets_end(rt: HostRuntime) -> Result<(), Fail> {
+    let (parts, limit, _dump) = &CAPTURES[0];
+    let octets = joined(rt.alloc(), parts)?;
+    let mut capture = Capture::new(rt.alloc(), *limit, of_first()?);
+    let mut told = String::new(rt.alloc());
+    for piece in octets.chunks(212) {
+        if capture.feed(piece).is_err() {
+            return Err(Fail::from("a fault"));
+        }
+        for packet in capture.ends() {
+            let (end, number) = (packet.end, packet.number);
+            let line = format!(in rt.alloc(); "{end} {number}\n")?;
+            told.push_str(line.as_str())?;
+        }
+        let taken = capture.take_dump().len();
+        told.push_str(format!(in rt.alloc(); "taken {taken}\n")?.as_str())?;
+    }
+    assert_eq!(rt; told.as_str(), "16 2\ntaken 16\n24 3\ntaken 24\n");
+    Ok(())
 }
 
 /// What is gathered of a capture that is read in pieces of so many octets.

@@ -34,6 +34,7 @@ pub returns-then-len-body : goal.returns-then-len-body
 unfolding updates_in
 returns-then-len-body c =
     let none : tlvs_left c.loop-tlv.tlvs ≡ [] = search rules in
-    updates-all c.body_of-body.result.now (tlvs_of 0 c.body_of-body.result.now) (tlvs_left c.loop-tlv.tlvs) c.loop-tlv.count c.loop-tlv.len none c.loop-tlv.invariant.updates c.loop-tlv.invariant.octets
+    updates-all c.body_of-body.result.now (tlvs_of 0 c.body_of-body.result.now) (tlvs_left c.loop-tlv.tlvs) c.loop-tlv.count c.loop-tlv.len none c.loop-tlv.invariant.updates
+    c.loop-tlv.invariant.octets
     c.if-len-body.true
     ∙ ap (λ (b : List ℕ). updates_of b (tlvs_of 0 b)) c.body_of-body.ensures

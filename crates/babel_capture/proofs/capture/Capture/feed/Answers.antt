@@ -21,7 +21,8 @@ returns-in-Some-clause-fault c not fed more read =
 
 pub returns-in-Err-clause-fault : goal.returns-in-Err-clause-fault
 returns-in-Err-clause-fault c =
-    subst (λ (s : State). c.in-Err.fault ≢ faults.Memory → (fed more : List ℕ) → HasRead s fed → CaptureFault s.limit s.progress.gathering.wanted ((fed ++ c.args.piece.now) ++ more) c.in-Err.fault) c.self.view_is
+    subst (λ (s : State). c.in-Err.fault ≢ faults.Memory → (fed more : List ℕ) → HasRead s fed → CaptureFault s.limit s.progress.gathering.wanted ((fed ++ c.args.piece.now) ++ more) c.in-Err.fault)
+    c.self.view_is
     (failed-next (the_view c.self.inside) c.in-Err.fault c.args.piece.now c.in_default.is c.in-Err.ensures.err)
 
 pub returns-in-Err-clause-memory : goal.returns-in-Err-clause-memory

@@ -15,25 +15,34 @@ pub returns-in_err-take_block-clause-stops : goal.returns-in_err-take_block-clau
 returns-in_err-take_block-clause-stops c =
     let exit = err_from_is_err_and c.from_residual-in_err-take_block.result c.from_residual-in_err-take_block.ensures.1 in
     rw (exit.1, exit.2) (else-by (λ fails account read lead.
-    block-stops account _ read c.args.octets.now c.in-Some.block.now c.loop-block.used c.loop-block.self _ c.loop-block.invariant.wanted (some_of c.in_ok-block.field-0 _ (λ block. BeginsBlock c.loop-block.self.context c.loop-block.self.at (rest_of c.loop-block.used c.args.octets.now) block.now) c.in-Some.is c.in_ok-block.ensures.whole) fails (c.loop-block.invariant.took account read lead))
+    block-stops account _ read c.args.octets.now c.in-Some.block.now c.loop-block.used c.loop-block.self _ c.loop-block.invariant.wanted
+    (some_of c.in_ok-block.field-0 _ (λ block. BeginsBlock c.loop-block.self.context c.loop-block.self.at (rest_of c.loop-block.used c.args.octets.now) block.now) c.in-Some.is
+    c.in_ok-block.ensures.whole) fails (c.loop-block.invariant.took account read lead))
     c.in_err-take_block.ensures.err)
 
 pub returns-in_err-block-clause-memory : goal.returns-in_err-block-clause-memory
 returns-in_err-block-clause-memory c =
     let exit = err_from_is_err_and c.from_residual.result c.from_residual.ensures.1 in
-    rw (exit.1, exit.2) (λ memory limit read lead. absurd (header-other c.loop-block.self.context c.loop-block.self.at (rest_of c.loop-block.used c.args.octets.now) _ c.in_err-block.ensures.err memory))
+    rw (exit.1, exit.2) (λ memory limit read lead. absurd (header-other c.loop-block.self.context c.loop-block.self.at (rest_of c.loop-block.used c.args.octets.now) _ c.in_err-block.ensures.err
+    memory))
 
 pub returns-in_err-take_block-clause-memory : goal.returns-in_err-take_block-clause-memory
 returns-in_err-take_block-clause-memory c =
     let exit = err_from_is_err_and c.from_residual-in_err-take_block.result c.from_residual-in_err-take_block.ensures.1 in
     rw (exit.1, exit.2) (λ memory limit read lead.
-    block-needs limit _ read c.args.octets.now c.in-Some.block.now c.loop-block.used c.loop-block.self c.loop-block.invariant.wanted (some_of c.in_ok-block.field-0 _ (λ block. BeginsBlock c.loop-block.self.context c.loop-block.self.at (rest_of c.loop-block.used c.args.octets.now) block.now) c.in-Some.is c.in_ok-block.ensures.whole)
+    block-needs limit _ read c.args.octets.now c.in-Some.block.now c.loop-block.used c.loop-block.self c.loop-block.invariant.wanted
+    (some_of c.in_ok-block.field-0 _ (λ block. BeginsBlock c.loop-block.self.context c.loop-block.self.at (rest_of c.loop-block.used c.args.octets.now) block.now) c.in-Some.is
+    c.in_ok-block.ensures.whole)
     (c.in_err-take_block.ensures.memory memory) (c.loop-block.invariant.took limit read lead))
 
 pub loop-block-preserved : goal.loop-block-preserved
 loop-block-preserved c = record {
   wanted = c.take_block.ensures.wanted ∙ c.loop-block.invariant.wanted;
-  within = used-within c.loop-block.self.context c.loop-block.self.at c.loop-block.used c.args.octets.now c.in-Some.block.now c.loop-block.invariant.within (some_of c.in_ok-block.field-0 _ (λ block. BeginsBlock c.loop-block.self.context c.loop-block.self.at (rest_of c.loop-block.used c.args.octets.now) block.now) c.in-Some.is c.in_ok-block.ensures.whole);
-  took = λ account read lead. lead-more account read c.loop-block.self.context c.loop-block.self.at c.loop-block.used c.args.octets.now c.in-Some.block.now c.take_block.new.self (some_of c.in_ok-block.field-0 _ (λ block. BeginsBlock c.loop-block.self.context c.loop-block.self.at (rest_of c.loop-block.used c.args.octets.now) block.now) c.in-Some.is c.in_ok-block.ensures.whole)
+  within = used-within c.loop-block.self.context c.loop-block.self.at c.loop-block.used c.args.octets.now c.in-Some.block.now c.loop-block.invariant.within
+      (some_of c.in_ok-block.field-0 _ (λ block. BeginsBlock c.loop-block.self.context c.loop-block.self.at (rest_of c.loop-block.used c.args.octets.now) block.now) c.in-Some.is
+      c.in_ok-block.ensures.whole);
+  took = λ account read lead. lead-more account read c.loop-block.self.context c.loop-block.self.at c.loop-block.used c.args.octets.now c.in-Some.block.now c.take_block.new.self
+      (some_of c.in_ok-block.field-0 _ (λ block. BeginsBlock c.loop-block.self.context c.loop-block.self.at (rest_of c.loop-block.used c.args.octets.now) block.now) c.in-Some.is
+      c.in_ok-block.ensures.whole)
       (c.in_ok-take_block.ensures.ok account (read ++ take c.loop-block.used c.args.octets.now) (c.loop-block.invariant.took account read lead));
 }

@@ -5,26 +5,33 @@ use Rattle.babel_capture.proofs.stream.Stream.take.Goals as goal
 
 pub returns-in_err-take_behind-clause-err : goal.returns-in_err-take_behind-clause-err
 returns-in_err-take_behind-clause-err c =
-    let whole : c.split_at.result.0.now ++ c.split_at.result.1.now ≡ c.args.piece.now = split-whole c.lacking_of.result c.split_at.result.0.now c.split_at.result.1.now c.args.piece.now (search rules) (search rules) in
+    let whole : c.split_at.result.0.now ++ c.split_at.result.1.now ≡ c.args.piece.now = split-whole c.lacking_of.result c.split_at.result.0.now c.split_at.result.1.now c.args.piece.now (search rules)
+    (search rules) in
     let fails : Fails c.args.self.now.reader c.args.self.now.pending.items c.args.piece.now c.in_err-take_behind.field-0.0 =
-    fails-first c.split_at.result.0.now c.split_at.result.1.now c.args.piece.now whole c.args.self.now.reader c.args.self.now.pending.items c.in_err-take_behind.field-0.0 c.in_err-take_behind.ensures.err in
+    fails-first c.split_at.result.0.now c.split_at.result.1.now c.args.piece.now whole c.args.self.now.reader c.args.self.now.pending.items c.in_err-take_behind.field-0.0
+    c.in_err-take_behind.ensures.err in
     search (rules, fails)
 
 pub returns-clause-ok : goal.returns-clause-ok
 returns-clause-ok c =
-    let whole : c.split_at.result.0.now ++ c.split_at.result.1.now ≡ c.args.piece.now = split-whole c.lacking_of.result c.split_at.result.0.now c.split_at.result.1.now c.args.piece.now (search rules) (search rules) in
+    let whole : c.split_at.result.0.now ++ c.split_at.result.1.now ≡ c.args.piece.now = split-whole c.lacking_of.result c.split_at.result.0.now c.split_at.result.1.now c.args.piece.now (search rules)
+    (search rules) in
     let old = c.args.self.now in
     let next = c.take_behind.new.self in
     let new = c.take_past_header.new.self in
-    ok-map (Takes next.reader next.pending.items new.reader new.pending.items c.split_at.result.1.now) (Takes old.reader old.pending.items new.reader new.pending.items c.args.piece.now) c.take_past_header.result
-    (takes-both c.split_at.result.0.now c.split_at.result.1.now c.args.piece.now whole old.reader next.reader new.reader old.pending.items next.pending.items new.pending.items c.in_ok-take_behind.ensures.ok)
+    ok-map (Takes next.reader next.pending.items new.reader new.pending.items c.split_at.result.1.now) (Takes old.reader old.pending.items new.reader new.pending.items c.args.piece.now)
+    c.take_past_header.result
+    (takes-both c.split_at.result.0.now c.split_at.result.1.now c.args.piece.now whole old.reader next.reader new.reader old.pending.items next.pending.items new.pending.items
+    c.in_ok-take_behind.ensures.ok)
     c.take_past_header.ensures.ok
 
 pub returns-clause-err : goal.returns-clause-err
 returns-clause-err c =
-    let whole : c.split_at.result.0.now ++ c.split_at.result.1.now ≡ c.args.piece.now = split-whole c.lacking_of.result c.split_at.result.0.now c.split_at.result.1.now c.args.piece.now (search rules) (search rules) in
+    let whole : c.split_at.result.0.now ++ c.split_at.result.1.now ≡ c.args.piece.now = split-whole c.lacking_of.result c.split_at.result.0.now c.split_at.result.1.now c.args.piece.now (search rules)
+    (search rules) in
     let old = c.args.self.now in
     let next = c.take_behind.new.self in
     err-map (Fails next.reader next.pending.items c.split_at.result.1.now) (Fails old.reader old.pending.items c.args.piece.now) c.take_past_header.result
-    (λ fault. fails-later c.split_at.result.0.now c.split_at.result.1.now c.args.piece.now whole old.reader next.reader old.pending.items next.pending.items fault c.in_ok-take_behind.ensures.wanted c.in_ok-take_behind.ensures.ok)
+    (λ fault. fails-later c.split_at.result.0.now c.split_at.result.1.now c.args.piece.now whole old.reader next.reader old.pending.items next.pending.items fault c.in_ok-take_behind.ensures.wanted
+    c.in_ok-take_behind.ensures.ok)
     c.take_past_header.ensures.err

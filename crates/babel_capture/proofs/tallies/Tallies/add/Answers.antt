@@ -22,7 +22,8 @@ returns-clause-ok c =
     let more : c.in-Some-with.more ≡ one_more c.in-Some.tally.now c.args.packet.now = search rules in
     let sorted : IsStrictlySortedBy ghosts.cmp (keys_of c.args.self.now) = subst (λ (s : Senders). IsStrictlySortedBy ghosts.cmp (keys_of s)) c.self.view_is c.get_mut.ensures.ordered in
     let written : (c.get_mut.follows.lender c.in-Some-with.more).entries ≡ set_value (is_at (ghosts.cmp c.args.origin)) c.args.self.now c.in-Some-with.more =
-    subst (λ (s : Senders). (c.get_mut.follows.lender c.in-Some-with.more).entries ≡ set_value (is_at (ghosts.cmp c.args.origin)) s c.in-Some-with.more) c.self.view_is (c.get_mut.follows.holds c.in-Some-with.more).0 in
+    subst (λ (s : Senders). (c.get_mut.follows.lender c.in-Some-with.more).entries ≡ set_value (is_at (ghosts.cmp c.args.origin)) s c.in-Some-with.more) c.self.view_is
+    (c.get_mut.follows.holds c.in-Some-with.more).0 in
     updated-by c.args.self.now (c.get_mut.follows.lender c.in-Some-with.more).entries c.args.origin c.args.packet.now c.in-Some.tally.now c.in-Some-with.more found more sorted written
 
 pub returns-in_default-clause-memory : goal.returns-in_default-clause-memory
