@@ -4,6 +4,9 @@ ghost use Rattle.babel_prefix.specs.Text.{groups_from};
 
 use crate::text::group;
 
+/// Fewer zero groups are never shortened (RFC 5952, 4.2.2).
+const LEAST: u8 = 2;
+
 /// What `::` stands for in the short text of an IPv6 address: its longest run of two or more zero
 /// groups, and of several the first (RFC 5952, 4.2).
 #[derive(Clone, Copy, Debug, PartialEq, Eq)]
@@ -30,7 +33,7 @@ impl Gap {
                 after = place + 1 - run;
             }
         }
-        if len < 2 {
+        if len < LEAST {
             return None;
         }
         let start = 8 - after - len;

@@ -17,5 +17,6 @@ loop-place-preserved g c = λ plain.
     ] in (
       h.0 ++ (digits 16 false c.group.result ++ c.if-place-last.mark.now),
       has_written_append _ _ _ _ _ _ h.1 (search rules),
-      one_more place (place - 1) (place - last) (place - 1 - last) c.args.self.now.bits c.group.result c.if-place-last.mark.now h.0 _ (omega arith) (omega arith) (omega arith) mark c.group.ensures h.2,
+      one_more place (place - 1) (place - last) (place - 1 - last) c.args.self.now.bits c.group.result c.if-place-last.mark.now h.0 _
+          (omega arith) (omega arith) (omega arith) mark c.group.ensures h.2,
     )
