@@ -268,24 +268,27 @@ def write_many_sources(path, rng, count):
 
 
 def write_network_or_hosts(folder, name, rng, count):
-    """One network from so many sources; and beside it as many of its hosts, from all sources. Each
-    host makes a difference at each source: far too many, in a few octets."""
-    anns = announcements(rng, 20)
+    """One network from so many sources; and as many of its hosts from all sources, each with an
+    announcement of its own. The two differ for each host at each source: far too often, in a few
+    octets."""
+    anns = announcements(rng, count // 6 + 1)
     sources = disjoint(rng, 4, 100 << 24, {24: 1}, count, 1 << 8)
+    addresses = [10 << 24 | host for host in rng.sample(range(1 << 24), count)]
     write_routes(
-        folder / f"{name}.dump", [(4, 10 << 24, 8, rng.choice(anns), source) for source in sources]
+        folder / f"{name}.dump",
+        [(4, 10 << 24, 8, ann, source) for ann, source in zip(anns, sources)],
     )
     write_routes(
         folder / f"{name}-other.dump",
-        [(4, 10 << 24 | host, 32, rng.choice(anns)) for host in rng.sample(range(1 << 24), count)],
+        [(4, bits, 32, ann) for bits, ann in zip(addresses, anns)],
     )
 
 
 def write_deepest(folder, name, rng, count):
-    """128 nested sources of one network, and so many of its hosts that have another route from the
-    longest; and the same with other metrics at the hosts. What each host answers is as deep as
-    there are sources, and differs in the deepest alone."""
-    anns = announcements(rng, 128)
+    """128 nested sources of one network, and so many of its hosts, each with an announcement of its
+    own from the longest source; and the same with other metrics at the hosts. What each host
+    answers is as deep as there are sources, and differs in the deepest alone."""
+    anns = announcements(rng, (128 + count) // 6 + 1)
     sources = nested(0x2001 << 112 | rng.getrandbits(112), 1)
     network = 0x2001_0DB8 << 96
     routes = [(6, network, 32, ann, source) for ann, source in zip(anns, sources)]
@@ -293,7 +296,7 @@ def write_deepest(folder, name, rng, count):
     for other, more in (("", 0), ("-other", 1)):
         found = [
             (6, bits, 128, (router_id, seqno, metric + more), sources[-1])
-            for bits, (router_id, seqno, metric) in zip(addresses, anns * (count // len(anns) + 1))
+            for bits, (router_id, seqno, metric) in zip(addresses, anns[128:])
         ]
         write_routes(folder / f"{name}{other}.dump", routes + found)
 
