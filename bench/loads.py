@@ -267,6 +267,40 @@ def write_many_sources(path, rng, count):
     write_routes(path, routes)
 
 
+def write_network_or_hosts(folder, name, rng, count):
+    """One network from so many sources; and as many of its hosts from all sources, each with an
+    announcement of its own. The two differ for each host at each source: far too often, in a few
+    octets."""
+    anns = announcements(rng, count // 6 + 1)
+    sources = disjoint(rng, 4, 100 << 24, {24: 1}, count, 1 << 8)
+    addresses = [10 << 24 | host for host in rng.sample(range(1 << 24), count)]
+    write_routes(
+        folder / f"{name}.dump",
+        [(4, 10 << 24, 8, ann, source) for ann, source in zip(anns, sources)],
+    )
+    write_routes(
+        folder / f"{name}-other.dump",
+        [(4, bits, 32, ann) for bits, ann in zip(addresses, anns)],
+    )
+
+
+def write_deepest(folder, name, rng, count):
+    """128 nested sources of one network, and so many of its hosts, each with an announcement of its
+    own from the longest source; and the same with other metrics at the hosts. What each host
+    answers is as deep as there are sources, and differs in the deepest alone."""
+    anns = announcements(rng, (128 + count) // 6 + 1)
+    sources = nested(0x2001 << 112 | rng.getrandbits(112), 1)
+    network = 0x2001_0DB8 << 96
+    routes = [(6, network, 32, ann, source) for ann, source in zip(anns, sources)]
+    addresses = [network | bits for bits in rng.sample(range(1 << 40), count)]
+    for other, more in (("", 0), ("-other", 1)):
+        found = [
+            (6, bits, 128, (router_id, seqno, metric + more), sources[-1])
+            for bits, (router_id, seqno, metric) in zip(addresses, anns[128:])
+        ]
+        write_routes(folder / f"{name}{other}.dump", routes + found)
+
+
 def hosts(rng, family, count):
     """So many addresses of one network, in any order."""
     network, free = {4: (10 << 24, 24), 6: (0x2001_0DB8 << 96, 96)}[family]
@@ -461,6 +495,11 @@ def main():
     write_shared(folder, "shared", random.Random(f"{seed} shared"), 20_000)
     write_shared(folder, "shared-131k", random.Random(f"{seed} shared 131k"), 131_072)
     write_many_sources(folder / "many-sources.dump", random.Random(f"{seed} many sources"), 131_072)
+    for size in (1, 2, 4):
+        rng = random.Random(f"{seed} network or hosts {size}")
+        write_network_or_hosts(folder, f"network-or-hosts-{size}k", rng, size * 1_024)
+        rng = random.Random(f"{seed} deepest {size}")
+        write_deepest(folder, f"deepest-{size * 16}k", rng, size * 16_384)
     write_merging(folder / "merging.dump", random.Random(f"{seed} merging"), 512)
     write_merging(folder / "merging-16.dump", random.Random(f"{seed} merging 16"), 16)
     write_hosts(folder / "hosts-ipv4.dump", random.Random(f"{seed} hosts ipv4"), 4, 200_000)

@@ -38,3 +38,4 @@ mod ManyBoxes
 mod JoinedRows
 pub mod DifferingRows
 pub mod RoutesHeadline
+mod ManyDifferences

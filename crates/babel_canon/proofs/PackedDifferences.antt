@@ -84,7 +84,7 @@ module _ (values : List Held) where
     }
 
   -- what is told apart in packed values is told apart by value
-  in_family : AreDistinct values → (family : Family) (rows others : List Pair) (boxes : List (Row (Differing PackedValue)))
+  pub in_family : AreDistinct values → (family : Family) (rows others : List Pair) (boxes : List (Row (Differing PackedValue)))
       → ArePackedDifferences family rows others values boxes → AreFamilyDifferences family rows others (map (valued_row values) boxes)
   in_family distinct family rows others boxes are =
       differences_by_value distinct (width_of family) (answers_in family are.mine) (answers_in family are.theirs) (answers_in family (entries_of rows)) (answers_in family (entries_of others))

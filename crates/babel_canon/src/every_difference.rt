@@ -1,10 +1,13 @@
 //! All that two tables answer differently.
-ghost use Rattle.std.specs.Prelude.{◌≡◌, ◌+◌, ◌++◌, ◌∷◌, ◌≤◌, ⊤, List, Option, IfOk};
-ghost use Rattle.std.specs.Prelude.{IfErr, OnOk, OnErr, [], length};
+ghost use Rattle.std.specs.Prelude.{◌≡◌, ◌+◌, ◌++◌, ◌∷◌, ◌≤◌, ⊤, List, Option, None, IfOk};
+ghost use Rattle.std.specs.Prelude.{IfErr, IfSome, OnOk, OnErr, [], length};
 ghost use Rattle.std.specs.Option.{option_map};
 ghost use Rattle.babel_prefix.specs.declared.family.Family.TheVariants.{V4, V6};
 ghost use Rattle.babel_prefix.specs.Entries.{Entry};
+ghost use Rattle.babel_prefix.specs.Width.{width_of};
+ghost use Rattle.babel_trie.specs.Early.{HasMoreDifferences};
 ghost use Rattle.babel_trie.specs.declared.differing.Differing.{Differing};
+ghost use Rattle.babel_canon.specs.Boxes.{answers_of};
 ghost use Rattle.babel_canon.specs.Differences.{AreDifferences, CountsDifferences};
 ghost use Rattle.babel_canon.specs.Differences.{DifferencesFault};
 ghost use Rattle.babel_canon.specs.PackedDifferences.{ArePackedDifferences, HasDifferences};
@@ -17,7 +20,7 @@ use crate::values::{PackedValue, Values};
 use babel_prefix::{Family, Prefix};
 use babel_table::{Limits, Table};
 use babel_tlv::{Fault, Held, Key};
-use babel_trie::{Differing, Grid, Sink, differences_of};
+use babel_trie::{Differing, Grid, Sink, differences_within};
 use std::alloc::{AllocError, Global};
 
 /// A destination prefix and a source prefix for whose addresses two tables answer these two, which
@@ -78,26 +81,32 @@ impl<'a> Sink<Differing<PackedValue>> for DifferenceList<'a> {
     }
 }
 
-/// What two tables answer differently for the addresses of a family, with these values.
+/// What two tables answer differently for the addresses of a family, with these values; `None` as
+/// soon as that is known to have more boxes than the entries of the limits.
 fn family_differences(
     alloc: Global,
+    limits: Limits,
     family: Family,
     left: &Table,
     right: &Table,
     values: &mut Values,
-) -> Result<Grid<Differing<PackedValue>>, AllocError>
+) -> Result<Option<Grid<Differing<PackedValue>>>, AllocError>
     requires { AreNumbered values.old.list.items values.old.numbers }
     ensures numbered { OnOk result (AreNumbered values.new.list.items values.new.numbers) }
     ensures keeps { OnOk result (KeepsValues values.old.list.items values.new.list.items) }
-    ensures family { IfOk result (λ grid. grid.family ≡ family) }
-    ensures boxes { IfOk result (λ grid.
-        ArePackedDifferences family left.now.rows right.now.rows values.new.list.items grid.boxes) }
+    ensures many { IfOk result (λ grid. grid ≡ None
+        → HasMoreDifferences limits.entries (width_of family)
+        (answers_of family left.now.rows) (answers_of family right.now.rows)) }
+    ensures family { IfOk result (λ grid. IfSome grid (λ grid. grid.family ≡ family)) }
+    ensures boxes { IfOk result (λ grid. IfSome grid (λ grid.
+        ArePackedDifferences family left.now.rows right.now.rows values.new.list.items
+        grid.boxes)) }
 {
     let mine = family_values(alloc, family, left, values)?;
     let theirs = family_values(alloc, family, right, values)?;
     let rows = PackedRows::of(family, left, mine.as_slice());
     let others = PackedRows::of(family, right, theirs.as_slice());
-    let grid = differences_of(alloc, family, rows, others)?;
+    let grid = differences_within(alloc, family, rows, others, limits.entries() as u64)?;
     Ok(grid)
 }
 
@@ -119,8 +128,12 @@ fn counted_differences(
         (valued_differences values.new.list.items grids.v4.boxes grids.v6.boxes)) }
     ensures err { IfErr result (DifferencesFault limits left.now.rows right.now.rows) }
 {
-    let v4 = family_differences(alloc, Family::V4, left, right, values)?;
-    let v6 = family_differences(alloc, Family::V6, left, right, values)?;
+    let Some(v4) = family_differences(alloc, limits, Family::V4, left, right, values)? else {
+        return Err(Fault::TooManyPairs);
+    };
+    let Some(v6) = family_differences(alloc, limits, Family::V6, left, right, values)? else {
+        return Err(Fault::TooManyPairs);
+    };
     let grids = Grids { v4, v6 };
     if grids.count() > limits.entries() as u64 {
         return Err(Fault::TooManyPairs);

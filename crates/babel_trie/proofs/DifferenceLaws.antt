@@ -14,7 +14,7 @@ use Rattle.babel_trie.proofs.TellLaws.{one_told}
 
 module _ {V : Type 0} where
   -- answers that can be told apart make two answers that can be told apart
-  differing_test : HasEqualityTest V → HasEqualityTest (Differing V)
+  pub differing_test : HasEqualityTest V → HasEqualityTest (Differing V)
   differing_test test a b = elim (same_option test a.left b.left) [
     | inl left ↦ elim (same_option test a.right b.right) [
       | inl right ↦ inl (

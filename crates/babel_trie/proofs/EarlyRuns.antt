@@ -1,24 +1,16 @@
--- A list that says what rows answer below an address has, as far as that, their answers.
-use Rattle.std.proofs.Common.{◌≡◌, inl, inr, ℕ, ◌-◌, ◌^◌, ◌<◌, ◌≤◌, cond, min, List, [], ◌∷◌, length, map, Option, None, Some, refl, sym, ◌∙◌, ap, subst, arith}
+-- A list that says what a function answers below an address has, as far as that, its answers.
+use Rattle.std.proofs.Common.{◌≡◌, inl, inr, ℕ, ◌-◌, ◌^◌, ◌<◌, ◌≤◌, cond, min, List, [], ◌∷◌, length, Option, None, Some, refl, sym, ◌∙◌, ap, subst, arith}
 use Rattle.std.proofs.lemmas.Bool.{cases_lt}
 use Rattle.std.specs.Prelude.{MatchOption}
-use Rattle.babel_prefix.specs.Best.{answer}
-use Rattle.babel_prefix.specs.BestRow.{IsTable}
-use Rattle.babel_prefix.specs.Entries.{Entry, row_of}
 use Rattle.babel_prefix.proofs.Members.{Listed}
 use Rattle.babel_trie.specs.Boxes.{Answers, SameAnswers}
 use Rattle.babel_trie.specs.Early.{AgreeUpTo, HasMoreBoxes}
-use Rattle.babel_trie.specs.Held.{sources_at}
-use Rattle.babel_trie.specs.Interned.{HasTrie}
 use Rattle.babel_trie.specs.Runs.{said_at, AreRuns, StartBelow, HasRuns}
-use Rattle.babel_trie.specs.Shape.{value_at}
 use Rattle.babel_trie.specs.declared.runs.Change.{Change}
 use Rattle.babel_trie.specs.declared.table.Node.{Node}
 use Rattle.babel_trie.specs.declared.table.Sources.{Sources}
 use Rattle.babel_trie.proofs.BoxLaws.{SameAnswers-sym, IsBox-same}
-use Rattle.babel_trie.proofs.HeldLaws.{sources_at-stands}
-use Rattle.babel_trie.proofs.PassLaws.{Says, laid-answers}
-use Rattle.babel_trie.proofs.RunLaws.{reached, runs-same}
+use Rattle.babel_trie.proofs.RunLaws.{HasValues, Says, reached, runs-same, says-all}
 
 -- behind all changes nothing changes
 said-still : {F : Type 0} (none : F) (list : List (Change F)) (e d : ℕ) → ((x : Change F) → Listed list x → x.start ≤ e) → e ≤ d → said_at none list d ≡ said_at none list e
@@ -33,31 +25,23 @@ pub some_below : {F : Type 0} (at : ℕ) (list : List (Change F)) → StartBelow
 some_below at [] below some = absurd (omega arith)
 some_below at (x ∷ xs) below some = omega (arith, below x (inl refl))
 
-module _ {V : Type 0} (w at : ℕ) (rows : List (Entry V)) (nodes : List (Node (Option V))) (list : List (Change (Sources (Option V)))) (runs : AreRuns list) (below : StartBelow at list) where
-  -- what the rows answer for the destinations below the address, and from there on for the last of them
+module _ {V : Type 0} (w at : ℕ) (f : Answers V) (nodes : List (Node (Option V))) (list : List (Change (Sources (Option V)))) (runs : AreRuns list) (below : StartBelow at list) where
+  -- what the function answers for the destinations below the address, and from there on for the last of them
   abbrev pub so_far : Answers V
-  so_far d = answer w (map row_of rows) (min d (at - 1))
+  so_far d = f (min d (at - 1))
 
-  pub has_runs_so_far : IsTable w (map row_of rows) → Says w at rows nodes list → 0 < at → at ≤ 2 ^ w → HasRuns w nodes list so_far
-  has_runs_so_far table says some at_in =
+  pub has_runs_so_far : Says w at f nodes list → 0 < at → at ≤ 2 ^ w → HasRuns w nodes list so_far
+  has_runs_so_far says some at_in =
       let same : (none : Sources (Option V)) (d : ℕ) → said_at none list d ≡ said_at none list (min d (at - 1)) =
       λ none d. elim (cases_lt d at) [
         | inl lt ↦ ap (said_at none list) (omega arith)
         | inr ge ↦ said-still none list (at - 1) d (λ x t. omega (arith, below x t)) (omega arith) ∙ ap (said_at none list) (omega arith)
       ] in
-      record {
-        runs = runs;
-        below = λ x t. omega (arith, below x t);
-        each = λ none d d_in. subst (HasTrie w nodes) (sym (same none d)) (says none (min d (at - 1)) (omega arith)).held;
-        answers = λ none d s d_in s_in.
-            let e : ℕ = min d (at - 1) in
-            let l = says none e (omega arith) in
-            ap (λ (n : Sources (Option V)). value_at (sources_at w nodes n) w s) (same none d) ∙ ap (λ t. value_at t w s) (sources_at-stands w nodes (said_at none list e) l.held)
-            ∙ sym (laid-answers w e rows nodes (said_at none list e) table l l.held s s_in);
-      }
+      says-all w so_far nodes list runs (λ x t. omega (arith, below x t))
+      (λ none d d_in. subst (HasValues w (so_far d) nodes) (sym (same none d)) (says none (min d (at - 1)) (omega arith)))
 
-  pub agree_so_far : AgreeUpTo w list (answer w (map row_of rows)) so_far
-  agree_so_far x t d s le s_in = ap (λ (e : ℕ). answer w (map row_of rows) e s) (omega (arith, below x t))
+  pub agree_so_far : AgreeUpTo w list f so_far
+  agree_so_far x t d s le s_in = ap (λ (e : ℕ). f e s) (omega (arith, below x t))
 
 module _ {V L : Type 0} (items : L → List (Change (Sources (Option V)))) (most w : ℕ) (nodes : List (Node (Option V))) where
   -- what is known of the changes of answers, or that their boxes are more, holds of the same answers

@@ -13,6 +13,7 @@ use Rattle.babel_trie.specs.declared.runs.Change.{Change}
 use Rattle.babel_trie.specs.declared.table.Node.{Node}
 use Rattle.babel_trie.specs.declared.table.Sources.{Sources}
 use Rattle.babel_trie.proofs.PassLaws.{laid-answers, way-held, way-here}
+use Rattle.babel_trie.proofs.RunLaws.{HasValues}
 
 module _ {V : Type 0} where
   -- for an address a pass came to these sources, and they are what the rows answer from there on as long as nothing comes
@@ -20,6 +21,11 @@ module _ {V : Type 0} where
     pub held : HasTrie w nodes here
     pub quiet : Quiet at
     pub answers : (d : ℕ) → at ≤ d → d < 2 ^ w → Quiet d → (src : ℕ) → src < 2 ^ w → answer w (map row_of rows) d src ≡ value_at held.trie w src
+
+  -- so they are the values of its answers
+  pub at-values : {w at : ℕ} {rows : List (Entry V)} {nodes : List (Node (Option V))} {here : Sources (Option V)} {Quiet : ℕ → Type 0} → IsAt w at rows nodes here Quiet → (d : ℕ) → at ≤ d → d < 2 ^ w → Quiet d →
+      HasValues w (answer w (map row_of rows) d) nodes here
+  at-values l d le d_in so = record { held = l.held; values_are = λ src src_in. sym (l.answers d le d_in so src src_in) }
 
   module _ {w : ℕ} {rows left : List (Entry V)} {nodes : List (Node (Option V))} {now : Change (Reached V)} {ahead : List (Change (Reached V))} where
     pub come : (p : IsUnderWay w rows nodes now ahead left) → (at : ℕ) → now.start ≤ at → at < 2 ^ w → AreQuietUpTo at ahead left → (here : Sources (Option V)) → here ≡ now.sources.trie →

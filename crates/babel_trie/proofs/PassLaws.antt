@@ -18,7 +18,7 @@ use Rattle.babel_trie.specs.Interned.{Represents, HasTrie}
 use Rattle.babel_trie.specs.Laid.{HasOneDestination, IsOverlaid}
 use Rattle.babel_trie.specs.Pass.{IsFilled, StartInOrder, IsLaidAt, IsReachedAt, AreLaid, IsUnderWay, AreQuietUpTo}
 use Rattle.babel_trie.specs.Rows.{InOrder, IsNoLater, InBlock, Overlays, source_block}
-use Rattle.babel_trie.specs.Runs.{said_at, AreRuns, StartBelow, StartBehind, HasRuns}
+use Rattle.babel_trie.specs.Runs.{said_at, AreRuns, StartBelow, StartBehind}
 use Rattle.babel_trie.specs.Shape.{Shape, leaf, value_at}
 use Rattle.babel_trie.specs.Sound.{KeepsNodes}
 use Rattle.babel_trie.specs.declared.pass.Reached.{Reached}
@@ -472,29 +472,3 @@ module _ {V : Type 0} where
               from = λ y t. omega (arith, rest_from y t);
               nested = λ x t. absurd (none x t);
             }
-
-  -- the list says what the rows answer below the address
-  abbrev pub Says : ℕ → ℕ → List (Entry V) → List (Node (Option V)) → List (Change (Sources (Option V))) → Type 0
-  Says w at rows nodes list = (none : Sources (Option V)) (d : ℕ) → d < at → IsLaidAt w d rows nodes (said_at none list d)
-
-  -- up to the next change it says what the pass has come to
-  pub says-more : (w at to : ℕ) (rows left : List (Entry V)) (nodes more : List (Node (Option V))) (list after : List (Change (Sources (Option V)))) (now : Change (Reached V)) (ahead : List (Change (Reached V))) → KeepsNodes nodes more →
-      IsFilled at to now.sources.trie list after → Says w at rows nodes list → IsUnderWay w rows more now ahead left → now.start ≤ at → to ≤ 2 ^ w → ((d : ℕ) → d < to → AreQuietUpTo d ahead left) → Says w to rows more after
-  says-more w at to rows left nodes more list after now ahead keeps filled says p low to_in quiet none d lt =
-      elim (cases_lt d at) [
-        | inl under ↦ subst (IsLaidAt w d rows more) (sym (filled.kept none d under)) (laid-grows w d rows nodes more (said_at none list d) keeps (says none d under))
-        | inr ge ↦ subst (IsLaidAt w d rows more) (sym (filled.said none d ge lt)) (way-here p d (omega arith) (omega arith) (quiet d lt))
-      ]
-
-  -- a list that says it of all addresses has the answers of the rows
-  pub says-all : (w : ℕ) (rows : List (Entry V)) (nodes : List (Node (Option V))) (list : List (Change (Sources (Option V)))) → IsTable w (map row_of rows) → AreRuns list → StartBelow (2 ^ w) list → Says w (2 ^ w) rows nodes list →
-      HasRuns w nodes list (answer w (map row_of rows))
-  says-all w rows nodes list table runs below says =
-      record {
-        runs = runs;
-        below = below;
-        each = λ none d d_in. (says none d d_in).held;
-        answers = λ none d s d_in s_in.
-            let l = says none d d_in in
-            ap (λ t. value_at t w s) (sources_at-stands w nodes (said_at none list d) l.held) ∙ sym (laid-answers w d rows nodes (said_at none list d) table l l.held s s_in);
-      }

@@ -1,9 +1,11 @@
 -- What a list of changes says.
 use Rattle.std.proofs.Common.{◌≡◌, ◌≢◌, inl, inr, ℕ, suc, ◌-◌, ◌^◌, ◌<◌, ◌≤◌, true, false, cond, List, [], ◌∷◌, ◌++◌, nat_le, length, Option, Some, refl, sym, ◌∙◌, ap, subst, arith}
 use Rattle.std.specs.List.{slice_get}
+use Rattle.std.proofs.lemmas.Bool.{cases_lt}
 use Rattle.babel_prefix.proofs.Members.{Listed}
 use Rattle.babel_trie.specs.Boxes.{Answers, SameAnswers}
 use Rattle.babel_trie.specs.Interned.{HasTrie}
+use Rattle.babel_trie.specs.Pass.{IsFilled}
 use Rattle.babel_trie.specs.Runs.{said_at, AreRuns, StartBelow, HasRuns}
 use Rattle.babel_trie.specs.Shape.{value_at}
 use Rattle.babel_trie.specs.Sound.{KeepsNodes}
@@ -66,4 +68,36 @@ module _ {V : Type 0} where
             let h = p.each none d d_in in
             let h' : HasTrie w more n = record { trie = h.trie; stands = Represents-grows sources more keeps n h.trie h.stands; fits = h.fits; reduced = h.reduced } in
             ap (λ t. value_at t w s) (sources_at-stands w more n h' ∙ sym (sources_at-stands w sources n h)) ∙ p.answers none d s d_in s_in;
+      }
+
+  -- the sources stand for a trie with these values
+  pub record HasValues (w : ℕ) (values : ℕ → Option V) (nodes : List (Node (Option V))) (s : Sources (Option V)) : Type 0 where
+    pub held : HasTrie w nodes s
+    pub values_are : (src : ℕ) → src < 2 ^ w → value_at held.trie w src ≡ values src
+
+  -- the list says below the address what the function answers
+  abbrev pub Says : ℕ → ℕ → Answers V → List (Node (Option V)) → List (Change (Sources (Option V))) → Type 0
+  Says w at f nodes list = (none : Sources (Option V)) (d : ℕ) → d < at → HasValues w (f d) nodes (said_at none list d)
+
+  values-grow : (w : ℕ) (values : ℕ → Option V) (nodes more : List (Node (Option V))) (s : Sources (Option V)) → KeepsNodes nodes more → HasValues w values nodes s → HasValues w values more s
+  values-grow w values nodes more s keeps v =
+      let h = v.held in
+      record { held = record { trie = h.trie; stands = Represents-grows nodes more keeps s h.trie h.stands; fits = h.fits; reduced = h.reduced }; values_are = v.values_are }
+
+  -- one more change says it up to another address
+  pub says-more : (w at to : ℕ) (f : Answers V) (nodes more : List (Node (Option V))) (list after : List (Change (Sources (Option V)))) (s : Sources (Option V)) → KeepsNodes nodes more → IsFilled at to s list after →
+      ((d : ℕ) → at ≤ d → d < to → HasValues w (f d) more s) → Says w at f nodes list → Says w to f more after
+  says-more w at to f nodes more list after s keeps filled here says none d lt = elim (cases_lt d at) [
+    | inl under ↦ subst (HasValues w (f d) more) (sym (filled.kept none d under)) (values-grow w (f d) nodes more (said_at none list d) keeps (says none d under))
+    | inr ge ↦ subst (HasValues w (f d) more) (sym (filled.said none d ge lt)) (here d ge lt)
+  ]
+
+  -- a list that says it of all addresses has the answers of the function
+  pub says-all : (w : ℕ) (f : Answers V) (nodes : List (Node (Option V))) (list : List (Change (Sources (Option V)))) → AreRuns list → StartBelow (2 ^ w) list → Says w (2 ^ w) f nodes list → HasRuns w nodes list f
+  says-all w f nodes list runs below says =
+      record {
+        runs = runs;
+        below = below;
+        each = λ none d d_in. (says none d d_in).held;
+        answers = λ none d s d_in s_in. ap (λ t. value_at t w s) (sources_at-stands w nodes (said_at none list d) (says none d d_in).held) ∙ (says none d d_in).values_are s s_in;
       }

@@ -1,21 +1,17 @@
 -- What tells two tries apart, from what tells their halves apart.
-use Rattle.std.proofs.Common.{◌≡◌, ◌⊎◌, inl, inr, ℕ, ◌-◌, ◌<◌, ◌≤◌, Bool, true, false, cond, List, Option, Some, None, refl, sym, ◌∙◌, ap, subst, arith}
-use Rattle.std.specs.BTreeMap.{BTreeMap}
-use Rattle.babel_prefix.proofs.Members.{Listed}
+use Rattle.std.proofs.Common.{◌≡◌, ℕ, ◌-◌, ◌<◌, ◌≤◌, Bool, true, false, cond, List, Option, Some, None, refl, sym, ◌∙◌, ap, subst, arith}
 use Rattle.std.specs.Option.{option_cmp}
 use Rattle.std.specs.Ordering.{ordering_then}
 use Rattle.std.specs.declared.cmp.Ordering.{Ordering}
 use Rattle.babel_trie.specs.Differences.{TellsApart}
-use Rattle.babel_trie.specs.Interned.{Stands, IsHalved, IsJoined, IsNormalLoose}
+use Rattle.babel_trie.specs.Interned.{Stands, IsHalved, IsJoined}
 use Rattle.babel_trie.specs.Shape.{Shape, leaf, value_at, height, is_low}
-use Rattle.babel_trie.specs.Sound.{KeepsNodes}
-use Rattle.babel_trie.specs.Told.{TellsTriesApart, IsTold, KnowsTold}
+use Rattle.babel_trie.specs.Told.{TellsTriesApart, IsTold}
 use Rattle.babel_trie.specs.declared.differing.Differing.{Differing}
-use Rattle.babel_trie.specs.declared.known.Both.{Both}
 use Rattle.babel_trie.specs.declared.table.Loose.{Loose}
 use Rattle.babel_trie.specs.declared.table.Loose.TheVariants.{Same}
 use Rattle.babel_trie.specs.declared.table.Node.{Node}
-use Rattle.babel_trie.proofs.NumberLaws.{one_shape, Stands-grows, IsNormalLoose-grows}
+use Rattle.babel_trie.proofs.NumberLaws.{one_shape}
 
 -- two answers, by the first and then by the second
 abbrev pub differing_cmp : {V : Type 0} → (V → V → Ordering) → Differing V → Differing V → Ordering
@@ -89,28 +85,3 @@ module _ {V : Type 0} where
       reduced = joined.reduced in_low.reduced in_high.reduced;
     },
   )
-
-  -- what stands for it stands for it once the table has more nodes
-  pub IsTold-grows : (nodes : List (Node (Option V))) (old new : List (Node (Option (Differing V)))) → KeepsNodes old new → (left right : Loose (Option V)) (x : Loose (Option (Differing V))) →
-      IsTold nodes left right old x → IsTold nodes left right new x
-  IsTold-grows nodes old new keeps left right x told t u p q =
-      let at = told t u p q in
-      (at.0, Stands-grows old new keeps x at.0 at.1, at.2)
-
-  module _ (nodes : List (Node (Option V))) where
-    -- what is known is known of a table with more nodes
-    pub KnowsTold-grows : (old new : List (Node (Option (Differing V)))) (known : BTreeMap (Both (Loose (Option V))) (Loose (Option (Differing V)))) → KeepsNodes old new → KnowsTold nodes old known → KnowsTold nodes new known
-    KnowsTold-grows old new known keeps knows both x e =
-        let at = knows both x e in
-        (IsNormalLoose-grows old new keeps x at.0, IsTold-grows nodes old new keeps both.left both.right x at.1)
-
-    -- one more is known
-    pub KnowsTold-more : (differing : List (Node (Option (Differing V)))) (old new : BTreeMap (Both (Loose (Option V))) (Loose (Option (Differing V)))) (both : Both (Loose (Option V))) (x : Loose (Option (Differing V))) →
-        KnowsTold nodes differing old → IsNormalLoose differing x → IsTold nodes both.left both.right differing x →
-        ((k : Both (Loose (Option V))) (r : Loose (Option (Differing V))) → Listed new.entries (k, r) → ((k ≡ both) × (r ≡ x)) ⊎ Listed old.entries (k, r)) → KnowsTold nodes differing new
-    KnowsTold-more differing old new both x knows normal told one k r e = elim (one k r e) [
-      | inl (same, found) ↦
-          subst (λ (y : Loose (Option (Differing V))). IsNormalLoose differing y × IsTold nodes k.left k.right differing y) (sym found)
-          (subst (λ (b : Both (Loose (Option V))). IsNormalLoose differing x × IsTold nodes b.left b.right differing x) (sym same) (normal, told))
-      | inr kept ↦ knows k r kept
-    ]

@@ -1,84 +1,71 @@
--- A list of changes whose sources tell apart, at each address, what two other lists say there.
-use Rattle.std.proofs.Common.{◌≡◌, inl, inr, ℕ, ◌+◌, ◌^◌, ◌<◌, ◌≤◌, List, [], Option, refl, sym, ◌∙◌, ap, subst, arith}
-use Rattle.std.proofs.lemmas.Bool.{cases_lt}
-use Rattle.babel_trie.specs.Boxes.{Answers}
-use Rattle.babel_trie.specs.Differences.{TellsApart}
-use Rattle.babel_trie.specs.Interned.{HasTrie}
+-- What two passes have come to, told apart, is what their rows answer differently.
+use Rattle.std.proofs.Common.{◌≡◌, inl, inr, ℕ, ◌^◌, ◌<◌, ◌≤◌, List, map, Option, Some, None, refl, sym, subst, arith}
+use Rattle.babel_prefix.specs.Best.{Row, answer}
+use Rattle.babel_prefix.specs.Entries.{Entry, row_of}
+use Rattle.babel_trie.specs.Boxes.{Answers, HasEqualityTest, IsBoxList, SameAnswers}
+use Rattle.babel_trie.specs.Differences.{TellsApart, IsDifference, AreDifferences}
 use Rattle.babel_trie.specs.Pass.{IsFilled}
-use Rattle.babel_trie.specs.Runs.{said_at, AreRuns, StartBelow, HasRuns, run_answers}
 use Rattle.babel_trie.specs.Shape.{value_at}
 use Rattle.babel_trie.specs.Sound.{KeepsNodes}
-use Rattle.babel_trie.specs.Told.{AreTold, HasDifference}
+use Rattle.babel_trie.specs.Told.{AreTold}
 use Rattle.babel_trie.specs.declared.differing.Differing.{Differing}
 use Rattle.babel_trie.specs.declared.runs.Change.{Change}
 use Rattle.babel_trie.specs.declared.table.Node.{Node}
 use Rattle.babel_trie.specs.declared.table.Sources.{Sources}
-use Rattle.babel_trie.proofs.ApartLaws.{no_sources, answers-at}
-use Rattle.babel_trie.proofs.NumberLaws.{Represents-grows}
+use Rattle.babel_trie.proofs.BoxesExist.{boxes_exist}
+use Rattle.babel_trie.proofs.BoxLaws.{same_option}
+use Rattle.babel_trie.proofs.Decided.{Decided}
+use Rattle.babel_trie.proofs.DifferenceLaws.{differing_test}
+use Rattle.babel_trie.proofs.PairLaws.{IsAt}
+use Rattle.babel_trie.proofs.RunLaws.{HasValues, Says, says-more}
 use Rattle.babel_trie.proofs.TellLaws.{one_told}
 
-module _ {V : Type 0} (nodes : List (Node (Option V))) (left right : List (Change (Sources (Option V)))) where
-  -- below the address the list says what tells apart what the two others say
-  pub record IsToldBelow (at : ℕ) (differing : List (Node (Option (Differing V)))) (list : List (Change (Sources (Option (Differing V))))) : Type 0 where
-    pub runs : AreRuns list
-    pub below : StartBelow at list
-    pub said : (none : Sources (Option (Differing V))) (d : ℕ) → d < at → AreTold nodes (said_at no_sources left d) (said_at no_sources right d) differing (said_at none list d)
+module _ {V : Type 0} where
+  tell : (left right : Option V) → Decided (left ≡ right) → (told : Option (Differing V)) × TellsApart left right told
+  tell left right (inl same) = (None, same)
+  tell left right (inr differ) = (Some (record { left = left; right = right }), (differ, refl, refl))
 
-  -- below all addresses nothing is said
-  pub told_none : (differing : List (Node (Option (Differing V)))) → IsToldBelow 0 differing []
-  told_none differing = record { runs = tt; below = λ x t. elim t [ ]; said = λ none d d_in. absurd (omega arith) }
+  -- functions that agree with two others differ as those do
+  pub difference-same : (w : ℕ) (f g f' g' : Answers V) (h : Answers (Differing V)) → SameAnswers w f f' → SameAnswers w g g' → IsDifference w f g h → IsDifference w f' g' h
+  difference-same w f g f' g' h p q is d s d_in s_in =
+      subst (λ v. TellsApart v (g' d s) (h d s)) (p d s d_in s_in) (subst (λ v. TellsApart (f d s) v (h d s)) (q d s d_in s_in) (is d s d_in s_in))
 
-  -- up to the next change of either
-  pub told_step : (at end : ℕ) (old new : List (Node (Option (Differing V)))) (list after : List (Change (Sources (Option (Differing V))))) (here there : Sources (Option V)) (sources : Sources (Option (Differing V))) →
-      KeepsNodes old new → ((d : ℕ) → at ≤ d → d ≤ end → said_at no_sources left d ≡ here) → ((d : ℕ) → at ≤ d → d ≤ end → said_at no_sources right d ≡ there) →
-      AreTold nodes here there new sources → IsFilled at (end + 1) sources list after → IsToldBelow at old list → IsToldBelow (end + 1) new after
-  told_step at end old new list after here there sources keeps here_is there_is told filled p =
-      record {
-        runs = filled.runs;
-        below = filled.below;
-        said = λ none d d_in. elim (cases_lt d at) [
-          | inl lt ↦
-              subst (AreTold nodes (said_at no_sources left d) (said_at no_sources right d) new) (sym (filled.kept none d lt))
-              (λ t u q r. let old_told = p.said none d lt t u q r in (old_told.0, Represents-grows old new keeps (said_at none list d) old_told.0 old_told.1, old_told.2))
-          | inr ge ↦
-              subst (AreTold nodes (said_at no_sources left d) (said_at no_sources right d) new) (sym (filled.said none d ge d_in))
-              (subst (λ (s : Sources (Option V)). AreTold nodes s (said_at no_sources right d) new sources) (sym (here_is d ge (omega arith)))
-              (subst (λ (s : Sources (Option V)). AreTold nodes here s new sources) (sym (there_is d ge (omega arith))) told))
-        ];
-      }
+  module _ (test : HasEqualityTest V) (f g : Answers V) where
+    -- what two functions answer differently, as a function
+    pub apart : Answers (Differing V)
+    apart d s = (tell (f d s) (g d s) (same_option test (f d s) (g d s))).0
 
-  -- the list has the difference of the two others
-  pub has_difference : (w : ℕ) (f g : Answers V) (differing : List (Node (Option (Differing V)))) (list : List (Change (Sources (Option (Differing V))))) →
-      HasRuns w nodes left f → HasRuns w nodes right g → IsToldBelow (2 ^ w) differing list → HasDifference w f g differing list
-  has_difference w f g differing list p q told = (
-    run_answers w differing no_sources list,
-    λ d s d_in s_in.
-        let at = tells no_sources d d_in in
-        let here = p.each no_sources d d_in in
-        let there = q.each no_sources d d_in in
-        let f_is = ap (λ (h : ℕ → Option V). h s) (answers-at w no_sources nodes left d (said_at no_sources left d) refl here) in
-        let g_is = ap (λ (h : ℕ → Option V). h s) (answers-at w no_sources nodes right d (said_at no_sources right d) refl there) in
-        subst (λ v. TellsApart v (g d s) (run_answers w differing no_sources list d s)) (sym f_is ∙ p.answers no_sources d s d_in s_in)
-        (subst (λ v. TellsApart (value_at here.trie w s) v (run_answers w differing no_sources list d s)) (sym g_is ∙ q.answers no_sources d s d_in s_in) (at s)),
-    record {
-      runs = told.runs;
-      below = told.below;
-      each = held;
-      answers = λ none d s d_in s_in. one_told _ _ _ _ (tells none d d_in s) (tells no_sources d d_in s);
-    },
-  )
-    where
-      held : (none : Sources (Option (Differing V))) (d : ℕ) → d < 2 ^ w → HasTrie w differing (said_at none list d)
-      held none d d_in =
-          let here = p.each no_sources d d_in in
-          let there = q.each no_sources d d_in in
-          let at = told.said none d d_in here.trie there.trie here.stands there.stands in
-          record { trie = at.0; stands = at.1; fits = at.2.fits w here.fits there.fits; reduced = at.2.reduced }
+    pub is_apart : (w : ℕ) → IsDifference w f g apart
+    unfolding apart
+    is_apart w d s d_in s_in = (tell (f d s) (g d s) (same_option test (f d s) (g d s))).1
 
-      tells : (none : Sources (Option (Differing V))) (d : ℕ) → (d_in : d < 2 ^ w) → (s : ℕ) → TellsApart (value_at (p.each no_sources d d_in).trie w s) (value_at (q.each no_sources d d_in).trie w s) (run_answers w differing none list d s)
-      tells none d d_in s =
-          let here = p.each no_sources d d_in in
-          let there = q.each no_sources d d_in in
-          let at = told.said none d d_in here.trie there.trie here.stands there.stands in
-          let is = ap (λ (h : ℕ → Option (Differing V)). h s) (answers-at w none differing list d (said_at none list d) refl (held none d d_in)) in
-          subst (TellsApart (value_at here.trie w s) (value_at there.trie w s)) (sym is) (at.2.values w s)
+    -- it has boxes
+    pub boxes_apart : (w : ℕ) → (boxes : List (Row (Differing V))) × IsBoxList w apart boxes
+    boxes_apart w = boxes_exist (differing_test test) w apart
+
+    -- so there are differences
+    pub differences_exist : (w : ℕ) → (boxes : List (Row (Differing V))) × AreDifferences w f g boxes
+    differences_exist w = let boxes = boxes_apart w in (boxes.0, record { difference = apart; is_difference = is_apart w; box_list = boxes.1 })
+
+  module _ {w at : ℕ} {rows others : List (Entry V)} {nodes : List (Node (Option V))} {here there : Sources (Option V)} {Quiet OtherQuiet : ℕ → Type 0}
+      (l : IsAt w at rows nodes here Quiet) (r : IsAt w at others nodes there OtherQuiet) where
+    -- what tells apart what both passes have come to is what the rows answer differently, up to the next change of either
+    pub told-values : (h : Answers (Differing V)) → IsDifference w (answer w (map row_of rows)) (answer w (map row_of others)) h → (differing : List (Node (Option (Differing V)))) (s : Sources (Option (Differing V))) →
+        AreTold nodes here there differing s → (d : ℕ) → at ≤ d → d < 2 ^ w → Quiet d → OtherQuiet d → HasValues w (h d) differing s
+    told-values h is differing s told d le d_in quiet other_quiet =
+        let f = answer w (map row_of rows) in
+        let g = answer w (map row_of others) in
+        let at = told l.held.trie r.held.trie l.held.stands r.held.stands in
+        record {
+          held = record { trie = at.0; stands = at.1; fits = at.2.fits w l.held.fits r.held.fits; reduced = at.2.reduced };
+          values_are = λ src src_in.
+              let here = subst (λ v. TellsApart v (value_at r.held.trie w src) (value_at at.0 w src)) (sym (l.answers d le d_in quiet src src_in)) (at.2.values w src) in
+              let both = subst (λ v. TellsApart (f d src) v (value_at at.0 w src)) (sym (r.answers d le d_in other_quiet src src_in)) here in
+              one_told (f d src) (g d src) (value_at at.0 w src) (h d src) both (is d src d_in src_in);
+        }
+
+    -- so the list says it up to there, once it says what tells them apart
+    pub told-more : (h : Answers (Differing V)) → IsDifference w (answer w (map row_of rows)) (answer w (map row_of others)) h → (to : ℕ) (old new : List (Node (Option (Differing V)))) (list after : List (Change (Sources (Option (Differing V))))) (s : Sources (Option (Differing V))) →
+        KeepsNodes old new → AreTold nodes here there new s → IsFilled at to s list after → to ≤ 2 ^ w → ((d : ℕ) → d < to → Quiet d × OtherQuiet d) → Says w at h old list → Says w to h new after
+    told-more h is to old new list after s keeps told filled to_in quiet says =
+        says-more w at to h old new list after s keeps filled (λ d le lt. told-values h is new s told d le (omega (arith, to_in)) (quiet d lt).0 (quiet d lt).1) says

@@ -2,7 +2,6 @@
 -- do: this project's own.
 use Rattle.std.specs.Prelude.{ℕ, ◌+◌, ◌*◌, ◌/◌, ◌%◌, ◌^◌, Option, Some, None}
 use Rattle.babel_trie.specs.declared.differing.Differing.{Differing}
-use Rattle.babel_trie.specs.declared.known.Both.{Both}
 use Rattle.babel_trie.specs.declared.table.Loose.{Loose}
 use Rattle.babel_trie.specs.declared.table.Loose.TheVariants.{Same, Split}
 use Rattle.babel_trie.specs.declared.table.Node.{Node}
@@ -34,6 +33,3 @@ module _ {V : Type 0} where
   abbrev pub loose_mark : (V → ℕ) → (Node V → ℕ) → Loose V → ℕ
   loose_mark mark of_node (Same v) = mark v
   loose_mark mark of_node (Split node) = of_node node
-
-abbrev pub both_mark : {T : Type 0} → (T → ℕ) → Both T → ℕ
-both_mark mark both = stirred (mark both.left) (mark both.right)

@@ -9,7 +9,6 @@ use Rattle.std.proofs.Common.{ap}
 use Rattle.std.proofs.lemmas.Map.Lookups.{exact_pairs, exact_unsigned}
 use Rattle.babel_trie.specs.Sound.{node_cmp}
 use Rattle.babel_trie.specs.declared.differing.Differing.{Differing}
-use Rattle.babel_trie.specs.declared.known.Both.{Both}
 use Rattle.babel_trie.specs.declared.table.Loose.{Loose}
 use Rattle.babel_trie.specs.declared.table.Loose.TheVariants.{Same, Split}
 use Rattle.babel_trie.specs.declared.table.Node.{Node}
@@ -84,11 +83,3 @@ module _ {V : Type 0} where
       ap (λ (p : Option V × Option V).
       let d : Differing V = record { left = p.0; right = p.1 } in d)
       (exact_pairs cmp cmp exact exact (a.left, a.right) (b.left, b.right) e)
-
--- two that are compared each
-pub both_exact : {T : Type 0} (cmp : T → T → Ordering) → ((a b : T) → cmp a b ≡ Equal → a ≡ b) →
-    (a b : Both T) →
-    ordering_then (cmp a.left b.left) (cmp a.right b.right) ≡ Equal → a ≡ b
-both_exact {T} cmp exact a b e =
-    ap (λ (p : T × T). let c : Both T = record { left = p.0; right = p.1 } in c)
-    (exact_pairs cmp cmp exact exact (a.left, a.right) (b.left, b.right) e)

@@ -1,14 +1,11 @@
 -- The trie of what two tries tell apart: this project's own.
 use Rattle.std.specs.Prelude.{ℕ, ◌≤◌, List, Option}
-use Rattle.std.specs.BTreeMap.{BTreeMap}
-use Rattle.babel_prefix.specs.Members.{Listed}
 use Rattle.babel_trie.specs.Boxes.{Answers}
 use Rattle.babel_trie.specs.Differences.{TellsApart, IsDifference}
-use Rattle.babel_trie.specs.Interned.{Stands, Represents, IsNormalLoose}
+use Rattle.babel_trie.specs.Interned.{Stands, Represents}
 use Rattle.babel_trie.specs.Runs.{HasRuns}
 use Rattle.babel_trie.specs.Shape.{Shape, value_at, height, IsReduced}
 use Rattle.babel_trie.specs.declared.differing.Differing.{Differing}
-use Rattle.babel_trie.specs.declared.known.Both.{Both}
 use Rattle.babel_trie.specs.declared.runs.Change.{Change}
 use Rattle.babel_trie.specs.declared.table.Loose.{Loose}
 use Rattle.babel_trie.specs.declared.table.Node.{Node}
@@ -36,15 +33,6 @@ module _ {V : Type 0} where
   AreTold nodes left right differing s =
       (t u : Shape (Option V)) → Represents nodes left t → Represents nodes right u →
       (told : Shape (Option (Differing V))) × Represents differing s told × TellsTriesApart t u told
-
-  -- what is known of any two tries is what tells them apart, in its one form
-  abbrev pub KnowsTold : List (Node (Option V)) →
-      List (Node (Option (Differing V))) →
-      BTreeMap (Both (Loose (Option V))) (Loose (Option (Differing V))) → Type 0
-  KnowsTold nodes differing known =
-      (both : Both (Loose (Option V))) (x : Loose (Option (Differing V))) →
-      Listed known.entries (both, x) →
-      IsNormalLoose differing x × IsTold nodes both.left both.right differing x
 
   -- the list has the difference of the two functions
   abbrev pub HasDifference : ℕ → Answers V → Answers V → List (Node (Option (Differing V))) →

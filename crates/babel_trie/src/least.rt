@@ -23,7 +23,7 @@ use std::alloc::{AllocError, Global};
 
 /// Both passes come to each change up to an address, and the next one of either is answered. Nodes
 /// that were made for blocks which end before the address can be given up first.
-fn reach_both<V: LawfulOrd, L: Rows<V>, R: Rows<V>>(
+pub fn reach_both<V: LawfulOrd, L: Rows<V>, R: Rows<V>>(
     table: &mut Table<Option<V>>,
     pass: &mut Pass<V, L>,
     other: &mut Pass<V, R>,

@@ -1,29 +1,17 @@
 -- The rows in order are a table with the same answers.
-use Rattle.std.proofs.Common.{◌≡◌, ◌^◌, List, map, sym, subst, rules}
-use Rattle.std.specs.List.{All}
-use Rattle.std.specs.List.Sorted.{IsPermutation}
+use Rattle.std.proofs.Common.{◌≡◌, ◌^◌, map, sym, subst, rules}
 use Rattle.babel_prefix.specs.Address.{Address}
-use Rattle.babel_prefix.specs.declared.family.Family.{Family}
-use Rattle.babel_prefix.specs.Best.{Row, answer}
-use Rattle.babel_prefix.specs.BestRow.{IsTable, HasPrefixes, AreOfFamily, HasDistinctPrefixes}
-use Rattle.babel_prefix.specs.Entries.{Entry, row_of, answers_in}
+use Rattle.babel_prefix.specs.Best.{answer}
+use Rattle.babel_prefix.specs.BestRow.{IsTable}
+use Rattle.babel_prefix.specs.Entries.{row_of, answers_in}
 use Rattle.babel_prefix.specs.Width.{width_of}
-use Rattle.babel_prefix.proofs.EntryLaws.{rows_in-all}
-use Rattle.babel_trie.specs.Boxes.{SameAnswers, IsLeastDifference}
+use Rattle.babel_trie.specs.Boxes.{IsLeastDifference}
 use Rattle.babel_trie.specs.Differs.{IsFirstPair}
 use Rattle.babel_trie.specs.Ordered.{rows_of_ordered}
 use Rattle.babel_trie.proofs.ApartLaws.{first-same}
 use Rattle.babel_trie.proofs.DifferLaws.{least_from_first}
-use Rattle.babel_trie.proofs.OfLaws.{table_of_entries, table_of_sorted, answers_of_sorted}
+use Rattle.babel_trie.proofs.OfLaws.{table_of_entries, table_of_sorted, answers_of_entries}
 use Rattle.babel_trie.proofs.least.least_difference_of.Goals as goal
-
--- the rows in order have the answers of the rows
-same_answers : {V : Type 0} (family : Family) (rows sorted : List (Entry V)) → All HasPrefixes rows → All (AreOfFamily family) rows → HasDistinctPrefixes rows → IsPermutation rows sorted →
-    SameAnswers (width_of family) (answer (width_of family) (map row_of sorted)) (answers_in family rows)
-same_answers {V = V} family rows sorted prefixes families distinct permutation =
-    let w = width_of family in
-    subst (λ (rs : List (Row V)). SameAnswers w (answer w (map row_of sorted)) (answer w rs)) (sym (rows_in-all family rows families))
-    (answers_of_sorted w rows sorted (table_of_entries family rows prefixes families distinct) permutation)
 
 pub first_pair-requires-clause-left_table : goal.first_pair-requires-clause-left_table
 first_pair-requires-clause-left_table g c =
@@ -51,8 +39,8 @@ returns-in_default-clause-least g c d s d_in s_in =
     let found = c.in_ok-dst.field-0 in
     let here = subst (λ n. IsFirstPair (2 ^ n) (2 ^ n) (answer n (map row_of rows)) (answer n (map row_of others)) found) c.width.ensures c.in_ok-dst.ensures in
     let first : IsFirstPair (2 ^ w) (2 ^ w) (answers_in family left) (answers_in family right) found = first-same w (answer w (map row_of rows)) (answer w (map row_of others)) (answers_in family left) (answers_in family right)
-    (same_answers family left rows c.in_ok-copy.ensures.prefixes c.requires.left_family c.requires.left_prefixes c.in_order-rows.ensures.permutation)
-    (same_answers family right others c.in_ok-other_copy.ensures.prefixes c.requires.right_family c.requires.right_prefixes c.in_order-other_rows.ensures.permutation) found here in
+    (answers_of_entries family left rows c.in_ok-copy.ensures.prefixes c.requires.left_family c.requires.left_prefixes c.in_order-rows.ensures.permutation)
+    (answers_of_entries family right others c.in_ok-other_copy.ensures.prefixes c.requires.right_family c.requires.right_prefixes c.in_order-other_rows.ensures.permutation) found here in
     let same = subst (IsFirstPair (2 ^ w) (2 ^ w) (answers_in family left) (answers_in family right)) c.in_default.is first in
     same d d_in s s_in
 
@@ -68,8 +56,8 @@ returns-clause-least g c =
     let found = c.in_ok-dst.field-0 in
     let here = subst (λ n. IsFirstPair (2 ^ n) (2 ^ n) (answer n (map row_of rows)) (answer n (map row_of others)) found) c.width.ensures c.in_ok-dst.ensures in
     let first : IsFirstPair (2 ^ w) (2 ^ w) (answers_in family left) (answers_in family right) found = first-same w (answer w (map row_of rows)) (answer w (map row_of others)) (answers_in family left) (answers_in family right)
-    (same_answers family left rows c.in_ok-copy.ensures.prefixes c.requires.left_family c.requires.left_prefixes c.in_order-rows.ensures.permutation)
-    (same_answers family right others c.in_ok-other_copy.ensures.prefixes c.requires.right_family c.requires.right_prefixes c.in_order-other_rows.ensures.permutation) found here in
+    (answers_of_entries family left rows c.in_ok-copy.ensures.prefixes c.requires.left_family c.requires.left_prefixes c.in_order-rows.ensures.permutation)
+    (answers_of_entries family right others c.in_ok-other_copy.ensures.prefixes c.requires.right_family c.requires.right_prefixes c.in_order-other_rows.ensures.permutation) found here in
     let at = subst (IsFirstPair (2 ^ w) (2 ^ w) (answers_in family left) (answers_in family right)) c.in-Some.is first in
     let dst : c.unwrap-dst.result ≡ record { family = family; bits = c.in-Some.dst } = search rules in
     let src : c.unwrap-src.result ≡ record { family = family; bits = c.in-Some.src } = search rules in

@@ -2,7 +2,6 @@
 use Rattle.babel_trie.proofs.NumberLaws.{Stands-grows}
 use Rattle.babel_trie.proofs.FormLaws.{opened_trie, opened_stands}
 use Rattle.babel_trie.proofs.PathLaws.{loose_below}
-use Rattle.babel_trie.proofs.TellLaws.{KnowsTold-grows}
 use Rattle.babel_trie.proofs.comparison.Comparison.told_sources.Goals as goal
 
 pub stored-requires-clause-below : goal.stored-requires-clause-below
@@ -13,10 +12,6 @@ stored-requires-clause-below g c =
     let right = opened_trie nodes a.bits a.right c.opened-2.result c.opened-2.ensures c.requires.right in
     let told = c.in_ok-told.ensures.told left.trie right.trie left.stands right.stands in
     loose_below c.told.new.self.differences.nodes.items c.in_ok-told.told told.0 c.in_ok-told.ensures.normal told.1
-
-pub returns-clause-known : goal.returns-clause-known
-returns-clause-known g c =
-    KnowsTold-grows c.args.table.now.nodes.items c.told.new.self.differences.nodes.items c.stored.new.self.nodes.items c.told.new.self.known.found c.in_ok-sources.ensures.keeps c.in_ok-told.ensures.known
 
 pub returns-clause-told : goal.returns-clause-told
 returns-clause-told g c t u p q =

@@ -3,9 +3,10 @@ use Rattle.std.proofs.Common.{◌≡◌, ℕ, ◌^◌, ◌<◌, inl, inr, List, 
 use Rattle.std.proofs.lemmas.Nat.{pow_pos}
 use Rattle.std.specs.Option.{IfSome}
 use Rattle.babel_prefix.specs.Best.{answer}
-use Rattle.babel_prefix.specs.Entries.{Entry, row_of}
+use Rattle.babel_prefix.specs.Entries.{row_of}
+use Rattle.babel_trie.specs.Boxes.{Answers}
 use Rattle.babel_trie.specs.Early.{AgreeUpTo}
-use Rattle.babel_trie.specs.Pass.{IsFilled, IsQuietUpTo, ahead_of, rows_left}
+use Rattle.babel_trie.specs.Pass.{IsQuietUpTo}
 use Rattle.babel_trie.specs.Runs.{AreRuns, StartBelow, HasRuns}
 use Rattle.babel_trie.specs.declared.runs.Change.{Change}
 use Rattle.babel_trie.specs.declared.table.Node.{Node}
@@ -14,21 +15,22 @@ use Rattle.babel_trie.specs.declared.table.Sources.TheVariants.{Constant, Stored
 use Rattle.babel_trie.proofs.NodeLaws.{sound_by}
 use Rattle.babel_trie.proofs.BoxesExist.{boxes_exist, test_by}
 use Rattle.babel_trie.proofs.EarlyRuns.{agree_so_far, has_runs_so_far, so_far, some_below}
-use Rattle.babel_trie.proofs.PassLaws.{Says, says-more, says-all}
+use Rattle.babel_trie.proofs.PairLaws.{at-values, come}
+use Rattle.babel_trie.proofs.RunLaws.{Says, says-all, says-more}
 use Rattle.babel_trie.proofs.pass.Table+Option+V.table_runs.Goals as goal
 use Rattle.babel_trie.proofs.pass.Table+Option+V.table_runs.Goals.{then-due-len+then-nodes-ge-FEW_NODES+in_ok-early_count+else-branch-most, else-due-len}
 
 -- nothing is said
-none_said : {V : Type 0} (w : ℕ) (rows : List (Entry V)) (nodes : List (Node (Option V))) (list : List (Change (Sources (Option V)))) → list ≡ [] → AreRuns list × StartBelow 0 list × Says w 0 rows nodes list × (length list ≡ 0)
-none_said w rows nodes [] is = (tt, (λ x t. elim t [ ]), (λ none d lt. absurd (omega arith)), refl)
-none_said w rows nodes (x ∷ list) is = cc
+none_said : {V : Type 0} (w : ℕ) (f : Answers V) (nodes : List (Node (Option V))) (list : List (Change (Sources (Option V)))) → list ≡ [] → AreRuns list × StartBelow 0 list × Says w 0 f nodes list × (length list ≡ 0)
+none_said w f nodes [] is = (tt, (λ x t. elim t [ ]), (λ none d lt. absurd (omega arith)), refl)
+none_said w f nodes (x ∷ list) is = cc
 
 pub loop-due-init : goal.loop-due-init
 loop-due-init g c =
     let a = c.args in
     let table = a.self.now in
     let rows = g.R.Rows.rows a.rows in
-    let none = none_said a.width rows table.nodes.items c.in_ok-list.list.items c.in_ok-list.ensures.items in
+    let none = none_said a.width (answer a.width (map row_of rows)) table.nodes.items c.in_ok-list.list.items c.in_ok-list.ensures.items in
     record {
       sound = sound_by table.nodes.items table.numbers (elim [ Constant v ↦ elim [ Constant u ↦ refl | Stored m ↦ refl ] | Stored k ↦ elim [ Constant v ↦ refl | Stored m ↦ refl ] ]) c.requires.sound;
       keeps = λ k node e. e;
@@ -56,8 +58,9 @@ early_count-requires-clause-runs g c =
     let is = c.deref.ensures.value in
     let some : 0 < length list = omega (arith, c.if-due-len.true, c.len.ensures, i.due) in
     let begun = some_below c.loop-due.at list i.below some in
-    let runs = has_runs_so_far w c.loop-due.at rows nodes list i.runs i.below c.requires.table i.says begun (omega (arith, i.within)) in
-    (w, so_far w c.loop-due.at rows nodes list i.runs i.below, subst (λ (xs : List (Change (Sources (Option g.row.V.Denot)))). HasRuns w nodes xs (so_far w c.loop-due.at rows nodes list i.runs i.below)) (sym is) runs)
+    let h = so_far w c.loop-due.at (answer w (map row_of rows)) nodes list i.runs i.below in
+    let runs = has_runs_so_far w c.loop-due.at (answer w (map row_of rows)) nodes list i.runs i.below i.says begun (omega (arith, i.within)) in
+    (w, h, subst (λ (xs : List (Change (Sources (Option g.row.V.Denot)))). HasRuns w nodes xs h) (sym is) runs)
 
 pub returns-then-branch-most-clause-sound : goal.returns-then-branch-most-clause-sound
 returns-then-branch-most-clause-sound g c =
@@ -75,9 +78,9 @@ returns-then-branch-most-clause-runs g c =
     let f = answer w (map row_of rows) in
     let some : 0 < length list = omega (arith, c.if-due-len.true, c.len.ensures, i.due) in
     let begun = some_below c.loop-due.at list i.below some in
-    let h = so_far w c.loop-due.at rows nodes list i.runs i.below in
-    let runs = subst (λ (xs : List (Change (Sources (Option V)))). HasRuns w nodes xs h) (sym is) (has_runs_so_far w c.loop-due.at rows nodes list i.runs i.below c.requires.table i.says begun (omega (arith, i.within))) in
-    let agree = subst (λ (xs : List (Change (Sources (Option V)))). AgreeUpTo w xs f h) (sym is) (agree_so_far w c.loop-due.at rows nodes list i.runs i.below) in
+    let h = so_far w c.loop-due.at f nodes list i.runs i.below in
+    let runs = subst (λ (xs : List (Change (Sources (Option V)))). HasRuns w nodes xs h) (sym is) (has_runs_so_far w c.loop-due.at f nodes list i.runs i.below i.says begun (omega (arith, i.within))) in
+    let agree = subst (λ (xs : List (Change (Sources (Option V)))). AgreeUpTo w xs f h) (sym is) (agree_so_far w c.loop-due.at f nodes list i.runs i.below) in
     let boxes = boxes_exist (test_by g.V.Ord.cmp g.met.V.Ord.total g.met.V.LawfulOrd.exact) w f in
     let few = c.in_ok-early_count.ensures w f h boxes.0 runs agree boxes.1 in
     (boxes.0, boxes.1, omega (arith, few, c.if-branch-most.true))
@@ -98,12 +101,14 @@ returns-in_default-clause-runs g c =
     let at = c.loop-due.at in
     let reach = c.in_ok-next.ensures in
     let new = c.reach.new.self in
+    let nodes = c.reach.new.table.nodes.items in
+    let f = answer w (map row_of rows) in
     let list = c.say.new.out.items in
-    let filled = subst (λ (s : Sources (Option V)). IsFilled at (2 ^ w) s c.loop-due.list.items list) c.sources-sources.ensures (c.in_ok-say.ensures.filled (2 ^ w) i.within) in
     let quiet : (d : ℕ) → IsQuietUpTo d g.R.Rows.rows new = λ d. (reach.next d).1 (subst (λ (o : Option ℕ). IfSome o (λ start. d < start)) (sym c.in_default.is) tt) in
-    let says = says-more w at (2 ^ w) rows (rows_left g.R.Rows.rows new) c.loop-due.self.nodes.items c.reach.new.table.nodes.items c.loop-due.list.items list new.now (ahead_of new) reach.keeps filled i.says (reach.pass rows i.pass) reach.reached (omega arith)
-    (λ d lt. quiet d) in
-    says-all w rows c.reach.new.table.nodes.items list c.requires.table filled.runs filled.below says
+    let filled = c.in_ok-say.ensures.filled (2 ^ w) i.within in
+    let here = come (reach.pass rows i.pass) at reach.reached i.within (quiet at) c.sources-sources.result c.sources-sources.ensures in
+    let says = says-more w at (2 ^ w) f c.loop-due.self.nodes.items nodes c.loop-due.list.items list c.sources-sources.result reach.keeps filled (λ d le lt. at-values here d le lt (quiet d)) i.says in
+    says-all w f nodes list filled.runs filled.below says
 
 pub loop-due-preserved : goal.loop-due-preserved
 loop-due-preserved g c =
@@ -119,8 +124,9 @@ loop-due-preserved g c =
     let list = c.say.new.out.items in
     let behind : at < start = subst (λ (o : Option ℕ). IfSome o (λ next. at < next)) c.in-Some.is reach.behind in
     let within : start < 2 ^ w = subst (λ (o : Option ℕ). IfSome o (λ next. next < 2 ^ w)) c.in-Some.is reach.within in
-    let filled = subst (λ (s : Sources (Option V)). IsFilled at start s c.loop-due.list.items list) c.sources-sources.ensures (c.in_ok-say.ensures.filled start behind) in
     let quiet : (d : ℕ) → d < start → IsQuietUpTo d g.R.Rows.rows new = λ d lt. (reach.next d).1 (subst (λ (o : Option ℕ). IfSome o (λ next. d < next)) (sym c.in-Some.is) lt) in
+    let filled = c.in_ok-say.ensures.filled start behind in
+    let here = come (reach.pass rows i.pass) at reach.reached i.within (quiet at behind) c.sources-sources.result c.sources-sources.ensures in
     let comes : IsQuietUpTo start g.R.Rows.rows new → ⊥ =
     λ q. let lt : start < start = subst (λ (o : Option ℕ). IfSome o (λ next. start < next)) c.in-Some.is ((reach.next start).0 q) in omega arith in
     record {
@@ -135,7 +141,8 @@ loop-due-preserved g c =
         | then-due-len+then-nodes-ge-FEW_NODES+in_ok-early_count+else-branch-most w ↦ omega (arith, w.due-is, w.saturating_mul-due.ensures, w.len-then-nodes-ge-FEW_NODES.ensures, w.if-due-len.true, c.len.ensures, i.due)
         | else-due-len w ↦ omega (arith, w.due-is, i.due)
       ];
-      says = says-more w at start rows (rows_left g.R.Rows.rows new) c.loop-due.self.nodes.items table.nodes.items c.loop-due.list.items list new.now (ahead_of new) reach.keeps filled i.says (reach.pass rows i.pass) reach.reached (omega arith) quiet;
+      says = says-more w at start (answer w (map row_of rows)) c.loop-due.self.nodes.items table.nodes.items c.loop-due.list.items list c.sources-sources.result reach.keeps filled
+          (λ d le lt. at-values here d le (omega (arith, within)) (quiet d lt)) i.says;
       few = inr (
         comes,
         elim i.few [

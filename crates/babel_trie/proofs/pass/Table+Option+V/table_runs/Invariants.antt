@@ -1,12 +1,14 @@
 -- Below the address the list says what the rows answer, and the pass has come no further.
-use Rattle.std.proofs.Common.{◌≡◌, ◌⊎◌, ◌+◌, ◌-◌, ◌*◌, ◌^◌, ◌<◌, ◌≤◌, length}
+use Rattle.std.proofs.Common.{◌≡◌, ◌⊎◌, ◌+◌, ◌-◌, ◌*◌, ◌^◌, ◌<◌, ◌≤◌, length, map}
 use Rattle.std.specs.Option.{option_cmp}
+use Rattle.babel_prefix.specs.Best.{answer}
+use Rattle.babel_prefix.specs.Entries.{row_of}
 use Rattle.babel_trie.specs.Marks.{option_mark, sources_mark}
 use Rattle.babel_trie.specs.Pass.{IsPassOver, IsQuietUpTo, changes_left}
 use Rattle.babel_trie.specs.Runs.{AreRuns, StartBelow}
 use Rattle.babel_trie.specs.Sound.{IsSound, KeepsNodes}
 use Rattle.babel_trie.proofs.NodeLaws.{sources_cmp}
-use Rattle.babel_trie.proofs.PassLaws.{Says}
+use Rattle.babel_trie.proofs.RunLaws.{Says}
 use Rattle.babel_trie.proofs.pass.Table+Option+V.table_runs.Given as goal
 
 abbrev pub invariant-loop-due : goal.invariant-loop-due
@@ -19,7 +21,7 @@ invariant-loop-due g l = record {
   runs : AreRuns l.list.items;
   below : StartBelow l.at l.list.items;
   due : 0 < l.due;
-  says : Says l.width l.at (g.R.Rows.rows l.fn.rows) l.self.nodes.items l.list.items;
+  says : Says l.width l.at (answer l.width (map row_of (g.R.Rows.rows l.fn.rows))) l.self.nodes.items l.list.items;
   few : ((length l.list.items ≡ 0) × (changes_left g.R.Rows.rows l.pass ≤ 2 * length (g.R.Rows.rows l.fn.rows)))
       ⊎ ((IsQuietUpTo l.at g.R.Rows.rows l.pass → ⊥) × (length l.list.items + changes_left g.R.Rows.rows l.pass ≤ 2 * length (g.R.Rows.rows l.fn.rows) + 1));
 }
