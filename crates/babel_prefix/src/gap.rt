@@ -21,6 +21,7 @@ impl Gap {
     /// The gap of the eight groups of a number; `None` if no two zero groups are side by side.
     pub(crate) fn of(bits: u128) -> Option<Gap>
         ensures value { result ≡ gap_in (groups_from 8 bits) }
+        ensures two { IfSome result (λ gap. 2 ≤ gap.len) }
         ensures within { IfSome result (λ gap. gap.start + gap.len ≤ 8) }
     {
         let mut run = 0;
