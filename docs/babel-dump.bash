@@ -2,7 +2,7 @@
 
 _babel_dump() {
     local word=${COMP_WORDS[COMP_CWORD]} command=${COMP_WORDS[1]}
-    local names="show lookup pairs normalise key compare senders extract help --help --version"
+    local names="show lookup pairs normalise key compare diff senders extract help --help --version"
     local options="--from --interface --accept-cut --hold --strict --quiet --json"
     options="$options --max-routes --max-octets --help"
     case $command in
@@ -13,6 +13,9 @@ _babel_dump() {
         key) options="${options/ --json/} --ignore" ;;
         compare)
             options="$options --other-from --other-interface --ignore --routes --all --count"
+            ;;
+        diff)
+            options="${options/ --json/} --other-from --other-interface --ignore --stat --color"
             ;;
         senders) options="--accept-cut --strict --quiet --json --max-octets --help" ;;
         extract)

@@ -27,7 +27,9 @@ MANY = 1_001
 # Room for the program and its libraries, and not for the rows of most-routes.dump.
 LITTLE_MEMORY = 8 << 20
 SHOW = ["show", "--from", "192.0.2.1"]
-COMMANDS = "show", "lookup", "pairs", "normalise", "key", "compare", "senders", "extract"
+COMMANDS = (
+    "show", "lookup", "pairs", "normalise", "key", "compare", "diff", "senders", "extract"
+)
 ONE_ROUTE = TOP / "examples/one-route.dump"
 
 
@@ -160,6 +162,24 @@ def check_full_file(program, tally):
     expect(tally, "a file that takes ten octets", (*found, taken), (4, text, b"2a02002106"))
 
 
+def check_colours(program, tally):
+    """Rows are in colour where it is asked for always, or for a terminal and there is one."""
+    row = "-10.0.0.0/8 from 0.0.0.0/0 via 192.0.2.1 id 0200000000000001 seqno 1 metric 256"
+    heads = f"--- {ONE_ROUTE} 192.0.2.1\n+++ /dev/null 192.0.2.1\n"
+    for when, is_terminal in itertools.product((None, "never", "auto", "always"), (False, True)):
+        words = ["diff", "--quiet", "--from", "192.0.2.1", ONE_ROUTE, "/dev/null"]
+        words += [f"--color={when}"] if when else []
+        reader, writer = os.openpty() if is_terminal else os.pipe()
+        found = run(program, words, stdout=writer)
+        text = os.read(reader, 1 << 16).decode().replace("\r\n", "\n")
+        os.close(writer)
+        os.close(reader)
+        is_coloured = when == "always" or (when == "auto" and is_terminal)
+        wanted = heads + (f"\x1b[31m{row}\x1b[0m\n" if is_coloured else f"{row}\n")
+        where = "on a terminal" if is_terminal else "into a pipe"
+        expect(tally, f"diff --color {when} {where}", (*found, text), (1, b"", wanted))
+
+
 def check_little_memory(program, folder, tally):
     """Each command answers that it is out of memory, and writes nothing."""
     dump, sent = folder / "most-routes.dump", ["--from", "192.0.2.1"]
@@ -174,6 +194,7 @@ def check_little_memory(program, folder, tally):
         (["compare", *sent, "--other-from", "192.0.2.1", dump, ONE_ROUTE], b""),
         (["compare", *sent, "--other-from", "192.0.2.1", ONE_ROUTE, dump], b"other: "),
         (["compare", *sent, "--other-from", "192.0.2.1", "--all", dump, ONE_ROUTE], b""),
+        (["diff", *sent, dump, ONE_ROUTE], b""),
     ):
         with tempfile.TemporaryFile() as output:
             found = run(program, words, stdout=output, preexec_fn=ready)
@@ -300,6 +321,7 @@ def check(tally, _long):
         check_failed_read(program, tally)
         check_failed_write(program, tally)
         check_full_file(program, tally)
+        check_colours(program, tally)
         check_little_memory(program, folder, tally)
         check_manual(program, tally)
         check_examples(program, folder, tally)

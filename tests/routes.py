@@ -86,6 +86,36 @@ def read(found):
     return key, *answers
 
 
+def key_of(row):
+    """The order of a row's key, of a line of `pairs --routes`."""
+    dst, _, src = row.split()[:3]
+    return order((ipaddress.ip_network(dst), ipaddress.ip_network(src)))
+
+
+def applied(rows, changes):
+    """The rows without those of - and with those of +."""
+    gone, new = ({change[1:] for change in changes if change[0] == mark} for mark in "-+")
+    return sorted({*rows} - gone | new, key=key_of)
+
+
+def is_diff(text, files, rows, others, differing):
+    """Whether the text is that of these differences, in their order, and turns the rows of one dump
+    into those of the other."""
+    gone = sum(right is None for _, _, right in differing)
+    new = sum(left is None for _, left, _ in differing)
+    changed = len(differing) - gone - new
+    *lines, counts = text.splitlines()
+    heads, changes = lines[:2], lines[2:]
+    return (
+        heads == [f"--- {files[0]} fe80:0:0:0:0:0:0:1", f"+++ {files[1]} fe80:0:0:0:0:0:0:1"]
+        and changes == sorted(changes, key=lambda each: (key_of(each[1:]), each[0] == "+"))
+        and applied(rows, changes) == others
+        and len(changes) == gone + new + 2 * changed
+        and counts
+        == f"{gone} gone, {new} new, {changed} changed, {len(rows) - gone - changed} alike"
+    )
+
+
 def wrong_of(program, folder, turn):
     """What the program says of a pair of tables that the definition does not."""
     rng = random.Random(turn)
@@ -98,10 +128,12 @@ def wrong_of(program, folder, turn):
     ignored = [name for name in FIELDS if rng.randrange(4) == 0]
     hold = rng.choice(([], ["--hold"]))
     view = ["--ignore", ",".join(ignored).replace("_", "-")] if ignored else []
-    words = ["--quiet", "--routes", "--from", SENDER, *hold, *view]
+    words = ["--quiet", "--from", SENDER, *hold, *view]
 
     def run(command, *more):
-        done = subprocess.run([program, command, *words, *more], capture_output=True, check=False)
+        of = "--stat" if command == "diff" else "--routes"
+        line = [program, command, of, *words, *more]
+        done = subprocess.run(line, capture_output=True, check=False)
         return done.returncode, done.stdout
 
     def objects(command, *more):
@@ -117,6 +149,8 @@ def wrong_of(program, folder, turn):
     rows = [(key, left[key]) for key in sorted(left, key=order)]
     listed = (1, differing) if differing else (0, [])
     octets = [run("normalise", file)[1] for file in files]
+    texts = [run("pairs", file)[1].decode().splitlines() for file in files]
+    changes, diff = run("diff", *files)
     (folder / f"again-{turn}.dump").write_bytes(octets[0])
     again = folder / f"again-{turn}.dump"
     same = {"same": True}
@@ -130,6 +164,8 @@ def wrong_of(program, folder, turn):
         (octets[0] == octets[1]) != (not differing),
         run("normalise", again)[1] != octets[0],
         len(octets[0]) > 83 * len(rows),
+        changes != status or not differing and diff != b"",
+        differing and not is_diff(diff.decode(), files, *texts, differing),
     ]
     for file in (*files, again):
         file.unlink()

@@ -26,7 +26,9 @@ PROGRAM = TOP / "build/babel-dump"
 FAILED, CLOSED_PIPE, NO_ANSWER = 4, 141, 126
 
 # The options that no word follows.
-FLAGS = set("--hold --strict --quiet --json --count --hex --all --routes --accept-cut".split())
+FLAGS = set(
+    "--hold --strict --quiet --json --count --hex --all --routes --stat --accept-cut".split()
+)
 
 # `rt try` takes no more octets of standard input.
 MOST_INPUT = 64 << 20

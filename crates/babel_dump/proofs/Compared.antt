@@ -1,22 +1,22 @@
 -- What is found of what a view sees of two tables is found of the two dumps.
-use Rattle.std.proofs.Common.{◌≡◌, ℕ, Bool, List, Result, Ok, Err, ap, subst, sym, ◌∙◌, inl, inr}
+use Rattle.std.proofs.Common.{◌≡◌, ℕ, Bool, List, length, Result, Ok, Err, ap, subst, sym, ◌∙◌, inl, inr}
+use Rattle.std.proofs.lemmas.List.{length-map}
 use Rattle.std.specs.Prelude.{IfOk, IfErr}
 use Rattle.babel_table.specs.Rows.{Routes}
-use Rattle.babel_table.specs.Seen.{seen_rows, seen_table}
+use Rattle.babel_table.specs.Seen.{seen_row, seen_rows, seen_table}
 use Rattle.babel_tlv.specs.declared.view.View.{View}
 use Rattle.babel_canon.specs.Differences.{AreDifferences}
 use Rattle.babel_canon.specs.Routes.{AreRouteDifferences}
 use Rattle.babel_canon.specs.Verdict.{IsVerdict}
 use Rattle.babel_canon.specs.declared.every_difference.Difference.{Difference}
 use Rattle.babel_dump.specs.Command.{CompareCause, Compares, DifferencesCause, GaveSound, HaveDifferences, IsOfMemory, ListsDifferences}
-use Rattle.babel_dump.specs.Command.{ComparesRoutes, IsOutcomeOfAnswers}
+use Rattle.babel_dump.specs.Command.{IsOutcomeOfAnswers, TellsRoutes}
 use Rattle.babel_dump.specs.Parts.{SaysRoutes}
 use Rattle.babel_dump.specs.Given.{Input}
 use Rattle.babel_dump.specs.Parts.{GaveBoth, Gathered, HasManyDifferences, Says, SaysDifferences, SaysVerdict}
 use Rattle.babel_dump.specs.Run.{Called, Calls}
 use Rattle.babel_dump.specs.declared.both.SeenTables.{SeenTables}
 use Rattle.babel_dump.specs.declared.format.Format.{Format}
-use Rattle.babel_dump.specs.declared.job.Listed.{Listed}
 use Rattle.babel_dump.specs.declared.outcome.Outcome.{Outcome}
 use Rattle.babel_dump.specs.declared.outcome.Reports.TheVariants as reports
 use Rattle.babel_dump.specs.declared.run_fault.RunFault.{RunFault}
@@ -48,16 +48,17 @@ module _ (reader other : Input) (view : View) (seen : SeenTables) (gave : GaveBo
     outcome_is = outcome_seen _ outcome says.outcome_is;
   }
 
-  compared_routes : (listed : Listed) (format : Format) (text : List ℕ) (outcome : Outcome) → SaysRoutes view listed format seen text outcome
-      → ComparesRoutes reader other view listed format text outcome
-  compared_routes listed format text outcome says = record {
+  compared_routes : (in_text : ℕ → List Difference → List ℕ) (text : List ℕ) (outcome : Outcome) → SaysRoutes seen in_text text outcome
+      → TellsRoutes reader other view in_text text outcome
+  compared_routes in_text text outcome says = record {
     table = gave.table;
     other_table = gave.other_table;
     gave = gave.gave;
     differences = says.differences;
     are_differences = subst (λ (t : Routes). AreRouteDifferences (seen_rows view gave.table.rows) t.rows says.differences) gave.right_is
         (subst (λ (t : Routes). AreRouteDifferences t.rows seen.right.rows says.differences) gave.left_is says.are_differences);
-    text_is = says.text_is;
+    text_is = says.text_is ∙ ap (λ (n : ℕ). in_text n says.differences)
+        (ap (λ (t : Routes). length t.rows) gave.left_is ∙ length-map gave.table.rows (seen_row view));
     outcome_is = outcome_of _ outcome says.outcome_is;
   }
 
@@ -113,13 +114,13 @@ found_verdict reader other view format untouched calls seen (Err fault) gave cal
     let both = sound reader other view seen gave in
     record { made = tt; cause = inr (memory, both.0, both.1); called = called_for calls seen (Err fault) called }
 
-pub found_routes : (reader other : Input) (view : View) (listed : Listed) (format : Format) (untouched : Type 0) (calls : Calls) (seen : SeenTables) (found : Result Found RunFault)
-    → GaveBoth reader other view seen → Called {T = SeenTables} {E = RunFault} calls (Ok seen)
-    → IfOk found (Says (SaysRoutes view listed format seen)) → IfErr found IsOfMemory
-    → Gathered calls (CompareCause reader other untouched) (Says (ComparesRoutes reader other view listed format)) found
-found_routes reader other view listed format untouched calls seen (Ok found) gave called says memory =
-    record { made = compared_routes reader other view seen gave listed format _ found.outcome says; cause = tt; called = called_for calls seen (Ok found) called }
-found_routes reader other view listed format untouched calls seen (Err fault) gave called says memory =
+pub found_routes : (reader other : Input) (view : View) (in_text : ℕ → List Difference → List ℕ) (untouched : Type 0) (calls : Calls) (seen : SeenTables)
+    (found : Result Found RunFault) → GaveBoth reader other view seen → Called {T = SeenTables} {E = RunFault} calls (Ok seen)
+    → IfOk found (Says (SaysRoutes seen in_text)) → IfErr found IsOfMemory
+    → Gathered calls (CompareCause reader other untouched) (Says (TellsRoutes reader other view in_text)) found
+found_routes reader other view in_text untouched calls seen (Ok found) gave called says memory =
+    record { made = compared_routes reader other view seen gave in_text _ found.outcome says; cause = tt; called = called_for calls seen (Ok found) called }
+found_routes reader other view in_text untouched calls seen (Err fault) gave called says memory =
     let both = sound reader other view seen gave in
     record { made = tt; cause = inr (memory, both.0, both.1); called = called_for calls seen (Err fault) called }
 

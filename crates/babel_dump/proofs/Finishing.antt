@@ -128,6 +128,7 @@ no_write (jobs.Differences reading other_reading view count format file another 
 no_write (jobs.RouteOctets reading view body hex file quiet) reader other untouched cause = cause
 no_write (jobs.RouteRows reading view count format file quiet) reader other untouched cause = cause
 no_write (jobs.CompareRoutes reading other_reading view listed format file another quiet) reader other untouched cause = not_compared _ _ untouched cause
+no_write (jobs.Diff reading other_reading view style file another quiet) reader other untouched cause = not_compared _ _ untouched cause
 no_write (jobs.Senders reading format file quiet) reader other untouched cause = cause
 no_write (jobs.Extract reading sender place hex file quiet) reader other untouched cause = cause
 

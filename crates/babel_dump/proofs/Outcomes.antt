@@ -25,9 +25,9 @@ use Rattle.babel_canon.specs.Routes.{AreRouteDifferences}
 use Rattle.babel_canon.specs.Routes.{SaysRoutes as SaysDumpRoutes}
 use Rattle.babel_canon.proofs.DifferingRows.{route_differences_are_one}
 use Rattle.babel_canon.proofs.RoutesHeadline.{route_octets_one}
-use Rattle.babel_dump.specs.Command.{ComparesRoutes, IsOutcomeOfAnswers, WritesRoutes}
+use Rattle.babel_dump.specs.Command.{IsOutcomeOfAnswers, TellsRoutes, WritesRoutes}
+use Rattle.babel_dump.specs.DiffText.{diff_text, head_lines}
 use Rattle.babel_dump.specs.InFormat.{listed_in, rows_or_count_in}
-use Rattle.babel_dump.specs.declared.job.Listed.{Listed}
 use Rattle.babel_canon.specs.Sent.{sent}
 use Rattle.babel_canon.specs.Verdict.{IsVerdict}
 use Rattle.babel_canon.specs.declared.every_difference.Difference.{Difference}
@@ -321,16 +321,16 @@ module _ (reading other_reading : Reading) (view : View) (dump other : Contents)
         both_answers_one _ _ says.table says.other_table again.table again.other_table outcome outcome_too (ap verdict_status same) tables.0 tables.1 says.outcome_is again.outcome_is,
       )
 
-  compares_routes_one : (listed : Listed) (format : Format) (text text_too : List ℕ) (outcome outcome_too : Outcome)
-      → ComparesRoutes (dump_of one reading) (dump_of one_other other_reading) view listed format text outcome
-      → ComparesRoutes (dump_of two reading) (dump_of two_other other_reading) view listed format text_too outcome_too
+  tells_routes_one : (in_text : ℕ → List Difference → List ℕ) (text text_too : List ℕ) (outcome outcome_too : Outcome)
+      → TellsRoutes (dump_of one reading) (dump_of one_other other_reading) view in_text text outcome
+      → TellsRoutes (dump_of two reading) (dump_of two_other other_reading) view in_text text_too outcome_too
       → (text ≡ text_too) × (outcome ≡ outcome_too)
-  compares_routes_one listed format text text_too outcome outcome_too says again =
+  tells_routes_one in_text text text_too outcome outcome_too says again =
       let tables = tables_one says.table says.other_table again.table again.other_table says.gave again.gave in
       let moved = subst (λ (t : Routes). AreRouteDifferences (seen_rows view again.table.rows) (seen_rows view t.rows) says.differences) tables.1
       (subst (λ (t : Routes). AreRouteDifferences (seen_rows view t.rows) (seen_rows view says.other_table.rows) says.differences) tables.0 says.are_differences) in
       let same = route_differences_are_one (seen_rows view again.table.rows) (seen_rows view again.other_table.rows) says.differences again.differences moved again.are_differences in (
-        says.text_is ∙ ap (listed_in format view listed) same ∙ sym again.text_is,
+        says.text_is ∙ ap (λ (t : Routes). in_text (length t.rows) says.differences) tables.0 ∙ ap (in_text (length again.table.rows)) same ∙ sym again.text_is,
         outcomes_one _ _ says.table says.other_table again.table again.other_table outcome outcome_too (ap (λ (ds : List Difference). differences_status (length ds)) same) tables.0 tables.1
             says.outcome_is again.outcome_is,
       )
@@ -464,7 +464,12 @@ says_one (jobs.RouteRows reading view count format file quiet) octets other one 
     (table_one reading octets one two says.table again.table has has_too says.gave again.gave) says.text_is says.outcome_is again.text_is again.outcome_is
 says_one (jobs.CompareRoutes reading other_reading view listed format file another quiet)
     octets other one two one_other two_other text text_too outcome outcome_too has has_too other_has other_has_too says again =
-    compares_routes_one reading other_reading view octets other one two one_other two_other has has_too other_has other_has_too listed format text text_too outcome outcome_too says again
+    tells_routes_one reading other_reading view octets other one two one_other two_other has has_too other_has other_has_too
+    (λ rows differences. listed_in format view listed differences) text text_too outcome outcome_too says again
+says_one (jobs.Diff reading other_reading view style file another quiet)
+    octets other one two one_other two_other text text_too outcome outcome_too has has_too other_has other_has_too says again =
+    tells_routes_one reading other_reading view octets other one two one_other two_other has has_too other_has other_has_too
+    (diff_text style view (head_lines (name_of file) (name_of another) reading other_reading)) text text_too outcome outcome_too says again
 says_one (jobs.Senders reading format file quiet) octets other one two one_other two_other text text_too outcome outcome_too has has_too other_has other_has_too says again =
     capture_says_one reading wanteds.Everyone octets one two has has_too (senders_in format) (λ g. senders_status g.senders) says.gathering again.gathering says.cut again.cut
     text text_too outcome outcome_too says.gave again.gave says.text_is says.outcome_is again.text_is again.outcome_is
@@ -544,6 +549,7 @@ FaultOf (jobs.Differences reading other_reading view count format file another q
 FaultOf (jobs.RouteOctets reading view body hex file quiet) octets other fault = FaultAt sides.First (FaultOfDump reading octets) fault
 FaultOf (jobs.RouteRows reading view count format file quiet) octets other fault = FaultAt sides.First (FaultOfDump reading octets) fault
 FaultOf (jobs.CompareRoutes reading other_reading view listed format file another quiet) octets other fault = FaultOfBoth reading other_reading octets other fault
+FaultOf (jobs.Diff reading other_reading view style file another quiet) octets other fault = FaultOfBoth reading other_reading octets other fault
 FaultOf (jobs.Senders reading format file quiet) octets other fault = FaultAt sides.First (FaultOfCapture reading wanteds.Everyone octets) fault
 FaultOf (jobs.Extract reading sender place hex file quiet) octets other fault =
     FaultAt sides.First (FaultOfCapture reading (wanteds.Sender sender place) octets) fault
@@ -697,6 +703,8 @@ cause_of (jobs.RouteRows reading view count format file quiet) reader second unt
     at_first _ _ fault (λ f is cause. of_dump reading reader octets f has is cause) is cause
 cause_of (jobs.CompareRoutes reading other_reading view listed format file another quiet) reader second untouched octets other fault has other_has is cause =
     of_compare reading other_reading reader second untouched octets other fault has other_has is cause
+cause_of (jobs.Diff reading other_reading view style file another quiet) reader second untouched octets other fault has other_has is cause =
+    of_compare reading other_reading reader second untouched octets other fault has other_has is cause
 cause_of (jobs.Senders reading format file quiet) reader second untouched octets other fault has other_has is cause =
     at_first _ _ fault (λ f is cause. of_capture reading wanteds.Everyone reader octets _ f has is cause) is cause
 cause_of (jobs.Extract reading sender place hex file quiet) reader second untouched octets other fault has other_has is cause =
@@ -796,6 +804,9 @@ says_no_fault (jobs.RouteRows reading view count format file quiet) reader secon
 says_no_fault (jobs.CompareRoutes reading other_reading view listed format file another quiet) reader second octets other text outcome fault has other_has says is_fault =
     both_no_fault reading other_reading octets other says.table says.other_table fault (sound (dump_of reader reading) octets says.table has says.gave.gave)
     (sound (dump_of second other_reading) other says.other_table other_has says.gave.other_gave) is_fault
+says_no_fault (jobs.Diff reading other_reading view style file another quiet) reader second octets other text outcome fault has other_has says is_fault =
+    both_no_fault reading other_reading octets other says.table says.other_table fault (sound (dump_of reader reading) octets says.table has says.gave.gave)
+    (sound (dump_of second other_reading) other says.other_table other_has says.gave.other_gave) is_fault
 says_no_fault (jobs.Senders reading format file quiet) reader second octets other text outcome fault has other_has says (of_input, is, is_fault) =
     sound_leaves_none reading wanteds.Everyone octets reader has says.gathering says.cut says.gave of_input is_fault
 says_no_fault (jobs.Extract reading sender place hex file quiet) reader second octets other text outcome fault has other_has says (of_input, is, is_fault) =
@@ -867,6 +878,7 @@ fault_one (jobs.Differences reading other_reading view count format file another
 fault_one (jobs.RouteOctets reading view body hex file quiet) octets other fault too one two = at_side_one sides.First _ fault too (dump_fault_one reading octets) one two
 fault_one (jobs.RouteRows reading view count format file quiet) octets other fault too one two = at_side_one sides.First _ fault too (dump_fault_one reading octets) one two
 fault_one (jobs.CompareRoutes reading other_reading view listed format file another quiet) octets other fault too one two = both_fault_one reading other_reading octets other fault too one two
+fault_one (jobs.Diff reading other_reading view style file another quiet) octets other fault too one two = both_fault_one reading other_reading octets other fault too one two
 fault_one (jobs.Senders reading format file quiet) octets other fault too one two = at_side_one sides.First _ fault too (capture_fault_one reading wanteds.Everyone octets) one two
 fault_one (jobs.Extract reading sender place hex file quiet) octets other fault too one two =
     at_side_one sides.First _ fault too (capture_fault_one reading (wanteds.Sender sender place) octets) one two
@@ -1012,6 +1024,8 @@ dump_fault_of (jobs.RouteRows reading view count format file quiet) side octets 
     of_one (jobs.RouteRows reading view count format file quiet) reading side octets other fault _ refl (own_fault reading octets fault) has
 dump_fault_of (jobs.CompareRoutes reading other_reading view listed format file another quiet) side octets other fault not_pairs has =
     of_both (jobs.CompareRoutes reading other_reading view listed format file another quiet) reading other_reading side octets other fault refl refl has
+dump_fault_of (jobs.Diff reading other_reading view style file another quiet) side octets other fault not_pairs has =
+    of_both (jobs.Diff reading other_reading view style file another quiet) reading other_reading side octets other fault refl refl has
 dump_fault_of (jobs.Senders reading format file quiet) side octets other fault not_pairs has = absurd (of_no_capture side _ _ octets fault has)
 dump_fault_of (jobs.Extract reading sender place hex file quiet) side octets other fault not_pairs has = absurd (of_no_capture side _ _ octets fault has)
 

@@ -27,7 +27,7 @@ line_parts formats.Json (octet ∷ octets) origin tally =
     name_between (sender_front_json origin) (codes "\"") (escaped (escape formats.Json) (octet ∷ octets)) (codes "\"") (sender_end_json tally)
 
 -- the text has more, which is not written yet
-took_with : (writer : Output) (text left more : List ℕ) → Took writer text left → Took writer (text ++ more) (left ++ more)
+pub took_with : (writer : Output) (text left more : List ℕ) → Took writer text left → Took writer (text ++ more) (left ++ more)
 took_with writer text left more first = record {
   front = first.front;
   took = first.took;

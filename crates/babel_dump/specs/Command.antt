@@ -14,6 +14,7 @@ use Rattle.babel_canon.specs.Routes.{AreRouteDifferences}
 use Rattle.babel_canon.specs.Verdict.{IsVerdict}
 use Rattle.babel_canon.specs.declared.every_difference.Difference.{Difference}
 use Rattle.babel_canon.specs.declared.verdict.Verdict.{Verdict}
+use Rattle.babel_dump.specs.DiffText.{diff_text, head_lines}
 use Rattle.babel_dump.specs.Given.{GaveNormal, GavePairs, GaveRoutes, GaveTable, GaveTables, Input}
 use Rattle.babel_dump.specs.Given.{IsFaultOfForm, IsFaultOfGiven}
 use Rattle.babel_dump.specs.InFormat.{differences_or_count_in, lookup_in}
@@ -25,6 +26,7 @@ use Rattle.babel_dump.specs.RunText.{answer_in, differences_status, form_text}
 use Rattle.babel_dump.specs.RunText.{lookup_status, verdict_status}
 use Rattle.babel_dump.specs.declared.format.Format.{Format}
 use Rattle.babel_dump.specs.declared.input_fault.InputFault.TheVariants as input_faults
+use Rattle.babel_dump.specs.declared.job.DiffStyle.{DiffStyle}
 use Rattle.babel_dump.specs.declared.job.Listed.{Listed}
 use Rattle.babel_dump.specs.declared.outcome.Outcome.{Outcome}
 use Rattle.babel_dump.specs.declared.outcome.Reports.TheVariants as reports
@@ -141,18 +143,34 @@ pub record ListsRoutes (reader : Input) (view : View) (count : Bool) (format : F
   pub text_is : text ≡ rows_or_count_in format view count table.rows
   pub outcome_is : IsOutcome outcome 0 table.report
 
--- `compare --routes`: the keys for which the dumps' tables hold what differs under a view
-pub record ComparesRoutes (reader other : Input) (view : View) (listed : Listed) (format : Format)
-    (text : List ℕ) (outcome : Outcome) : Type 0 where
+-- the keys for which the dumps' tables hold what differs under a view, in a text of the number of
+-- the first's rows and of them
+pub record TellsRoutes (reader other : Input) (view : View)
+    (in_text : (rows : ℕ) → List Difference → List ℕ) (text : List ℕ) (outcome : Outcome) :
+    Type 0 where
   pub table : Routes
   pub other_table : Routes
   pub gave : GaveTables reader other table other_table
   pub differences : List Difference
   pub are_differences : AreRouteDifferences (seen_rows view table.rows)
       (seen_rows view other_table.rows) differences
-  pub text_is : text ≡ listed_in format view listed differences
+  pub text_is : text ≡ in_text (length table.rows) differences
   pub outcome_is : IsOutcomeOfBoth outcome (differences_status (length differences))
       table.report other_table.report
+
+-- `compare --routes`: the first of them, all, or how many there are
+abbrev pub ComparesRoutes :
+    (reader other : Input) → View → Listed → Format → List ℕ → Outcome → Type 0
+ComparesRoutes reader other view listed format =
+    TellsRoutes reader other view (λ rows differences. listed_in format view listed differences)
+
+-- `diff`: all of them, as rows, below lines that name these files
+abbrev pub ShowsDiff :
+    (reader other : Input) → View → DiffStyle → (file other_file : List ℕ)
+    → List ℕ → Outcome → Type 0
+ShowsDiff reader other view style file other_file =
+    TellsRoutes reader other view
+    (diff_text style view (head_lines file other_file reader.reading other.reading))
 
 -- the reader gave a dump without a fault, of which nothing was left unread if it is read strictly
 abbrev pub GaveSound : Input → Type 0

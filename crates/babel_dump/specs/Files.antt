@@ -23,6 +23,7 @@ first_file (jobs.Differences reading other_reading view count format file other 
 first_file (jobs.RouteOctets reading view body hex file quiet) = file
 first_file (jobs.RouteRows reading view count format file quiet) = file
 first_file (jobs.CompareRoutes reading other_reading view listed format file other quiet) = file
+first_file (jobs.Diff reading other_reading view style file other quiet) = file
 first_file (jobs.Senders reading format file quiet) = file
 first_file (jobs.Extract reading sender interface hex file quiet) = file
 
@@ -33,4 +34,5 @@ other_file (jobs.Compare reading other_reading view format file other quiet) = S
 other_file (jobs.Differences reading other_reading view count format file other quiet) = Some other
 other_file (jobs.CompareRoutes reading other_reading view listed format file other quiet) =
     Some other
+other_file (jobs.Diff reading other_reading view style file other quiet) = Some other
 other_file job = None

@@ -7,7 +7,7 @@ use Rattle.babel_dump.specs.CaptureRun.{CaptureCause, Extracts, IsNoFault, IsOnS
 use Rattle.babel_dump.specs.CaptureRun.{ListsSenders, capture_calls}
 use Rattle.babel_dump.specs.Command.{CompareCause, Compares, DifferencesCause, ListsDifferences}
 use Rattle.babel_dump.specs.Command.{ComparesRoutes, ListsPairs, ListsRoutes, LooksUp, Shows}
-use Rattle.babel_dump.specs.Command.{WritesKey, WritesNormal, WritesRoutes}
+use Rattle.babel_dump.specs.Command.{ShowsDiff, WritesKey, WritesNormal, WritesRoutes}
 use Rattle.babel_dump.specs.Each.{EachCause, LooksUpAsked}
 use Rattle.babel_dump.specs.Files.{name_of}
 use Rattle.babel_dump.specs.Given.{IsFaultOfForm, IsFaultOfGiven, Reads, dump_of}
@@ -47,6 +47,9 @@ SaysBy (jobs.RouteRows reading view count format file quiet) reader other =
 SaysBy (jobs.CompareRoutes reading other_reading view listed format file another quiet)
     reader other =
     ComparesRoutes (dump_of reader reading) (dump_of other other_reading) view listed format
+SaysBy (jobs.Diff reading other_reading view style file another quiet) reader other =
+    ShowsDiff (dump_of reader reading) (dump_of other other_reading) view style
+    (name_of file) (name_of another)
 SaysBy (jobs.Senders reading format file quiet) reader other =
     ListsSenders (capture_of reader reading wanteds.Everyone) format
 SaysBy (jobs.Extract reading sender place hex file quiet) reader other =
@@ -78,6 +81,8 @@ CauseBy (jobs.RouteRows reading view count format file quiet) reader other untou
 CauseBy (jobs.CompareRoutes reading other_reading view listed format file another quiet)
     reader other untouched =
     CompareCause (dump_of reader reading) (dump_of other other_reading) untouched
+CauseBy (jobs.Diff reading other_reading view style file another quiet) reader other untouched =
+    CompareCause (dump_of reader reading) (dump_of other other_reading) untouched
 CauseBy (jobs.Senders reading format file quiet) reader other untouched =
     OfFirst (CaptureCause (capture_of reader reading wanteds.Everyone) IsNoFault)
 CauseBy (jobs.Extract reading sender place hex file quiet) reader other untouched =
@@ -105,6 +110,8 @@ first_calls (jobs.RouteRows reading view count format file quiet) reader =
 first_calls (jobs.CompareRoutes reading other_reading view listed format file another quiet)
     reader =
     calls_of (dump_of reader reading)
+first_calls (jobs.Diff reading other_reading view style file another quiet) reader =
+    calls_of (dump_of reader reading)
 first_calls (jobs.Senders reading format file quiet) reader =
     capture_calls (capture_of reader reading wanteds.Everyone)
 first_calls (jobs.Extract reading sender place hex file quiet) reader =
@@ -118,6 +125,8 @@ other_calls (jobs.Compare reading other_reading view format file another quiet) 
 other_calls (jobs.Differences reading other_reading view count format file another quiet) other =
     Some (calls_of (dump_of other other_reading))
 other_calls (jobs.CompareRoutes reading other_reading view listed format file another quiet) other =
+    Some (calls_of (dump_of other other_reading))
+other_calls (jobs.Diff reading other_reading view style file another quiet) other =
     Some (calls_of (dump_of other other_reading))
 other_calls job other = None
 

@@ -113,12 +113,15 @@ reading_at sides.First (jobs.RouteRows reading view count format file quiet) = S
 reading_at sides.First
     (jobs.CompareRoutes reading other_reading view listed format file other quiet) =
     Some reading
+reading_at sides.First (jobs.Diff reading other_reading view style file other quiet) = Some reading
 reading_at sides.Other (jobs.Compare reading other_reading view format file other quiet) =
     Some other_reading
 reading_at sides.Other (jobs.Differences reading other_reading view count format file other quiet) =
     Some other_reading
 reading_at sides.Other
     (jobs.CompareRoutes reading other_reading view listed format file other quiet) =
+    Some other_reading
+reading_at sides.Other (jobs.Diff reading other_reading view style file other quiet) =
     Some other_reading
 reading_at side job = None
 

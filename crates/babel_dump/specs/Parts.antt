@@ -23,8 +23,7 @@ use Rattle.babel_dump.specs.Command.{IsOfMany, IsOfMemory, IsOutcome, IsOutcomeO
 use Rattle.babel_dump.specs.Command.{IsOutcomeOfBoth}
 use Rattle.babel_dump.specs.Device.{AppendsPrefix}
 use Rattle.babel_dump.specs.Given.{GaveAll, GaveTables, Input, Reads}
-use Rattle.babel_dump.specs.InFormat.{differences_or_count_in, listed_in, pairs_or_counts_in}
-use Rattle.babel_dump.specs.InFormat.{verdict_in}
+use Rattle.babel_dump.specs.InFormat.{differences_or_count_in, pairs_or_counts_in, verdict_in}
 use Rattle.babel_dump.specs.JobRun.{CauseBy, OtherCalled, SaysBy, first_calls, other_calls}
 use Rattle.babel_dump.specs.Run.{Called, Calls, Output}
 use Rattle.babel_dump.specs.RunText.{answer_in, differences_status, form_text, verdict_status}
@@ -32,7 +31,6 @@ use Rattle.babel_dump.specs.SlicedRows.{found_text}
 use Rattle.babel_dump.specs.declared.both.SeenTables.{SeenTables}
 use Rattle.babel_dump.specs.declared.format.Format.{Format}
 use Rattle.babel_dump.specs.declared.job.Job.{Job}
-use Rattle.babel_dump.specs.declared.job.Listed.{Listed}
 use Rattle.babel_dump.specs.declared.outcome.Outcome.{Outcome}
 use Rattle.babel_dump.specs.declared.pairs_fault.PairsFault.TheVariants as pairs_faults
 use Rattle.babel_dump.specs.declared.run_fault.RunFault.{RunFault}
@@ -113,11 +111,11 @@ pub record SaysOctets (octets : List ℕ) (hex : Bool) (report : Counts) (text :
   pub outcome_is : IsOutcome outcome 0 report
 
 -- the text and the outcome are those of the keys for which two tables hold what differs
-pub record SaysRoutes (view : View) (listed : Listed) (format : Format) (seen : SeenTables)
+pub record SaysRoutes (seen : SeenTables) (in_text : (rows : ℕ) → List Difference → List ℕ)
     (text : List ℕ) (outcome : Outcome) : Type 0 where
   pub differences : List Difference
   pub are_differences : AreRouteDifferences seen.left.rows seen.right.rows differences
-  pub text_is : text ≡ listed_in format view listed differences
+  pub text_is : text ≡ in_text (length seen.left.rows) differences
   pub outcome_is : IsOutcomeOfBoth outcome (differences_status (length differences))
       seen.left.report seen.right.report
 

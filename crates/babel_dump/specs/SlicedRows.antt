@@ -2,9 +2,11 @@
 use Rattle.std.specs.Prelude.{ℕ, ◌≡◌, List, [], ◌++◌, Result, Ok, Err, IfOk, IfErr}
 use Rattle.std.specs.List.{flat_map}
 use Rattle.babel_dump.specs.CaptureText.{senders_in}
+use Rattle.babel_dump.specs.DiffText.{change_text}
 use Rattle.babel_dump.specs.InFormat.{answer_line_in, difference_in, pairs_in}
 use Rattle.babel_dump.specs.Run.{Output}
 use Rattle.babel_dump.specs.Slices.{WroteText}
+use Rattle.babel_dump.specs.declared.diff_rows.DiffRows.{DiffRows}
 use Rattle.babel_dump.specs.declared.format.Format.{Format}
 use Rattle.babel_dump.specs.declared.outcome.Outcome.{Outcome}
 use Rattle.babel_dump.specs.declared.output.Answered.{Answered}
@@ -19,6 +21,11 @@ abbrev pub answered_in : Format → Answered → List ℕ
 answered_in format answered =
     answer_line_in format answered.pair.dst answered.pair.src answered.held
 
+-- the lines that name two dumps, and the rows that they hold differently
+abbrev pub diff_lines : DiffRows → List ℕ
+diff_lines diff =
+    diff.heads.items ++ flat_map (change_text diff.coloured diff.view) diff.list.items
+
 -- a line for each row
 abbrev pub lines_of : Format → Rows → List ℕ
 lines_of format (rows.Table view table) = pairs_in format view table.rows
@@ -26,6 +33,7 @@ lines_of format (rows.Pairs view pairs) = pairs_in format view pairs
 lines_of format (rows.Answers answers) = flat_map (answered_in format) answers.items
 lines_of format (rows.Differences view differences) =
     flat_map (difference_in format view) differences.items
+lines_of format (rows.Diff diff) = diff_lines diff
 lines_of format (rows.Senders gathered) = senders_in format gathered
 lines_of format rows.Empty = []
 

@@ -5,6 +5,9 @@ use std::alloc::{AllocError, Global};
 /// The most routes for which the least limit on octets, 83 for each, is a number of 32 bits.
 const MOST_ROUTES: i64 = 51_746_593;
 
+/// When `diff` colours its rows.
+const COLORS: [&str; 3] = ["auto", "always", "never"];
+
 /// The end of a help text: what has to be known, if anything, then the exit statuses, of which only
 /// 0 and 1 differ from command to command, and examples.
 macro_rules! after_help {
@@ -97,6 +100,14 @@ const AFTER_COMPARE: &str = after_help!(
     "1  at least one destination and source has a different answer, or one route differs"
 );
 
+const AFTER_DIFF: &str = after_help!(
+    examples:
+    "diff --from fe80::1 before.pcap now.pcap",
+    "diff --stat --color auto --from fe80::1 before.pcap now.pcap";
+    "0  no route differs",
+    "1  at least one route differs"
+);
+
 const AFTER_SENDERS: &str = after_help!(
     refused: "a capture";
     examples:
@@ -133,6 +144,7 @@ pub(crate) fn command<'a>(alloc: Global) -> Result<Command<'a>, AllocError> {
         .subcommand(key(alloc)?)?
         .subcommand(pairs(alloc)?)?
         .subcommand(compare(alloc)?)?
+        .subcommand(diff(alloc)?)?
         .subcommand(senders(alloc)?)?
         .subcommand(extract(alloc)?)
 }
@@ -255,6 +267,45 @@ fn pairs<'a>(alloc: Global) -> Result<Command<'a>, AllocError> {
 /// The command for the answers of two dumps.
 fn compare<'a>(alloc: Global) -> Result<Command<'a>, AllocError> {
     let about = "Print \"same\", or the lowest destination and source for which two inputs differ";
+    let command = Command::new(alloc, "compare")
+        .about(about)
+        .after_help(AFTER_COMPARE);
+    of_two_dumps(alloc, command)?
+        .arg(json(alloc))?
+        .arg(routes(alloc, "Compare the routes, not the answers"))?
+        .arg(all(alloc))?
+        .arg(count_of_all(alloc)?)?
+        .group(
+            ArgGroup::new(alloc, "listed")
+                .arg("all")?
+                .arg("routes")?
+                .multiple(true),
+        )
+}
+
+/// The command for the routes of two dumps, as people read changes.
+fn diff<'a>(alloc: Global) -> Result<Command<'a>, AllocError> {
+    let about =
+        "Print the routes that differ between two inputs, as diff does: - is gone, + is new";
+    let command = Command::new(alloc, "diff")
+        .about(about)
+        .after_help(AFTER_DIFF);
+    let stat = flag(
+        alloc,
+        "stat",
+        "Print a last line: how many routes are gone, new, changed, and alike",
+    );
+    let color = Arg::new(alloc, "color")
+        .long("color")
+        .value_name("WHEN")
+        .value_parser(&COLORS[..])
+        .action(ArgAction::Set)
+        .help("When routes are in colour; auto is on a terminal alone [default: never]");
+    of_two_dumps(alloc, command)?.arg(stat)?.arg(color)
+}
+
+/// The command with what each command over two dumps has.
+fn of_two_dumps<'a>(alloc: Global, command: Command<'a>) -> Result<Command<'a>, AllocError> {
     let from = address(
         alloc,
         "from",
@@ -276,9 +327,7 @@ fn compare<'a>(alloc: Global) -> Result<Command<'a>, AllocError> {
         "other-interface",
         "The same for OTHER, if it is a capture",
     );
-    let command = Command::new(alloc, "compare")
-        .about(about)
-        .after_help(AFTER_COMPARE)
+    let command = command
         .arg(from)?
         .arg(other_from.required(false))?
         .arg(interface)?
@@ -286,16 +335,6 @@ fn compare<'a>(alloc: Global) -> Result<Command<'a>, AllocError> {
     with_settings(alloc, command)?
         .arg(strict(alloc))?
         .arg(ignore(alloc))?
-        .arg(json(alloc))?
-        .arg(routes(alloc, "Compare the routes, not the answers"))?
-        .arg(all(alloc))?
-        .arg(count_of_all(alloc)?)?
-        .group(
-            ArgGroup::new(alloc, "listed")
-                .arg("all")?
-                .arg("routes")?
-                .multiple(true),
-        )?
         .arg(dump(
             alloc,
             "file",

@@ -122,6 +122,16 @@ pub enum Job {
         other: DumpFile,
         quiet: bool,
     },
+    /// `diff`: the rows that two dumps hold differently, as text that people read.
+    Diff {
+        reading: Reading,
+        other_reading: Reading,
+        view: View,
+        style: DiffStyle,
+        file: DumpFile,
+        other: DumpFile,
+        quiet: bool,
+    },
     /// `senders`: who sent Babel packets, by a capture.
     Senders {
         reading: CaptureReading,
@@ -153,6 +163,15 @@ pub enum Listed {
     All,
     /// How many there are: `--count`.
     Count,
+}
+
+/// How the text of `diff` looks.
+#[derive(Clone, Copy, Debug, PartialEq, Eq)]
+pub struct DiffStyle {
+    /// Whether a last line says how many rows are gone, new, changed, and alike: `--stat`.
+    pub stat: bool,
+    /// Whether rows are in colour: `--color`.
+    pub coloured: bool,
 }
 
 /// Where a dump, a capture, or the pairs of `--each`, are read from.
@@ -193,6 +212,7 @@ impl Job {
             | Job::RouteOctets { file, .. }
             | Job::RouteRows { file, .. }
             | Job::CompareRoutes { file, .. }
+            | Job::Diff { file, .. }
             | Job::Senders { file, .. }
             | Job::Extract { file, .. } => file,
         }
@@ -214,7 +234,8 @@ impl Job {
         match self {
             Job::Compare { other, .. }
             | Job::Differences { other, .. }
-            | Job::CompareRoutes { other, .. } => Some(other),
+            | Job::CompareRoutes { other, .. }
+            | Job::Diff { other, .. } => Some(other),
             Job::Each { pairs, .. } => Some(pairs),
             _ => None,
         }
@@ -233,7 +254,8 @@ impl Job {
             | Job::Differences { reading, .. }
             | Job::RouteOctets { reading, .. }
             | Job::RouteRows { reading, .. }
-            | Job::CompareRoutes { reading, .. } => Some(*reading),
+            | Job::CompareRoutes { reading, .. }
+            | Job::Diff { reading, .. } => Some(*reading),
             Job::Senders { .. } | Job::Extract { .. } => None,
         }
     }
@@ -243,7 +265,8 @@ impl Job {
         match self {
             Job::Compare { other_reading, .. }
             | Job::Differences { other_reading, .. }
-            | Job::CompareRoutes { other_reading, .. } => Some(*other_reading),
+            | Job::CompareRoutes { other_reading, .. }
+            | Job::Diff { other_reading, .. } => Some(*other_reading),
             _ => None,
         }
     }
@@ -303,6 +326,7 @@ impl Job {
             | Job::RouteOctets { quiet, .. }
             | Job::RouteRows { quiet, .. }
             | Job::CompareRoutes { quiet, .. }
+            | Job::Diff { quiet, .. }
             | Job::Senders { quiet, .. }
             | Job::Extract { quiet, .. } => *quiet,
         }

@@ -8,6 +8,7 @@ ghost use Rattle.babel_dump.specs.Run.{output};
 use crate::byte_in::ByteIn;
 use crate::byte_out::ByteOut;
 use crate::compare::find_verdict;
+use crate::diff::find_diff;
 use crate::differences::find_differences;
 use crate::each::find_each;
 use crate::extract::find_packets;
@@ -153,6 +154,25 @@ fn find<R: ByteIn, S: ByteIn>(
             view,
             listed,
             format,
+            reader,
+            other,
+        ),
+        Job::Diff {
+            reading,
+            other_reading,
+            view,
+            style,
+            ref file,
+            other: ref other_file,
+            ..
+        } => find_diff(
+            alloc,
+            reading,
+            other_reading,
+            view,
+            style,
+            file.name(),
+            other_file.name(),
             reader,
             other,
         ),

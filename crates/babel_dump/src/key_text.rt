@@ -58,7 +58,7 @@ fn has_escape(file: &[u8]) -> bool
 }
 
 /// Appends a file's name.
-fn push_file(line: &mut Vec<u8>, file: &[u8]) -> Result<(), AllocError>
+pub(crate) fn push_file(line: &mut Vec<u8>, file: &[u8]) -> Result<(), AllocError>
     ensures { OnOk result (line.new.items ≡ line.old.items ++ file_text file.now) }
 {
     for octet in file {

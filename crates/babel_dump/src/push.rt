@@ -10,7 +10,7 @@ ghost use Rattle.babel_dump.specs.CaptureText.{link_text, marked, octet_text};
 ghost use Rattle.babel_dump.specs.CaptureText.{sender_end, sender_front};
 ghost use Rattle.babel_dump.specs.RunText.{announcement_text, answer_line, answer_text};
 ghost use Rattle.babel_dump.specs.RunText.{counts_text, count_text, differ_lines};
-ghost use Rattle.babel_dump.specs.RunText.{held_text, kept_text, newline, pair_line};
+ghost use Rattle.babel_dump.specs.RunText.{held_text, kept_text, newline, pair_line, pair_text};
 ghost use Rattle.babel_dump.specs.Slices.{HasRoom, TookRoom};
 ghost use Rattle.babel_dump.specs.TextParts.{hex_digits, nonzero};
 
@@ -20,18 +20,27 @@ use babel_prefix::{Addr, Family, Prefix};
 use babel_tlv::{Ann, Held, Key, View};
 use itoa::{Buffer, Integer};
 
-/// Appends a row of a table, as the runs show it under a view.
+/// Appends a row of a table, as the runs show it under a view: a line.
 pub(crate) fn push_pair_line(buffer: &mut Vec<u8>, view: View, key: Key, held: Held)
     requires { HasRoom buffer.old 186 }
     ensures text { buffer.new.items ≡ buffer.old.items ++ pair_line view (key, held) }
     ensures room { TookRoom buffer.old buffer.new 186 }
+{
+    push_pair(buffer, view, key, held);
+    push_octet(buffer, b'\n');
+}
+
+/// Appends a row of a table, without the line's end.
+pub(crate) fn push_pair(buffer: &mut Vec<u8>, view: View, key: Key, held: Held)
+    requires { HasRoom buffer.old 185 }
+    ensures text { buffer.new.items ≡ buffer.old.items ++ pair_text view (key, held) }
+    ensures room { TookRoom buffer.old buffer.new 185 }
 {
     push_prefix(buffer, key.dst());
     push_text(buffer, " from ");
     push_prefix(buffer, key.src());
     push_octet(buffer, b' ');
     push_held(buffer, view, held);
-    push_octet(buffer, b'\n');
 }
 
 /// Appends what is answered for a destination and a source.
@@ -142,7 +151,7 @@ pub(crate) fn push_sender_end(buffer: &mut Vec<u8>, place: Place, tally: Tally)
 }
 
 /// Appends the number of a link, or nothing where there is none.
-fn push_link(buffer: &mut Vec<u8>, link: Option<u32>)
+pub(crate) fn push_link(buffer: &mut Vec<u8>, link: Option<u32>)
     requires { HasRoom buffer.old 16 }
     ensures text { buffer.new.items ≡ buffer.old.items ++ link_text link }
     ensures room { TookRoom buffer.old buffer.new 16 }

@@ -146,7 +146,8 @@ fn found_routes(
     format: Format,
     seen: &SeenTables,
 ) -> Result<Found, RunFault>
-    ensures ok { IfOk result (Says (SaysRoutes view listed format seen.now)) }
+    ensures ok { IfOk result (Says (SaysRoutes seen.now
+        (λ rows differences. listed_in format view listed differences))) }
     ensures err { IfErr result IsOfMemory }
 {
     let list = route_differences(alloc, &seen.left, &seen.right)?;

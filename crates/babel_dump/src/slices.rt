@@ -11,6 +11,7 @@ ghost use Rattle.babel_dump.specs.SlicedRows.{Finished, found_text, lines_of};
 ghost use Rattle.babel_dump.specs.Slices.{HasRoom, WroteFront, WroteText};
 
 use crate::byte_out::ByteOut;
+use crate::diff_rows::{DiffRows, write_diff};
 use crate::format::Format;
 use crate::outcome::Outcome;
 use crate::output::{Answered, Line, escape_of, push_after_name, push_line, push_to_name};
@@ -36,6 +37,8 @@ pub(crate) enum Rows {
     Answers(Vec<Answered>),
     /// Differences, as a view shows them.
     Differences(View, Vec<Difference>),
+    /// What two dumps hold differently, as people read it.
+    Diff(DiffRows),
     /// The senders in a capture.
     Senders(Gathered),
     /// None.
@@ -124,6 +127,7 @@ fn write_rows<W: ByteOut>(
         Rows::Pairs(view, pairs) => write_pairs(writer, format, view, pairs, buffer),
         Rows::Answers(answers) => write_lines(writer, format, View::all(), &answers, buffer),
         Rows::Differences(view, listed) => write_lines(writer, format, view, &listed, buffer),
+        Rows::Diff(diff) => write_diff(writer, &diff, buffer),
         Rows::Senders(gathered) => write_senders(writer, format, &gathered, buffer),
         Rows::Empty => Ok(()),
     }

@@ -110,7 +110,7 @@ fn job(alloc: Global, limits: Limits, mode: Mode, sender: &str, asked: &str) -> 
 
 /// The one job of the words of a line.
 fn one_job(alloc: Global, line: &str) -> Result<Job, Fail> {
-    let jobs = match read_words(alloc, &split(alloc, line)?) {
+    let jobs = match read_words(alloc, &split(alloc, line)?, false) {
         Ok(jobs) => jobs,
         Err(_refusal) => return Err(Fail::from("no job")),
     };

@@ -9,8 +9,8 @@ use super::devices::ScriptedIn;
 use babel_canon::Body;
 use babel_capture::Place;
 use babel_dump::{
-    AddrPair, ByteOut, CaptureReading, DumpFile, Format, InputFault, Job, Listed, Reading,
-    RunFault, run_job, status_of,
+    AddrPair, ByteOut, CaptureReading, DiffStyle, DumpFile, Format, InputFault, Job, Listed,
+    Reading, RunFault, run_job, status_of,
 };
 use babel_library_tests::dumps::{NESTED_SOURCES, ONE_FAMILY, TWO_FAMILIES, V4, V6};
 use babel_table::Limits;
@@ -53,6 +53,10 @@ const DIFFERENCE: &str = "differ 255.255.255.255 from 0.0.0.1\n\
 
 const DIFFERENCES: &str = "differ 255.255.255.255/32 from 0.0.0.1/32\n\
      left via 192.0.2.1 id 0200000000000001 seqno 1 metric 256\nright none\n";
+
+const DIFF: &str = "--- - fe80:0:0:0:0:0:0:1\n+++ - fe80:0:0:0:0:0:0:1\n\
+     -255.255.255.255/32 from 0.0.0.1/32 via 192.0.2.1 id 0200000000000001 seqno 1 metric 256\n\
+     1 gone, 0 new, 0 changed, 1 alike\n";
 
 /// Takes this text alone, and needs no memory.
 #[derive(Drop)]
@@ -268,6 +272,23 @@ fn refused_memory_of_route_differences(rt: HostRuntime) -> Result<(), Fail> {
         quiet: true,
     };
     outcome(rt.alloc(), &job, TWO_FAMILIES, ONE_FAMILY, 1, DIFFERENCES)
+}
+
+#[test]
+fn refused_memory_of_diff(rt: HostRuntime) -> Result<(), Fail> {
+    let job = Job::Diff {
+        reading: reading(V6)?,
+        other_reading: reading(V6)?,
+        view: View::all(),
+        style: DiffStyle {
+            stat: true,
+            coloured: false,
+        },
+        file: DumpFile::StandardInput,
+        other: DumpFile::StandardInput,
+        quiet: true,
+    };
+    outcome(rt.alloc(), &job, TWO_FAMILIES, ONE_FAMILY, 1, DIFF)
 }
 
 #[test]

@@ -1,6 +1,6 @@
 //! The program's words: jobs, refusals and help.
 use super::{address, one_job, split};
-use babel_dump::{DumpFile, Format, Job, Listed, Reading, Refusal, read_words};
+use babel_dump::{DiffStyle, DumpFile, Format, Job, Listed, Reading, Refusal, read_words};
 use babel_prefix::Addr;
 use babel_table::Limits;
 use babel_tlv::Mode;
@@ -81,7 +81,7 @@ const COMPARE: Wanted<'static> = Wanted {
 
 /// Words, and the job that they ask for.
 #[rattlefmt::skip]
-static JOBS: [(&str, Wanted<'static>); 42] = [
+static JOBS: [(&str, Wanted<'static>); 44] = [
     (
         "lookup --from fe80::1 --to 10.1.2.3 --src=0.0.0.0 --hold x",
         Wanted {
@@ -143,6 +143,11 @@ static JOBS: [(&str, Wanted<'static>); 42] = [
     ("compare --from :: --routes a b", Wanted { routes: true, ..COMPARE }),
     ("compare --from :: --routes --all a b", Wanted { routes: true, all: true, ..COMPARE }),
     ("compare --from :: --routes --count a b", Wanted { routes: true, count: true, ..COMPARE }),
+    ("diff --from :: a b", Wanted { command: "diff", ..COMPARE }),
+    ("diff --hold --strict --from :: --other-from ::1 - b", Wanted {
+        command: "diff", mode: Mode::Hold, strict: true, other_from: Some("::1"), file: None,
+        ..COMPARE
+    }),
     ("key --from ::", KEY),
     ("key --strict x --from ::1 --hold", Wanted {
         from: "::1", strict: true, mode: Mode::Hold, file: Some("x"), ..KEY
@@ -162,12 +167,48 @@ fn words_of_jobs(rt: HostRuntime) -> Result<(), Fail> {
 #[test]
 fn words_of_a_job_for_each_file(rt: HostRuntime) -> Result<(), Fail> {
     let words = ["key", "a", "--from", "::", "-", "b"];
-    let Ok(jobs) = read_words(rt.alloc(), &words) else {
+    let Ok(jobs) = read_words(rt.alloc(), &words, false) else {
         return Err(Fail::from("no jobs"));
     };
     assert_eq!(rt; jobs.len(), 3);
     for (job, file) in jobs.iter().zip([Some("a"), None, Some("b")]) {
         expect_file(&rt, "key", job.file(), file);
+    }
+    Ok(())
+}
+
+/// Words of `diff`, whether the output is a terminal, and then whether there is a last line, and
+/// whether rows are in colour.
+static STYLES: [(&str, bool, bool, bool); 9] = [
+    ("diff --from :: a b", true, false, false),
+    ("diff --from :: --stat a b", true, true, false),
+    ("diff --from :: --color never a b", true, false, false),
+    ("diff --from :: --color=never a b", false, false, false),
+    ("diff --from :: --color auto a b", true, false, true),
+    ("diff --from :: --color=auto a b", false, false, false),
+    (
+        "diff --from :: --color always --stat a b",
+        false,
+        true,
+        true,
+    ),
+    ("diff --from :: a b --color=always", true, false, true),
+    ("diff --stat a b --color=auto --from ::", true, true, true),
+];
+
+#[test]
+fn words_of_styles(rt: HostRuntime) -> Result<(), Fail> {
+    for (line, is_terminal, stat, coloured) in &STYLES {
+        let (stat, coloured) = (*stat, *coloured);
+        match read_words(rt.alloc(), &split(rt.alloc(), line)?, *is_terminal) {
+            Ok(jobs) => match jobs.first() {
+                Some(Job::Diff { style, .. }) => {
+                    assert_eq!(rt; *style, DiffStyle { stat, coloured }, "of {line}");
+                }
+                _ => return Err(Fail::from("another job")),
+            },
+            Err(_refusal) => return Err(Fail::from("no job")),
+        }
     }
     Ok(())
 }
@@ -281,6 +322,16 @@ fn expect_job(rt: &impl Abort, line: &str, job: &Job, wanted: &Wanted<'_>) -> Re
             expect_file(rt, line, other, wanted.other);
             expect_readings(rt, line, reading, other_reading, *format, wanted)
         }
+        Job::Diff {
+            reading,
+            other_reading,
+            other,
+            ..
+        } => {
+            expect_file(rt, line, other, wanted.other);
+            expect_address(rt, line, other_reading.sender, wanted.other_from)?;
+            expect_reading(rt, line, "diff", reading, Format::Text, wanted)
+        }
         Job::Senders { .. } | Job::Extract { .. } => Err(Fail::from("a job over a capture")),
     }
 }
@@ -339,7 +390,7 @@ pub fn expect_file(rt: &impl Abort, line: &str, given: &DumpFile, wanted: Option
 
 /// The text that the words of a line are refused with.
 fn usage(rt: &impl Abort, alloc: Global, line: &str) -> Result<String, Fail> {
-    match read_words(alloc, &split(alloc, line)?) {
+    match read_words(alloc, &split(alloc, line)?, false) {
         Err(Refusal::Usage(text)) => Ok(text),
         Err(_refusal) => Err(Fail::from("no usage")),
         Ok(_job) => {
@@ -528,13 +579,14 @@ const OF_ONE_DUMP: [&str; 6] = [
 
 const OF_JSON: &str = "--json                   Print one JSON object per line";
 
-const COMMANDS: [&str; 6] = [
+const COMMANDS: [&str; 7] = [
     "  show  ",
     "  lookup  ",
     "  normalise  ",
     "  key  ",
     "  pairs  ",
     "  compare  ",
+    "  diff  ",
 ];
 
 const OF_LOOKUP: [&str; 6] = [
@@ -603,7 +655,7 @@ static HELPS: [(&str, &[&str], &[&str]); 7] = [
 #[test]
 fn words_that_ask_for_help(rt: HostRuntime) -> Result<(), Fail> {
     for (line, parts, own) in &HELPS {
-        match read_words(rt.alloc(), &split(rt.alloc(), line)?) {
+        match read_words(rt.alloc(), &split(rt.alloc(), line)?, false) {
             Err(Refusal::Help(help)) => {
                 expect_parts(&rt, help.as_str(), parts);
                 expect_parts(&rt, help.as_str(), own);

@@ -1,0 +1,201 @@
+//! `diff`: the rows that two dumps hold differently, as text that people read.
+ghost use Rattle.std.specs.Prelude.{◌≡◌, ◌++◌, IfErr, IfOk, OnOk, filter, is_none, length};
+ghost use Rattle.babel_dump.specs.Command.{CompareCause, IsOfMemory, ShowsDiff};
+ghost use Rattle.babel_dump.specs.Device.{HasRoomToCount};
+ghost use Rattle.babel_dump.specs.DiffText.{diff_text, head_line, head_lines, place_text};
+ghost use Rattle.babel_dump.specs.DiffText.{stat_line, stat_text};
+ghost use Rattle.babel_dump.specs.Given.{read_from};
+ghost use Rattle.babel_dump.specs.Parts.{Gathered, Says, SaysRoutes};
+ghost use Rattle.babel_dump.specs.Run.{Called, calls_of};
+ghost use Rattle.babel_dump.specs.SlicedRows.{lines_of};
+ghost use Rattle.babel_dump.specs.Slices.{HasRoom, TookRoom};
+ghost use Rattle.babel_dump.specs.declared.format.Format.TheVariants as formats;
+
+use crate::both::{SeenTables, read_both};
+use crate::byte_in::ByteIn;
+use crate::diff_rows::DiffRows;
+use crate::differences::differences_status;
+use crate::format::Format;
+use crate::job::DiffStyle;
+use crate::key_text::push_file;
+use crate::outcome::{Outcome, Reports};
+use crate::push::{push_addr, push_decimal, push_link, push_marked, push_octet, push_text};
+use crate::reading::Reading;
+use crate::run_fault::RunFault;
+use crate::slices::{Found, Rows};
+use babel_canon::{Difference, route_differences};
+use babel_capture::Place;
+use babel_tlv::View;
+use std::alloc::{AllocError, Global};
+
+/// No address and place, nor any line of numbers, is longer, in octets.
+const ROOM: usize = 160;
+
+/// Reads two dumps, the first to its end before the other, and makes the text of the rows that they
+/// hold differently, as a view sees both, below lines that name these files.
+pub(crate) fn find_diff<R: ByteIn, S: ByteIn>(
+    alloc: Global,
+    reading: Reading,
+    other_reading: Reading,
+    view: View,
+    style: DiffStyle,
+    file: &str,
+    other_file: &str,
+    reader: &mut R,
+    other: &mut S,
+) -> Result<Found, RunFault>
+    requires reader { HasRoomToCount (R.state reader.old) }
+    requires other { HasRoomToCount (S.state other.old) }
+    ensures gathered { let dump = read_from (R.state reader.old) (R.state reader.new) reading in
+        let other_dump = read_from (S.state other.old) (S.state other.new) other_reading in
+        Gathered (calls_of dump) (CompareCause dump other_dump (other.new ≡ other.old))
+        (Says (ShowsDiff dump other_dump view style file.now other_file.now)) result }
+    ensures other_calls { Called (calls_of
+        (read_from (S.state other.old) (S.state other.new) other_reading)) result }
+{
+    let (one, another) = (reading, other_reading);
+    let seen = read_both(alloc, reading, other_reading, view, reader, other)?;
+    found_diff(alloc, one, another, view, style, file, other_file, &seen)
+}
+
+/// The text of the rows that two tables hold differently. Want of memory is the first dump's.
+fn found_diff(
+    alloc: Global,
+    reading: Reading,
+    other_reading: Reading,
+    view: View,
+    style: DiffStyle,
+    file: &str,
+    other_file: &str,
+    seen: &SeenTables,
+) -> Result<Found, RunFault>
+    ensures ok { IfOk result (Says (SaysRoutes seen.now
+        (diff_text style view (head_lines file.now other_file.now reading other_reading)))) }
+    ensures err { IfErr result IsOfMemory }
+{
+    let list = route_differences(alloc, &seen.left, &seen.right)?;
+    let outcome = Outcome {
+        status: differences_status(list.len()),
+        reports: Reports::Dumps(*seen.left.report(), *seen.right.report()),
+    };
+    let heads = head_lines(alloc, file, other_file, reading, other_reading)?;
+    let (rows, after) = diff_rows(alloc, view, style, heads, seen.left.rows().len(), list)?;
+    Ok(Found::rows(alloc, Format::Text, rows, after, outcome)?)
+}
+
+/// The lines of differences, where the first dump has so many rows, and the text after them.
+fn diff_rows(
+    alloc: Global,
+    view: View,
+    style: DiffStyle,
+    heads: Vec<u8>,
+    rows: usize,
+    list: Vec<Difference>,
+) -> Result<(Rows, Vec<u8>), AllocError>
+    ensures { IfOk result (λ found. lines_of formats.Text found.0 ++ found.1.items
+        ≡ diff_text style view heads.items rows list.items) }
+{
+    if list.is_empty() {
+        return Ok((Rows::Empty, Vec::new(alloc)));
+    }
+    let after = if style.stat {
+        stat_line(alloc, rows, &list)?
+    } else {
+        Vec::new(alloc)
+    };
+    let diff = DiffRows {
+        heads,
+        coloured: style.coloured,
+        view,
+        list,
+    };
+    Ok((Rows::Diff(diff), after))
+}
+
+/// The lines that name the two dumps.
+fn head_lines(
+    alloc: Global,
+    file: &str,
+    other_file: &str,
+    reading: Reading,
+    other_reading: Reading,
+) -> Result<Vec<u8>, AllocError>
+    ensures { IfOk result (λ text. text.items
+        ≡ head_lines file.now other_file.now reading other_reading) }
+{
+    let mut text = Vec::new(alloc);
+    push_head(&mut text, "--- ", file, reading)?;
+    push_head(&mut text, "+++ ", other_file, other_reading)?;
+    Ok(text)
+}
+
+/// Appends the line that names a dump: its file, its sender, and its place, where one is named.
+fn push_head(text: &mut Vec<u8>, mark: &str, file: &str, reading: Reading) -> Result<(), AllocError>
+    ensures { OnOk result (text.new.items
+        ≡ text.old.items ++ head_line mark.now file.now reading) }
+{
+    text.extend_from_slice(mark.as_bytes())?;
+    push_file(text, file.as_bytes())?;
+    text.reserve(ROOM)?;
+    push_octet(text, b' ');
+    push_addr(text, reading.sender);
+    push_place(text, reading.place);
+    push_octet(text, b'\n');
+    Ok(())
+}
+
+/// Appends the words of a place, where one is named.
+fn push_place(buffer: &mut Vec<u8>, place: Option<Place>)
+    requires { HasRoom buffer.old 91 }
+    ensures text { buffer.new.items ≡ buffer.old.items ++ place_text place }
+    ensures room { TookRoom buffer.old buffer.new 91 }
+{
+    if let Some(place) = place {
+        push_text(buffer, " interface ");
+        push_decimal(buffer, place.interface);
+        push_link(buffer, place.link);
+        push_marked(buffer, " vlan ", ".", &place.vlans.numbers());
+    }
+}
+
+/// The line of how many rows are gone, new, changed, and alike, where the first dump has so many.
+fn stat_line(alloc: Global, rows: usize, list: &[Difference]) -> Result<Vec<u8>, AllocError>
+    ensures { IfOk result (λ text. text.items ≡ stat_line rows list.now) }
+{
+    let (gone, new) = (gone_count(list), new_count(list));
+    let changed = list.len().saturating_sub(gone).saturating_sub(new);
+    let alike = rows.saturating_sub(gone).saturating_sub(changed);
+    let mut text = Vec::with_capacity(alloc, ROOM)?;
+    push_stat(&mut text, gone, new, changed, alike);
+    Ok(text)
+}
+
+/// How many keys the other dump lacks.
+fn gone_count(list: &[Difference]) -> usize
+    ensures { result ≡ length (filter (λ d. is_none d.right) list.now) }
+{
+    list.iter().filter(|d| d.right.is_none()).count()
+}
+
+/// How many keys the first dump lacks.
+fn new_count(list: &[Difference]) -> usize
+    ensures { result ≡ length (filter (λ d. is_none d.left) list.now) }
+{
+    list.iter().filter(|d| d.left.is_none()).count()
+}
+
+/// Appends how many rows are gone, new, changed, and alike: a line.
+fn push_stat(buffer: &mut Vec<u8>, gone: usize, new: usize, changed: usize, alike: usize)
+    requires { HasRoom buffer.old 110 }
+    ensures text { buffer.new.items ≡ buffer.old.items ++ stat_text gone new changed alike }
+    ensures room { TookRoom buffer.old buffer.new 110 }
+{
+    push_decimal(buffer, gone);
+    push_text(buffer, " gone, ");
+    push_decimal(buffer, new);
+    push_text(buffer, " new, ");
+    push_decimal(buffer, changed);
+    push_text(buffer, " changed, ");
+    push_decimal(buffer, alike);
+    push_text(buffer, " alike\n");
+}
