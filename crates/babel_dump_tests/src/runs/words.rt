@@ -81,7 +81,7 @@ const COMPARE: Wanted<'static> = Wanted {
 
 /// Words, and the job that they ask for.
 #[rattlefmt::skip]
-static JOBS: [(&str, Wanted<'static>); 44] = [
+static JOBS: [(&str, Wanted<'static>); 45] = [
     (
         "lookup --from fe80::1 --to 10.1.2.3 --src=0.0.0.0 --hold x",
         Wanted {
@@ -149,6 +149,7 @@ static JOBS: [(&str, Wanted<'static>); 44] = [
         ..COMPARE
     }),
     ("key --from ::", KEY),
+    ("key --routes --from ::", Wanted { routes: true, ..KEY }),
     ("key --strict x --from ::1 --hold", Wanted {
         from: "::1", strict: true, mode: Mode::Hold, file: Some("x"), ..KEY
     }),
@@ -251,7 +252,12 @@ fn expect_job(rt: &impl Abort, line: &str, job: &Job, wanted: &Wanted<'_>) -> Re
             assert_eq!(rt; *hex, wanted.hex, "of {line}");
             expect_reading(rt, line, "normalise", reading, Format::Text, wanted)
         }
-        Job::Key { reading, .. } => {
+        Job::Key {
+            reading,
+            routes,
+            ..
+        } => {
+            assert_eq!(rt; *routes, wanted.routes, "of {line}");
             expect_reading(rt, line, "key", reading, Format::Text, wanted)
         }
         Job::Pairs {
