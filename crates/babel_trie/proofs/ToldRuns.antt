@@ -50,7 +50,8 @@ module _ {V : Type 0} where
   module _ {w at : ℕ} {rows others : List (Entry V)} {nodes : List (Node (Option V))} {here there : Sources (Option V)} {Quiet OtherQuiet : ℕ → Type 0}
       (l : IsAt w at rows nodes here Quiet) (r : IsAt w at others nodes there OtherQuiet) where
     -- what tells apart what both passes have come to is what the rows answer differently, up to the next change of either
-    pub told-values : (h : Answers (Differing V)) → IsDifference w (answer w (map row_of rows)) (answer w (map row_of others)) h → (differing : List (Node (Option (Differing V)))) (s : Sources (Option (Differing V))) →
+    pub told-values : (h : Answers (Differing V)) → IsDifference w (answer w (map row_of rows)) (answer w (map row_of others)) h →
+        (differing : List (Node (Option (Differing V)))) (s : Sources (Option (Differing V))) →
         AreTold nodes here there differing s → (d : ℕ) → at ≤ d → d < 2 ^ w → Quiet d → OtherQuiet d → HasValues w (h d) differing s
     told-values h is differing s told d le d_in quiet other_quiet =
         let f = answer w (map row_of rows) in
@@ -65,7 +66,9 @@ module _ {V : Type 0} where
         }
 
     -- so the list says it up to there, once it says what tells them apart
-    pub told-more : (h : Answers (Differing V)) → IsDifference w (answer w (map row_of rows)) (answer w (map row_of others)) h → (to : ℕ) (old new : List (Node (Option (Differing V)))) (list after : List (Change (Sources (Option (Differing V))))) (s : Sources (Option (Differing V))) →
-        KeepsNodes old new → AreTold nodes here there new s → IsFilled at to s list after → to ≤ 2 ^ w → ((d : ℕ) → d < to → Quiet d × OtherQuiet d) → Says w at h old list → Says w to h new after
+    pub told-more : (h : Answers (Differing V)) → IsDifference w (answer w (map row_of rows)) (answer w (map row_of others)) h →
+        (to : ℕ) (old new : List (Node (Option (Differing V)))) (list after : List (Change (Sources (Option (Differing V))))) (s : Sources (Option (Differing V))) →
+        KeepsNodes old new → AreTold nodes here there new s → IsFilled at to s list after → to ≤ 2 ^ w →
+        ((d : ℕ) → d < to → Quiet d × OtherQuiet d) → Says w at h old list → Says w to h new after
     told-more h is to old new list after s keeps told filled to_in quiet says =
         says-more w at to h old new list after s keeps filled (λ d le lt. told-values h is new s told d le (omega (arith, to_in)) (quiet d lt).0 (quiet d lt).1) says

@@ -1,5 +1,6 @@
 //! What two lists of rows answer differently, as a list of changes.
-ghost use Rattle.std.specs.Prelude.{◌≡◌, ℕ, ◌-◌, ◌^◌, ◌<◌, ◌≤◌, List, length, map, true, Option, IfOk, IsSome, MatchOption, OnOk};
+ghost use Rattle.std.specs.Prelude.{◌≡◌, ℕ, ◌-◌, ◌^◌, ◌<◌, ◌≤◌, List, length, map, true, Option};
+ghost use Rattle.std.specs.Prelude.{IfOk, IsSome, MatchOption, OnOk};
 ghost use Rattle.babel_prefix.specs.Best.{Row, answer};
 ghost use Rattle.babel_prefix.specs.BestRow.{IsTable};
 ghost use Rattle.babel_prefix.specs.Entries.{row_of};
@@ -148,8 +149,8 @@ impl<V: LawfulOrd> Comparison<V> {
         Ok(count > most)
     }
 
-    /// The changes of what two lists of rows in order answer differently, or `None` as soon as these
-    /// are known to have more boxes than so many. Both lists are passed over side by side.
+    /// The changes of what two lists of rows in order answer differently, or `None` as soon as
+    /// these are known to have more boxes than so many. Both are passed over side by side.
     pub fn runs<L: Rows<V>, R: Rows<V>>(
         &mut self,
         alloc: Global,

@@ -42,19 +42,32 @@ returns-in_default-clause-many g c _ =
     let right = g.R.Rows.rows c.args.right in
     let rows = map row_of (rows_of_ordered g.L.Rows.rows c.in_order-rows.result) in
     let others = map row_of (rows_of_ordered g.R.Rows.rows c.in_order-other_rows.result) in
-    let left_same = answers_of_entries family left (rows_of_ordered g.L.Rows.rows c.in_order-rows.result) c.in_ok-copy.ensures.prefixes c.requires.left_family c.requires.left_prefixes c.in_order-rows.ensures.permutation in
-    let right_same = answers_of_entries family right (rows_of_ordered g.R.Rows.rows c.in_order-other_rows.result) c.in_ok-other_copy.ensures.prefixes c.requires.right_family c.requires.right_prefixes c.in_order-other_rows.ensures.permutation in
+    let left_same = answers_of_entries family left (rows_of_ordered g.L.Rows.rows c.in_order-rows.result)
+    c.in_ok-copy.ensures.prefixes c.requires.left_family c.requires.left_prefixes c.in_order-rows.ensures.permutation in
+    let right_same = answers_of_entries family right (rows_of_ordered g.R.Rows.rows c.in_order-other_rows.result)
+    c.in_ok-other_copy.ensures.prefixes c.requires.right_family c.requires.right_prefixes c.in_order-other_rows.ensures.permutation in
     let found = rw c.in_default.is at c.in_ok-runs.ensures.difference in
     let more = subst (λ n. HasMoreDifferences c.args.most n (answer n rows) (answer n others)) c.width.ensures found in
-    let are = more.1 in
-    (more.0, record { difference = are.difference; is_difference = difference-same w (answer w rows) (answer w others) (answers_in family left) (answers_in family right) are.difference left_same right_same are.is_difference; box_list = are.box_list }, more.2)
+    let are = more.1 in (
+      more.0,
+      record {
+        difference = are.difference;
+        is_difference = difference-same w (answer w rows) (answer w others) (answers_in family left)
+            (answers_in family right) are.difference left_same right_same are.is_difference;
+        box_list = are.box_list;
+      },
+      more.2,
+    )
 
 pub of_runs-requires-clause-sound : goal.of_runs-requires-clause-sound
 of_runs-requires-clause-sound g c =
     let told : Table (Option (Differing g.row.V.Denot)) = c.runs.new.self.differences in
     let made : Table (Option (Differing g.row.V.Denot)) = c.into_differences.result in
-    let sound = sound_by told.nodes.items told.numbers (elim [ Constant v ↦ elim [ Constant u ↦ refl | Stored m ↦ refl ] | Stored k ↦ elim [ Constant v ↦ refl | Stored m ↦ refl ] ]) c.in_ok-runs.ensures.sound in
-    sound_by made.nodes.items made.numbers (elim [ Constant v ↦ elim [ Constant u ↦ refl | Stored m ↦ refl ] | Stored k ↦ elim [ Constant v ↦ refl | Stored m ↦ refl ] ]) (subst (λ (t : Table (Option (Differing g.row.V.Denot))). IsSound (sources_cmp (option_cmp (differing_cmp g.V.Ord.cmp))) (sources_mark (option_mark (differing_mark (option_mark g.V.LawfulOrd.mark)))) t.nodes.items t.numbers) (sym c.into_differences.ensures) sound)
+    let sound = sound_by told.nodes.items told.numbers
+    (elim [ Constant v ↦ elim [ Constant u ↦ refl | Stored m ↦ refl ] | Stored k ↦ elim [ Constant v ↦ refl | Stored m ↦ refl ] ]) c.in_ok-runs.ensures.sound in
+    sound_by made.nodes.items made.numbers (elim [ Constant v ↦ elim [ Constant u ↦ refl | Stored m ↦ refl ] | Stored k ↦ elim [ Constant v ↦ refl | Stored m ↦ refl ] ])
+    (subst (λ (t : Table (Option (Differing g.row.V.Denot))). IsSound (sources_cmp (option_cmp (differing_cmp g.V.Ord.cmp)))
+    (sources_mark (option_mark (differing_mark (option_mark g.V.LawfulOrd.mark)))) t.nodes.items t.numbers) (sym c.into_differences.ensures) sound)
 
 pub of_runs-requires-clause-runs : goal.of_runs-requires-clause-runs
 of_runs-requires-clause-runs g c =
@@ -76,8 +89,10 @@ returns-clause-boxes g c =
     let right = g.R.Rows.rows c.args.right in
     let rows = map row_of (rows_of_ordered g.L.Rows.rows c.in_order-rows.result) in
     let others = map row_of (rows_of_ordered g.R.Rows.rows c.in_order-other_rows.result) in
-    let left_same = answers_of_entries family left (rows_of_ordered g.L.Rows.rows c.in_order-rows.result) c.in_ok-copy.ensures.prefixes c.requires.left_family c.requires.left_prefixes c.in_order-rows.ensures.permutation in
-    let right_same = answers_of_entries family right (rows_of_ordered g.R.Rows.rows c.in_order-other_rows.result) c.in_ok-other_copy.ensures.prefixes c.requires.right_family c.requires.right_prefixes c.in_order-other_rows.ensures.permutation in
+    let left_same = answers_of_entries family left (rows_of_ordered g.L.Rows.rows c.in_order-rows.result)
+    c.in_ok-copy.ensures.prefixes c.requires.left_family c.requires.left_prefixes c.in_order-rows.ensures.permutation in
+    let right_same = answers_of_entries family right (rows_of_ordered g.R.Rows.rows c.in_order-other_rows.result)
+    c.in_ok-other_copy.ensures.prefixes c.requires.right_family c.requires.right_prefixes c.in_order-other_rows.ensures.permutation in
     let new = c.runs.new.self.differences.nodes.items in
     let found = rw c.in-Some.is at c.in_ok-runs.ensures.difference in
     let has = subst (λ n. HasDifference n (answer n rows) (answer n others) new c.in-Some.runs.items) c.width.ensures found in

@@ -26,7 +26,8 @@ use Rattle.babel_trie.proofs.ToldRuns.{apart, boxes_apart, is_apart, told-more}
 use Rattle.babel_trie.proofs.comparison.Comparison.runs.Goals as goal
 
 -- nothing is said
-none_said : {V : Type 0} (w : ℕ) (nodes : List (Node (Option V))) (list : List (Change (Sources (Option V)))) → list ≡ [] → AreRuns list × StartBelow 0 list × ((h : Answers V) → Says w 0 h nodes list)
+none_said : {V : Type 0} (w : ℕ) (nodes : List (Node (Option V))) (list : List (Change (Sources (Option V)))) → list ≡ [] →
+    AreRuns list × StartBelow 0 list × ((h : Answers V) → Says w 0 h nodes list)
 none_said w nodes [] is = (tt, (λ x t. elim t [ ]), (λ h none d lt. absurd (omega arith)))
 none_said w nodes (x ∷ list) is = cc
 
@@ -37,8 +38,10 @@ loop-list-init g c =
     let differing = c.args.self.now.differences in
     let none = none_said w differing.nodes.items c.new-list.result.items c.new-list.ensures.items in
     record {
-      differing = sound_by differing.nodes.items differing.numbers (elim [ Constant v ↦ elim [ Constant u ↦ refl | Stored m ↦ refl ] | Stored k ↦ elim [ Constant v ↦ refl | Stored m ↦ refl ] ]) c.requires.sound;
-      sound = sound_by table.nodes.items table.numbers (elim [ Constant v ↦ elim [ Constant u ↦ refl | Stored m ↦ refl ] | Stored k ↦ elim [ Constant v ↦ refl | Stored m ↦ refl ] ]) c.new-table.ensures.sound;
+      differing = sound_by differing.nodes.items differing.numbers
+          (elim [ Constant v ↦ elim [ Constant u ↦ refl | Stored m ↦ refl ] | Stored k ↦ elim [ Constant v ↦ refl | Stored m ↦ refl ] ]) c.requires.sound;
+      sound = sound_by table.nodes.items table.numbers
+          (elim [ Constant v ↦ elim [ Constant u ↦ refl | Stored m ↦ refl ] | Stored k ↦ elim [ Constant v ↦ refl | Stored m ↦ refl ] ]) c.new-table.ensures.sound;
       pass = c.new-pass.ensures.pass w table.nodes.items c.requires.left_order c.requires.left_table;
       other = c.new-other.ensures.pass w table.nodes.items c.requires.right_order c.requires.right_table;
       reached = omega (arith, c.new-pass.ensures.start);
@@ -52,10 +55,14 @@ loop-list-init g c =
     }
 
 pub reach_both-requires-clause-sound : goal.reach_both-requires-clause-sound
-reach_both-requires-clause-sound g c = sound_by c.loop-list.table.nodes.items c.loop-list.table.numbers (elim [ Constant v ↦ elim [ Constant u ↦ refl | Stored m ↦ refl ] | Stored k ↦ elim [ Constant v ↦ refl | Stored m ↦ refl ] ]) c.loop-list.invariant.sound
+reach_both-requires-clause-sound g c =
+    sound_by c.loop-list.table.nodes.items c.loop-list.table.numbers
+    (elim [ Constant v ↦ elim [ Constant u ↦ refl | Stored m ↦ refl ] | Stored k ↦ elim [ Constant v ↦ refl | Stored m ↦ refl ] ]) c.loop-list.invariant.sound
 
 pub told_sources-requires-clause-sound : goal.told_sources-requires-clause-sound
-told_sources-requires-clause-sound g c = sound_by c.loop-list.self.differences.nodes.items c.loop-list.self.differences.numbers (elim [ Constant v ↦ elim [ Constant u ↦ refl | Stored m ↦ refl ] | Stored k ↦ elim [ Constant v ↦ refl | Stored m ↦ refl ] ]) c.loop-list.invariant.differing
+told_sources-requires-clause-sound g c =
+    sound_by c.loop-list.self.differences.nodes.items c.loop-list.self.differences.numbers
+    (elim [ Constant v ↦ elim [ Constant u ↦ refl | Stored m ↦ refl ] | Stored k ↦ elim [ Constant v ↦ refl | Stored m ↦ refl ] ]) c.loop-list.invariant.differing
 
 pub told_sources-requires-clause-left : goal.told_sources-requires-clause-left
 told_sources-requires-clause-left g c =
@@ -125,15 +132,19 @@ has_more-requires-clause-runs g c =
     let is = is_apart test f f' w in
     let says = told-more l r h is start old new c.loop-list.list.items list c.in_ok-sources.sources sources.keeps sources.told filled (omega (arith, within)) near (i.says h is) in
     let front = so_far w start h new list filled.runs filled.below in
-    let runs = subst (λ (xs : List (Change (Sources (Option (Differing g.row.V.Denot))))). HasRuns w new xs front) (sym c.deref.ensures.value) (has_runs_so_far w start h new list filled.runs filled.below says (omega (arith, behind)) (omega (arith, within))) in
+    let runs = subst (λ (xs : List (Change (Sources (Option (Differing g.row.V.Denot))))). HasRuns w new xs front) (sym c.deref.ensures.value)
+    (has_runs_so_far w start h new list filled.runs filled.below says (omega (arith, behind)) (omega (arith, within))) in
     (w, front, runs)
 
 pub returns-then-branch-clause-sound : goal.returns-then-branch-clause-sound
 returns-then-branch-clause-sound g c =
     let told : Table (Option (Differing g.row.V.Denot)) = c.told_sources.new.self.differences in
     let after : Table (Option (Differing g.row.V.Denot)) = c.has_more.new.self.differences in
-    let sound = sound_by told.nodes.items told.numbers (elim [ Constant v ↦ elim [ Constant u ↦ refl | Stored m ↦ refl ] | Stored k ↦ elim [ Constant v ↦ refl | Stored m ↦ refl ] ]) c.in_ok-sources.ensures.sound in
-    sound_by after.nodes.items after.numbers (elim [ Constant v ↦ elim [ Constant u ↦ refl | Stored m ↦ refl ] | Stored k ↦ elim [ Constant v ↦ refl | Stored m ↦ refl ] ]) (subst (λ (t : Table (Option (Differing g.row.V.Denot))). IsSound (sources_cmp (option_cmp (differing_cmp g.V.Ord.cmp))) (sources_mark (option_mark (differing_mark (option_mark g.V.LawfulOrd.mark)))) t.nodes.items t.numbers)
+    let sound = sound_by told.nodes.items told.numbers
+    (elim [ Constant v ↦ elim [ Constant u ↦ refl | Stored m ↦ refl ] | Stored k ↦ elim [ Constant v ↦ refl | Stored m ↦ refl ] ]) c.in_ok-sources.ensures.sound in
+    sound_by after.nodes.items after.numbers (elim [ Constant v ↦ elim [ Constant u ↦ refl | Stored m ↦ refl ] | Stored k ↦ elim [ Constant v ↦ refl | Stored m ↦ refl ] ])
+    (subst (λ (t : Table (Option (Differing g.row.V.Denot))). IsSound (sources_cmp (option_cmp (differing_cmp g.V.Ord.cmp)))
+    (sources_mark (option_mark (differing_mark (option_mark g.V.LawfulOrd.mark)))) t.nodes.items t.numbers)
     (sym c.in_ok-has_more.ensures.same) sound)
 
 pub returns-then-branch-clause-difference : goal.returns-then-branch-clause-difference
@@ -161,8 +172,10 @@ returns-then-branch-clause-difference g c =
     let is = is_apart test f f' w in
     let says = told-more l r h is start old new c.loop-list.list.items list c.in_ok-sources.sources sources.keeps sources.told filled (omega (arith, within)) near (i.says h is) in
     let front = so_far w start h new list filled.runs filled.below in
-    let runs = subst (λ (xs : List (Change (Sources (Option (Differing g.row.V.Denot))))). HasRuns w new xs front) (sym c.deref.ensures.value) (has_runs_so_far w start h new list filled.runs filled.below says (omega (arith, behind)) (omega (arith, within))) in
-    let agree = subst (λ (xs : List (Change (Sources (Option (Differing g.row.V.Denot))))). AgreeUpTo w xs h front) (sym c.deref.ensures.value) (agree_so_far w start h new list filled.runs filled.below) in
+    let runs = subst (λ (xs : List (Change (Sources (Option (Differing g.row.V.Denot))))). HasRuns w new xs front) (sym c.deref.ensures.value)
+    (has_runs_so_far w start h new list filled.runs filled.below says (omega (arith, behind)) (omega (arith, within))) in
+    let agree = subst (λ (xs : List (Change (Sources (Option (Differing g.row.V.Denot))))). AgreeUpTo w xs h front) (sym c.deref.ensures.value)
+    (agree_so_far w start h new list filled.runs filled.below) in
     let boxes = boxes_apart test f f' w in
     (boxes.0, record { difference = h; is_difference = is; box_list = boxes.1 }, c.in_ok-has_more.ensures.more c.if-branch.true w h front boxes.0 runs agree boxes.1)
 
@@ -193,8 +206,10 @@ loop-list-preserved g c =
     let after : Table (Option (Differing g.row.V.Denot)) = c.has_more.new.self.differences in
     let same : after ≡ c.told_sources.new.self.differences = c.in_ok-has_more.ensures.same in
     record {
-      differing = subst (λ (t : Table (Option (Differing g.row.V.Denot))). IsSound (sources_cmp (option_cmp (differing_cmp g.V.Ord.cmp))) (sources_mark (option_mark (differing_mark (option_mark g.V.LawfulOrd.mark)))) t.nodes.items t.numbers)
-          (sym same) (sound_by new c.told_sources.new.self.differences.numbers (elim [ Constant v ↦ elim [ Constant u ↦ refl | Stored m ↦ refl ] | Stored k ↦ elim [ Constant v ↦ refl | Stored m ↦ refl ] ]) sources.sound);
+      differing = subst (λ (t : Table (Option (Differing g.row.V.Denot))). IsSound (sources_cmp (option_cmp (differing_cmp g.V.Ord.cmp)))
+          (sources_mark (option_mark (differing_mark (option_mark g.V.LawfulOrd.mark)))) t.nodes.items t.numbers)
+          (sym same) (sound_by new c.told_sources.new.self.differences.numbers
+          (elim [ Constant v ↦ elim [ Constant u ↦ refl | Stored m ↦ refl ] | Stored k ↦ elim [ Constant v ↦ refl | Stored m ↦ refl ] ]) sources.sound);
       sound = sound_by table.nodes.items table.numbers (elim [ Constant v ↦ elim [ Constant u ↦ refl | Stored m ↦ refl ] | Stored k ↦ elim [ Constant v ↦ refl | Stored m ↦ refl ] ]) reach.sound;
       pass = reach.pass _ i.pass;
       other = reach.other _ i.other;

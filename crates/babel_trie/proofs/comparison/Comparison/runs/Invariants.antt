@@ -17,7 +17,8 @@ use Rattle.babel_trie.proofs.comparison.Comparison.runs.Given as goal
 
 abbrev pub invariant-loop-list : goal.invariant-loop-list
 invariant-loop-list g l = record {
-  differing : IsSound (sources_cmp (option_cmp (differing_cmp g.V.Ord.cmp))) (sources_mark (option_mark (differing_mark (option_mark g.V.LawfulOrd.mark)))) l.self.differences.nodes.items l.self.differences.numbers;
+  differing : IsSound (sources_cmp (option_cmp (differing_cmp g.V.Ord.cmp))) (sources_mark (option_mark (differing_mark (option_mark g.V.LawfulOrd.mark))))
+      l.self.differences.nodes.items l.self.differences.numbers;
   sound : IsSound (sources_cmp (option_cmp g.V.Ord.cmp)) (sources_mark (option_mark g.V.LawfulOrd.mark)) l.table.nodes.items l.table.numbers;
   pass : IsPassOver l.width g.L.Rows.rows (g.L.Rows.rows l.fn.left) l.table.nodes.items l.pass;
   other : IsPassOver l.width g.R.Rows.rows (g.R.Rows.rows l.fn.right) l.table.nodes.items l.other;
@@ -28,7 +29,8 @@ invariant-loop-list g l = record {
   within : l.at < 2 ^ l.width;
   runs : AreRuns l.list.items;
   below : StartBelow l.at l.list.items;
-  says : (h : Answers (Differing g.row.V.Denot)) → IsDifference l.width (answer l.width (map row_of (g.L.Rows.rows l.fn.left))) (answer l.width (map row_of (g.R.Rows.rows l.fn.right))) h → Says l.width l.at h l.self.differences.nodes.items l.list.items;
+  says : (h : Answers (Differing g.row.V.Denot)) → IsDifference l.width (answer l.width (map row_of (g.L.Rows.rows l.fn.left))) (answer l.width (map row_of (g.R.Rows.rows l.fn.right))) h →
+      Says l.width l.at h l.self.differences.nodes.items l.list.items;
 }
 
 abbrev pub decreases-loop-list : goal.decreases-loop-list
