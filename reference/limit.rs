@@ -2831,7 +2831,8 @@ fn put_routes<A: Address>(
 
 fn main() -> ExitCode {
     let Some(words) = read_words(std::env::args().skip(1)) else {
-        eprintln!("usage: limit show|lookup|pairs|normalise|compare|diff --from A .. [FILE [OTHER]]");
+        let commands = "show|lookup|pairs|normalise|compare|diff";
+        eprintln!("usage: limit {commands} --from A .. [FILE [OTHER]]");
         return ExitCode::from(2);
     };
     let (text, status) = match run(&words) {
