@@ -83,8 +83,8 @@ def cases():
                 yield load, [*command, *FROM]
             yield load, ["normalise", "--routes", *FROM]
     for load, other in COMPARED:
-        for routes in [], ["--routes"]:
-            yield load, ["compare", *routes, *FROM, "--other-from", "192.0.2.1", f"{other}.dump"]
+        for command in ["compare"], ["compare", "--routes"], ["diff"]:
+            yield load, [*command, *FROM, "--other-from", "192.0.2.1", f"{other}.dump"]
     for kind in ("growth", "growth-hosts"):
         for size in SIZES:
             for command in ("show", "normalise"):
@@ -114,7 +114,7 @@ def words_of(program, load, command, loads):
     dump = file_of(load, loads)
     if rest[:1] == ["--each"]:
         rest[1] = loads / rest[1]
-    if first == "compare":
+    if first in ("compare", "diff"):
         *rest, other = rest
         return [program, first, *rest, dump, loads / other]
     return [program, first, *rest, dump]
@@ -144,7 +144,7 @@ def size_of(plain, load, command, loads, sizes):
     size = sizes[load]
     if command[0] in ("show", "lookup"):
         return size["tlvs"]
-    if command[0] == "compare":
+    if command[0] in ("compare", "diff"):
         return 2 * size["rows"]
     return size["rows" if "--routes" in command else "most"]
 

@@ -8,6 +8,7 @@
 //!     limit pairs [--hold] [--count] [--routes] --from A [FILE]
 //!     limit normalise [--hold] [--hex] [--body N] [--routes] --from A [FILE]
 //!     limit compare [--hold] [--routes [--all] [--count]] --from A --other-from B FILE OTHER
+//!     limit diff [--hold] --from A --other-from B FILE OTHER
 //!
 //! It reads packets where they lie in one buffer into rows, which it sorts once. Sorted rows are a
 //! tree whose brackets are the destination prefixes: one pass over them gives runs of destinations
@@ -267,6 +268,16 @@ impl Addr {
         let addr = text.parse::<Ipv6Addr>().ok()?;
         // RFC 4291, 2.2: forms 1 and 2 alone, so no dotted ending.
         (!text.contains('.')).then_some(Addr::V6(addr.into()))
+    }
+
+    fn text(self) -> String {
+        match self {
+            Addr::V4(addr) => Ipv4Addr::from(addr).to_string(),
+            Addr::V6(addr) => {
+                let groups = Ipv6Addr::from(addr).segments();
+                groups.map(|group| format!("{group:x}")).join(":")
+            }
+        }
     }
 }
 
@@ -2256,6 +2267,32 @@ impl<W: Write> Out<W> {
         self.hand_over_if_full()
     }
 
+    fn difference<A: Address>(&mut self, owners: &[Owner<A>], difference: &RouteDifference<A>) {
+        self.text(b"differ ");
+        self.prefix(difference.key.0);
+        self.text(b" from ");
+        self.prefix(difference.key.1);
+        self.text(b"\nleft ");
+        self.answer(owners, difference.left);
+        self.text(b"right ");
+        self.answer(owners, difference.right);
+    }
+
+    /// The row of one side, if it has one.
+    fn changed_row<A: Address>(
+        &mut self,
+        owners: &[Owner<A>],
+        sign: &[u8; 1],
+        difference: &RouteDifference<A>,
+        held: u64,
+    ) -> io::Result<()> {
+        if held == NOTHING {
+            return Ok(());
+        }
+        self.text(sign);
+        self.line(owners, difference.key.0, difference.key.1, held)
+    }
+
     fn hand_over_if_full(&mut self) -> io::Result<()> {
         if self.at >= SLICE {
             self.hand_over()?;
@@ -2508,7 +2545,7 @@ fn run(words: &Words) -> Result<u8, Failure> {
         "pairs" if words.has("routes") => rows(words.only_table()?, words.has("count")),
         "pairs" => pairs(&canonical(words.only_table()?)?, words.has("count")),
         "normalise" => normalise(words),
-        "compare" => compare(words),
+        "compare" | "diff" => compare(words),
         other => Err(Failure::Usage(format!("no command {other}"))),
     }
 }
@@ -2696,8 +2733,8 @@ fn compare(words: &Words) -> Result<u8, Failure> {
     let mut right = words.table(dumps.1, senders.1, left.take_owners(), "other: ")?;
     left.sort();
     right.sort();
-    if words.has("routes") {
-        return compare_routes(words, &left, &right);
+    if words.has("routes") || words.command == "diff" {
+        return compare_routes(&listed(words, senders), &left, &right);
     }
     let out = &mut Out::new(io::stdout().lock(), false);
     let differ =
@@ -2725,55 +2762,77 @@ fn put_difference<A: Address>(out: &mut Out<impl Write>, left: &Rows<A>, right: 
     true
 }
 
-/// The keys for which two sorted tables hold what differs: the first, all, or how many.
-fn compare_routes(words: &Words, left: &Table, right: &Table) -> Result<u8, Failure> {
-    let (all, count) = (words.has("all"), words.has("count"));
-    let most = if all || count { usize::MAX } else { 1 };
+/// What is written of the keys for which two tables hold what differs.
+enum Listed {
+    First,
+    All,
+    Count,
+    /// The rows, after these lines.
+    Diff(String),
+}
+
+fn listed(words: &Words, senders: (Addr, Addr)) -> Listed {
+    if words.command == "diff" {
+        let file = |place| words.files.get(place).map_or("-", String::as_str);
+        let (left, right) = (senders.0.text(), senders.1.text());
+        return Listed::Diff(format!("--- {} {left}\n+++ {} {right}\n", file(0), file(1)));
+    }
+    match (words.has("count"), words.has("all")) {
+        (true, _) => Listed::Count,
+        (false, true) => Listed::All,
+        (false, false) => Listed::First,
+    }
+}
+
+/// The keys for which two sorted tables hold what differs.
+fn compare_routes(listed: &Listed, left: &Table, right: &Table) -> Result<u8, Failure> {
     let out = &mut Out::new(io::stdout().lock(), false);
-    let mut found = put_routes(out, &left.v4, &right.v4, most, !count)?;
-    found += put_routes(out, &left.v6, &right.v6, most - found, !count)?;
-    if count {
-        out.words(&format!("differences {found}\n"));
-    } else if found == 0 {
-        out.text(b"same\n");
+    let mut found = 0;
+    put_routes(out, &left.v4, &right.v4, listed, &mut found)?;
+    put_routes(out, &left.v6, &right.v6, listed, &mut found)?;
+    match listed {
+        Listed::Count => out.words(&format!("differences {found}\n")),
+        Listed::First | Listed::All if found == 0 => out.text(b"same\n"),
+        _ => {}
     }
     out.finish()?;
     Ok(u8::from(found > 0))
 }
 
-/// How many keys of a family there are, up to so many, for which two sorted tables hold what
-/// differs; and their lines, if they are listed.
+/// Those of a family, after so many.
 fn put_routes<A: Address>(
     out: &mut Out<impl Write>,
     left: &Rows<A>,
     right: &Rows<A>,
-    most: usize,
-    listed: bool,
-) -> io::Result<usize> {
-    let (owners, mut at, mut count) = (&right.owners.list, (0, 0), 0);
-    while count < most {
-        let Some(found) = next_route(left, right, &mut at) else {
+    listed: &Listed,
+    found: &mut usize,
+) -> io::Result<()> {
+    let (owners, mut at) = (&right.owners.list, (0, 0));
+    while !matches!((listed, *found), (Listed::First, 1)) {
+        let Some(difference) = next_route(left, right, &mut at) else {
             break;
         };
-        count += 1;
-        if listed {
-            out.text(b"differ ");
-            out.prefix(found.key.0);
-            out.text(b" from ");
-            out.prefix(found.key.1);
-            out.text(b"\nleft ");
-            out.answer(owners, found.left);
-            out.text(b"right ");
-            out.answer(owners, found.right);
-            out.hand_over_if_full()?;
+        match listed {
+            Listed::Count => {}
+            Listed::First | Listed::All => out.difference(owners, &difference),
+            Listed::Diff(before) => {
+                if *found == 0 {
+                    out.words(before);
+                }
+                out.changed_row(owners, b"-", &difference, difference.left)?;
+                out.changed_row(owners, b"+", &difference, difference.right)?;
+            }
         }
+        *found += 1;
+        out.hand_over_if_full()?;
     }
-    Ok(count)
+    Ok(())
 }
 
 fn main() -> ExitCode {
     let Some(words) = read_words(std::env::args().skip(1)) else {
-        eprintln!("usage: limit show|lookup|pairs|normalise|compare --from A .. [FILE [OTHER]]");
+        let commands = "show|lookup|pairs|normalise|compare|diff";
+        eprintln!("usage: limit {commands} --from A .. [FILE [OTHER]]");
         return ExitCode::from(2);
     };
     let (text, status) = match run(&words) {
