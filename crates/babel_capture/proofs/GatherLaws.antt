@@ -21,6 +21,7 @@ use Rattle.babel_capture.specs.Findings.{Found, passed, untold, left, refused, f
 use Rattle.babel_capture.specs.Lack.{lack_fault}
 use Rattle.babel_capture.specs.Sight.{Sight}
 use Rattle.babel_capture.specs.Gathering.{AreMade, BlockNeedsMemory, PacketNeedsMemory, IsTaken, Gathering, IsGathered, IsRefusedPacket, octets_found, dump_of, dump_with}
+use Rattle.babel_capture.specs.Dumps.{Dumps, dumps_by, dumps_of, dumps_with}
 use Rattle.babel_capture.specs.Tallies.{Senders, IsOneTooMany, senders_with, senders_of, tallied}
 use Rattle.babel_capture.proofs.CountLaws.{counts-push}
 
@@ -36,10 +37,18 @@ made-push wanted (first ∷ before) next made what (one, others, is, number, lin
 
 dump-push : (wanted : Wanted) (made : List Made) (dump : List ℕ) (one : Made) → dump ≡ dump_of wanted made → dump_with wanted dump (octets_found one.what) ≡ dump_of wanted (made ++ one ∷ [])
 dump-push wanteds.Everyone made dump one is = is
+dump-push wanteds.Each made dump one is = is
 dump-push (wanteds.Sender sender place) made dump one is =
     ap (λ (d : List ℕ). d ++ octets_found one.what) is
     ∙ ap (λ (d : List ℕ). flat_map (λ (m : Made). octets_found m.what) made ++ d) (sym (append-nil (octets_found one.what)))
     ∙ sym (flat_map-append (λ (m : Made). octets_found m.what) made (one ∷ []))
+
+dumps-push : (wanted : Wanted) (made : List Made) (one : Made) → dumps_of wanted (made ++ one ∷ []) ≡ dumps_with wanted (dumps_of wanted made) one.what
+dumps-push wanted made one = from [] made
+  where
+    from : (dumps : Dumps) (made : List Made) → fold (λ (d : Dumps) (m : Made). dumps_with wanted d m.what) dumps (made ++ one ∷ []) ≡ dumps_with wanted (fold (λ (d : Dumps) (m : Made). dumps_with wanted d m.what) dumps made) one.what
+    from dumps [] = refl
+    from dumps (first ∷ made) = from (dumps_with wanted dumps first.what) made
 
 senders-push : (made : List Made) (one : Made) → senders_of (made ++ one ∷ []) ≡ senders_with (senders_of made) one.what
 senders-push made one = from [] made
@@ -49,10 +58,10 @@ senders-push made one = from [] made
     from senders (first ∷ made) = from (senders_with senders first.what) made
 
 pub gathered-push : (before : List Sighting) (next : Sighting) (old new : Gathering) (what : Found) → new.wanted ≡ old.wanted
-    → new.dump ≡ dump_with old.wanted old.dump (octets_found what) → new.report ≡ counted old.report next.link what
+    → new.dump ≡ dump_with old.wanted old.dump (octets_found what) → new.dumps ≡ dumps_with old.wanted old.dumps what → new.report ≡ counted old.report next.link what
     → new.senders ≡ senders_with old.senders what → length new.senders ≤ 65536 → IsTaken what
     → IsGathered before old → next.number ≡ old.report.packets + 1 → Finds old.wanted next.what what → IsGathered (before ++ next ∷ []) new
-gathered-push before next old new what same dump report senders few takes gathered number finds =
+gathered-push before next old new what same dump dumps report senders few takes gathered number finds =
     let one : Made = made_of next what in
     let is_senders : new.senders ≡ senders_of (gathered.made ++ one ∷ []) =
     senders ∙ ap (λ (t : Senders). senders_with t what) gathered.senders ∙ sym (senders-push gathered.made one) in
@@ -66,6 +75,8 @@ gathered-push before next old new what same dump report senders few takes gather
       };
       dump = subst (λ (w : Wanted). new.dump ≡ dump_of w (gathered.made ++ one ∷ [])) (sym same)
           (dump ∙ dump-push old.wanted gathered.made old.dump one gathered.dump);
+      dumps = subst (λ (w : Wanted). new.dumps ≡ dumps_of w (gathered.made ++ one ∷ [])) (sym same)
+          (dumps ∙ ap (λ (d : Dumps). dumps_with old.wanted d what) gathered.dumps ∙ sym (dumps-push old.wanted gathered.made one));
       report = report ∙ ap (λ (c : Counts). counted c next.link what) gathered.report ∙ sym (counts-push gathered.made one is_number);
       senders = is_senders;
     }
@@ -73,16 +84,23 @@ gathered-push before next old new what same dump report senders few takes gather
 -- octets that were taken out stand before what is added
 pub dump-after : (wanted : Wanted) (taken dump octets : List ℕ) → taken ++ dump_with wanted dump octets ≡ dump_with wanted (taken ++ dump) octets
 dump-after wanteds.Everyone taken dump octets = refl
+dump-after wanteds.Each taken dump octets = refl
 dump-after (wanteds.Sender sender place) taken dump octets = sym (append_assoc taken dump octets)
 
 -- what is no packet leaves the dump
 pub dump-stays : (wanted : Wanted) (dump : List ℕ) → dump ≡ dump_with wanted dump []
 dump-stays wanteds.Everyone dump = refl
+dump-stays wanteds.Each dump = refl
 dump-stays (wanteds.Sender sender place) dump = sym (append-nil dump)
 
-pub on-ok3 : {T E : Type 0} {P Q R S : Type 0} (r : Result T E) → (P → Q → R → S) → OnOk r P → OnOk r Q → OnOk r R → OnOk r S
-on-ok3 (Ok x) goes one two three = goes one two three
-on-ok3 (Err e) goes one two three = tt
+dumps-stay : (wanted : Wanted) (dumps : Dumps) (what : Found) → dumps_by dumps what ≡ dumps → dumps ≡ dumps_with wanted dumps what
+dumps-stay wanteds.Everyone dumps what same = refl
+dumps-stay wanteds.Each dumps what same = sym same
+dumps-stay (wanteds.Sender sender place) dumps what same = refl
+
+pub on-ok4 : {T E : Type 0} {P Q R S U : Type 0} (r : Result T E) → (P → Q → R → S → U) → OnOk r P → OnOk r Q → OnOk r R → OnOk r S → OnOk r U
+on-ok4 (Ok x) goes one two three four = goes one two three four
+on-ok4 (Err e) goes one two three four = tt
 
 -- the senders of packets that were gathered, and the same ones after a packet of which none is found
 few_kept : (before : List Sighting) (old new : Gathering) → new.senders ≡ old.senders → IsGathered before old → length new.senders ≤ 65536
@@ -93,25 +111,26 @@ module _ (before : List Sighting) (next : Sighting) (old new : Gathering) (findi
   abbrev Goes : Type 0
   Goes = IsGathered before old → next.number ≡ old.report.packets + 1 → Finds old.wanted next.what finding → IsGathered (before ++ next ∷ []) new
 
-  pub passed-push : finding ≡ passed → new.wanted ≡ old.wanted → new.dump ≡ old.dump → new.report ≡ counted_with old.report None → new.senders ≡ old.senders → Goes
-  passed-push is same dump report senders gathered number finds =
-      gathered-push before next old new passed same (dump ∙ dump-stays old.wanted old.dump) report senders (few_kept before old new senders gathered) tt gathered number
+  pub passed-push : finding ≡ passed → new.wanted ≡ old.wanted → new.dump ≡ old.dump → new.dumps ≡ old.dumps → new.report ≡ counted_with old.report None → new.senders ≡ old.senders → Goes
+  passed-push is same dump dumps report senders gathered number finds =
+      gathered-push before next old new passed same (dump ∙ dump-stays old.wanted old.dump) (dumps ∙ dumps-stay old.wanted old.dumps passed refl) report senders (few_kept before old new senders gathered) tt gathered number
       (subst (Finds old.wanted next.what) is finds)
 
-  pub short-push : finding ≡ untold → new.wanted ≡ old.wanted → new.dump ≡ old.dump → new.report ≡ short_counted old.report → new.senders ≡ old.senders → Goes
-  short-push is same dump report senders gathered number finds =
-      gathered-push before next old new untold same (dump ∙ dump-stays old.wanted old.dump) report senders (few_kept before old new senders gathered) tt gathered number
+  pub short-push : finding ≡ untold → new.wanted ≡ old.wanted → new.dump ≡ old.dump → new.dumps ≡ old.dumps → new.report ≡ short_counted old.report → new.senders ≡ old.senders → Goes
+  short-push is same dump dumps report senders gathered number finds =
+      gathered-push before next old new untold same (dump ∙ dump-stays old.wanted old.dump) (dumps ∙ dumps-stay old.wanted old.dumps untold refl) report senders (few_kept before old new senders gathered) tt gathered number
       (subst (Finds old.wanted next.what) is finds)
 
-  pub left-push : (reason : Reason) → finding ≡ left reason → new.wanted ≡ old.wanted → new.dump ≡ old.dump → new.report ≡ counted_with old.report (Some reason) → new.senders ≡ old.senders → Goes
-  left-push reason is same dump report senders gathered number finds =
-      gathered-push before next old new (left reason) same (dump ∙ dump-stays old.wanted old.dump) report senders (few_kept before old new senders gathered) tt gathered number
+  pub left-push : (reason : Reason) → finding ≡ left reason → new.wanted ≡ old.wanted → new.dump ≡ old.dump → new.dumps ≡ old.dumps → new.report ≡ counted_with old.report (Some reason) → new.senders ≡ old.senders → Goes
+  left-push reason is same dump dumps report senders gathered number finds =
+      gathered-push before next old new (left reason) same (dump ∙ dump-stays old.wanted old.dump) (dumps ∙ dumps-stay old.wanted old.dumps (left reason) refl) report senders (few_kept before old new senders gathered) tt gathered number
       (subst (Finds old.wanted next.what) is finds)
 
   pub found-push : (place : Place) (sender : Address) (packet : List ℕ) → finding ≡ found place sender packet → new.wanted ≡ old.wanted → new.dump ≡ dump_with old.wanted old.dump packet
+      → new.dumps ≡ dumps_with old.wanted old.dumps (found place sender packet)
       → new.report ≡ packet_counted old.report next.link → new.senders ≡ tallied old.senders (record { place = place; sender = sender }) packet → length new.senders ≤ 65536 → Goes
-  found-push place sender packet is same dump report senders few gathered number finds =
-      gathered-push before next old new (found place sender packet) same dump report senders few tt gathered number
+  found-push place sender packet is same dump dumps report senders few gathered number finds =
+      gathered-push before next old new (found place sender packet) same dump dumps report senders few tt gathered number
       (subst (Finds old.wanted next.what) is finds)
 
 pub finds-at : (wanted here : Wanted) (sight : Sight) (finding : Found) → wanted ≡ here → Finds wanted sight finding → Finds here sight finding

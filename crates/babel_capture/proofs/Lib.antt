@@ -1,5 +1,7 @@
 pub mod BackingLaws
 pub mod CountLaws
+pub mod DumpLaws
+pub mod EachLaws
 pub mod Entries
 pub mod FindingLaws
 pub mod FramingLaws

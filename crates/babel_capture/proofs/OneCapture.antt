@@ -21,6 +21,7 @@ use Rattle.babel_capture.specs.Contents.{Content, block_said, context_after, not
 use Rattle.babel_capture.specs.Context.{Before}
 use Rattle.babel_capture.specs.Counts.{Counts, Made, counts_of}
 use Rattle.babel_capture.specs.Findings.{CarriedIs, Either, Finds, Found, IsWanted, LackIs, PayloadIs, found, passed}
+use Rattle.babel_capture.specs.Dumps.{Dumps, dumps_of}
 use Rattle.babel_capture.specs.Gathering.{AreMade, Gathering, IsGathered, dump_of}
 use Rattle.babel_capture.specs.Lengths.{block_len, header_len}
 use Rattle.babel_capture.specs.OneCapture.{CaptureIsOne, CutCaptureIsOne}
@@ -87,6 +88,7 @@ payload_one place sender payload what again (inr (inr (inr (long, magic, version
 
 lack_one : (wanted : Wanted) (lack : Lack) (what again : Found) → LackIs wanted lack what → LackIs wanted lack again → what ≡ again
 lack_one wanteds.Everyone lack what again is is_again = is ∙ sym is_again
+lack_one wanteds.Each lack what again is is_again = is ∙ sym is_again
 lack_one (wanteds.Sender sender place) lack what again is is_again = is ∙ sym is_again
 
 carried_one : (wanted : Wanted) (place : Place) (sender : Address) (carried : Carried) (what again : Found) → CarriedIs wanted place sender carried what → CarriedIs wanted place sender carried again
@@ -187,12 +189,15 @@ some_header layouts.Start = omega arith
 some_header (layouts.Pcap order) = omega arith
 some_header (layouts.Section order) = omega arith
 
-one_gathering : (one another : Gathering) → one.wanted ≡ another.wanted → one.names ≡ another.names → one.dump ≡ another.dump → one.report ≡ another.report → one.senders ≡ another.senders → one ≡ another
-one_gathering one another wanted names dump report senders =
-    let of : Wanted → List (List ℕ) → List ℕ → Counts → Senders → Gathering = λ w n d r s. record { wanted = w; names = n; dump = d; report = r; senders = s } in
-    ap (λ (w : Wanted). of w one.names one.dump one.report one.senders) wanted ∙ ap (λ (n : List (List ℕ)). of another.wanted n one.dump one.report one.senders) names
-    ∙ ap (λ (d : List ℕ). of another.wanted another.names d one.report one.senders) dump
-    ∙ ap (λ (r : Counts). of another.wanted another.names another.dump r one.senders) report ∙ ap (λ (s : Senders). of another.wanted another.names another.dump another.report s) senders
+one_gathering : (one another : Gathering) → one.wanted ≡ another.wanted → one.names ≡ another.names → one.dump ≡ another.dump → one.dumps ≡ another.dumps → one.report ≡ another.report
+    → one.senders ≡ another.senders → one ≡ another
+one_gathering one another wanted names dump dumps report senders =
+    let of : Wanted → List (List ℕ) → List ℕ → Dumps → Counts → Senders → Gathering = λ w n d e r s. record { wanted = w; names = n; dump = d; dumps = e; report = r; senders = s } in
+    ap (λ (w : Wanted). of w one.names one.dump one.dumps one.report one.senders) wanted ∙ ap (λ (n : List (List ℕ)). of another.wanted n one.dump one.dumps one.report one.senders) names
+    ∙ ap (λ (d : List ℕ). of another.wanted another.names d one.dumps one.report one.senders) dump
+    ∙ ap (λ (e : Dumps). of another.wanted another.names another.dump e one.report one.senders) dumps
+    ∙ ap (λ (r : Counts). of another.wanted another.names another.dump another.dumps r one.senders) report
+    ∙ ap (λ (s : Senders). of another.wanted another.names another.dump another.dumps another.report s) senders
 
 gathered_one : (sightings : List Sighting) (one another : Gathering) → IsGathered sightings one → IsGathered sightings another → one.wanted ≡ another.wanted → one.names ≡ another.names → one ≡ another
 gathered_one sightings one another is is_too wanted names =
@@ -200,6 +205,7 @@ gathered_one sightings one another is is_too wanted names =
     made_one one.wanted sightings is.made is_too.made is.taken.are_made (subst (λ (w : Wanted). AreMade w sightings is_too.made) (sym wanted) is_too.taken.are_made) in
     one_gathering one another wanted names
     (is.dump ∙ ap (dump_of one.wanted) made ∙ ap (λ (w : Wanted). dump_of w is_too.made) wanted ∙ sym is_too.dump)
+    (is.dumps ∙ ap (dumps_of one.wanted) made ∙ ap (λ (w : Wanted). dumps_of w is_too.made) wanted ∙ sym is_too.dumps)
     (is.report ∙ ap counts_of made ∙ sym is_too.report)
     (is.senders ∙ ap senders_of made ∙ sym is_too.senders)
 

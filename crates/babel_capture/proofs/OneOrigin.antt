@@ -18,7 +18,7 @@ use Rattle.babel_capture.specs.Findings.{CarriedIs, Finds, Found, PayloadIs, fou
 use Rattle.babel_capture.specs.Gathering.{AreMade}
 use Rattle.babel_capture.specs.OneOrigin.{NamedIsOne}
 use Rattle.babel_capture.specs.Sight.{Carried, Sight, datagram, lacking, not_link_local, other, other_port, too_short, carries}
-use Rattle.babel_capture.specs.Tallies.{Senders, origin_cmp, senders_with, tallied}
+use Rattle.babel_capture.specs.Tallies.{Senders, origin_cmp, senders_of, senders_with, tallied}
 use Rattle.babel_capture.proofs.TallyLaws.{origin_total}
 
 abbrev place_of : Place → Found → Place
@@ -102,10 +102,13 @@ module _ (wanted : Address) (at : Place) where
   few senders (inl none) = omega (arith, ap length none)
   few senders (inr (tally, is)) = omega (arith, ap length is)
 
+pub one_sender_at_most : (sender : Address) (place : Place) (sightings : List Sighting) (made : List Made) → AreMade (wanteds.Sender sender (Some place)) sightings made
+    → length (senders_of made) ≤ 1
+one_sender_at_most sender place sightings made are = few sender place (senders_of made) (all_at_most sender place sightings made [] are (inl refl))
+
 pub named_is_one : NamedIsOne
 named_is_one limit octets gathering cut sender place read wanted =
     let gathered = read.is_read.gathered in
-    few sender place gathering.senders
-    (subst (λ (s : Senders). IsOneAtMost sender place s) (sym gathered.senders)
-    (all_at_most sender place (sightings_of read.is_read.blocks) gathered.made []
-    (subst (λ (w : Wanted). AreMade w (sightings_of read.is_read.blocks) gathered.made) wanted gathered.taken.are_made) (inl refl)))
+    subst (λ (s : Senders). length s ≤ 1) (sym gathered.senders)
+    (one_sender_at_most sender place (sightings_of read.is_read.blocks) gathered.made
+    (subst (λ (w : Wanted). AreMade w (sightings_of read.is_read.blocks) gathered.made) wanted gathered.taken.are_made))

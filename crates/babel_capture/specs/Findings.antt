@@ -36,6 +36,7 @@ finding_of (findings.Packet place sender packet) = found place sender packet.now
 -- this sender is wanted at this place
 abbrev pub IsWanted : Wanted → Address → Place → Type 0
 IsWanted wanteds.Everyone sender place = Unit {0}
+IsWanted wanteds.Each sender place = Unit {0}
 IsWanted (wanteds.Sender wanted None) sender place = sender ≡ wanted
 IsWanted (wanteds.Sender wanted (Some there)) sender place = (sender ≡ wanted) × (place ≡ there)
 
@@ -53,9 +54,10 @@ PayloadIs place sender payload what =
     ⊎ (HasHeader payload × (slice_index payload 0 ≡ 42) × (slice_index payload 1 ≢ 2)
     × (what ≡ left reasons.BadVersion))
 
--- a datagram that lacks something is left out, but for the dump of one sender
+-- a datagram that lacks something is left out, but for a dump
 abbrev pub LackIs : Wanted → Lack → Found → Type 0
 LackIs wanteds.Everyone lack what = what ≡ left (lack_reason lack)
+LackIs wanteds.Each lack what = what ≡ refused lack
 LackIs (wanteds.Sender sender place) lack what = what ≡ refused lack
 
 -- what is made of a wanted datagram

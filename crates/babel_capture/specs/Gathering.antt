@@ -12,6 +12,7 @@ use Rattle.babel_capture.specs.Blocks.{Sighting, sight_in}
 use Rattle.babel_capture.specs.Contents.{Captured, Content, file, section, describes, holds}
 use Rattle.babel_capture.specs.Contents.{nothing}
 use Rattle.babel_capture.specs.Counts.{Counts, Made, counts_of}
+use Rattle.babel_capture.specs.Dumps.{Dumps, dumps_of}
 use Rattle.babel_capture.specs.Findings.{Found, passed, untold, left, refused, found, Finds}
 use Rattle.babel_capture.specs.Lack.{lack_fault}
 use Rattle.babel_capture.specs.Tallies.{CountNeedsMemory, IsOneTooMany, Senders, senders_of}
@@ -50,11 +51,13 @@ octets_found (found place sender packet) = packet
 -- the dump of the wanted sender: its packets, end to end
 abbrev pub dump_of : Wanted → List Made → List ℕ
 dump_of wanteds.Everyone made = []
+dump_of wanteds.Each made = []
 dump_of (wanteds.Sender sender place) made = flat_map (λ one. octets_found one.what) made
 
 -- the dump with these octets, if one is wanted
 abbrev pub dump_with : Wanted → List ℕ → List ℕ → List ℕ
 dump_with wanteds.Everyone dump octets = dump
+dump_with wanteds.Each dump octets = dump
 dump_with (wanteds.Sender sender place) dump octets = dump ++ octets
 
 -- what was gathered so far, and the names of the interfaces, which are empty where they have none
@@ -62,6 +65,7 @@ pub record Gathering : Type 0 where
   pub wanted : Wanted
   pub names : List (List ℕ)
   pub dump : List ℕ
+  pub dumps : Dumps
   pub report : Counts
   pub senders : Senders
 
@@ -78,6 +82,7 @@ pub record IsGathered (sightings : List Sighting) (gathering : Gathering) : Type
   pub made : List Made
   pub taken : AreTaken gathering.wanted sightings made
   pub dump : gathering.dump ≡ dump_of gathering.wanted made
+  pub dumps : gathering.dumps ≡ dumps_of gathering.wanted made
   pub report : gathering.report ≡ counts_of made
   pub senders : gathering.senders ≡ senders_of made
 
@@ -95,11 +100,12 @@ abbrev pub IsRefused : Wanted → Senders → ℕ → Content → Fault → Type
 IsRefused wanted senders at (holds packet) fault = IsRefusedPacket wanted senders at packet fault
 IsRefused wanted senders at content fault = ⊥
 
--- memory is needed for a packet that is found: it is added to the dump, if one is wanted, or its
+-- memory is needed for a packet that is found: it is added to a dump, if one is wanted, or its
 -- sender is listed
 abbrev pub PacketNeedsMemory : Wanted → Senders → Origin → List ℕ → Type 0
 PacketNeedsMemory wanteds.Everyone senders origin packet =
     CountNeedsMemory (tally_of senders origin) packet
+PacketNeedsMemory wanteds.Each senders origin packet = Unit {0}
 PacketNeedsMemory (wanteds.Sender sender place) senders origin packet = Unit {0}
 
 -- and for a block: it describes an interface, or holds such a packet

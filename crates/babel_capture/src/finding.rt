@@ -108,7 +108,7 @@ impl Wanted {
     {
         match self {
             Wanted::Everyone => Finding::Left(lack.reason()),
-            Wanted::Sender { .. } => Finding::Refused(lack),
+            Wanted::Each | Wanted::Sender { .. } => Finding::Refused(lack),
         }
     }
 }

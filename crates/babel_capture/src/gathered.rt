@@ -3,10 +3,13 @@ ghost use Rattle.std.specs.Prelude.{OnOk, IfErr};
 ghost use Rattle.babel_capture.specs.Blocks.{Sighting, sighting_of, sightings_in};
 ghost use Rattle.babel_capture.specs.Contents.{captured_of, content_of, holds, names_in};
 ghost use Rattle.babel_capture.specs.Gathering.{BlockNeedsMemory, IsGathered, IsRefused};
+ghost use Rattle.babel_capture.specs.Findings.{found};
+ghost use Rattle.babel_capture.specs.Dumps.{dump_at, dumps_with};
 ghost use Rattle.babel_capture.specs.Gathering.{PacketNeedsMemory, dump_with, name_of, with_taken};
 ghost use Rattle.babel_capture.specs.Tallies.{IsOneTooMany, tallied};
 
 use crate::block::{Block, Packet};
+use crate::dumps::Dumps;
 use crate::fault::Fault;
 use crate::finding::Finding;
 use crate::report::Report;
@@ -24,6 +27,7 @@ pub struct Gathered {
     wanted: Wanted,
     names: Vec<Vec<u8>>,
     dump: Vec<u8>,
+    dumps: Dumps,
     report: Report,
     senders: Tallies,
 }
@@ -38,6 +42,7 @@ impl Model for Gathered {
       wanted = g.wanted;
       names = map (λ name. name.items) g.names.items;
       dump = g.dump.items;
+      dumps = g.dumps;
       report = g.report;
       senders = g.senders;
     } };
@@ -55,6 +60,7 @@ impl Gathered {
             wanted,
             names: Vec::new(alloc),
             dump: Vec::new(alloc),
+            dumps: Dumps::new(alloc),
             report: Report::new(),
             senders: Tallies::new(alloc),
         }
@@ -82,6 +88,13 @@ impl Gathered {
         ensures { result.now ≡ self.now.dump }
     {
         &self.dump
+    }
+
+    /// The dump of a sender at a place, where those of each are wanted.
+    pub fn dump_of(&self, origin: &Origin) -> &[u8]
+        ensures { result.now ≡ dump_at self.now.dumps origin.now }
+    {
+        self.dumps.of(origin)
     }
 
     /// The dump alone.
@@ -185,6 +198,7 @@ impl Gathered {
         ensures wanted { self.new.wanted ≡ self.old.wanted }
         ensures names { OnOk result (self.new.names ≡ self.old.names ++ name.now ∷ []) }
         ensures dump { self.new.dump ≡ self.old.dump }
+        ensures dumps { self.new.dumps ≡ self.old.dumps }
         ensures report { self.new.report ≡ self.old.report }
         ensures senders { self.new.senders ≡ self.old.senders }
         ensures err { IfErr result (λ fault. fault ≡ Fault.Memory) }
@@ -197,13 +211,15 @@ impl Gathered {
         }
     }
 
-    /// Counts a packet for its sender, and adds it to the dump, if one is wanted.
+    /// Counts a packet for its sender, and adds it to a dump, if one is wanted.
     fn add(&mut self, at: u64, origin: Origin, packet: &[u8]) -> Result<(), Fault>
         ensures wanted { self.new.wanted ≡ self.old.wanted }
         ensures names { self.new.names ≡ self.old.names }
         ensures report { self.new.report ≡ self.old.report }
         ensures dump { OnOk result (self.new.dump
             ≡ dump_with self.old.wanted self.old.dump packet.now) }
+        ensures dumps { OnOk result (self.new.dumps ≡ dumps_with self.old.wanted self.old.dumps
+            (found origin.place origin.sender packet.now)) }
         ensures senders { OnOk result (self.new.senders
             ≡ tallied self.old.senders origin packet.now) }
         ensures few { OnOk result (length self.new.senders ≤ 65536) }
@@ -213,8 +229,10 @@ impl Gathered {
             → PacketNeedsMemory self.old.wanted self.old.senders origin packet.now) }
     {
         self.senders.add(at, origin, packet)?;
-        if let Wanted::Sender { .. } = self.wanted {
-            self.dump.extend_from_slice(packet)?;
+        match self.wanted {
+            Wanted::Everyone => {}
+            Wanted::Each => self.dumps.add(&origin, packet)?,
+            Wanted::Sender { .. } => self.dump.extend_from_slice(packet)?,
         }
         Ok(())
     }

@@ -1,6 +1,7 @@
 //! What follows from the definitions alone.
 ghost use Rattle.std.specs.Prelude.{◌≡◌, ◌≢◌, ℕ, ◌+◌, ◌<◌, ◌≤◌, ◌++◌, ◌⊎◌, List, [], length, take};
 ghost use Rattle.babel_capture.specs.Capture.{CaptureFault, IsRead};
+ghost use Rattle.babel_capture.specs.EachDump.{EachIsOwn};
 ghost use Rattle.babel_capture.specs.Gathering.{Gathering};
 ghost use Rattle.babel_capture.specs.OneCapture.{CaptureIsOne, CutCaptureIsOne};
 ghost use Rattle.babel_capture.specs.OneFault.{CutIsTheFault, FaultIsOne, ReadHasNoFault};
@@ -151,6 +152,12 @@ pub fn outcome_is_one()
     ensures read { ReadHasNoFault }
     ensures cut { CutIsTheFault }
     ensures fault { FaultIsOne }
+{}
+
+/// Where the dumps of all senders are wanted, each is that of its sender at its place: what the
+/// same octets give where that alone is wanted.
+pub fn each_is_own()
+    ensures { EachIsOwn }
 {}
 
 /// Where the datagrams of one sender at one place are wanted, there is one tally at most.

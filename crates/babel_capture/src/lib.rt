@@ -9,6 +9,7 @@
 mod block;
 mod capture;
 mod context;
+mod dumps;
 mod ethernet;
 mod fault;
 mod field;

@@ -505,6 +505,31 @@ fn tells_what_is_seen(rt: HostRuntime) -> Result<(), Fail> {
     Ok(())
 }
 
+#[test]
+fn each_dump_is_that_of_its_sender(rt: HostRuntime) -> Result<(), Fail> {
+    let mut dumps = 0;
+    for (parts, _) in &SEEN {
+        let octets = joined(rt.alloc(), parts)?;
+        let Ok(all) = gathered_of(rt.alloc(), 4096, Wanted::Each, octets.as_slice(), 5) else {
+            continue;
+        };
+        for (origin, tally) in all.senders().iter() {
+            let wanted = Wanted::Sender {
+                sender: origin.sender,
+                place: Some(origin.place),
+            };
+            let Ok(own) = gathered_of(rt.alloc(), 4096, wanted, octets.as_slice(), 4096) else {
+                return Err(Fail::from("no dump"));
+            };
+            assert_eq!(rt; all.dump_of(origin), own.dump());
+            assert_eq!(rt; own.dump().len() as u64, tally.octets);
+            dumps += 1;
+        }
+    }
+    assert!(rt; dumps > 1);
+    Ok(())
+}
+
 /// What is seen in a capture.
 fn seen(alloc: Global, octets: &[u8]) -> Result<String, Fail> {
     let Ok(gathered) = gathered_of(alloc, 4096, Wanted::Everyone, octets, 4096) else {
