@@ -10,7 +10,7 @@ _babel_dump() {
         lookup) options="$options --to --src --each" ;;
         pairs) options="$options --count --ignore --routes" ;;
         normalise) options="${options/ --json/} --hex --body --ignore --routes" ;;
-        key) options="${options/ --json/} --ignore" ;;
+        key) options="${options/ --json/} --ignore --routes" ;;
         compare)
             options="$options --other-from --other-interface --ignore --routes --all --count"
             ;;

@@ -120,7 +120,7 @@ no_write (jobs.Lookup reading pair format file quiet) reader other untouched cau
 no_write (jobs.Each reading format file pairs quiet) reader other untouched (inl (refuses, unread)) = absurd cc
 no_write (jobs.Each reading format file pairs quiet) reader other untouched (inr (asked, no_failure, cause)) = cause
 no_write (jobs.Normalise reading view body hex file quiet) reader other untouched cause = cause
-no_write (jobs.Key reading view file quiet) reader other untouched cause = cause
+no_write (jobs.Key reading view routes file quiet) reader other untouched cause = cause
 no_write (jobs.Pairs reading view count format file quiet) reader other untouched cause = cause
 no_write (jobs.Compare reading other_reading view format file another quiet) reader other untouched cause = not_compared _ _ untouched cause
 no_write (jobs.Differences reading other_reading view count format file another quiet) reader other untouched (inl cause) = not_compared _ _ untouched cause

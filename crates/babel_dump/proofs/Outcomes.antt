@@ -447,8 +447,11 @@ says_one (jobs.Each reading format file pairs quiet) octets other one two one_ot
     each_one reading format octets other one two one_other two_other text text_too outcome outcome_too has has_too other_has other_has_too says again
 says_one (jobs.Normalise reading view body hex file quiet) octets other one two one_other two_other text text_too outcome outcome_too has has_too other_has other_has_too says again =
     normal_one reading view body hex octets one two text text_too outcome outcome_too has has_too says again
-says_one (jobs.Key reading view file quiet) octets other one two one_other two_other text text_too outcome outcome_too has has_too other_has other_has_too says again =
+says_one (jobs.Key reading view false file quiet) octets other one two one_other two_other text text_too outcome outcome_too has has_too other_has other_has_too says again =
     let same = normal_one reading view 1024 false octets one two says.octets again.octets outcome outcome_too has has_too says.writes again.writes in
+    (says.text_is ∙ ap (λ octets. key_line octets (name_of file)) same.0 ∙ sym again.text_is, same.1)
+says_one (jobs.Key reading view true file quiet) octets other one two one_other two_other text text_too outcome outcome_too has has_too other_has other_has_too says again =
+    let same = routes_one reading view 1024 false octets one two says.octets again.octets outcome outcome_too has has_too says.writes again.writes in
     (says.text_is ∙ ap (λ octets. key_line octets (name_of file)) same.0 ∙ sym again.text_is, same.1)
 says_one (jobs.Pairs reading view count format file quiet) octets other one two one_other two_other text text_too outcome outcome_too has has_too other_has other_has_too says again =
     pairs_one reading view count format octets one two text text_too outcome outcome_too has has_too says again
@@ -536,7 +539,8 @@ FaultOf (jobs.Lookup reading pair format file quiet) octets other fault = FaultA
 FaultOf (jobs.Each reading format file pairs quiet) octets other fault =
     FaultOfPairs reading other.octets fault ⊎ (((asked : List AddrPair) × AreAskedBy reading other.octets asked) × FaultAt sides.First (FaultOfDump reading octets) fault)
 FaultOf (jobs.Normalise reading view body hex file quiet) octets other fault = FaultAt sides.First (FaultOfForm reading view octets) fault
-FaultOf (jobs.Key reading view file quiet) octets other fault = FaultAt sides.First (FaultOfForm reading view octets) fault
+FaultOf (jobs.Key reading view false file quiet) octets other fault = FaultAt sides.First (FaultOfForm reading view octets) fault
+FaultOf (jobs.Key reading view true file quiet) octets other fault = FaultAt sides.First (FaultOfDump reading octets) fault
 FaultOf (jobs.Pairs reading view count format file quiet) octets other fault = FaultAt sides.First (FaultOfForm reading view octets) fault
 FaultOf (jobs.Compare reading other_reading view format file another quiet) octets other fault = FaultOfBoth reading other_reading octets other fault
 FaultOf (jobs.Differences reading other_reading view count format file another quiet) octets other fault =
@@ -683,8 +687,10 @@ cause_of (jobs.Each reading format file pairs quiet) reader second untouched oct
     of_each reading reader second octets other fault has other_has is cause
 cause_of (jobs.Normalise reading view body hex file quiet) reader second untouched octets other fault has other_has is cause =
     at_first _ _ fault (λ f is cause. of_form reading view reader octets f has is cause) is cause
-cause_of (jobs.Key reading view file quiet) reader second untouched octets other fault has other_has is cause =
+cause_of (jobs.Key reading view false file quiet) reader second untouched octets other fault has other_has is cause =
     at_first _ _ fault (λ f is cause. of_form reading view reader octets f has is cause) is cause
+cause_of (jobs.Key reading view true file quiet) reader second untouched octets other fault has other_has is cause =
+    at_first _ _ fault (λ f is cause. of_dump reading reader octets f has is cause) is cause
 cause_of (jobs.Pairs reading view count format file quiet) reader second untouched octets other fault has other_has is cause =
     at_first _ _ fault (λ f is cause. of_form reading view reader octets f has is cause) is cause
 cause_of (jobs.Compare reading other_reading view format file another quiet) reader second untouched octets other fault has other_has is cause =
@@ -773,8 +779,10 @@ says_no_fault (jobs.Each reading format file pairs quiet) reader second octets o
     sound_no_fault reading octets says.answers.table of_input (sound (dump_of reader reading) octets says.answers.table has says.answers.gave) is_fault
 says_no_fault (jobs.Normalise reading view body hex file quiet) reader second octets other text outcome fault has other_has says (of_input, is, is_fault) =
     normal_no_fault reading view body hex reader octets text outcome of_input has says is_fault
-says_no_fault (jobs.Key reading view file quiet) reader second octets other text outcome fault has other_has says (of_input, is, is_fault) =
+says_no_fault (jobs.Key reading view false file quiet) reader second octets other text outcome fault has other_has says (of_input, is, is_fault) =
     normal_no_fault reading view 1024 false reader octets says.octets outcome of_input has says.writes is_fault
+says_no_fault (jobs.Key reading view true file quiet) reader second octets other text outcome fault has other_has says (of_input, is, is_fault) =
+    sound_no_fault reading octets says.writes.gave.table of_input (sound (dump_of reader reading) octets says.writes.gave.table has says.writes.gave.gave) is_fault
 says_no_fault (jobs.Pairs reading view count format file quiet) reader second octets other text outcome fault has other_has says (of_input, is, is_fault) =
     form_no_fault reading view octets says.table says.canon.pairs of_input (sound (dump_of reader reading) octets says.table has says.gave.gave)
     says.gave.is_canon.boxes says.gave.is_canon.few is_fault
@@ -859,7 +867,8 @@ fault_one (jobs.Each reading format file pairs quiet) octets other fault too (in
 fault_one (jobs.Each reading format file pairs quiet) octets other fault too (inr (asked, one)) (inl two) = absurd (asked_no_fault reading other.octets asked.0 too asked.1 two)
 fault_one (jobs.Each reading format file pairs quiet) octets other fault too (inr (asked, one)) (inr (asked_too, two)) = at_side_one sides.First _ fault too (dump_fault_one reading octets) one two
 fault_one (jobs.Normalise reading view body hex file quiet) octets other fault too one two = at_side_one sides.First _ fault too (form_fault_one reading view octets) one two
-fault_one (jobs.Key reading view file quiet) octets other fault too one two = at_side_one sides.First _ fault too (form_fault_one reading view octets) one two
+fault_one (jobs.Key reading view false file quiet) octets other fault too one two = at_side_one sides.First _ fault too (form_fault_one reading view octets) one two
+fault_one (jobs.Key reading view true file quiet) octets other fault too one two = at_side_one sides.First _ fault too (dump_fault_one reading octets) one two
 fault_one (jobs.Pairs reading view count format file quiet) octets other fault too one two = at_side_one sides.First _ fault too (form_fault_one reading view octets) one two
 fault_one (jobs.Compare reading other_reading view format file another quiet) octets other fault too one two = both_fault_one reading other_reading octets other fault too one two
 fault_one (jobs.Differences reading other_reading view count format file another quiet) octets other fault too one two =
@@ -996,8 +1005,10 @@ dump_fault_of (jobs.Each reading format file pairs quiet) side octets other faul
     of_one (jobs.Each reading format file pairs quiet) reading side octets other fault _ refl (own_fault reading octets fault) has
 dump_fault_of (jobs.Normalise reading view body hex file quiet) side octets other fault not_pairs has =
     of_one (jobs.Normalise reading view body hex file quiet) reading side octets other fault _ refl (own_form_fault reading view octets fault not_pairs) has
-dump_fault_of (jobs.Key reading view file quiet) side octets other fault not_pairs has =
-    of_one (jobs.Key reading view file quiet) reading side octets other fault _ refl (own_form_fault reading view octets fault not_pairs) has
+dump_fault_of (jobs.Key reading view false file quiet) side octets other fault not_pairs has =
+    of_one (jobs.Key reading view false file quiet) reading side octets other fault _ refl (own_form_fault reading view octets fault not_pairs) has
+dump_fault_of (jobs.Key reading view true file quiet) side octets other fault not_pairs has =
+    of_one (jobs.Key reading view true file quiet) reading side octets other fault _ refl (own_fault reading octets fault) has
 dump_fault_of (jobs.Pairs reading view count format file quiet) side octets other fault not_pairs has =
     of_one (jobs.Pairs reading view count format file quiet) reading side octets other fault _ refl (own_form_fault reading view octets fault not_pairs) has
 dump_fault_of (jobs.Compare reading other_reading view format file another quiet) side octets other fault not_pairs has =

@@ -1,6 +1,6 @@
 -- What each command over dumps promises: its own text and outcome, and the causes of its faults.
 -- These are this project's own.
-use Rattle.std.specs.Prelude.{ℕ, Bool, false, ◌≡◌, ◌≢◌, ◌<◌, ◌≤◌, ◌⊎◌, List, length, Result}
+use Rattle.std.specs.Prelude.{ℕ, Bool, false, true, ◌≡◌, ◌≢◌, ◌<◌, ◌≤◌, ◌⊎◌, List, length, Result}
 use Rattle.babel_prefix.specs.Address.{Address}
 use Rattle.babel_tlv.specs.declared.fault.Fault.TheVariants as faults
 use Rattle.babel_tlv.specs.declared.view.View.{View}
@@ -75,13 +75,6 @@ pub record WritesNormal (reader : Input) (view : View) (body : ℕ) (hex : Bool)
   pub text_is : text ≡ form_text hex octets
   pub outcome_is : IsOutcome outcome 0 report
 
--- `key`: the line of the key of what `normalise` writes, which names this file
-pub record WritesKey (reader : Input) (view : View) (file : List ℕ) (text : List ℕ)
-    (outcome : Outcome) : Type 0 where
-  pub octets : List ℕ
-  pub writes : WritesNormal reader view 1024 false octets outcome
-  pub text_is : text ≡ key_line octets file
-
 -- `pairs`: the canonical pairs of the dump's table under a view, or how many rows and pairs there
 -- are
 pub record ListsPairs (reader : Input) (view : View) (count : Bool) (format : Format)
@@ -132,6 +125,18 @@ pub record WritesRoutes (reader : Input) (view : View) (body : ℕ) (hex : Bool)
   pub gave : GaveRoutes reader view body report octets
   pub text_is : text ≡ form_text hex octets
   pub outcome_is : IsOutcome outcome 0 report
+
+-- what `normalise` writes, with `--routes` or without it, in packets of the usual size
+abbrev pub WritesOctets : (routes : Bool) → Input → View → List ℕ → Outcome → Type 0
+WritesOctets false reader view = WritesNormal reader view 1024 false
+WritesOctets true reader view = WritesRoutes reader view 1024 false
+
+-- `key`: the line of the key of these octets, which names this file
+pub record WritesKey (reader : Input) (view : View) (routes : Bool) (file : List ℕ)
+    (text : List ℕ) (outcome : Outcome) : Type 0 where
+  pub octets : List ℕ
+  pub writes : WritesOctets routes reader view octets outcome
+  pub text_is : text ≡ key_line octets file
 
 -- `pairs --routes`: the rows of the dump's table, as a view shows them, or how many there are
 pub record ListsRoutes (reader : Input) (view : View) (count : Bool) (format : Format)

@@ -1,5 +1,5 @@
 -- What readers gave, as dumps. No RFC speaks of readers: these are this project's own.
-use Rattle.std.specs.Prelude.{ℕ, ◌≡◌, ◌≢◌, ◌⊎◌, false, true, List, None, Some}
+use Rattle.std.specs.Prelude.{ℕ, ◌≡◌, ◌≢◌, ◌⊎◌, Bool, false, true, List, None, Some}
 use Rattle.babel_prefix.specs.Address.{Address}
 use Rattle.babel_tlv.specs.declared.fault.Fault.{Fault}
 use Rattle.babel_tlv.specs.declared.fault.Fault.TheVariants as faults
@@ -109,6 +109,11 @@ IsFaultOfForm reader view fault =
     IsFaultOfGiven reader fault
     ⊎ ((fault ≡ faults.TooManyPairs) × ((table : Routes) × GaveTable reader table
     × HasManyBoxes reader.reading.limits (seen_rows view table.rows)))
+
+-- the fault is that of canonical octets, or, with `routes`, of route octets, which any table has
+abbrev pub IsFaultOfOctets : (routes : Bool) → Input → View → Fault → Type 0
+IsFaultOfOctets false reader view = IsFaultOfForm reader view
+IsFaultOfOctets true reader view = IsFaultOfGiven reader
 
 -- These are the canonical octets of what is seen of a dump: they tell it apart from each that
 -- answers otherwise, and, read with any sender, answer as it does; and no list of pairs says as

@@ -10,7 +10,7 @@ use Rattle.babel_dump.specs.Command.{ComparesRoutes, ListsPairs, ListsRoutes, Lo
 use Rattle.babel_dump.specs.Command.{WritesKey, WritesNormal, WritesRoutes}
 use Rattle.babel_dump.specs.Each.{EachCause, LooksUpAsked}
 use Rattle.babel_dump.specs.Files.{name_of}
-use Rattle.babel_dump.specs.Given.{IsFaultOfForm, IsFaultOfGiven, Reads, dump_of}
+use Rattle.babel_dump.specs.Given.{IsFaultOfForm, IsFaultOfGiven, IsFaultOfOctets, Reads, dump_of}
 use Rattle.babel_dump.specs.Run.{Called, Calls, InputCause, OfFirst, Output, Ran, calls_of}
 use Rattle.babel_dump.specs.declared.capture_reading.CaptureReading.{CaptureReading}
 use Rattle.babel_dump.specs.declared.job.Job.{Job}
@@ -32,8 +32,8 @@ SaysBy (jobs.Each reading format file pairs quiet) reader other =
     LooksUpAsked (dump_of reader reading) (dump_of other reading) format
 SaysBy (jobs.Normalise reading view body hex file quiet) reader other =
     WritesNormal (dump_of reader reading) view body hex
-SaysBy (jobs.Key reading view file quiet) reader other =
-    WritesKey (dump_of reader reading) view (name_of file)
+SaysBy (jobs.Key reading view routes file quiet) reader other =
+    WritesKey (dump_of reader reading) view routes (name_of file)
 SaysBy (jobs.Pairs reading view count format file quiet) reader other =
     ListsPairs (dump_of reader reading) view count format
 SaysBy (jobs.Compare reading other_reading view format file another quiet) reader other =
@@ -62,8 +62,9 @@ CauseBy (jobs.Each reading format file pairs quiet) reader other untouched =
     EachCause (dump_of reader reading) (dump_of other reading)
 CauseBy (jobs.Normalise reading view body hex file quiet) reader other untouched =
     OfFirst (InputCause (dump_of reader reading) (IsFaultOfForm (dump_of reader reading) view))
-CauseBy (jobs.Key reading view file quiet) reader other untouched =
-    OfFirst (InputCause (dump_of reader reading) (IsFaultOfForm (dump_of reader reading) view))
+CauseBy (jobs.Key reading view routes file quiet) reader other untouched =
+    let dump = dump_of reader reading in
+    OfFirst (InputCause dump (IsFaultOfOctets routes dump view))
 CauseBy (jobs.Pairs reading view count format file quiet) reader other untouched =
     OfFirst (InputCause (dump_of reader reading) (IsFaultOfForm (dump_of reader reading) view))
 CauseBy (jobs.Compare reading other_reading view format file another quiet) reader other untouched =
@@ -91,7 +92,7 @@ first_calls (jobs.Lookup reading pair format file quiet) reader = calls_of (dump
 first_calls (jobs.Each reading format file pairs quiet) reader = calls_of (dump_of reader reading)
 first_calls (jobs.Normalise reading view body hex file quiet) reader =
     calls_of (dump_of reader reading)
-first_calls (jobs.Key reading view file quiet) reader = calls_of (dump_of reader reading)
+first_calls (jobs.Key reading view routes file quiet) reader = calls_of (dump_of reader reading)
 first_calls (jobs.Pairs reading view count format file quiet) reader =
     calls_of (dump_of reader reading)
 first_calls (jobs.Compare reading other_reading view format file another quiet) reader =

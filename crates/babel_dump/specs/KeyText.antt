@@ -1,4 +1,5 @@
--- The line of a key, as `sha256sum` writes it: this project's own. The digest is that of FIPS 180-4.
+-- The line of a key, as `sha256sum` writes it: this project's own. The digest is that of FIPS
+-- 180-4.
 use Rattle.std.specs.Prelude.{ℕ, Bool, ◌==◌, if◌then◌else◌, List, [], ◌∷◌, ◌++◌, codes}
 use Rattle.std.specs.Prelude.{Option, None, Some}
 use Rattle.std.specs.List.{flat_map, list_any}

@@ -102,7 +102,7 @@ reading_at sides.First (jobs.Show reading format file quiet) = Some reading
 reading_at sides.First (jobs.Lookup reading pair format file quiet) = Some reading
 reading_at sides.First (jobs.Each reading format file pairs quiet) = Some reading
 reading_at sides.First (jobs.Normalise reading view body hex file quiet) = Some reading
-reading_at sides.First (jobs.Key reading view file quiet) = Some reading
+reading_at sides.First (jobs.Key reading view routes file quiet) = Some reading
 reading_at sides.First (jobs.Pairs reading view count format file quiet) = Some reading
 reading_at sides.First (jobs.Compare reading other_reading view format file other quiet) =
     Some reading

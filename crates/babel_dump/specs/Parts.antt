@@ -34,6 +34,7 @@ use Rattle.babel_dump.specs.declared.format.Format.{Format}
 use Rattle.babel_dump.specs.declared.job.Job.{Job}
 use Rattle.babel_dump.specs.declared.job.Listed.{Listed}
 use Rattle.babel_dump.specs.declared.outcome.Outcome.{Outcome}
+use Rattle.babel_dump.specs.declared.outcome.Reports.TheVariants as reports
 use Rattle.babel_dump.specs.declared.pairs_fault.PairsFault.TheVariants as pairs_faults
 use Rattle.babel_dump.specs.declared.run_fault.RunFault.{RunFault}
 use Rattle.babel_dump.specs.declared.run_fault.RunFault.TheVariants as run_faults
@@ -105,6 +106,10 @@ pub record SaysDifferences (limits : Bounds) (view : View) (count : Bool) (forma
   pub text_is : text ≡ differences_or_count_in format view count differences
   pub outcome_is : IsOutcomeOfAnswers (differences_status (length differences)) seen.left seen.right
       outcome
+
+-- the outcome of what was made of a dump with this report
+abbrev pub done : Counts → Outcome
+done report = record { status = 0; reports = reports.Dump report }
 
 -- the text and the outcome are those of octets that were made of a dump with this report
 pub record SaysOctets (octets : List ℕ) (hex : Bool) (report : Counts) (text : List ℕ)

@@ -74,10 +74,11 @@ const AFTER_NORMALISE: &str = after_help!(
 const AFTER_KEY: &str = after_help!(
     refused: "a dump or a capture";
     "Each line is HEX  FILE, as sha256sum writes it. Keys of one --ignore and one --hold are equal",
-    "exactly if the answers are. The status is the greatest of those of all files.\n",
+    "exactly if the answers are, or, with --routes, the routes. The status is the greatest of all",
+    "files.\n",
     examples:
     "key --from fe80::1 before.pcap now.pcap",
-    "key --ignore seqno --from fe80::1 x.pcap";
+    "key --routes --ignore seqno --from fe80::1 x.pcap";
     "0  done"
 );
 
@@ -227,6 +228,7 @@ fn key<'a>(alloc: Global) -> Result<Command<'a>, AllocError> {
     with_reading(alloc, command)?
         .arg(strict(alloc))?
         .arg(ignore(alloc))?
+        .arg(routes(alloc, "Make the keys of the routes, not of the answers"))?
         .arg(file)
 }
 

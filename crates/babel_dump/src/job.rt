@@ -57,6 +57,8 @@ pub enum Job {
     Key {
         reading: Reading,
         view: View,
+        /// Whether that is its route octets: `--routes`.
+        routes: bool,
         file: DumpFile,
         quiet: bool,
     },

@@ -68,9 +68,10 @@ fn find<R: ByteIn, S: ByteIn>(
         Job::Key {
             reading,
             view,
+            routes,
             ref file,
             ..
-        } => find_key(alloc, reading, view, file.name(), reader),
+        } => find_key(alloc, reading, view, routes, file.name(), reader),
         Job::Show {
             reading,
             format,

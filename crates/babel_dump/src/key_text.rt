@@ -8,7 +8,8 @@ use std::alloc::{AllocError, Global};
 use std::fmt;
 use std::fmt::{Display, Formatter, Write};
 
-/// A file's name, as the lines of keys have it, a colon and a space; nothing where no file is named.
+/// A file's name, as the lines of keys have it, a colon and a space; nothing where no file is
+/// named.
 #[derive(Clone, Copy)]
 pub struct Named<'a>(pub Option<&'a str>);
 

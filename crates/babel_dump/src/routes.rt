@@ -48,7 +48,7 @@ pub(crate) fn find_route_octets<R: ByteIn>(
 
 /// Reads a dump to its end, or to its first fault, and makes its route octets under the view,
 /// beside its report.
-fn read_route_octets<R: ByteIn>(
+pub(crate) fn read_route_octets<R: ByteIn>(
     alloc: Global,
     reading: Reading,
     view: View,

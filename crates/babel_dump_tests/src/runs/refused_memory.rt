@@ -173,6 +173,7 @@ fn refused_memory_of_key(rt: HostRuntime) -> Result<(), Fail> {
     let job = Job::Key {
         reading: reading(V4)?,
         view: View::all(),
+        routes: false,
         file: DumpFile::StandardInput,
         quiet: true,
     };

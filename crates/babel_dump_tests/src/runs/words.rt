@@ -81,7 +81,7 @@ const COMPARE: Wanted<'static> = Wanted {
 
 /// Words, and the job that they ask for.
 #[rattlefmt::skip]
-static JOBS: [(&str, Wanted<'static>); 42] = [
+static JOBS: [(&str, Wanted<'static>); 43] = [
     (
         "lookup --from fe80::1 --to 10.1.2.3 --src=0.0.0.0 --hold x",
         Wanted {
@@ -144,6 +144,7 @@ static JOBS: [(&str, Wanted<'static>); 42] = [
     ("compare --from :: --routes --all a b", Wanted { routes: true, all: true, ..COMPARE }),
     ("compare --from :: --routes --count a b", Wanted { routes: true, count: true, ..COMPARE }),
     ("key --from ::", KEY),
+    ("key --routes --from ::", Wanted { routes: true, ..KEY }),
     ("key --strict x --from ::1 --hold", Wanted {
         from: "::1", strict: true, mode: Mode::Hold, file: Some("x"), ..KEY
     }),
@@ -210,7 +211,12 @@ fn expect_job(rt: &impl Abort, line: &str, job: &Job, wanted: &Wanted<'_>) -> Re
             assert_eq!(rt; *hex, wanted.hex, "of {line}");
             expect_reading(rt, line, "normalise", reading, Format::Text, wanted)
         }
-        Job::Key { reading, .. } => {
+        Job::Key {
+            reading,
+            routes,
+            ..
+        } => {
+            assert_eq!(rt; *routes, wanted.routes, "of {line}");
             expect_reading(rt, line, "key", reading, Format::Text, wanted)
         }
         Job::Pairs {
