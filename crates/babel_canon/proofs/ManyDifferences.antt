@@ -33,7 +33,8 @@ more_by_value values once family rows others mine theirs most mine_are theirs_ar
 )
 
 module _ (limits : Bounds) (rows others : List Pair) where
-  of_both : (v4 v6 : List (Row (Differing Held))) → AreFamilyDifferences V4 rows others v4 → AreFamilyDifferences V6 rows others v6 → limits.entries < length v4 + length v6 → HasManyDifferences limits rows others
+  of_both : (v4 v6 : List (Row (Differing Held))) → AreFamilyDifferences V4 rows others v4 → AreFamilyDifferences V6 rows others v6
+      → limits.entries < length v4 + length v6 → HasManyDifferences limits rows others
   of_both v4 v6 v4_are v6_are more =
       let fours = map (difference_at V4) v4 in
       let sixes = map (difference_at V6) v6 in

@@ -162,7 +162,8 @@ module _ {V : Type 0} (nodes : List (Node V)) (v : V) where
               let power : 2 ^ last.skip ≡ m * 2 ^ node.skip = ap (λ (n : ℕ). 2 ^ n) {x = last.skip} {y = k + node.skip} (omega (arith, longer-skip k r)) ∙ pow-add 2 k node.skip in
               let whole : path * 2 ^ node.skip ≡ (m + r) * 2 ^ node.skip = ap (λ n. n * 2 ^ node.skip) {x = path} {y = m + r} (omega (arith, same)) in
               let path_is : node.path + path * 2 ^ node.skip ≡ last.path + 2 ^ last.skip = omega (arith, whole, power, longer-path k r r_in) in
-              let first : is_low (suc k) path ≡ false = ap (is_low (suc k)) (parts ∙ ap (λ n. 1 * 2 ^ n + (path - m)) (sym less)) ∙ is_low-above (suc k) (path - m) (subst (λ n. path - m < 2 ^ n) (sym less) rest_in) in
+              let first : is_low (suc k) path ≡ false = ap (is_low (suc k)) (parts ∙ ap (λ n. 1 * 2 ^ n + (path - m)) (sym less))
+              ∙ is_low-above (suc k) (path - m) (subst (λ n. path - m < 2 ^ n) (sym less) rest_in) in
               subst (λ b. IsLong (longer_by (suc k) path) (cond b (fork inner (leaf v)) (fork (leaf v) inner))) (sym first)
               (one_high last (longer_by (suc k) path) inner before (node_is _ _ skip_is path_is refl (sym (longer-low k r)) (sym (longer-high k r))))
         ]
@@ -183,16 +184,19 @@ module _ {V : Type 0} (nodes : List (Node V)) (v : V) where
 
   module _ (inside : Loose V) (path : ℕ) (t : Shape V) (p : Stands nodes inside t) where
     -- a half beside the value
-    pub first_bit : (b : Bool) (low high : Loose V) (node : Node V) → is_low 1 path ≡ b → AreHalvesBy b inside (Same v) low high → AreUnited nodes low high (Split node) → IsLong node (along 1 path (leaf v) t) × (t ≡ leaf v → ⊥)
+    pub first_bit : (b : Bool) (low high : Loose V) (node : Node V) → is_low 1 path ≡ b → AreHalvesBy b inside (Same v) low high
+        → AreUnited nodes low high (Split node) → IsLong node (along 1 path (leaf v) t) × (t ≡ leaf v → ⊥)
     first_bit b low high node bit halves (inl (w, e, f, is)) = absurd (cc)
     first_bit true low high node bit halves (inr (at, normal)) =
-        let from : HalvesAt nodes (Split node) inside (Same v) = subst (λ (x : Loose V). HalvesAt nodes (Split node) x (Same v)) halves.0 (subst (λ (x : Loose V). HalvesAt nodes (Split node) low x) halves.1 at) in
+        let from : HalvesAt nodes (Split node) inside (Same v) = subst (λ (x : Loose V). HalvesAt nodes (Split node) x (Same v)) halves.0
+        (subst (λ (x : Loose V). HalvesAt nodes (Split node) low x) halves.1 at) in
         let here : IsLong node (fork t (leaf v)) = record { normal = normal; takes = takes_low node inside from; stands = (inside, Same v, from, p, refl) } in (
           subst (λ c. IsLong node (cond c (fork t (leaf v)) (fork (leaf v) t))) (sym bit) here,
           λ e. halves_are_not_one nodes (Split node) inside (Same v) v normal from (subst (Stands nodes inside) e p) refl,
         )
     first_bit false low high node bit halves (inr (at, normal)) =
-        let from : HalvesAt nodes (Split node) (Same v) inside = subst (λ (x : Loose V). HalvesAt nodes (Split node) x inside) halves.0 (subst (λ (x : Loose V). HalvesAt nodes (Split node) low x) halves.1 at) in
+        let from : HalvesAt nodes (Split node) (Same v) inside = subst (λ (x : Loose V). HalvesAt nodes (Split node) x inside) halves.0
+        (subst (λ (x : Loose V). HalvesAt nodes (Split node) low x) halves.1 at) in
         let here : IsLong node (fork (leaf v) t) = record { normal = normal; takes = takes_high node inside from; stands = (Same v, inside, from, refl, p) } in (
           subst (λ c. IsLong node (cond c (fork t (leaf v)) (fork (leaf v) t))) (sym bit) here,
           λ e. halves_are_not_one nodes (Split node) (Same v) inside v normal from refl (subst (Stands nodes inside) e p),
@@ -218,7 +222,8 @@ module _ {V : Type 0} (nodes : List (Node V)) (v : V) where
     one_value skip b low high x w halves (inr (at, normal)) known = absurd (subst (λ (y : Loose V). HalvesAt nodes y low high) known at)
 
     -- the bits before the last one
-    pub all_bits : (k : ℕ) (node : Node V) → path < 2 ^ suc k → IsLong node (along 1 path (leaf v) t) → (t ≡ leaf v → ⊥) → IsAlong nodes (Split (longer_by node k (path / 2))) (suc k) path v t × IsNormal nodes (longer_by node k (path / 2))
+    pub all_bits : (k : ℕ) (node : Node V) → path < 2 ^ suc k → IsLong node (along 1 path (leaf v) t) → (t ≡ leaf v → ⊥)
+        → IsAlong nodes (Split (longer_by node k (path / 2))) (suc k) path v t × IsNormal nodes (longer_by node k (path / 2))
     all_bits k node path_in base other =
         let less : suc k - 1 ≡ k = omega arith in
         let size : 2 ^ suc k ≡ 2 * 2 ^ k = pow_twice (suc k) (omega arith) ∙ ap (λ n. 2 * 2 ^ n) less in
@@ -239,7 +244,8 @@ module _ {V : Type 0} (nodes : List (Node V)) (v : V) where
         let e : 1 ≡ skip = sym one in
         subst (λ n. IsAlong nodes (Split node) n path v t) e (all_bits 0 node (subst (λ n. path < 2 ^ n) one path_in) base other).0
 
-    pub more_bits : (skip : ℕ) (node m : Node V) → 1 < skip → path < 2 ^ skip → m ≡ record { skip = node.skip + (skip - 1); path = node.path + path / 2 * 2 ^ node.skip; outside = Constant v; low = node.low; high = node.high } →
+    pub more_bits : (skip : ℕ) (node m : Node V) → 1 < skip → path < 2 ^ skip
+        → m ≡ record { skip = node.skip + (skip - 1); path = node.path + path / 2 * 2 ^ node.skip; outside = Constant v; low = node.low; high = node.high } →
         IsLong node (along 1 path (leaf v) t) → (t ≡ leaf v → ⊥) → IsAlong nodes (Split m) skip path v t × IsNormal nodes m
     more_bits skip node m some path_in is base other =
         let k : ℕ = skip - 1 in

@@ -62,12 +62,14 @@ module _ {F : Type 0} where
       ap (λ ys. said_at x.sources ys d) (sym (tail-is x xs)) ∙ sym (ap (λ b. said_at (cond b x.sources none) xs d) (reached x d le))
 
   -- what a list says from an address up to the next change
-  pub said-step : (none here says : F) (list rest tail : List (Change F)) (at d : ℕ) → ((e : ℕ) → at ≤ e → said_at here rest e ≡ said_at none list e) → ((e : ℕ) → at ≤ e → said_at says tail e ≡ said_at here rest e) →
+  pub said-step : (none here says : F) (list rest tail : List (Change F)) (at d : ℕ) → ((e : ℕ) → at ≤ e → said_at here rest e ≡ said_at none list e)
+      → ((e : ℕ) → at ≤ e → said_at says tail e ≡ said_at here rest e) →
       StartBehind d tail → at ≤ d → said_at none list d ≡ says
   said-step none here says list rest tail at d p q ahead le = sym (p d le) ∙ sym (q d le) ∙ said-before says tail d ahead
 
   -- a list that says something of the first address says the same whatever came before
-  pub said-first : (list : List (Change F)) (other : Change F) (none : F) (end : ℕ) → 0 < length list → start_or end list ≡ 0 → (d : ℕ) → said_at (get_or list 0 other).sources list d ≡ said_at none list d
+  pub said-first : (list : List (Change F)) (other : Change F) (none : F) (end : ℕ) → 0 < length list → start_or end list ≡ 0 → (d : ℕ)
+      → said_at (get_or list 0 other).sources list d ≡ said_at none list d
   said-first [] other none end some first d = absurd (omega arith)
   said-first (x ∷ xs) other none end some first d =
       let at = reached x d (omega arith) in
@@ -80,13 +82,16 @@ no_sources = Stored (record { 0 = 0 })
 -- what two lists of changes answer, by what they say
 module _ {V : Type 0} (w : ℕ) (none : Sources (Option V)) where
   -- what they answer for a destination is what the trie of what they say there does
-  pub answers-at : (sources : List (Node (Option V))) (list : List (Change (Sources (Option V)))) (d : ℕ) (says : Sources (Option V)) → said_at none list d ≡ says → (h : HasTrie w sources says) → run_answers w sources none list d ≡ value_at h.trie w
+  pub answers-at : (sources : List (Node (Option V))) (list : List (Change (Sources (Option V)))) (d : ℕ) (says : Sources (Option V))
+      → said_at none list d ≡ says → (h : HasTrie w sources says) → run_answers w sources none list d ≡ value_at h.trie w
   answers-at sources list d says is h = ap (λ (n : Sources (Option V)). value_at (sources_at w sources n) w) is ∙ ap (λ t. value_at t w) (sources_at-stands w sources says h)
 
-  module _ (sources others : List (Node (Option V))) (left right : List (Change (Sources (Option V)))) (here there : Sources (Option V)) (h : HasTrie w sources here) (k : HasTrie w others there) (at : ℕ)
+  module _ (sources others : List (Node (Option V))) (left right : List (Change (Sources (Option V)))) (here there : Sources (Option V))
+      (h : HasTrie w sources here) (k : HasTrie w others there) (at : ℕ)
       (below : AgreeBelowBoth at (2 ^ w) (run_answers w sources none left) (run_answers w others none right)) where
     -- up to the next change of either they answer the same, where the tries do
-    pub answers-agree : (end : ℕ) → ((d : ℕ) → at ≤ d → d ≤ end → said_at none left d ≡ here) → ((d : ℕ) → at ≤ d → d ≤ end → said_at none right d ≡ there) → AgreeBelow (2 ^ w) (value_at h.trie w) (value_at k.trie w) →
+    pub answers-agree : (end : ℕ) → ((d : ℕ) → at ≤ d → d ≤ end → said_at none left d ≡ here)
+        → ((d : ℕ) → at ≤ d → d ≤ end → said_at none right d ≡ there) → AgreeBelow (2 ^ w) (value_at h.trie w) (value_at k.trie w) →
         (n : ℕ) → n ≤ end + 1 → AgreeBelowBoth n (2 ^ w) (run_answers w sources none left) (run_answers w others none right)
     answers-agree end here_is there_is same n n_in d d_in s s_in =
         elim (cases_lt d at) [
@@ -109,7 +114,8 @@ module _ {V : Type 0} (w : ℕ) (none : Sources (Option V)) where
         }
 
 -- functions that agree with two others differ first where those do
-pub first-same : {V : Type 0} (w : ℕ) (f g f' g' : Answers V) → SameAnswers w f f' → SameAnswers w g g' → (found : Option (ℕ × ℕ)) → IsFirstPair (2 ^ w) (2 ^ w) f g found → IsFirstPair (2 ^ w) (2 ^ w) f' g' found
+pub first-same : {V : Type 0} (w : ℕ) (f g f' g' : Answers V) → SameAnswers w f f' → SameAnswers w g g' → (found : Option (ℕ × ℕ))
+    → IsFirstPair (2 ^ w) (2 ^ w) f g found → IsFirstPair (2 ^ w) (2 ^ w) f' g' found
 first-same w f g f' g' p q None same = λ d d_in s s_in. sym (p d s d_in s_in) ∙ same d d_in s s_in ∙ q d s d_in s_in
 first-same w f g f' g' p q (Some at) first =
     let at_in : at.0 < 2 ^ w = first.in_range in

@@ -53,7 +53,8 @@ module _ {V : Type 0} where
   beside_count counts node (suc k) e = ap (λ (s : Sources (Option V)). suc k * sources_count counts s) (inner-more node (λ one. omega arith))
 
   -- a node's count, from those of what it names
-  node_counted : (nodes : List (Node (Option V))) (n : ℕ) (counts : List ℕ) → AreCounted nodes n counts → (t : Shape (Option V)) (node : Node (Option V)) → HasHalvesBelow n node → Stands nodes (Split node) t →
+  node_counted : (nodes : List (Node (Option V))) (n : ℕ) (counts : List ℕ) → AreCounted nodes n counts
+      → (t : Shape (Option V)) (node : Node (Option V)) → HasHalvesBelow n node → Stands nodes (Split node) t →
       node_count counts node ≡ capped (value_count t)
   node_counted nodes n counts c (leaf v) node lower p = absurd (cc)
   node_counted nodes n counts c (fork low high) node lower (l, h, inl e, p, q) =

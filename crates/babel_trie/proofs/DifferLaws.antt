@@ -98,7 +98,8 @@ module _ {V : Type 0} where
   fits_any bits nodes n t u p = subst (λ x. height x ≤ bits) (one_shape nodes n t.trie u t.stands p) t.fits
 
   -- the halves of two tries of which not both are leaves
-  pub sides : {bits : ℕ} {nodes others : List (Node V)} {n m l h l' h' : Loose V} {t u : Shape V} → IsTrie bits nodes n → IsTrie bits others m → ((b : ℕ) → IsTrie b nodes n → IsTrie b others m → 0 < b) →
+  pub sides : {bits : ℕ} {nodes others : List (Node V)} {n m l h l' h' : Loose V} {t u : Shape V} → IsTrie bits nodes n → IsTrie bits others m
+      → ((b : ℕ) → IsTrie b nodes n → IsTrie b others m → 0 < b) →
       Stands nodes n t → Stands others m u → (p : IsHalved nodes t l h) → (q : IsHalved others u l' h') → SideBySide bits t p.low_half p.high_half u q.low_half q.high_half
   sides {bits} {nodes} {others} {n} {m} {l} {h} {l'} {h'} {t} {u} own theirs some stands stands' p q =
       side_by_side nodes others bits t u l h l' h' (fits_any bits nodes n own t stands) (fits_any bits others m theirs u stands') (some bits own theirs) p q
@@ -133,7 +134,8 @@ module _ {V : Type 0} where
   same_trie nodes others n m t u one same p q =
       one_shape others m t u (subst (λ k. Stands others k t) same (subst (λ ns. Stands ns n t) one p)) q
 
-  pub agree_in_one : (nodes others : List (Node V)) (n m : Loose V) (bits : ℕ) (t u : Shape V) → nodes ≡ others → n ≡ m → Stands nodes n t → Stands others m u → AgreeBelow (2 ^ bits) (value_at t bits) (value_at u bits)
+  pub agree_in_one : (nodes others : List (Node V)) (n m : Loose V) (bits : ℕ) (t u : Shape V) → nodes ≡ others → n ≡ m → Stands nodes n t
+      → Stands others m u → AgreeBelow (2 ^ bits) (value_at t bits) (value_at u bits)
   agree_in_one nodes others n m bits t u one same p q a a_in = ap (λ x. value_at x bits a) (same_trie nodes others n m t u one same p q)
 
 -- the first pair by destination, then source, is the least

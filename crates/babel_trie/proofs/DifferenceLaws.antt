@@ -75,7 +75,8 @@ first_has_least {V} test w f g first rest are dst src least = elim (differ_in_bo
     first_listed : Contains (first ∷ rest) first
     first_listed = (0, omega arith, refl)
 
-    by : (box : Row (Differing V)) → IsBox w are.difference box → BlockCovers w box.dst dst → BlockCovers w box.src src → (i : ℕ) → (i_in : i < length (first ∷ rest)) → slice_index_or (first ∷ rest) i box ≡ box →
+    by : (box : Row (Differing V)) → IsBox w are.difference box → BlockCovers w box.dst dst → BlockCovers w box.src src → (i : ℕ)
+        → (i_in : i < length (first ∷ rest)) → slice_index_or (first ∷ rest) i box ≡ box →
         BlockCovers w first.dst dst × BlockCovers w first.src src
     by box is dst_in src_in zero i_in e = (subst (λ (r : Row (Differing V)). BlockCovers w r.dst dst) (sym e) dst_in, subst (λ (r : Row (Differing V)). BlockCovers w r.src src) (sym e) src_in)
     by box is dst_in src_in (suc i) i_in e =

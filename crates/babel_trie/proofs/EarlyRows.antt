@@ -99,7 +99,8 @@ module _ {V : Type 0} (w : ℕ) (nodes : List (Node (Option V))) (form : HasOneF
   still d s from d_in s_in =
       let list = front ++ last ∷ [] in
       let span : Listed (spans (2 ^ w) list) (last_span (2 ^ w) last) =
-      subst (λ ss. Listed ss (last_span (2 ^ w) last)) (sym (spans-append (2 ^ w) front last)) (Listed-append_right (spans last.start front) (last_span (2 ^ w) last ∷ []) (last_span (2 ^ w) last) (inl refl)) in
+      subst (λ ss. Listed ss (last_span (2 ^ w) last)) (sym (spans-append (2 ^ w) front last))
+      (Listed-append_right (spans last.start front) (last_span (2 ^ w) last ∷ []) (last_span (2 ^ w) last) (inl refl)) in
       let none = no_node w nodes list g p in
       let at = λ (e : ℕ) (low : last.start ≤ e) (e_in : e < 2 ^ w). said_span (2 ^ w) list none (rising w nodes list g p) (last_span (2 ^ w) last) span e low (omega (arith, e_in)) in
       let said : said_at none list d ≡ said_at none list last.start = at d from d_in ∙ sym (at last.start (omega arith) (p.below last (last_listed front last))) in

@@ -45,7 +45,8 @@ module _ {V : Type 0} (w at : ℕ) (f : Answers V) (nodes : List (Node (Option V
 
 module _ {V L : Type 0} (items : L → List (Change (Sources (Option V)))) (most w : ℕ) (nodes : List (Node (Option V))) where
   -- what is known of the changes of answers, or that their boxes are more, holds of the same answers
-  pub RunsOrMore-same : (f g : Answers V) (runs : Option L) → SameAnswers w f g → MatchOption runs (HasMoreBoxes most w f) (λ l. HasRuns w nodes (items l) f) → MatchOption runs (HasMoreBoxes most w g) (λ l. HasRuns w nodes (items l) g)
+  pub RunsOrMore-same : (f g : Answers V) (runs : Option L) → SameAnswers w f g
+      → MatchOption runs (HasMoreBoxes most w f) (λ l. HasRuns w nodes (items l) f) → MatchOption runs (HasMoreBoxes most w g) (λ l. HasRuns w nodes (items l) g)
   RunsOrMore-same f g None same more =
       let back = SameAnswers-sym w f g same in (
         more.0,

@@ -79,7 +79,8 @@ fit_is_largest w from last at bits low at_in last_in none fit =
           larger from last at bits p.start (w - p.len) (omega arith) none fit range.0 p_is.rest_is_zero range.1 in_p.0 in_p.1;
     }
   where
-    larger : (from last at bits start more : ℕ) → bits < more → NoneCrosses from last at → IsLargestFit at last bits → from ≤ start → start % 2 ^ more ≡ 0 → start + 2 ^ more ≤ last + 1 → start ≤ at → at < start + 2 ^ more → ⊥
+    larger : (from last at bits start more : ℕ) → bits < more → NoneCrosses from last at → IsLargestFit at last bits → from ≤ start
+        → start % 2 ^ more ≡ 0 → start + 2 ^ more ≤ last + 1 → start ≤ at → at < start + 2 ^ more → ⊥
     larger from last at bits start more lt none fit low aligned room before past =
         elim (cases_lt start at) [
           | inl below ↦ let crossed : start + 2 ^ more ≤ at = none start more low below aligned room in omega arith

@@ -3,7 +3,8 @@ use Rattle.std.proofs.Common.{◌≡◌, inl, inr, ℕ, zero, suc, ◌+◌, ◌-
 use Rattle.std.proofs.lemmas.Bool.{eq-eqb, ne_eqb}
 use Rattle.std.proofs.Math.Nat.{mod-eq_of_lt, mul-add-mod_self_right}
 use Rattle.babel_trie.specs.Shape.{Shape, leaf, fork, is_low, height, HasHalves, IsReduced}
-use Rattle.babel_trie.specs.Interned.{Opens, inner, HaveHalves, HalvesAt, Stands, Represents, IsNoLonger, IsNormal, IsNormalLoose, AreUnited, AreApart, IsBesidePath, Joins, JoinsBy, IsTrie, IsHalved, HasTrie}
+use Rattle.babel_trie.specs.Interned.{Opens, inner, HaveHalves, HalvesAt, Stands, Represents, IsNoLonger, IsNormal, IsNormalLoose}
+use Rattle.babel_trie.specs.Interned.{AreUnited, AreApart, IsBesidePath, Joins, JoinsBy, IsTrie, IsHalved, HasTrie}
 use Rattle.babel_trie.specs.Laid.{AreHalvesBy}
 use Rattle.babel_trie.specs.Sound.{KeepsNodes, IsBelow}
 use Rattle.babel_trie.specs.declared.table.Loose.{Loose}
@@ -74,11 +75,18 @@ module _ {V : Type 0} (nodes : List (Node V)) where
       let short : node.path < 2 ^ (node.skip + 1 - 1) = subst (λ k. node.path < 2 ^ k) (sym less) n.path_in in
       let whole : node.path < 2 ^ (node.skip + 1) = omega (arith, n.path_in, twice node.skip) in
       inr (
-        inr (inl (omega arith, is_low-below (node.skip + 1) node.path short, ap (λ (m : Node V). let z : Loose V = Split m in z) (longer-inner node node.path v n takes (mod-eq_of_lt n.path_in)), refl)),
+        inr (inl (
+          omega arith,
+          is_low-below (node.skip + 1) node.path short,
+          ap (λ (m : Node V). let z : Loose V = Split m in z)
+              (longer-inner node node.path v n takes (mod-eq_of_lt n.path_in)),
+          refl,
+        )),
         longer-normal node node.path v n whole,
       )
 
-  pub united_high : (node : Node V) (v : V) → IsNormal nodes node → (0 < node.skip → node.outside ≡ Constant v) → AreUnited nodes (Same v) (Split node) (Split (longer_node node (node.path + 2 ^ node.skip) v))
+  pub united_high : (node : Node V) (v : V) → IsNormal nodes node → (0 < node.skip → node.outside ≡ Constant v)
+      → AreUnited nodes (Same v) (Split node) (Split (longer_node node (node.path + 2 ^ node.skip) v))
   united_high node v n takes =
       let less : node.skip + 1 - 1 ≡ node.skip = omega arith in
       let short : node.path < 2 ^ (node.skip + 1 - 1) = subst (λ k. node.path < 2 ^ k) (sym less) n.path_in in
@@ -138,13 +146,16 @@ module _ {V : Type 0} (nodes : List (Node V)) where
   }
 
   -- a node with one half inside, and what is stored beside it
-  pub joins_beside : (old : List (Node V)) → KeepsNodes old nodes → (low : Bool) (inside beside : Loose V) (node other : Node V) → inside ≡ Split node → beside ≡ Split other → (r s first second : Sources V) → Opens nodes r inside → Opens nodes s beside →
+  pub joins_beside : (old : List (Node V)) → KeepsNodes old nodes → (low : Bool) (inside beside : Loose V) (node other : Node V) → inside ≡ Split node
+      → beside ≡ Split other → (r s first second : Sources V) → Opens nodes r inside → Opens nodes s beside →
       AreHalvesBy low r s first second → JoinsBy low old inside beside nodes (Split (fork_node first second)) × IsNormal nodes (fork_node first second)
   joins_beside old keeps true inside beside node other e f r s first second p q halves =
-      let made = united_stored first second inside beside (subst (λ (k : Sources V). Opens nodes k inside) (sym halves.0) p) (subst (λ (k : Sources V). Opens nodes k beside) (sym halves.1) q) (nodes_apart inside beside node other e f) in
+      let made = united_stored first second inside beside (subst (λ (k : Sources V). Opens nodes k inside) (sym halves.0) p)
+      (subst (λ (k : Sources V). Opens nodes k beside) (sym halves.1) q) (nodes_apart inside beside node other e f) in
       (joins_halves old keeps inside beside (Split (fork_node first second)) made.0 made.1, made.1)
   joins_beside old keeps false inside beside node other e f r s first second p q halves =
-      let made = united_stored first second beside inside (subst (λ (k : Sources V). Opens nodes k beside) (sym halves.0) q) (subst (λ (k : Sources V). Opens nodes k inside) (sym halves.1) p) (nodes_apart beside inside other node f e) in
+      let made = united_stored first second beside inside (subst (λ (k : Sources V). Opens nodes k beside) (sym halves.0) q)
+      (subst (λ (k : Sources V). Opens nodes k inside) (sym halves.1) p) (nodes_apart beside inside other node f e) in
       (joins_halves old keeps beside inside (Split (fork_node first second)) made.0 made.1, made.1)
 
   -- one value joins itself with itself

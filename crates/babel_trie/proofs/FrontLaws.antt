@@ -1,5 +1,6 @@
 -- What two lists of rows begin with both tells them apart nowhere.
-use Rattle.std.proofs.Common.{cond, Contains, ◌≡◌, ◌↔◌, inl, inr, ℕ, zero, suc, ◌-◌, ◌/◌, ◌^◌, ◌<◌, ◌≤◌, Bool, true, false, List, [], ◌∷◌, ◌++◌, Option, Some, None, map, filter, refl, sym, ◌∙◌, ap, subst, arith}
+use Rattle.std.proofs.Common.{cond, Contains, ◌≡◌, ◌↔◌, inl, inr, ℕ, zero, suc, ◌-◌, ◌/◌, ◌^◌, ◌<◌, ◌≤◌, Bool, true, false}
+use Rattle.std.proofs.Common.{List, [], ◌∷◌, ◌++◌, Option, Some, None, map, filter, refl, sym, ◌∙◌, ap, subst, arith}
 use Rattle.std.specs.Option.{IfSome, IfNone, MatchOption}
 use Rattle.babel_prefix.specs.Address.{block_of}
 use Rattle.babel_prefix.specs.Best.{Row, answer}
@@ -36,7 +37,8 @@ module _ {V : Type 0} where
   no_rows [] none = refl
   no_rows (row ∷ rows) none = absurd (none row (inl refl))
 
-  pub split_rows : {R : Type 0} (rows : R → List (Entry V)) (left : R) (split : Option (Entry V × R)) → MatchOption split (rows left ≡ []) (λ parts. rows left ≡ parts.0 ∷ rows parts.1) → rows_of_split rows split ≡ rows left
+  pub split_rows : {R : Type 0} (rows : R → List (Entry V)) (left : R) (split : Option (Entry V × R))
+      → MatchOption split (rows left ≡ []) (λ parts. rows left ≡ parts.0 ∷ rows parts.1) → rows_of_split rows split ≡ rows left
   split_rows rows left None is = sym is
   split_rows rows left (Some parts) is = sym is
 
@@ -75,7 +77,9 @@ module _ {X : Type 0} (R : X → X → Type 0) (p : X → Bool) where
 
 module _ {V : Type 0} (w : ℕ) where
   -- rows with the same matches have the same answer
-  answer_by_matches : (rows others : List (Row V)) → IsTable w others → (d s : ℕ) → ((row : Row V) → Listed rows row → Matches w d s row → Listed others row) → ((row : Row V) → Listed others row → Matches w d s row → Listed rows row) → (v : V) →
+  answer_by_matches : (rows others : List (Row V)) → IsTable w others → (d s : ℕ)
+      → ((row : Row V) → Listed rows row → Matches w d s row → Listed others row)
+      → ((row : Row V) → Listed others row → Matches w d s row → Listed rows row) → (v : V) →
       answer w rows d s ≡ Some v → answer w others d s ≡ Some v
   answer_by_matches rows others table d s there back v is =
       let at = top-from_answer w rows d s v is in
@@ -87,14 +91,17 @@ module _ {V : Type 0} (w : ℕ) where
   same_option None (Some v) there back = let e = back v refl in absurd (cc)
   same_option (Some v) b there back = sym (there v refl)
 
-  pub answers_by_matches : (rows others : List (Entry V)) → IsTable w (map row_of rows) → IsTable w (map row_of others) → (d s : ℕ) → ((row : Entry V) → Listed rows row → Matches w d s (row_of row) → Listed others row) → ((row : Entry V) → Listed others row → Matches w d s (row_of row) → Listed rows row) →
+  pub answers_by_matches : (rows others : List (Entry V)) → IsTable w (map row_of rows) → IsTable w (map row_of others) → (d s : ℕ)
+      → ((row : Entry V) → Listed rows row → Matches w d s (row_of row) → Listed others row)
+      → ((row : Entry V) → Listed others row → Matches w d s (row_of row) → Listed rows row) →
       answer w (map row_of rows) d s ≡ answer w (map row_of others) d s
   answers_by_matches rows others table other_table d s there back =
       same_option (answer w (map row_of rows) d s) (answer w (map row_of others) d s)
       (answer_by_matches (map row_of rows) (map row_of others) other_table d s (mapped rows others there) (mapped others rows back))
       (answer_by_matches (map row_of others) (map row_of rows) table d s (mapped others rows back) (mapped rows others there))
     where
-      mapped : (xs ys : List (Entry V)) → ((row : Entry V) → Listed xs row → Matches w d s (row_of row) → Listed ys row) → (row : Row V) → Listed (map row_of xs) row → Matches w d s row → Listed (map row_of ys) row
+      mapped : (xs ys : List (Entry V)) → ((row : Entry V) → Listed xs row → Matches w d s (row_of row) → Listed ys row) → (row : Row V)
+          → Listed (map row_of xs) row → Matches w d s row → Listed (map row_of ys) row
       mapped xs ys all row t m =
           let from = from_map row_of xs row t in
           subst (Listed (map row_of ys)) from.2 (to_map row_of ys from.0 (all from.0 from.1 (subst (Matches w d s) (sym from.2) m)))
@@ -112,7 +119,8 @@ module _ {V : Type 0} (w : ℕ) where
 
 -- ---- where two pairs of functions agree and differ at the same places
 
-pub first_pair-by : {V : Type 0} (n m : ℕ) (f g f' g' : Answers V) → ((d s : ℕ) → d < n → s < m → (f' d s ≡ g' d s) ↔ (f d s ≡ g d s)) → (found : Option (ℕ × ℕ)) → IsFirstPair n m f' g' found → IsFirstPair n m f g found
+pub first_pair-by : {V : Type 0} (n m : ℕ) (f g f' g' : Answers V) → ((d s : ℕ) → d < n → s < m → (f' d s ≡ g' d s) ↔ (f d s ≡ g d s))
+    → (found : Option (ℕ × ℕ)) → IsFirstPair n m f' g' found → IsFirstPair n m f g found
 first_pair-by n m f g f' g' same None agree = λ d d_in s s_in. (same d s d_in s_in).0 (agree d d_in s s_in)
 first_pair-by n m f g f' g' same (Some at) first =
     let s_in = first.differ.in_range in
@@ -143,7 +151,8 @@ module _ {V : Type 0} (w at : ℕ) (left right : List (Entry V)) (table : IsTabl
       (λ row t m. (Listed-filter p rows row t).0) (λ row t m. filter-Listed p rows row t (matching_reaches d le row m.0))
 
   -- in front of the others all that match stand in both
-  stands_in_both : (rows others front rest other_rest : List (Entry V)) → rows ≡ front ++ rest → others ≡ front ++ other_rest → StartRowsFrom at rest → IsTable w (map row_of rows) → (d s : ℕ) → d < at → (row : Entry V) → Listed rows row → Matches w d s (row_of row) → Listed others row
+  stands_in_both : (rows others front rest other_rest : List (Entry V)) → rows ≡ front ++ rest → others ≡ front ++ other_rest → StartRowsFrom at rest
+      → IsTable w (map row_of rows) → (d s : ℕ) → d < at → (row : Entry V) → Listed rows row → Matches w d s (row_of row) → Listed others row
   stands_in_both rows others front rest other_rest whole other_whole from of d s lt row t m =
       elim (Listed-append_cases front rest row (subst (λ (xs : List (Entry V)). Listed xs row) whole t)) [
         | inl in_front ↦ subst (λ (xs : List (Entry V)). Listed xs row) (sym other_whole) (Listed-append_left front other_rest row in_front)

@@ -71,7 +71,8 @@ module _ {V : Type 0} (nodes : List (Node V)) where
       pub lower : height inside + passed ≤ height u
       pub reduced : IsReduced u → IsReduced inside
 
-    module _ (k : ℕ) (more : k < node.skip) (inside : Shape V) (whole : u ≡ along k (node.path / 2 ^ (node.skip - k)) (leaf v) inside) (lower : height inside + k ≤ height u) (reduced : IsReduced u → IsReduced inside) where
+    module _ (k : ℕ) (more : k < node.skip) (inside : Shape V) (whole : u ≡ along k (node.path / 2 ^ (node.skip - k)) (leaf v) inside)
+        (lower : height inside + k ≤ height u) (reduced : IsReduced u → IsReduced inside) where
       -- the bits with one more
       abbrev bits_passed : ℕ
       bits_passed = node.path / 2 ^ (node.skip - suc k)

@@ -62,7 +62,8 @@ module _ {X : Type 0} (v : X) (t : Shape X) where
     in_upper : (k a : ℕ) (low high : Shape X) → height high ≤ n + k → a < 2 ^ (n + k) → value_at (fork low high) (n + suc k) (1 * 2 ^ (n + k) + a) ≡ value_at high (n + k) a
     in_upper k a low high few lt =
         ap (λ m. value_at (fork low high) (n + suc k) (1 * 2 ^ m + a)) (sym (less_bits k))
-        ∙ value_at-high (fork low high) low high (halves_of_fork low high) (n + suc k) a (omega (arith, few)) (subst (λ m. a < 2 ^ m) (sym (less_bits k)) lt) ∙ ap (λ m. value_at high m a) (less_bits k)
+        ∙ value_at-high (fork low high) low high (halves_of_fork low high) (n + suc k) a (omega (arith, few))
+        (subst (λ m. a < 2 ^ m) (sym (less_bits k)) lt) ∙ ap (λ m. value_at high m a) (less_bits k)
 
     pub values : (k path a : ℕ) → path < 2 ^ k → a < 2 ^ (n + k) → Values k path a
     values zero path a path_in a_in =
@@ -93,7 +94,8 @@ module _ {X : Type 0} (v : X) (t : Shape X) where
                 | inr high ↦
                     let b : ℕ = a - half in
                     let parts : a ≡ 1 * half + b = omega arith in
-                    let here : value_at (along (suc k) path (leaf v) t) (n + suc k) a ≡ v = ap (λ x. value_at x (n + suc k) a) is ∙ ap (value_at (fork inner (leaf v)) (n + suc k)) parts ∙ in_upper k b inner (leaf v) (omega arith) (omega (arith, a_in, all)) in
+                    let here : value_at (along (suc k) path (leaf v) t) (n + suc k) a ≡ v = ap (λ x. value_at x (n + suc k) a) is
+                    ∙ ap (value_at (fork inner (leaf v)) (n + suc k)) parts ∙ in_upper k b inner (leaf v) (omega arith) (omega (arith, a_in, all)) in
                     record { inside = λ in_block. absurd (omega (arith, in_block.1, end, high)); beside = λ out. here }
               ]
           | inr ge ↦
@@ -113,9 +115,11 @@ module _ {X : Type 0} (v : X) (t : Shape X) where
                     let b_in : b < half = omega (arith, a_in, all) in
                     let rest = values k r b r_in b_in in
                     let few : height inner ≤ n + k = omega (arith, along-lower v k r t, fits) in
-                    let here : value_at (along (suc k) path (leaf v) t) (n + suc k) a ≡ value_at inner (n + k) b = ap (λ x. value_at x (n + suc k) a) is ∙ ap (value_at (fork (leaf v) inner) (n + suc k)) parts ∙ in_upper k b (leaf v) inner few b_in in
+                    let here : value_at (along (suc k) path (leaf v) t) (n + suc k) a ≡ value_at inner (n + k) b =
+                    ap (λ x. value_at x (n + suc k) a) is ∙ ap (value_at (fork (leaf v) inner) (n + suc k)) parts ∙ in_upper k b (leaf v) inner few b_in in
                     record {
-                      inside = λ in_block. here ∙ rest.inside (omega (arith, in_block.0, start), omega (arith, in_block.1, start)) ∙ ap (value_at t n) {x = b - r * 2 ^ n} {y = a - path * 2 ^ n} (omega (arith, start));
+                      inside = λ in_block. here ∙ rest.inside (omega (arith, in_block.0, start), omega (arith, in_block.1, start))
+                          ∙ ap (value_at t n) {x = b - r * 2 ^ n} {y = a - path * 2 ^ n} (omega (arith, start));
                       beside = λ out. here ∙ rest.beside (λ led. out (omega (arith, led.0, start), omega (arith, led.1, start, parts)));
                     }
               ]
@@ -133,7 +137,8 @@ module _ {V : Type 0} (w bits start n s path : ℕ) (rows : List (Entry V)) (inn
       outside_misses w n s (block_of f.0.1) a inner.place (inner.rows_in.no_shorter f.0 f.1) (inner.rows_in.from_start f.0 f.1) (inner.rows_in.before_end f.0 f.1) out covers
 
   -- what is laid over the trie in the block, with the bits before, is laid over the whole
-  pub laid_along : (nodes nodes1 nodes2 : List (Node (Option V))) (z x y : Loose (Option V)) (v : Option V) (u : Shape (Option V)) → (old : IsInside nodes z (bits - n) path v u) → height old.inside ≤ n →
+  pub laid_along : (nodes nodes1 nodes2 : List (Node (Option V))) (z x y : Loose (Option V)) (v : Option V) (u : Shape (Option V))
+      → (old : IsInside nodes z (bits - n) path v u) → height old.inside ≤ n →
       (laid : IsLaid w n s (map row_of rows) nodes1 x old.inside) → IsAlong nodes2 y (bits - n) path v laid.new → IsLaid w bits start (map row_of rows) nodes2 y u
   laid_along nodes nodes1 nodes2 z x y v u old old_fits laid whole =
       let fits : height laid.new ≤ n = laid.fits old_fits in
@@ -147,8 +152,10 @@ module _ {V : Type 0} (w bits start n s path : ℕ) (rows : List (Entry V)) (inn
             let within : a < 2 ^ (n + (bits - n)) = subst (λ m. a < 2 ^ m) (sym all) a_in in
             let before = values v old.inside n old_fits (bits - n) path a inner.path_in within in
             let after = values v laid.new n fits (bits - n) path a inner.path_in within in
-            let was : value_at u bits a ≡ value_at (along (bits - n) path (leaf v) old.inside) (n + (bits - n)) a = old.values bits a ∙ ap (λ m. value_at (along (bits - n) path (leaf v) old.inside) m a) (sym all) in
-            let is : value_at whole.whole bits a ≡ value_at (along (bits - n) path (leaf v) laid.new) (n + (bits - n)) a = whole.values bits a ∙ ap (λ m. value_at (along (bits - n) path (leaf v) laid.new) m a) (sym all) in
+            let was : value_at u bits a ≡ value_at (along (bits - n) path (leaf v) old.inside) (n + (bits - n)) a = old.values bits a
+            ∙ ap (λ m. value_at (along (bits - n) path (leaf v) old.inside) m a) (sym all) in
+            let is : value_at whole.whole bits a ≡ value_at (along (bits - n) path (leaf v) laid.new) (n + (bits - n)) a = whole.values bits a
+            ∙ ap (λ m. value_at (along (bits - n) path (leaf v) laid.new) m a) (sym all) in
             let beside : ((start + a < s) ⊎ (s + 2 ^ n ≤ start + a)) → Overlays w (map row_of rows) d (start + a) (value_at u bits a) (value_at whole.whole bits a) = λ out.
             let apart : IsLedTo v laid.new n fits path a → ⊥ = λ led. elim out [ inl lt ↦ omega (arith, led.0, inner.start_is, lt) | inr ge ↦ omega (arith, led.1, inner.start_is, ge) ] in
             inr (none_outside d (start + a) out, is ∙ after.beside apart ∙ sym (was ∙ before.beside apart)) in

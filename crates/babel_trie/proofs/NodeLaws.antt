@@ -18,5 +18,6 @@ sources_cmp cmp (Stored k) (Constant w) = Greater
 sources_cmp cmp (Stored k) (Stored m) = nat_cmp k.0 m.0
 
 -- a table is sound by each order that compares the same
-pub sound_by : {V : Type 0} {cmp other : Sources V → Sources V → Ordering} {mark : Sources V → ℕ} (nodes : List (Node V)) (numbers : Index (Node V)) → ((r s : Sources V) → cmp r s ≡ other r s) → IsSound cmp mark nodes numbers → IsSound other mark nodes numbers
+pub sound_by : {V : Type 0} {cmp other : Sources V → Sources V → Ordering} {mark : Sources V → ℕ} (nodes : List (Node V)) (numbers : Index (Node V))
+    → ((r s : Sources V) → cmp r s ≡ other r s) → IsSound cmp mark nodes numbers → IsSound other mark nodes numbers
 sound_by {mark} nodes numbers same sound = subst (λ c. IsSound c mark nodes numbers) (fun_ext (λ r. fun_ext (same r))) sound

@@ -20,7 +20,8 @@ use Rattle.babel_trie.proofs.PartLaws.{upper_place, upper_rows}
 use Rattle.babel_trie.proofs.PlaceLaws.{place_low}
 use Rattle.babel_trie.proofs.SourceLaws.{overlaid_joined, laid_over_set, rest_parted, set_fits, halved_tries, one_left, one_right}
 
-module _ {V : Type 0} (w bits start middle : ℕ) (rows own low high : List (Entry V)) (parts : AreParted source_block w bits start rows own low high) (middle_is : middle ≡ start + 2 ^ (bits - 1)) (one : HasOneDestination rows) where
+module _ {V : Type 0} (w bits start middle : ℕ) (rows own low high : List (Entry V)) (parts : AreParted source_block w bits start rows own low high)
+    (middle_is : middle ≡ start + 2 ^ (bits - 1)) (one : HasOneDestination rows) where
   rest_one : HasOneDestination (low ++ high)
   rest_one = one_right own (low ++ high) (subst HasOneDestination parts.whole one)
 
@@ -38,7 +39,8 @@ module _ {V : Type 0} (w bits start middle : ℕ) (rows own low high : List (Ent
   only_one false only at half = subst HasOneDestination (sym half.1) (one_right low high rest_one)
 
   -- no rows leave the trie as it is
-  none_laid : (k at : ℕ) (none : List (Entry V)) → none ≡ [] → (nodes : List (Node (Option V))) (x : Loose (Option V)) (t : Shape (Option V)) → Stands nodes x t → IsLaid w k at (map row_of none) nodes x t
+  none_laid : (k at : ℕ) (none : List (Entry V)) → none ≡ [] → (nodes : List (Node (Option V))) (x : Loose (Option V)) (t : Shape (Option V))
+      → Stands nodes x t → IsLaid w k at (map row_of none) nodes x t
   none_laid k at none is nodes x t stands = record {
     new = t;
     stands = stands;
@@ -47,7 +49,8 @@ module _ {V : Type 0} (w bits start middle : ℕ) (rows own low high : List (Ent
     values = λ d a dst a_in. subst (λ (xs : List (Entry V)). Overlays w (map row_of xs) d (at + a) (value_at t k a) (value_at t k a)) (sym is) (overlays_none w d (at + a) (value_at t k a));
   }
 
-  module _ (nodes : List (Node (Option V))) (n : Loose (Option V)) (node : Node (Option V)) (u : Shape (Option V)) (set : IsSet own nodes n u) (is : n ≡ Split node) (fits : height u ≤ bits) (reduced : IsReduced u) (inside x : Loose (Option V)) where
+  module _ (nodes : List (Node (Option V))) (n : Loose (Option V)) (node : Node (Option V)) (u : Shape (Option V)) (set : IsSet own nodes n u)
+      (is : n ≡ Split node) (fits : height u ≤ bits) (reduced : IsReduced u) (inside x : Loose (Option V)) where
     rest : AreParted source_block w bits start (low ++ high) [] low high
     rest = rest_parted w bits start rows own low high parts
 
@@ -65,19 +68,24 @@ module _ {V : Type 0} (w bits start middle : ℕ) (rows own low high : List (Ent
     normal_by true have form normal = (halves-normal nodes form (Split node) inside x have (subst (IsNormalLoose nodes) is normal)).0
     normal_by false have form normal = (halves-normal nodes form (Split node) x inside have (subst (IsNormalLoose nodes) is normal)).1
 
-    pub laid_by : (is_low : Bool) (only : List (Entry V)) (at : ℕ) → IsOnlyHalf low high start middle is_low only at → HaveHalvesBy is_low nodes node inside x → (nodes2 nodes3 : List (Node (Option V))) (y whole : Loose (Option V)) → KeepsNodes nodes nodes2 →
-        ((t : Shape (Option V)) → Stands nodes inside t → IsLaid w (bits - 1) at (map row_of only) nodes2 y t) → JoinsBy is_low nodes2 y x nodes3 whole → IsLaid w bits start (map row_of rows) nodes3 whole u
+    pub laid_by : (is_low : Bool) (only : List (Entry V)) (at : ℕ) → IsOnlyHalf low high start middle is_low only at
+        → HaveHalvesBy is_low nodes node inside x → (nodes2 nodes3 : List (Node (Option V))) (y whole : Loose (Option V)) → KeepsNodes nodes nodes2 →
+        ((t : Shape (Option V)) → Stands nodes inside t → IsLaid w (bits - 1) at (map row_of only) nodes2 y t)
+        → JoinsBy is_low nodes2 y x nodes3 whole → IsLaid w bits start (map row_of rows) nodes3 whole u
     laid_by true only at half have nodes2 nodes3 y whole keeps laid joins =
         let halved = halved_at inside x have in
         let there = laid halved.low_half halved.low_stands in
-        let in_low = subst (λ m. IsLaid w (bits - 1) m (map row_of low) nodes2 y halved.low_half) half.2 (subst (λ (xs : List (Entry V)). IsLaid w (bits - 1) at (map row_of xs) nodes2 y halved.low_half) half.1 there) in
+        let in_low = subst (λ m. IsLaid w (bits - 1) m (map row_of low) nodes2 y halved.low_half) half.2
+        (subst (λ (xs : List (Entry V)). IsLaid w (bits - 1) at (map row_of xs) nodes2 y halved.low_half) half.1 there) in
         let in_high = none_laid (bits - 1) (start + 2 ^ (bits - 1)) high half.0 nodes2 x halved.high_half (Stands-grows nodes nodes2 keeps x halved.high_half halved.high_stands) in
         laid_over_set w bits start rows own low high parts one nodes nodes3 n whole u set
         (overlaid_joined w bits start low high rest nodes nodes2 nodes2 nodes3 inside x y x whole set.new halved in_low in_high (joins in_low.new in_high.new in_low.stands in_high.stands) set_low)
     laid_by false only at half have nodes2 nodes3 y whole keeps laid joins =
         let halved = halved_at x inside have in
         let there = laid halved.high_half halved.high_stands in
-        let in_high = subst (λ m. IsLaid w (bits - 1) m (map row_of high) nodes2 y halved.high_half) middle_is (subst (λ m. IsLaid w (bits - 1) m (map row_of high) nodes2 y halved.high_half) half.2 (subst (λ (xs : List (Entry V)). IsLaid w (bits - 1) at (map row_of xs) nodes2 y halved.high_half) half.1 there)) in
+        let in_high = subst (λ m. IsLaid w (bits - 1) m (map row_of high) nodes2 y halved.high_half) middle_is
+        (subst (λ m. IsLaid w (bits - 1) m (map row_of high) nodes2 y halved.high_half) half.2
+        (subst (λ (xs : List (Entry V)). IsLaid w (bits - 1) at (map row_of xs) nodes2 y halved.high_half) half.1 there)) in
         let in_low = none_laid (bits - 1) start low half.0 nodes2 x halved.low_half (Stands-grows nodes nodes2 keeps x halved.low_half halved.low_stands) in
         laid_over_set w bits start rows own low high parts one nodes nodes3 n whole u set
         (overlaid_joined w bits start low high rest nodes nodes2 nodes2 nodes3 x inside x y whole set.new halved in_low in_high (joins in_low.new in_high.new in_low.stands in_high.stands) set_low)
@@ -96,6 +104,8 @@ pub opening : {V : Type 0} (nodes : List (Node V)) (s : Sources V) → IsBelow (
 opening nodes (Constant v) below = (Same v, refl)
 opening {V} nodes (Stored number) below = by (slice_get_cases nodes number.0)
   where
-    by : (slice_get nodes number.0 ≡ slice_get nodes number.0) × (((x : Node V) × (number.0 < length nodes) × (slice_get nodes number.0 ≡ Some x) × (get_or nodes number.0 x ≡ x)) ⊎ ((length nodes ≤ number.0) × (slice_get nodes number.0 ≡ None))) → (x : Loose V) × Opens nodes (Stored number) x
+    by : (slice_get nodes number.0 ≡ slice_get nodes number.0)
+        × (((x : Node V) × (number.0 < length nodes) × (slice_get nodes number.0 ≡ Some x) × (get_or nodes number.0 x ≡ x))
+        ⊎ ((length nodes ≤ number.0) × (slice_get nodes number.0 ≡ None))) → (x : Loose V) × Opens nodes (Stored number) x
     by (e, inl (node, within, is, again)) = (Split node, (node, is, refl))
     by (e, inr (past, none)) = absurd (omega (arith, past, below))

@@ -101,7 +101,8 @@ right w from last at j (suc fuel) blocks low high last_in aligned room most cut 
           } in
           let some : 0 < 2 ^ k = pow_pos k in
           let step = one_more_cut w from last at k blocks low (omega arith) last_in fit cut in
-          let on = right w from last (at + 2 ^ k) k fuel (blocks ++ block_from w at k ∷ []) (omega arith) (omega arith) last_in (power_added at k k (omega arith) fit.aligned) (omega arith) (omega arith) step in
+          let on = right w from last (at + 2 ^ k) k fuel (blocks ++ block_from w at k ∷ []) (omega arith) (omega arith) last_in
+          (power_added at k k (omega arith) fit.aligned) (omega arith) (omega arith) step in
           let rest : n - 2 ^ k ≡ last + 1 - (at + 2 ^ k) = omega arith in
           then_more w from last at (last + 1) k (ones n) (ones (last + 1 - (at + 2 ^ k))) blocks (one_high n k fits less ∙ ap (λ (x : ℕ). suc (ones x)) rest) on
     ]
@@ -128,7 +129,8 @@ left w from last at m d (suc fuel) blocks low high m_in last_in aligned room few
           let fit : IsLargestFit at last k = record {
             aligned = subst (λ (x : ℕ). x % 2 ^ k ≡ 0) at_is (difference m n k (fewer_zeros m d k (omega arith) aligned) none (omega arith));
             room = omega arith;
-            most = λ more past e. absurd (bit_ends n k (suc k) one (omega arith) (difference m at (suc k) (fewer_zeros m d (suc k) (omega arith) aligned) (fewer_zeros at more (suc k) (omega arith) e) (omega arith)));
+            most = λ more past e. absurd (bit_ends n k (suc k) one (omega arith)
+                (difference m at (suc k) (fewer_zeros m d (suc k) (omega arith) aligned) (fewer_zeros at more (suc k) (omega arith) e) (omega arith)));
           } in
           let step = one_more_cut w from last at k blocks low (omega arith) last_in fit cut in
           let on = left w from last (at + 2 ^ k) m d fuel (blocks ++ block_from w at k ∷ []) (omega arith) (omega arith) m_in last_in aligned (omega arith) few (omega arith) step in

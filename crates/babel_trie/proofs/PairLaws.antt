@@ -23,7 +23,8 @@ module _ {V : Type 0} where
     pub answers : (d : ℕ) → at ≤ d → d < 2 ^ w → Quiet d → (src : ℕ) → src < 2 ^ w → answer w (map row_of rows) d src ≡ value_at held.trie w src
 
   -- so they are the values of its answers
-  pub at-values : {w at : ℕ} {rows : List (Entry V)} {nodes : List (Node (Option V))} {here : Sources (Option V)} {Quiet : ℕ → Type 0} → IsAt w at rows nodes here Quiet → (d : ℕ) → at ≤ d → d < 2 ^ w → Quiet d →
+  pub at-values : {w at : ℕ} {rows : List (Entry V)} {nodes : List (Node (Option V))} {here : Sources (Option V)} {Quiet : ℕ → Type 0}
+      → IsAt w at rows nodes here Quiet → (d : ℕ) → at ≤ d → d < 2 ^ w → Quiet d →
       HasValues w (answer w (map row_of rows) d) nodes here
   at-values l d le d_in so = record { held = l.held; values_are = λ src src_in. sym (l.answers d le d_in so src src_in) }
 
@@ -46,7 +47,8 @@ module _ {V : Type 0} where
         | inr ge ↦ ge
       ]
 
-  module _ {w at : ℕ} {rows others : List (Entry V)} {nodes : List (Node (Option V))} {here there : Sources (Option V)} {Quiet OtherQuiet : ℕ → Type 0} (l : IsAt w at rows nodes here Quiet) (r : IsAt w at others nodes there OtherQuiet)
+  module _ {w at : ℕ} {rows others : List (Entry V)} {nodes : List (Node (Option V))} {here there : Sources (Option V)}
+      {Quiet OtherQuiet : ℕ → Type 0} (l : IsAt w at rows nodes here Quiet) (r : IsAt w at others nodes there OtherQuiet)
       (below : AgreeBelowBoth at (2 ^ w) (answer w (map row_of rows)) (answer w (map row_of others))) where
     -- where the tries are equal the rows answer the same up to the next change
     pub agree-more : (to : ℕ) → to ≤ 2 ^ w → ((d : ℕ) → d < to → Quiet d × OtherQuiet d) → AgreeBelow (2 ^ w) (value_at l.held.trie w) (value_at r.held.trie w) →

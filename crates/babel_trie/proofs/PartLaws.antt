@@ -40,7 +40,8 @@ module _ {X : Type 0} {key : X → Block} {w bits start : ℕ} where
   rest_sorted {rows} own rest middle rows_in whole = lower_first key w bits start rest (block_rest key w bits start rows own rest rows_in whole) middle
 
   -- where some are left a bit is left
-  pub bit_left : {rows : List X} {empty : Bool} (own rest : List X) → IsPlace w bits start → InBlock key w bits start rows → rows ≡ own ++ rest → ((x : X) → Listed rest x → (key x).len ≡ w - bits → ⊥) →
+  pub bit_left : {rows : List X} {empty : Bool} (own rest : List X) → IsPlace w bits start → InBlock key w bits start rows → rows ≡ own ++ rest
+      → ((x : X) → Listed rest x → (key x).len ≡ w - bits → ⊥) →
       empty ≡ (length rest == 0) → empty ≡ false → 0 < bits
   bit_left {rows} {empty} own rest place rows_in whole other is not_empty =
       let member = some_member rest empty is not_empty in

@@ -36,7 +36,8 @@ use Rattle.babel_trie.proofs.RunLaws.{reached, above, said-append, said-last, ru
 
 module _ {F : Type 0} where
   -- the last change says it already
-  pub filled-same : (xs : List (Change F)) (x : Change F) (f : F) (from to : ℕ) → from < to → AreRuns xs → StartBelow from xs → slice_get xs (length xs - 1) ≡ Some x → x.sources ≡ f → IsFilled from to f xs xs
+  pub filled-same : (xs : List (Change F)) (x : Change F) (f : F) (from to : ℕ) → from < to → AreRuns xs → StartBelow from xs
+      → slice_get xs (length xs - 1) ≡ Some x → x.sources ≡ f → IsFilled from to f xs xs
   filled-same xs x f from to lt runs below at is =
       record {
         runs = runs;
@@ -83,7 +84,8 @@ pub reverse-push : {X : Type 0} (xs : List X) (x : X) → reverse (xs ++ x ∷ [
 reverse-push xs x = reverse-append xs (x ∷ [])
 
 -- the last of changes, as a slice gives it, is the nearest ahead
-pub nearest : {F : Type 0} (items slice : List (Change F)) (next : Change F) → slice ≡ items → Some next ≡ slice_get slice (length slice - 1) → (rest : List (Change F)) × (reverse items ≡ next ∷ reverse rest)
+pub nearest : {F : Type 0} (items slice : List (Change F)) (next : Change F) → slice ≡ items → Some next ≡ slice_get slice (length slice - 1)
+    → (rest : List (Change F)) × (reverse items ≡ next ∷ reverse rest)
 nearest {F = F} items slice next same at =
     let here = subst (λ (xs : List (Change F)). slice_get xs (length xs - 1) ≡ Some next) same (sym at) in
     (take (length items - 1) items, ap reverse (split-last items next here) ∙ reverse-push (take (length items - 1) items) next)
@@ -165,7 +167,8 @@ module _ {V : Type 0} where
         }
 
     -- rows of one destination that has the address are laid over
-    laid-own : (x : Sources (Option V)) → ((t : Shape (Option V)) → Represents nodes n t → IsOverlaid w w 0 (map row_of own) more x t) → ((x : Entry V) → Listed own x → BlockCovers w (block_of x.0) d) →
+    laid-own : (x : Sources (Option V)) → ((t : Shape (Option V)) → Represents nodes n t → IsOverlaid w w 0 (map row_of own) more x t)
+        → ((x : Entry V) → Listed own x → BlockCovers w (block_of x.0) d) →
         ((x y : Row V) → Listed (map row_of gone) x → Listed (map row_of own) y → (s : ℕ) → Matches w d s x → Matches w d s y → IsNoLonger x y) → IsLaidAt w d (gone ++ own) more x
     laid-own x overlaid covers shorter =
         let o = overlaid l.held.trie l.held.stands in
@@ -173,7 +176,8 @@ module _ {V : Type 0} where
           held = record { trie = o.new; stands = o.stands; fits = o.fits l.held.fits; reduced = o.reduced l.held.reduced };
           values = λ s s_in.
               let e : 0 + s ≡ s = omega arith in
-              let all : (row : Row V) → Listed (map row_of own) row → BlockCovers w row.dst d = λ row t. let f = from_map row_of own row t in subst (λ (r : Row V). BlockCovers w r.dst d) f.2 (covers f.0 f.1) in
+              let all : (row : Row V) → Listed (map row_of own) row → BlockCovers w row.dst d = λ row t. let f = from_map row_of own row t in
+              subst (λ (r : Row V). BlockCovers w r.dst d) f.2 (covers f.0 f.1) in
               let here = subst (λ k. Overlays w (map row_of own) d k (value_at l.held.trie w s) (value_at o.new w s)) e (o.values d s all s_in) in
               subst (λ r. Overlays w r d s None (value_at o.new w s)) (sym both)
               (overlays_then w (map row_of gone) (map row_of own) d s None (value_at l.held.trie w s) (value_at o.new w s) (λ a b t u. shorter a b t u s) (l.values s s_in) here);
@@ -204,35 +208,56 @@ module _ {V : Type 0} where
       ]
 
   -- a table that grows keeps what the changes stand for
-  are_laid-grows : (w : ℕ) (rows : List (Entry V)) (nodes more : List (Node (Option V))) → KeepsNodes nodes more → (now : Change (Reached V)) (ahead : List (Change (Reached V))) → AreLaid w rows nodes now ahead →
+  are_laid-grows : (w : ℕ) (rows : List (Entry V)) (nodes more : List (Node (Option V))) → KeepsNodes nodes more
+      → (now : Change (Reached V)) (ahead : List (Change (Reached V))) → AreLaid w rows nodes now ahead →
       AreLaid w rows more now ahead
-  are_laid-grows w rows nodes more keeps now [] l = λ d low high. laid-grows w d rows (take now.sources.made nodes) (take now.sources.made more) now.sources.trie (keeps-front nodes more now.sources.made keeps) (l d low high)
-  are_laid-grows w rows nodes more keeps now (next ∷ ahead) l =
-      (λ d low high. laid-grows w d rows (take now.sources.made nodes) (take now.sources.made more) now.sources.trie (keeps-front nodes more now.sources.made keeps) (l.0 d low high), l.1, are_laid-grows w rows nodes more keeps next ahead l.2)
+  are_laid-grows w rows nodes more keeps now [] l = λ d low high. laid-grows w d rows (take now.sources.made nodes) (take now.sources.made more)
+      now.sources.trie (keeps-front nodes more now.sources.made keeps) (l d low high)
+  are_laid-grows w rows nodes more keeps now (next ∷ ahead) l = (
+    λ d low high. laid-grows w d rows (take now.sources.made nodes) (take now.sources.made more) now.sources.trie
+        (keeps-front nodes more now.sources.made keeps) (l.0 d low high),
+    l.1,
+    are_laid-grows w rows nodes more keeps next ahead l.2,
+  )
 
   -- so does one that is cut, where it has so many nodes as the first change needs
-  are_laid-cut : (w : ℕ) (rows : List (Entry V)) (nodes : List (Node (Option V))) (len : ℕ) (now : Change (Reached V)) (ahead : List (Change (Reached V))) → now.sources.made ≤ len → AreLaid w rows nodes now ahead →
+  are_laid-cut : (w : ℕ) (rows : List (Entry V)) (nodes : List (Node (Option V))) (len : ℕ) (now : Change (Reached V))
+      (ahead : List (Change (Reached V))) → now.sources.made ≤ len → AreLaid w rows nodes now ahead →
       AreLaid w rows (take len nodes) now ahead
-  are_laid-cut w rows nodes len now [] le l = λ d low high. laid-grows w d rows (take now.sources.made nodes) (take now.sources.made (take len nodes)) now.sources.trie (keeps-cut nodes now.sources.made len le) (l d low high)
-  are_laid-cut w rows nodes len now (next ∷ ahead) le l =
-      (λ d low high. laid-grows w d rows (take now.sources.made nodes) (take now.sources.made (take len nodes)) now.sources.trie (keeps-cut nodes now.sources.made len le) (l.0 d low high), l.1, are_laid-cut w rows nodes len next ahead (omega (arith, l.1)) l.2)
+  are_laid-cut w rows nodes len now [] le l = λ d low high. laid-grows w d rows (take now.sources.made nodes) (take now.sources.made (take len nodes))
+      now.sources.trie (keeps-cut nodes now.sources.made len le) (l d low high)
+  are_laid-cut w rows nodes len now (next ∷ ahead) le l = (
+    λ d low high. laid-grows w d rows (take now.sources.made nodes) (take now.sources.made (take len nodes)) now.sources.trie
+        (keeps-cut nodes now.sources.made len le) (l.0 d low high),
+    l.1,
+    are_laid-cut w rows nodes len next ahead (omega (arith, l.1)) l.2,
+  )
 
   -- rows of which no block has an address from the first change on change nothing
-  are_laid-other : (w : ℕ) (gone own : List (Entry V)) (nodes more : List (Node (Option V))) → KeepsNodes nodes more → (at : ℕ) → ((d : ℕ) → at ≤ d → (x : Entry V) → Listed own x → BlockCovers w (block_of x.0) d → ⊥) →
+  are_laid-other : (w : ℕ) (gone own : List (Entry V)) (nodes more : List (Node (Option V))) → KeepsNodes nodes more → (at : ℕ)
+      → ((d : ℕ) → at ≤ d → (x : Entry V) → Listed own x → BlockCovers w (block_of x.0) d → ⊥) →
       (now : Change (Reached V)) (ahead : List (Change (Reached V))) → at ≤ now.start → StartInOrder (now ∷ ahead) → AreLaid w gone nodes now ahead → AreLaid w (gone ++ own) more now ahead
-  are_laid-other w gone own nodes more keeps at never now [] from order l = λ d low high. laid-other w d gone own (take now.sources.made nodes) (take now.sources.made more) now.sources.trie (l d low high) (keeps-front nodes more now.sources.made keeps) (never d (omega arith))
+  are_laid-other w gone own nodes more keeps at never now [] from order l = λ d low high. laid-other w d gone own (take now.sources.made nodes)
+      (take now.sources.made more) now.sources.trie (l d low high) (keeps-front nodes more now.sources.made keeps) (never d (omega arith))
   are_laid-other w gone own nodes more keeps at never now (next ∷ ahead) from order l =
-      let le : now.start ≤ next.start = order.0 next (inl refl) in
-      (λ d low high. laid-other w d gone own (take now.sources.made nodes) (take now.sources.made more) now.sources.trie (l.0 d low high) (keeps-front nodes more now.sources.made keeps) (never d (omega arith)), l.1, are_laid-other w gone own nodes more keeps at never next ahead (omega arith) order.1 l.2)
+      let le : now.start ≤ next.start = order.0 next (inl refl) in (
+        λ d low high. laid-other w d gone own (take now.sources.made nodes) (take now.sources.made more) now.sources.trie (l.0 d low high)
+            (keeps-front nodes more now.sources.made keeps) (never d (omega arith)),
+        l.1,
+        are_laid-other w gone own nodes more keeps at never next ahead
+            (omega arith) order.1 l.2,
+      )
 
   -- before all changes ahead the one come to counts
   are_laid-here : (w : ℕ) (rows : List (Entry V)) (nodes : List (Node (Option V))) (now : Change (Reached V)) (ahead : List (Change (Reached V))) → AreLaid w rows nodes now ahead →
       (d : ℕ) → now.start ≤ d → d < 2 ^ w → StartBehind d ahead → IsLaidAt w d rows nodes now.sources.trie
   are_laid-here w rows nodes now [] l d low d_in behind = laid-grows w d rows (take now.sources.made nodes) nodes now.sources.trie (slice_get-taken nodes now.sources.made) (l d low d_in)
-  are_laid-here w rows nodes now (next ∷ ahead) l d low d_in behind = laid-grows w d rows (take now.sources.made nodes) nodes now.sources.trie (slice_get-taken nodes now.sources.made) (l.0 d low (behind next (inl refl)))
+  are_laid-here w rows nodes now (next ∷ ahead) l d low d_in behind = laid-grows w d rows (take now.sources.made nodes) nodes now.sources.trie
+      (slice_get-taken nodes now.sources.made) (l.0 d low (behind next (inl refl)))
 
   -- the change come to may come again
-  are_laid-later : (w : ℕ) (rows : List (Entry V)) (nodes : List (Node (Option V))) (now back : Change (Reached V)) (ahead : List (Change (Reached V))) → now.start ≤ back.start → now.sources ≡ back.sources →
+  are_laid-later : (w : ℕ) (rows : List (Entry V)) (nodes : List (Node (Option V))) (now back : Change (Reached V))
+      (ahead : List (Change (Reached V))) → now.start ≤ back.start → now.sources ≡ back.sources →
       AreLaid w rows nodes now ahead → AreLaid w rows nodes back ahead
   are_laid-later w rows nodes now back [] le is l = λ d low high. subst (IsReachedAt w d rows nodes) is (l d (omega arith) high)
   are_laid-later w rows nodes now back (next ∷ ahead) le is l =
@@ -245,7 +270,8 @@ module _ {V : Type 0} where
   are_laid-last w rows nodes now (next ∷ ahead) never l = absurd (never next (inl refl))
 
   -- no row is gone yet
-  pub way-first : (w : ℕ) (rows left : List (Entry V)) (nodes : List (Node (Option V))) (now : Change (Reached V)) (ahead : List (Change (Reached V))) → IsTable w (map row_of rows) → InOrder RowOrder rows → rows ≡ left →
+  pub way-first : (w : ℕ) (rows left : List (Entry V)) (nodes : List (Node (Option V))) (now : Change (Reached V)) (ahead : List (Change (Reached V)))
+      → IsTable w (map row_of rows) → InOrder RowOrder rows → rows ≡ left →
       now.start ≡ 0 → now.sources.made ≡ 0 → Represents [] now.sources.trie (leaf None) → ahead ≡ [] → IsUnderWay w rows nodes now (reverse ahead) left
   way-first w rows left nodes now [] table order whole start made stands none =
       record {
@@ -255,7 +281,16 @@ module _ {V : Type 0} where
         whole = whole;
         in_order = ((λ x t. elim t [ ]), tt);
         below = λ x t. elim t [ inl here ↦ let e : now.start ≡ x.start = ap (λ (c : Change (Reached V)). c.start) here in omega (arith, pow_pos w) | inr never ↦ elim never [ ] ];
-        laid = λ d low d_in. record { held = record { trie = leaf None; stands = subst (λ n. Represents (take n nodes) now.sources.trie (leaf None)) (sym made) stands; fits = omega arith; reduced = tt }; values = λ s s_in. inr (λ row t m. elim t [ ], refl) };
+        laid = λ d low d_in. record {
+          held = record {
+            trie = leaf None;
+            stands = subst (λ n. Represents (take n nodes) now.sources.trie (leaf None))
+                (sym made) stands;
+            fits = omega arith;
+            reduced = tt;
+          };
+          values = λ s s_in. inr (λ row t m. elim t [ ], refl);
+        };
         made = omega (arith, made);
         from = λ y t. omega arith;
         nested = λ x t. elim t [ ];
@@ -263,7 +298,8 @@ module _ {V : Type 0} where
   way-first w rows left nodes now (x ∷ ahead) table order whole start made stands none = cc
 
   -- the next change ahead is come to
-  pub way-back : (w : ℕ) (rows left : List (Entry V)) (nodes : List (Node (Option V))) (now next : Change (Reached V)) (ahead : List (Change (Reached V))) → ((y : Entry V) → Listed left y → next.start ≤ (block_of y.0).start) →
+  pub way-back : (w : ℕ) (rows left : List (Entry V)) (nodes : List (Node (Option V))) (now next : Change (Reached V))
+      (ahead : List (Change (Reached V))) → ((y : Entry V) → Listed left y → next.start ≤ (block_of y.0).start) →
       IsUnderWay w rows nodes now (next ∷ ahead) left → IsUnderWay w rows nodes next ahead left
   way-back w rows left nodes now next ahead from p =
       record {
@@ -280,7 +316,8 @@ module _ {V : Type 0} where
       }
 
   -- a table that grows keeps it
-  pub way-grows : (w : ℕ) (rows left : List (Entry V)) (nodes more : List (Node (Option V))) (now : Change (Reached V)) (ahead : List (Change (Reached V))) → KeepsNodes nodes more → IsUnderWay w rows nodes now ahead left →
+  pub way-grows : (w : ℕ) (rows left : List (Entry V)) (nodes more : List (Node (Option V))) (now : Change (Reached V))
+      (ahead : List (Change (Reached V))) → KeepsNodes nodes more → IsUnderWay w rows nodes now ahead left →
       IsUnderWay w rows more now ahead left
   way-grows w rows left nodes more now ahead keeps p =
       record {
@@ -297,7 +334,8 @@ module _ {V : Type 0} where
       }
 
   -- so does one that is cut, where it has so many nodes as the change come to needs
-  pub way-cut : (w : ℕ) (rows left : List (Entry V)) (nodes : List (Node (Option V))) (len : ℕ) (now : Change (Reached V)) (ahead : List (Change (Reached V))) → now.sources.made ≤ len → IsUnderWay w rows nodes now ahead left →
+  pub way-cut : (w : ℕ) (rows left : List (Entry V)) (nodes : List (Node (Option V))) (len : ℕ) (now : Change (Reached V))
+      (ahead : List (Change (Reached V))) → now.sources.made ≤ len → IsUnderWay w rows nodes now ahead left →
       IsUnderWay w rows (take len nodes) now ahead left
   way-cut w rows left nodes len now ahead le p =
       record {
@@ -403,10 +441,12 @@ module _ {V : Type 0} where
           let fy = from_map row_of own y u in
           let x_in : Listed rows fx.0 = subst (λ xs. Listed xs fx.0) (sym p.whole) (Listed-append_left p.gone (own ++ others) fx.0 fx.1) in
           let before = InOrder-across RowOrder p.gone (own ++ others) (subst (InOrder RowOrder) p.whole p.rows_in_order) fx.0 fy.0 fx.1 (Listed-append_left own others fy.0 fy.1) in
-          let here = order-no_longer w d s fx.0 fy.0 (prefixes p fx.0 x_in) (prefixes p fy.0 (own_in fy.0 fy.1)) before (subst (Matches w d s) (sym fx.2) at_x) (subst (Matches w d s) (sym fy.2) at_y) in
+          let here = order-no_longer w d s fx.0 fy.0 (prefixes p fx.0 x_in) (prefixes p fy.0 (own_in fy.0 fy.1)) before
+          (subst (Matches w d s) (sym fx.2) at_x) (subst (Matches w d s) (sym fy.2) at_y) in
           subst (λ r. IsNoLonger r y) fx.2 (subst (IsNoLonger (row_of fx.0)) fy.2 here)
 
-      module _ (more : List (Node (Option V))) (here : Sources (Option V)) (keeps : KeepsNodes nodes more) (overlaid : (t : Shape (Option V)) → Represents nodes now.sources.trie t → IsOverlaid w w 0 (map row_of own) more here t)
+      module _ (more : List (Node (Option V))) (here : Sources (Option V)) (keeps : KeepsNodes nodes more)
+          (overlaid : (t : Shape (Option V)) → Represents nodes now.sources.trie t → IsOverlaid w w 0 (map row_of own) more here t)
           (new : Change (Reached V)) (start_is : new.start ≡ b.start) (new_is : here ≡ new.sources.trie) (made_is : new.sources.made ≡ length more) where
         -- inside the block the rows of the destination are laid over what the pass had come to
         inside : (d : ℕ) → b.start ≤ d → d < b.start + size w b → IsReachedAt w d (p.gone ++ own) more new.sources

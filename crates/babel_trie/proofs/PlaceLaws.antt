@@ -1,5 +1,6 @@
 -- Rows of a block: those of the whole block come first, and those of its lower half before those of its upper.
-use Rattle.std.proofs.Common.{◌≡◌, ◌⊎◌, inl, inr, ℕ, zero, suc, ◌+◌, ◌-◌, ◌*◌, ◌/◌, ◌%◌, ◌^◌, ◌<◌, ◌≤◌, ◌==◌, true, nat_lt, List, [], ◌∷◌, ◌++◌, length, get_or, refl, sym, ◌∙◌, ap, subst, arith, eqb-true, eq-eqb}
+use Rattle.std.proofs.Common.{◌≡◌, ◌⊎◌, inl, inr, ℕ, zero, suc, ◌+◌, ◌-◌, ◌*◌, ◌/◌, ◌%◌, ◌^◌, ◌<◌, ◌≤◌, ◌==◌, true, nat_lt, List}
+use Rattle.std.proofs.Common.{[], ◌∷◌, ◌++◌, length, get_or, refl, sym, ◌∙◌, ap, subst, arith, eqb-true, eq-eqb}
 use Rattle.std.specs.List.Sorted.{IsPartitionedBy}
 use Rattle.std.proofs.lemmas.Nat.{pow_pos, shr_high}
 use Rattle.std.proofs.lemmas.Bool.{ltb-true, lt-ltb, cases_order}
@@ -118,7 +119,8 @@ low_misses w bits start b a p len lt from c =
     two_sides bits p.index b.start a (subst (λ n. b.start < n) p.start_is lt) (subst (λ n. n ≤ a) p.start_is from) (sym (covered_agrees w bits b a p.bits_in len c))
 
 -- a prefix of a block covers no address outside it
-pub outside_misses : (w bits start : ℕ) (b : Block) (a : ℕ) → IsPlace w bits start → w - bits ≤ b.len → start ≤ b.start → b.start < start + 2 ^ bits → (a < start) ⊎ (start + 2 ^ bits ≤ a) → BlockCovers w b a → ⊥
+pub outside_misses : (w bits start : ℕ) (b : Block) (a : ℕ) → IsPlace w bits start → w - bits ≤ b.len → start ≤ b.start → b.start < start + 2 ^ bits
+    → (a < start) ⊎ (start + 2 ^ bits ≤ a) → BlockCovers w b a → ⊥
 outside_misses w bits start b a p len from before (inl lt) c = high_misses w bits start b a p len from lt c
 outside_misses w bits start b a p len from before (inr ge) c =
     two_sides bits (suc p.index) b.start a (omega (arith, p.start_is, before)) (omega (arith, p.start_is, ge)) (sym (covered_agrees w bits b a p.bits_in len c))
@@ -158,7 +160,8 @@ module _ {X : Type 0} (key : X → Block) where
         | inr either ↦ elim either [
           | inl lt ↦
               let y_below : (key (get_or rows j d)).start < middle = ltb-true _ _ test in
-              lt-ltb _ _ (elim (pairs_of w bits start rows b i j d lt j_in) [ inl below ↦ omega arith | inr same ↦ let e : (key (get_or rows i d)).start ≡ (key (get_or rows j d)).start = same.0 in omega arith ])
+              lt-ltb _ _ (elim (pairs_of w bits start rows b i j d lt j_in)
+              [ inl below ↦ omega arith | inr same ↦ let e : (key (get_or rows i d)).start ≡ (key (get_or rows j d)).start = same.0 in omega arith ])
           | inr gt ↦ absurd (omega arith)
         ]
       ]
@@ -176,7 +179,8 @@ module _ {X : Type 0} (key : X → Block) where
       }
 
   -- where other rows are left some bit is left
-  pub some_bit : (w bits start len : ℕ) (rows : List X) → IsPlace w bits start → InBlock key w bits start rows → len ≡ w - bits → ((x : X) → Listed rows x → (key x).len ≡ len → ⊥) → (x : X) → Listed rows x → 0 < bits
+  pub some_bit : (w bits start len : ℕ) (rows : List X) → IsPlace w bits start → InBlock key w bits start rows → len ≡ w - bits
+      → ((x : X) → Listed rows x → (key x).len ≡ len → ⊥) → (x : X) → Listed rows x → 0 < bits
   some_bit w bits start len rows p b len_is longer x x_in =
       let le : (key x).len ≤ w = (b.prefixes x x_in).len_in_range in
       let ge : w - bits ≤ (key x).len = b.no_shorter x x_in in

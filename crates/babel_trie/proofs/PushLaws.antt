@@ -23,12 +23,14 @@ module _ {V : Type 0} (nodes : List (Node (Option V))) (w bits place : ℕ) (nod
     pub high_half : Shape (Option V)
     pub low : Represents nodes node.low low_half
     pub high : Represents nodes node.high high_half
-    pub rows : (dst : Block) → rows_at dst (leaves w bits place t) ≡ rows_at dst (leaves w (its_bits - 1) (its_place * 2) low_half) ++ rows_at dst (leaves w (its_bits - 1) (its_place * 2 + 1) high_half)
+    pub rows : (dst : Block) → rows_at dst (leaves w bits place t) ≡ rows_at dst (leaves w (its_bits - 1) (its_place * 2) low_half) ++ rows_at dst
+        (leaves w (its_bits - 1) (its_place * 2 + 1) high_half)
 
   pub block_halves : (t : Shape (Option V)) → Stands nodes (Split node) t → BlockHalves t
   block_halves t stands = let of = skipped_rows nodes t node none stands w bits place in by of.inside of.stands of.rows
     where
-      by : (inside : Shape (Option V)) → Stands nodes (Split (block_node nodes node)) inside → ((dst : Block) → rows_at dst (leaves w its_bits its_place inside) ≡ rows_at dst (leaves w bits place t)) → BlockHalves t
+      by : (inside : Shape (Option V)) → Stands nodes (Split (block_node nodes node)) inside
+          → ((dst : Block) → rows_at dst (leaves w its_bits its_place inside) ≡ rows_at dst (leaves w bits place t)) → BlockHalves t
       by (leaf v) p rows = absurd (cc)
       by (fork low high) (l, h, inl e, p, q) rows = record {
         low_half = low;

@@ -65,7 +65,8 @@ module _ {V : Type 0} (family : Family) (Stopped : List (Entry V) → Type 0) (g
       let f = entry_at family in
       subst (StopsAmong Stopped given) (sym (map-append f first others) ∙ ap (map f) (sym is)) (stops_early Stopped given (map f first) (map f others) s)
 
-  pub stop_then : (first others all : List (Row V)) → all ≡ first ++ others → StopsAmong Stopped (given ++ map (entry_at family) first) (map (entry_at family) others) → StopsAmong Stopped given (map (entry_at family) all)
+  pub stop_then : (first others all : List (Row V)) → all ≡ first ++ others → StopsAmong Stopped (given ++ map (entry_at family) first)
+      (map (entry_at family) others) → StopsAmong Stopped given (map (entry_at family) all)
   stop_then first others all is s =
       let f = entry_at family in
       subst (StopsAmong Stopped given) (sym (map-append f first others) ∙ ap (map f) (sym is)) (stops_late Stopped given (map f first) (map f others) s)

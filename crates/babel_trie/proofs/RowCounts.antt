@@ -45,7 +45,8 @@ module _ {V : Type 0} (w : ℕ) where
       omega (arith, both, rows_at-values b w w 0 t, each_rows t bs)
 
   -- the rows of the spans are as many as the counts of the nodes say
-  pub counted_spans : (sources : List (Node (Option V))) (counts : List ℕ) → AreCounted sources (length sources) counts → (ss : List (Span (Sources (Option V)))) → ((s : Span (Sources (Option V))) → Listed ss s → HasTrie w sources s.sources) →
+  pub counted_spans : (sources : List (Node (Option V))) (counts : List ℕ) → AreCounted sources (length sources) counts
+      → (ss : List (Span (Sources (Option V)))) → ((s : Span (Sources (Option V))) → Listed ss s → HasTrie w sources s.sources) →
       capped (counted_rows w counts ss) ≡ capped (length (span_rows w sources ss))
   counted_spans sources counts counted [] each = refl
   counted_spans sources counts counted (s ∷ ss) each =

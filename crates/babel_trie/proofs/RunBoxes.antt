@@ -125,7 +125,8 @@ module _ {V : Type 0} (w : ℕ) (sources : List (Node (Option V))) (list : List 
                 reduced = subst IsReduced trie_is h.reduced;
                 answers = λ d a d_in a_in in_b.
                     let inside = is.inside d d_in in_b in
-                    sym (p.answers no_node d a d_in a_in) ∙ ap (λ (n : Sources (Option V)). value_at (sources_at w sources n) w a) (says s from.1 d inside.0 inside.1) ∙ ap (λ t. value_at t w a) from.3;
+                    sym (p.answers no_node d a d_in a_in) ∙ ap (λ (n : Sources (Option V)). value_at (sources_at w sources n) w a)
+                    (says s from.1 d inside.0 inside.1) ∙ ap (λ t. value_at t w a) from.3;
               };
           found = λ b is uniform longest.
               let at = largest_uniform_in_runs w list said run_list says b (record {

@@ -56,9 +56,11 @@ module _ {V : Type 0} where
       record { runs = p.runs; below = p.below; each = p.each; answers = λ none d s d_in s_in. p.answers none d s d_in s_in ∙ same d s d_in s_in }
 
   -- a table that grows keeps the answers
-  pub runs-grow : (w : ℕ) (sources more : List (Node (Option V))) (list : List (Change (Sources (Option V)))) (f : Answers V) → KeepsNodes sources more → HasRuns w sources list f → HasRuns w more list f
+  pub runs-grow : (w : ℕ) (sources more : List (Node (Option V))) (list : List (Change (Sources (Option V)))) (f : Answers V)
+      → KeepsNodes sources more → HasRuns w sources list f → HasRuns w more list f
   runs-grow w sources more list f keeps p =
-      let each : (none : Sources (Option V)) (d : ℕ) → d < 2 ^ w → HasTrie w more (said_at none list d) = λ none d d_in. HasTrie-grows sources more keeps w (said_at none list d) (p.each none d d_in) in
+      let each : (none : Sources (Option V)) (d : ℕ) → d < 2 ^ w → HasTrie w more (said_at none list d) =
+      λ none d d_in. HasTrie-grows sources more keeps w (said_at none list d) (p.each none d d_in) in
       record {
         runs = p.runs;
         below = p.below;
@@ -85,7 +87,8 @@ module _ {V : Type 0} where
       record { held = record { trie = h.trie; stands = Represents-grows nodes more keeps s h.trie h.stands; fits = h.fits; reduced = h.reduced }; values_are = v.values_are }
 
   -- one more change says it up to another address
-  pub says-more : (w at to : ℕ) (f : Answers V) (nodes more : List (Node (Option V))) (list after : List (Change (Sources (Option V)))) (s : Sources (Option V)) → KeepsNodes nodes more → IsFilled at to s list after →
+  pub says-more : (w at to : ℕ) (f : Answers V) (nodes more : List (Node (Option V))) (list after : List (Change (Sources (Option V))))
+      (s : Sources (Option V)) → KeepsNodes nodes more → IsFilled at to s list after →
       ((d : ℕ) → at ≤ d → d < to → HasValues w (f d) more s) → Says w at f nodes list → Says w to f more after
   says-more w at to f nodes more list after s keeps filled here says none d lt = elim (cases_lt d at) [
     | inl under ↦ subst (HasValues w (f d) more) (sym (filled.kept none d under)) (values-grow w (f d) nodes more (said_at none list d) keeps (says none d under))
@@ -93,7 +96,8 @@ module _ {V : Type 0} where
   ]
 
   -- a list that says it of all addresses has the answers of the function
-  pub says-all : (w : ℕ) (f : Answers V) (nodes : List (Node (Option V))) (list : List (Change (Sources (Option V)))) → AreRuns list → StartBelow (2 ^ w) list → Says w (2 ^ w) f nodes list → HasRuns w nodes list f
+  pub says-all : (w : ℕ) (f : Answers V) (nodes : List (Node (Option V))) (list : List (Change (Sources (Option V)))) → AreRuns list
+      → StartBelow (2 ^ w) list → Says w (2 ^ w) f nodes list → HasRuns w nodes list f
   says-all w f nodes list runs below says =
       record {
         runs = runs;

@@ -12,7 +12,8 @@ pub own_bits : (path bits n least differing shared : ℕ) → least ≤ bits - n
 own_bits path bits n least differing shared few all =
     shr-shr path (bits - n - least) differing ∙ ap (λ k. path / 2 ^ k) {x = bits - n - least + differing} {y = bits - shared - n} (omega (arith, few, all))
 
-pub other_bits : (path bits skip least differing shared : ℕ) → least ≤ skip → least ≤ bits → differing + shared ≡ least → path / 2 ^ (skip - least) / 2 ^ differing ≡ path / 2 ^ (skip - (bits - (bits - shared)))
+pub other_bits : (path bits skip least differing shared : ℕ) → least ≤ skip → least ≤ bits → differing + shared ≡ least
+    → path / 2 ^ (skip - least) / 2 ^ differing ≡ path / 2 ^ (skip - (bits - (bits - shared)))
 other_bits path bits skip least differing shared few in_bits all =
     shr-shr path (skip - least) differing ∙ ap (λ k. path / 2 ^ k) {x = skip - least + differing} {y = skip - (bits - (bits - shared))} (omega (arith, few, in_bits, all))
 
@@ -80,7 +81,8 @@ module _ (n bits m path p : ℕ) (le : n ≤ m) (smaller : m < bits) (path_in : 
   -- the block around is one of the blocks of its size
   around_place : (w start : ℕ) → IsPlace w bits start → IsPlace w m (start + p * 2 ^ m)
   around_place w start place =
-      let whole : place.index * 2 ^ bits ≡ place.index * 2 ^ (bits - m) * 2 ^ m = ap (λ k. place.index * k) (power m bits p (omega (arith, smaller))) ∙ sym (mul_assoc place.index (2 ^ (bits - m)) (2 ^ m)) in
+      let whole : place.index * 2 ^ bits ≡ place.index * 2 ^ (bits - m) * 2 ^ m = ap (λ k. place.index * k) (power m bits p (omega (arith, smaller)))
+      ∙ sym (mul_assoc place.index (2 ^ (bits - m)) (2 ^ m)) in
       record {
         bits_in = omega (arith, place.bits_in, smaller);
         index = place.index * 2 ^ (bits - m) + p;
@@ -89,7 +91,8 @@ module _ (n bits m path p : ℕ) (le : n ≤ m) (smaller : m < bits) (path_in : 
       }
 
   -- all rows of a block lie in a block around the one that they lie in
-  pub around_inner : {X : Type 0} (key : X → Block) (w start s t : ℕ) (rows : List X) → IsPlace w bits start → IsInner key w bits start rows n s path → t ≡ start + p * 2 ^ m → IsInner key w bits start rows m t p
+  pub around_inner : {X : Type 0} (key : X → Block) (w start s t : ℕ) (rows : List X) → IsPlace w bits start → IsInner key w bits start rows n s path
+      → t ≡ start + p * 2 ^ m → IsInner key w bits start rows m t p
   around_inner key w start s t rows place inner t_is = record {
     smaller = smaller;
     path_in = shorter_in;

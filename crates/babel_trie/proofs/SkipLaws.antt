@@ -34,7 +34,8 @@ pub place_in : (w bits skip path k : ℕ) → skip ≤ bits → bits ≤ w → k
 place_in w bits skip path k few le k_in =
     let P : ℕ → Type 0 = λ n. k * 2 ^ skip + path % 2 ^ skip < 2 ^ n in
     let all : skip + (w - bits) ≡ w - (bits - skip) = omega (arith, few, le) in
-    subst P all (subst (λ n. k * 2 ^ skip + path % 2 ^ skip < n) (sym (pow-add 2 skip (w - bits))) (mul-add-lt k (2 ^ skip) (path % 2 ^ skip) (2 ^ (w - bits)) k_in (mod_below path (2 ^ skip) (pow_pos skip))))
+    subst P all (subst (λ n. k * 2 ^ skip + path % 2 ^ skip < n) (sym (pow-add 2 skip (w - bits)))
+    (mul-add-lt k (2 ^ skip) (path % 2 ^ skip) (2 ^ (w - bits)) k_in (mod_below path (2 ^ skip) (pow_pos skip))))
 
 module _ {V : Type 0} (nodes : List (Node (Option V))) where
   nothing : (s : Sources (Option V)) (x : Loose (Option V)) (t : Shape (Option V)) → s ≡ Constant None → Opens nodes s x → Stands nodes x t → leaf None ≡ t
@@ -62,7 +63,8 @@ module _ {V : Type 0} (nodes : List (Node (Option V))) where
         rows = λ dst. ap (λ n. rows_at dst (leaves w n (k * 2 ^ node.skip + node.path % 2 ^ node.skip) t)) all ∙ ap (λ n. rows_at dst (leaves w bits n t)) at;
       }
   skipped_rows (fork low high) node none (l, h, inr (inl e), p, q) w bits k =
-      let rest = skipped_rows low (inner node) (λ more. inner-more node (λ one. omega (arith, more, one)) ∙ none e.0) (subst (λ (x : Loose (Option V)). Stands nodes x low) e.2 p) w (bits - 1) (k * 2) in
+      let rest = skipped_rows low (inner node) (λ more. inner-more node (λ one. omega (arith, more, one)) ∙ none e.0)
+      (subst (λ (x : Loose (Option V)). Stands nodes x low) e.2 p) w (bits - 1) (k * 2) in
       let beside : leaf None ≡ high = nothing node.outside h high (none e.0) e.3 q in
       let left : bits - node.skip ≡ bits - 1 - (node.skip - 1) = omega (arith, e.0) in
       let at = place_on node.skip node.path k 0 (k * 2) e.0 (eqb-true _ _ e.1) (omega arith) in
@@ -77,7 +79,8 @@ module _ {V : Type 0} (nodes : List (Node (Option V))) where
             ∙ ap (λ x. rows_at dst (leaves w bits k (fork low x))) beside;
       }
   skipped_rows (fork low high) node none (l, h, inr (inr e), p, q) w bits k =
-      let rest = skipped_rows high (inner node) (λ more. inner-more node (λ one. omega (arith, more, one)) ∙ none e.0) (subst (λ (x : Loose (Option V)). Stands nodes x high) e.3 q) w (bits - 1) (k * 2 + 1) in
+      let rest = skipped_rows high (inner node) (λ more. inner-more node (λ one. omega (arith, more, one)) ∙ none e.0)
+      (subst (λ (x : Loose (Option V)). Stands nodes x high) e.3 q) w (bits - 1) (k * 2 + 1) in
       let beside : leaf None ≡ low = nothing node.outside l low (none e.0) e.2 p in
       let left : bits - node.skip ≡ bits - 1 - (node.skip - 1) = omega (arith, e.0) in
       let bit = one_bit (node.path / 2 ^ (node.skip - 1) % 2) (mod_below (node.path / 2 ^ (node.skip - 1)) 2 (omega arith)) e.1 in

@@ -61,7 +61,8 @@ module _ {V : Type 0} where
   set_reduced rows old new (inr (row, listed, is)) r = subst IsReduced (sym is) tt
 
   -- where all rows are of the whole block, what is set is the whole
-  pub overlaid_set : (w bits start : ℕ) (rows own : List (Entry V)) (nodes : List (Node (Option V))) (n : Loose (Option V)) (old : Shape (Option V)) → IsPlace w bits start → InBlock source_block w bits start rows →
+  pub overlaid_set : (w bits start : ℕ) (rows own : List (Entry V)) (nodes : List (Node (Option V))) (n : Loose (Option V)) (old : Shape (Option V))
+      → IsPlace w bits start → InBlock source_block w bits start rows →
       HasOneDestination rows → rows ≡ own → ((x : Entry V) → Listed own x → (block_of x.1).len ≡ w - bits) → IsSet own nodes n old → IsLaid w bits start (map row_of rows) nodes n old
   overlaid_set w bits start rows own nodes n old place rows_in one all lens set =
       let own_in : InBlock source_block w bits start own = subst (InBlock source_block w bits start) all rows_in in
@@ -75,7 +76,8 @@ module _ {V : Type 0} where
       })
 
   -- one row from all sources of a block is the whole of its value
-  pub overlaid_one : (w bits start : ℕ) (rows : List (Entry V)) (row : Entry V) (nodes : List (Node (Option V))) (old : Shape (Option V)) (value : V) → IsPlace w bits start → InBlock source_block w bits start rows →
+  pub overlaid_one : (w bits start : ℕ) (rows : List (Entry V)) (row : Entry V) (nodes : List (Node (Option V))) (old : Shape (Option V)) (value : V)
+      → IsPlace w bits start → InBlock source_block w bits start rows →
       HasOneDestination rows → rows ≡ row ∷ [] → (block_of row.1).len ≡ w - bits → row.2 ≡ value → IsLaid w bits start (map row_of rows) nodes (Same (Some value)) old
   overlaid_one w bits start rows row nodes old value place rows_in one only len is =
       let listed : Listed rows row = subst (λ (xs : List (Entry V)). Listed xs row) (sym only) (inl refl) in
@@ -117,7 +119,9 @@ module _ {V : Type 0} where
       let no_longer : (x y : Row V) → Listed (map row_of own) x → Listed (map row_of (low ++ high)) y → IsNoLonger x y = λ x y t u.
       let fx = from_map row_of own x t in
       let fy = from_map row_of (low ++ high) y u in
-      let same : (block_of fx.0.0) ≡ (block_of fy.0.0) = one fx.0 fy.0 (subst (λ r. Listed r fx.0) (sym p.whole) (Listed-append_left own (low ++ high) fx.0 fx.1)) (subst (λ r. Listed r fy.0) (sym p.whole) (Listed-append_right own (low ++ high) fy.0 fy.1)) in
+      let same : (block_of fx.0.0) ≡ (block_of fy.0.0) =
+      one fx.0 fy.0 (subst (λ r. Listed r fx.0) (sym p.whole) (Listed-append_left own (low ++ high) fx.0 fx.1))
+      (subst (λ r. Listed r fy.0) (sym p.whole) (Listed-append_right own (low ++ high) fy.0 fy.1)) in
       let x_len : (block_of fx.0.1).len ≡ w - bits = p.own_len fx.0 fx.1 in
       let y_len : w - bits < (block_of fy.0.1).len = p.longer fy.0 fy.1 in
       let here : IsNoLonger (row_of fx.0) (row_of fy.0) = inr (same, omega arith) in
@@ -128,8 +132,10 @@ module _ {V : Type 0} where
         fits = λ f. laid.fits (set_fits own old set.new bits set.is f);
         reduced = λ r. laid.reduced (set_reduced own old set.new set.is r);
         values = λ d a dst a_in.
-            let dst_own : (row : Row V) → Listed (map row_of own) row → BlockCovers w row.dst d = λ row t. dst row (subst (λ r. Listed r row) (sym whole) (Listed-append_left (map row_of own) (map row_of (low ++ high)) row t)) in
-            let dst_rest : (row : Row V) → Listed (map row_of (low ++ high)) row → BlockCovers w row.dst d = λ row t. dst row (subst (λ r. Listed r row) (sym whole) (Listed-append_right (map row_of own) (map row_of (low ++ high)) row t)) in
+            let dst_own : (row : Row V) → Listed (map row_of own) row → BlockCovers w row.dst d =
+            λ row t. dst row (subst (λ r. Listed r row) (sym whole) (Listed-append_left (map row_of own) (map row_of (low ++ high)) row t)) in
+            let dst_rest : (row : Row V) → Listed (map row_of (low ++ high)) row → BlockCovers w row.dst d =
+            λ row t. dst row (subst (λ r. Listed r row) (sym whole) (Listed-append_right (map row_of own) (map row_of (low ++ high)) row t)) in
             let first = set_overlays w bits start own old set.new set.is own_one p.own_len (own_covers source_block w bits start rows own low high p) d a dst_own a_in in
             subst (λ r. Overlays w r d (start + a) (value_at old bits a) (value_at laid.new bits a)) (sym whole)
             (overlays_then w (map row_of own) (map row_of (low ++ high)) d (start + a) (value_at old bits a) (value_at set.new bits a) (value_at laid.new bits a)
@@ -177,20 +183,24 @@ module _ {V : Type 0} where
                   let b_in : b < m = omega arith in
                   let a_is : a ≡ 1 * m + b = omega arith in
                   let place_is : start + m + b ≡ start + a = omega arith in
-                  let before : value_at old bits a ≡ value_at halved.high_half (bits - 1) b = ap (value_at old bits) a_is ∙ value_at-high old halved.low_half halved.high_half halved.halves bits b high_fits b_in in
-                  let after : value_at joined.whole bits a ≡ value_at in_high.new (bits - 1) b = ap (value_at joined.whole bits) a_is ∙ value_at-high joined.whole in_low.new in_high.new joined.halves bits b new_high b_in in
+                  let before : value_at old bits a ≡ value_at halved.high_half (bits - 1) b = ap (value_at old bits) a_is
+                  ∙ value_at-high old halved.low_half halved.high_half halved.halves bits b high_fits b_in in
+                  let after : value_at joined.whole bits a ≡ value_at in_high.new (bits - 1) b = ap (value_at joined.whole bits) a_is
+                  ∙ value_at-high joined.whole in_low.new in_high.new joined.halves bits b new_high b_in in
                   let there : Overlays w (map row_of high) d (start + a) (value_at halved.high_half (bits - 1) b) (value_at in_high.new (bits - 1) b) =
                   subst (λ s. Overlays w (map row_of high) d s (value_at halved.high_half (bits - 1) b) (value_at in_high.new (bits - 1) b)) place_is (in_high.values d b dst_high b_in) in
                   overlays_right w (map row_of low) (map row_of high) d (start + a) (value_at old bits a) (value_at joined.whole bits a)
                   (λ row t match. let f = from_map row_of low row t in
-                  low_is_apart source_block w bits start (low ++ high) [] low high p f.0 f.1 b (subst (BlockCovers w (block_of f.0.1)) (sym place_is) (subst (λ (r : Row V). BlockCovers w r.src (start + a)) (sym f.2) match.1)))
+                  low_is_apart source_block w bits start (low ++ high) [] low high p f.0 f.1 b
+                  (subst (BlockCovers w (block_of f.0.1)) (sym place_is) (subst (λ (r : Row V). BlockCovers w r.src (start + a)) (sym f.2) match.1)))
                   (subst (λ v. Overlays w (map row_of high) d (start + a) v (value_at joined.whole bits a)) (sym before)
                   (subst (Overlays w (map row_of high) d (start + a) (value_at halved.high_half (bits - 1) b)) (sym after) there))
             ]);
       }
 
   -- the halves of what is set
-  pub halved_tries : (bits : ℕ) (own : List (Entry V)) (nodes : List (Node (Option V))) (n l h : Loose (Option V)) (old : Shape (Option V)) → (set : IsSet own nodes n old) → height old ≤ bits → IsReduced old → 0 < bits →
+  pub halved_tries : (bits : ℕ) (own : List (Entry V)) (nodes : List (Node (Option V))) (n l h : Loose (Option V)) (old : Shape (Option V))
+      → (set : IsSet own nodes n old) → height old ≤ bits → IsReduced old → 0 < bits →
       IsHalved nodes set.new l h → IsTrie (bits - 1) nodes l × IsTrie (bits - 1) nodes h
   halved_tries bits own nodes n l h old set fits reduced some halved =
       let set_low : height set.new ≤ bits = set_fits own old set.new bits set.is fits in

@@ -84,7 +84,8 @@ module _ {F X : Type 0} (w : ℕ) (value : F → X) where
   in_span [] s b t u = elim t [ ]
   in_span (r ∷ ss) s b (inl e) u =
       let P : Span F → Type 0 = λ x. Listed (largest_in w x.from x.last) b → Listed (each_with (value r.sources) (largest_in w r.from r.last) ++ span_blocks w value ss) (b, value x.sources) in
-      subst P e (λ t. Listed-append_left (each_with (value r.sources) (largest_in w r.from r.last)) (span_blocks w value ss) (b, value r.sources) (in_each (value r.sources) (largest_in w r.from r.last) b t)) u
+      subst P e (λ t. Listed-append_left (each_with (value r.sources) (largest_in w r.from r.last)) (span_blocks w value ss) (b, value r.sources)
+      (in_each (value r.sources) (largest_in w r.from r.last) b t)) u
   in_span (r ∷ ss) s b (inr t) u = Listed-append_right (each_with (value r.sources) (largest_in w r.from r.last)) (span_blocks w value ss) (b, value s.sources) (in_span ss s b t u)
 
   -- a largest block of a span starts in it

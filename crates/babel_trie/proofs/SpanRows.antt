@@ -36,8 +36,10 @@ module _ {V : Type 0} (w : ℕ) where
   no_rows t is (b ∷ bs) = ap (λ u. rows_at b (leaves w w 0 u) ++ rows_of w (each_with t bs)) is ∙ no_rows t is bs
 
   -- the rows of one change more
-  pub rows_more : (sources : List (Node (Option V))) (end last : ℕ) (run : Change (Sources (Option V))) (later : List (Change (Sources (Option V)))) (before after all : List (Row V)) → last ≡ start_or end later - 1 →
-      after ≡ before ++ rows_of w (each_with (sources_at w sources run.sources) (largest_in w run.start last)) → before ++ span_rows w sources (spans end (run ∷ later)) ≡ all → after ++ span_rows w sources (spans end later) ≡ all
+  pub rows_more : (sources : List (Node (Option V))) (end last : ℕ) (run : Change (Sources (Option V))) (later : List (Change (Sources (Option V))))
+      (before after all : List (Row V)) → last ≡ start_or end later - 1 →
+      after ≡ before ++ rows_of w (each_with (sources_at w sources run.sources) (largest_in w run.start last))
+      → before ++ span_rows w sources (spans end (run ∷ later)) ≡ all → after ++ span_rows w sources (spans end later) ≡ all
   rows_more sources end last run later before after all last_is p q =
       let here = each_with (sources_at w sources run.sources) (largest_in w run.start (start_or end later - 1)) in
       let rest = span_blocks w (sources_at w sources) (spans end later) in
@@ -45,10 +47,12 @@ module _ {V : Type 0} (w : ℕ) where
       ∙ append_assoc before (rows_of w here) (rows_of w rest) ∙ ap (λ rows. before ++ rows) (sym (rows_of-append w here rest)) ∙ q
 
   -- those of a change to nothing
-  pub rows_none : (sources : List (Node (Option V))) (end : ℕ) (run : Change (Sources (Option V))) (later : List (Change (Sources (Option V)))) (before all : List (Row V)) → HasTrie w sources run.sources → run.sources ≡ Constant None →
+  pub rows_none : (sources : List (Node (Option V))) (end : ℕ) (run : Change (Sources (Option V))) (later : List (Change (Sources (Option V))))
+      (before all : List (Row V)) → HasTrie w sources run.sources → run.sources ≡ Constant None →
       before ++ span_rows w sources (spans end (run ∷ later)) ≡ all → before ++ span_rows w sources (spans end later) ≡ all
   rows_none sources end run later before all h nothing q =
       let t : Shape (Option V) = sources_at w sources run.sources in
-      let is : t ≡ leaf None = sources_at-stands w sources run.sources h ∙ one_trie sources run.sources h.trie (leaf None) h.stands (subst (λ (s : Sources (Option V)). Represents sources s (leaf None)) (sym nothing) (Same None, refl, refl)) in
+      let is : t ≡ leaf None = sources_at-stands w sources run.sources h ∙ one_trie sources run.sources h.trie (leaf None) h.stands
+      (subst (λ (s : Sources (Option V)). Represents sources s (leaf None)) (sym nothing) (Same None, refl, refl)) in
       let none = no_rows t is (largest_in w run.start (start_or end later - 1)) in
       rows_more sources end (start_or end later - 1) run later before before all refl (sym (append_none before) ∙ ap (λ rows. before ++ rows) (sym none)) q

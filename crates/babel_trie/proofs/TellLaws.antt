@@ -41,7 +41,8 @@ module _ {V : Type 0} where
       )
 
   -- two tries of one value each are told apart as their values are
-  pub told_same : (nodes : List (Node (Option V))) (differing : List (Node (Option (Differing V)))) (left right : Loose (Option V)) (l r : Option V) (x : Option (Differing V)) → left ≡ Same l → right ≡ Same r → TellsApart l r x →
+  pub told_same : (nodes : List (Node (Option V))) (differing : List (Node (Option (Differing V)))) (left right : Loose (Option V)) (l r : Option V)
+      (x : Option (Differing V)) → left ≡ Same l → right ≡ Same r → TellsApart l r x →
       IsTold nodes left right differing (Same x)
   told_same nodes differing left right l r x e f told t u p q =
       let t_is : leaf l ≡ t = one_shape nodes left (leaf l) t e p in
@@ -61,7 +62,8 @@ module _ {V : Type 0} where
   told_half false l r l' r' x x' low high = high
 
   -- two tries are told apart by the trie that has for halves what tells theirs apart
-  pub told_halves : (nodes : List (Node (Option V))) (differing : List (Node (Option (Differing V)))) (left right left_low left_high right_low right_high : Loose (Option V)) (x : Loose (Option (Differing V))) (t u : Shape (Option V))
+  pub told_halves : (nodes : List (Node (Option V))) (differing : List (Node (Option (Differing V))))
+      (left right left_low left_high right_low right_high : Loose (Option V)) (x : Loose (Option (Differing V))) (t u : Shape (Option V))
       (low high : Shape (Option (Differing V))) → (p : IsHalved nodes t left_low left_high) → (q : IsHalved nodes u right_low right_high) →
       ((bits : ℕ) → height t ≤ bits → height u ≤ bits → 0 < bits) →
       TellsTriesApart p.low_half q.low_half low → TellsTriesApart p.high_half q.high_half high → IsJoined differing x low high →
@@ -72,11 +74,13 @@ module _ {V : Type 0} where
     record {
       values = λ bits a.
           let b = is_low bits a in
-          let half = told_half b (value_at p.low_half (bits - 1) a) (value_at q.low_half (bits - 1) a) (value_at p.high_half (bits - 1) a) (value_at q.high_half (bits - 1) a) (value_at low (bits - 1) a) (value_at high (bits - 1) a)
+          let half = told_half b (value_at p.low_half (bits - 1) a) (value_at q.low_half (bits - 1) a) (value_at p.high_half (bits - 1) a)
+          (value_at q.high_half (bits - 1) a) (value_at low (bits - 1) a) (value_at high (bits - 1) a)
           (in_low.values (bits - 1) a) (in_high.values (bits - 1) a) in
           subst (λ v. TellsApart v (value_at u bits a) (value_at joined.whole bits a)) (sym (p.halves.values bits a))
           (subst (λ v. TellsApart (cond b (value_at p.low_half (bits - 1) a) (value_at p.high_half (bits - 1) a)) v (value_at joined.whole bits a)) (sym (q.halves.values bits a))
-          (subst (λ v. TellsApart (cond b (value_at p.low_half (bits - 1) a) (value_at p.high_half (bits - 1) a)) (cond b (value_at q.low_half (bits - 1) a) (value_at q.high_half (bits - 1) a)) v) (sym (joined.halves.values bits a)) half));
+          (subst (λ v. TellsApart (cond b (value_at p.low_half (bits - 1) a) (value_at p.high_half (bits - 1) a))
+          (cond b (value_at q.low_half (bits - 1) a) (value_at q.high_half (bits - 1) a)) v) (sym (joined.halves.values bits a)) half));
       fits = λ bits t_in u_in.
           let positive = some bits t_in u_in in
           let low_in = in_low.fits (bits - 1) (omega (arith, p.low_lower, t_in)) (omega (arith, q.low_lower, u_in)) in

@@ -31,8 +31,8 @@ IsFull slots left at = (place : ℕ) → IsFreeAmong slots left at place → ⊥
 abbrev pub window : ℕ
 window = 16
 
--- the slot at which a search for a mark begins: as far among the slots as the upper half of the mark
--- among all
+-- the slot at which a search for a mark begins: as far among the slots as the upper half of the
+-- mark among all
 abbrev pub first_slot : List ℕ → ℕ → ℕ
 first_slot slots mark = mark / 2 ^ 32 * length slots % 2 ^ 64 / 2 ^ 32
 

@@ -1,5 +1,5 @@
-//! The rows that two lists begin with both. Up to the first other row the lists answer the same, and
-//! behind it only those of these rows matter whose destinations reach there.
+//! The rows that two lists begin with both. Up to the first other row the lists answer the same,
+//! and after it only those of these rows matter whose destinations reach there.
 ghost use Rattle.std.specs.Prelude.{◌≡◌, filter, IfSome, IfNone, true};
 ghost use Rattle.babel_trie.specs.Front.{reaches, ShareFront};
 ghost use Rattle.babel_trie.specs.Held.{RowOrder};

@@ -1,6 +1,8 @@
 //! Where the elements of a list are found again.
-ghost use Rattle.std.specs.Prelude.{◌≡◌, ◌≢◌, ℕ, ◌+◌, ◌^◌, ◌<◌, ◌↔◌, ◌++◌, ◌∷◌, [], length, slice_get, Some, IfSome, IfNone, IsTrue, OnOk};
-ghost use Rattle.babel_trie.specs.Index.{IsNotAmong, IsFreeAmong, IsFull, window, first_slot, slot_of, HasDistinct, IsAbsent};
+ghost use Rattle.std.specs.Prelude.{◌≡◌, ◌≢◌, ℕ, ◌+◌, ◌^◌, ◌<◌, ◌↔◌, ◌++◌, ◌∷◌};
+ghost use Rattle.std.specs.Prelude.{[], length, slice_get, Some, IfSome, IfNone, IsTrue, OnOk};
+ghost use Rattle.babel_trie.specs.Index.{IsNotAmong, IsFreeAmong, IsFull, window};
+ghost use Rattle.babel_trie.specs.Index.{first_slot, slot_of, HasDistinct, IsAbsent};
 ghost use Rattle.babel_trie.specs.Index.{IsFound, KeepsFound, IsIndexed};
 ghost use Rattle.babel_trie.specs.declared.index.Search.TheVariants.{Number, Free, Full};
 
@@ -137,8 +139,8 @@ impl<K: LawfulOrd> Index<K> {
         }
     }
 
-    /// The slot at which a search for a mark begins: as far among the slots as the upper half of the
-    /// mark among all.
+    /// The slot at which a search for a mark begins: as far among the slots as the upper half of
+    /// the mark among all.
     fn first_slot(&self, mark: u64) -> usize
         ensures { result ≡ first_slot self.now.slots.items mark }
     {

@@ -1,5 +1,6 @@
 //! Where two lists of rows first answer differently.
-ghost use Rattle.std.specs.Prelude.{◌≡◌, ◌↔◌, ℕ, ◌^◌, ◌<◌, ◌≤◌, List, All, map, IfOk, IfSome, OnOk, MatchOption};
+ghost use Rattle.std.specs.Prelude.{◌≡◌, ◌↔◌, ℕ, ◌^◌, ◌<◌, ◌≤◌, List};
+ghost use Rattle.std.specs.Prelude.{All, map, IfOk, IfSome, OnOk, MatchOption};
 ghost use Rattle.babel_prefix.specs.Best.{answer};
 ghost use Rattle.babel_prefix.specs.Width.{width_of};
 ghost use Rattle.babel_prefix.specs.Entries.{Entry, answers_in, row_of};

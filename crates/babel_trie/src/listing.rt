@@ -1,5 +1,6 @@
 //! The rows of a list of changes.
-ghost use Rattle.std.specs.Prelude.{◌≡◌, ◌+◌, ◌-◌, ◌*◌, ◌^◌, ◌%◌, ◌<◌, ◌≤◌, ◌++◌, List, map, length, OnOk, OnErr, Option, None, true, false};
+ghost use Rattle.std.specs.Prelude.{◌≡◌, ◌+◌, ◌-◌, ◌*◌, ◌^◌, ◌%◌, ◌<◌, ◌≤◌, ◌++◌};
+ghost use Rattle.std.specs.Prelude.{List, map, length, OnOk, OnErr, Option, None, true, false};
 ghost use Rattle.babel_prefix.specs.Address.{block_of};
 ghost use Rattle.babel_prefix.specs.Covers.{IsAddressPrefix, IsBlock};
 ghost use Rattle.babel_prefix.specs.Entries.{Entry};
@@ -251,8 +252,8 @@ impl<V: LawfulOrd> Table<Option<V>> {
         }
     }
 
-    /// Puts out the rows of one destination prefix and any source, in order: one row where one value
-    /// is answered for all sources.
+    /// Puts out the rows of one destination prefix and any source, in order: one row where one
+    /// value is answered for all sources.
     fn push_block<S: Sink<V>>(
         &self,
         whole: Loose<Option<V>>,

@@ -1,5 +1,6 @@
 //! The rows of one destination, laid over a trie of sources.
-ghost use Rattle.std.specs.Prelude.{◌≡◌, ℕ, ◌+◌, ◌-◌, ◌^◌, ◌<◌, ◌≤◌, ◌∷◌, ◌++◌, List, [], map, length, IfOk, IfSome, OnOk, Option};
+ghost use Rattle.std.specs.Prelude.{◌≡◌, ℕ, ◌+◌, ◌-◌, ◌^◌, ◌<◌, ◌≤◌, ◌∷◌, ◌++◌};
+ghost use Rattle.std.specs.Prelude.{List, [], map, length, IfOk, IfSome, OnOk, Option};
 ghost use Rattle.babel_trie.specs.Shape.{Shape};
 ghost use Rattle.babel_trie.specs.Interned.{Stands, IsNormalLoose, IsTrie, Represents, HasTrie};
 ghost use Rattle.babel_trie.specs.Laid.{HasOneDestination, IsSet, IsLaid, IsOverlaid};
@@ -161,8 +162,8 @@ impl<V: LawfulOrd> Table<Option<V>> {
         Ok(())
     }
 
-    /// Writes what rows make of the trie of a block around the block that they lie in. A row alone is
-    /// what the bits to its sources lead to.
+    /// Writes what rows make of the trie of a block around the block that they lie in. A row alone
+    /// is what the bits to its sources lead to.
     #[cycle(lay)]
     fn lay_inside(
         &mut self,

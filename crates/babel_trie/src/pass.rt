@@ -1,6 +1,8 @@
 //! The addresses at which the answers change from one destination to the next, found in one pass
 //! over sorted rows.
-ghost use Rattle.std.specs.Prelude.{◌≡◌, ◌≢◌, ◌↔◌, ℕ, ◌+◌, ◌-◌, ◌*◌, ◌^◌, ◌<◌, ◌≤◌, ◌∷◌, ◌++◌, List, map, length, take, reverse, slice_get, Option, Some, true, false, IfOk, IfSome, IsSome, MatchOption, OnOk};
+ghost use Rattle.std.specs.Prelude.{◌≡◌, ◌≢◌, ◌↔◌, ℕ, ◌+◌, ◌-◌, ◌*◌, ◌^◌, ◌<◌, ◌≤◌, ◌∷◌, ◌++◌};
+ghost use Rattle.std.specs.Prelude.{List, map, length, take, reverse, slice_get, Option, Some};
+ghost use Rattle.std.specs.Prelude.{true, false, IfOk, IfSome, IsSome, MatchOption, OnOk};
 ghost use Rattle.babel_prefix.specs.Address.{block_of};
 ghost use Rattle.babel_prefix.specs.Best.{answer};
 ghost use Rattle.babel_prefix.specs.BestRow.{IsTable};
@@ -8,7 +10,8 @@ ghost use Rattle.babel_prefix.specs.Entries.{Entry, row_of};
 ghost use Rattle.babel_prefix.specs.Members.{Listed};
 ghost use Rattle.babel_trie.specs.Early.{HasMoreBoxes};
 ghost use Rattle.babel_trie.specs.Held.{RowOrder};
-ghost use Rattle.babel_trie.specs.Pass.{IsFilled, StartInOrder, IsPassOver, IsQuietUpTo, StartRowsFrom, ahead_of, changes_left, rows_left};
+ghost use Rattle.babel_trie.specs.Pass.{IsFilled, StartInOrder, IsPassOver, IsQuietUpTo};
+ghost use Rattle.babel_trie.specs.Pass.{StartRowsFrom, ahead_of, changes_left, rows_left};
 ghost use Rattle.babel_trie.specs.Split.{rows_of_split};
 ghost use Rattle.babel_trie.specs.Rows.{InOrder};
 ghost use Rattle.babel_trie.specs.Runs.{AreRuns, StartBelow, StartBehind, HasRuns};

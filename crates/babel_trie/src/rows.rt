@@ -1,12 +1,15 @@
 //! Rows in order, and their parts.
-ghost use Rattle.std.specs.Prelude.{◌≡◌, ◌≢◌, ◌+◌, ◌-◌, ◌*◌, ◌/◌, ◌^◌, ◌++◌, ◌<◌, ◌≤◌, ◌==◌, ◌∷◌, nat_lt, List, [], All, IfOk, IfSome, IfNone, MatchOption, true, false, length};
+ghost use Rattle.std.specs.Prelude.{◌≡◌, ◌≢◌, ◌+◌, ◌-◌, ◌*◌, ◌/◌, ◌^◌, ◌++◌, ◌<◌, ◌≤◌, ◌==◌, ◌∷◌};
+ghost use Rattle.std.specs.Prelude.{nat_lt, List, [], length, true, false};
+ghost use Rattle.std.specs.Prelude.{All, IfOk, IfSome, IfNone, MatchOption};
 ghost use Rattle.std.specs.List.Sorted.{IsPartitionedBy, IsPartitionPoint, IsPermutation};
 ghost use Rattle.babel_prefix.specs.BestRow.{HasPrefixes};
 ghost use Rattle.babel_prefix.specs.Entries.{Entry};
 ghost use Rattle.babel_prefix.specs.Members.{Listed};
 ghost use Rattle.babel_trie.specs.Held.{RowOrder, row_place};
 ghost use Rattle.babel_trie.specs.Inner.{IsInner};
-ghost use Rattle.babel_trie.specs.Rows.{InOrder, InBlock, IsPlace, IsOnlyHalf, AreParted, source_block};
+ghost use Rattle.babel_trie.specs.Rows.{InOrder, InBlock, IsPlace};
+ghost use Rattle.babel_trie.specs.Rows.{IsOnlyHalf, AreParted, source_block};
 
 use crate::cut::split;
 use babel_prefix::Prefix;

@@ -1,5 +1,6 @@
 //! The addresses at which the answers change from one destination to the next.
-ghost use Rattle.std.specs.Prelude.{◌≡◌, ℕ, ◌+◌, ◌-◌, ◌*◌, ◌^◌, ◌≤◌, length, Option, All, IfOk, IfSome, IsSome, MatchOption, OnOk};
+ghost use Rattle.std.specs.Prelude.{◌≡◌, ℕ, ◌+◌, ◌-◌, ◌*◌, ◌^◌, ◌≤◌, length};
+ghost use Rattle.std.specs.Prelude.{Option, All, IfOk, IfSome, IsSome, MatchOption, OnOk};
 ghost use Rattle.babel_prefix.specs.BestRow.{AreOfFamily, HasDistinctPrefixes};
 ghost use Rattle.babel_prefix.specs.Entries.{answers_in};
 ghost use Rattle.babel_prefix.specs.Width.{width_of};

@@ -19,8 +19,10 @@ returns-then-count-entries-clause-err c =
     let values = c.family_differences-2.new.values in
     let v4 = c.in-Some.v4.boxes in
     let v6 = c.in-Some-2.v6.boxes in
-    let still = differences_still c.family_differences.new.values.list.items values.list.items c.in_ok-v6.ensures.keeps _ c.args.left.now.rows c.args.right.now.rows v4 (rw c.in-Some.is at c.in_ok-v4.ensures.boxes) in
-    let are = are_valued values.list.items (distinct values.list.items values.numbers c.in_ok-v6.ensures.numbered) c.args.left.now.rows c.args.right.now.rows v4 v6 still (rw c.in-Some-2.is at c.in_ok-v6.ensures.boxes) in
+    let still = differences_still c.family_differences.new.values.list.items values.list.items c.in_ok-v6.ensures.keeps _ c.args.left.now.rows
+    c.args.right.now.rows v4 (rw c.in-Some.is at c.in_ok-v4.ensures.boxes) in
+    let are = are_valued values.list.items (distinct values.list.items values.numbers c.in_ok-v6.ensures.numbered) c.args.left.now.rows
+    c.args.right.now.rows v4 v6 still (rw c.in-Some-2.is at c.in_ok-v6.ensures.boxes) in
     let many : c.args.limits.entries < length (valued_differences values.list.items v4 v6) =
     omega (arith, valued-length values.list.items v4 v6, c.count.ensures, c.entries.ensures.value, c.if-count-entries.true) in
     inl (refl, (valued_differences values.list.items v4 v6, are, many))
@@ -29,6 +31,7 @@ pub returns-clause-differences : goal.returns-clause-differences
 returns-clause-differences c =
     let values = c.family_differences-2.new.values in
     let v4 = c.in-Some.v4.boxes in
-    let still = differences_still c.family_differences.new.values.list.items values.list.items c.in_ok-v6.ensures.keeps _ c.args.left.now.rows c.args.right.now.rows v4 (rw c.in-Some.is at c.in_ok-v4.ensures.boxes) in
+    let still = differences_still c.family_differences.new.values.list.items values.list.items c.in_ok-v6.ensures.keeps _ c.args.left.now.rows
+    c.args.right.now.rows v4 (rw c.in-Some.is at c.in_ok-v4.ensures.boxes) in
     are_valued values.list.items
     (distinct values.list.items values.numbers c.in_ok-v6.ensures.numbered) c.args.left.now.rows c.args.right.now.rows v4 c.in-Some-2.v6.boxes still (rw c.in-Some-2.is at c.in_ok-v6.ensures.boxes)

@@ -43,7 +43,8 @@ returns-clause-many c is =
     let same = c.of-rows.ensures ∙ ap (packed_entries (family_rows family c.args.left.now.rows)) c.as_slice.ensures.value in
     let same_others = c.of-others.ensures ∙ ap (packed_entries (family_rows family c.args.right.now.rows)) c.as_slice-2.ensures.value in
     let mine_are = entries_still c.family_values.new.values.list.items values.list.items c.in_ok-theirs.ensures.keeps family c.args.left.now.rows mine c.in_ok-mine.ensures.entries in
-    more_by_value values.list.items (distinct values.list.items values.numbers c.in_ok-theirs.ensures.numbered) family c.args.left.now.rows c.args.right.now.rows mine theirs c.args.limits.entries mine_are c.in_ok-theirs.ensures.entries
+    more_by_value values.list.items (distinct values.list.items values.numbers c.in_ok-theirs.ensures.numbered) family c.args.left.now.rows
+    c.args.right.now.rows mine theirs c.args.limits.entries mine_are c.in_ok-theirs.ensures.entries
     (rw c.entries.ensures.value at (rw same_others at (rw same at (c.in_ok-grid.ensures.many is))))
 
 pub returns-clause-boxes : goal.returns-clause-boxes

@@ -23,7 +23,8 @@ loop-run-init g c =
 
 pub value_count-rows-requires : goal.value_count-rows-requires
 value_count-rows-requires g c =
-    subst (λ (xs : List (Change (Sources (Option g.row.V.Denot)))). (x : Change (Sources (Option g.row.V.Denot))) → Listed xs x → IsBelow (length c.args.counts.now) x.sources) c.in-Some.ensures.cases.0 c.loop-run.invariant.each c.in-Some.run'.now (inl refl)
+    subst (λ (xs : List (Change (Sources (Option g.row.V.Denot)))). (x : Change (Sources (Option g.row.V.Denot))) → Listed xs x
+    → IsBelow (length c.args.counts.now) x.sources) c.in-Some.ensures.cases.0 c.loop-run.invariant.each c.in-Some.run'.now (inl refl)
 
 pub loop-run-preserved : goal.loop-run-preserved
 loop-run-preserved g c =
@@ -33,7 +34,8 @@ loop-run-preserved g c =
     let later = c.in-Some.later.now in
     let rest_is = c.in-Some.ensures.cases.0 in
     let rising : IsRising end (run ∷ later) = subst (IsRising end) rest_is c.loop-run.invariant.rising in
-    let each = subst (λ (xs : List (Change (Sources (Option g.row.V.Denot)))). (x : Change (Sources (Option g.row.V.Denot))) → Listed xs x → IsBelow (length counts) x.sources) rest_is c.loop-run.invariant.each in
+    let each = subst (λ (xs : List (Change (Sources (Option g.row.V.Denot)))). (x : Change (Sources (Option g.row.V.Denot))) → Listed xs x
+    → IsBelow (length counts) x.sources) rest_is c.loop-run.invariant.each in
     record {
       fits = omega (arith, c.saturating_add-total.ensures);
       rising = rising.1;
@@ -56,5 +58,6 @@ pub returns : goal.returns
 returns g c w last_in =
     let counts = c.args.counts.now in
     let all : ℕ = capped (counted_rows w counts (spans (c.args.last + 1) c.args.runs.now)) in
-    let counted = none_left c.loop-run.rest.now c.in_default.ensures.cases (λ xs. capped (c.loop-run.total + counted_rows w counts (spans (c.args.last + 1) xs)) ≡ all) (c.loop-run.invariant.counted w last_in) in
+    let counted = none_left c.loop-run.rest.now c.in_default.ensures.cases
+    (λ xs. capped (c.loop-run.total + counted_rows w counts (spans (c.args.last + 1) xs)) ≡ all) (c.loop-run.invariant.counted w last_in) in
     omega (arith, counted, c.loop-run.invariant.fits)

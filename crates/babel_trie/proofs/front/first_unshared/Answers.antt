@@ -18,7 +18,8 @@ loop-row-preserved g c =
     record {
       front = so.front ++ row ∷ [];
       whole = one_more (g.L.Rows.rows c.args.left) so.front (g.L.Rows.rows c.loop-row.rest) (g.L.Rows.rows c.in-Some-Some.later) row so.whole c.in-Some-Some.ensures;
-      other_whole = one_more (g.R.Rows.rows c.args.right) so.front (g.R.Rows.rows c.loop-row.other_rest) others row so.other_whole (c.in-Some-Some.ensures' ∙ ap (λ (x : Entry g.row.V.Denot). x ∷ others) (sym same));
+      other_whole = one_more (g.R.Rows.rows c.args.right) so.front (g.R.Rows.rows c.loop-row.other_rest) others row so.other_whole
+          (c.in-Some-Some.ensures' ∙ ap (λ (x : Entry g.row.V.Denot). x ∷ others) (sym same));
     }
 
 pub first_start-requires : goal.first_start-requires
@@ -40,8 +41,11 @@ returns-clause-none g c =
     let so = c.loop-row.invariant in
     let rest = g.L.Rows.rows c.loop-row.rest in
     let other = g.R.Rows.rows c.loop-row.other_rest in
-    let starts : StartsFirst rest c.first_start.result = subst (λ (rows : List (Entry g.row.V.Denot)). StartsFirst rows c.first_start.result) (split_rows g.L.Rows.rows c.loop-row.rest c.split-2.result c.split-2.ensures) c.first_start.ensures.first in
-    let other_starts : StartsFirst other c.first_start-2.result = subst (λ (rows : List (Entry g.row.V.Denot)). StartsFirst rows c.first_start-2.result) (split_rows g.R.Rows.rows c.loop-row.other_rest c.split-3.result c.split-3.ensures) c.first_start-2.ensures.first in
+    let starts : StartsFirst rest c.first_start.result = subst (λ (rows : List (Entry g.row.V.Denot)). StartsFirst rows c.first_start.result)
+    (split_rows g.L.Rows.rows c.loop-row.rest c.split-2.result c.split-2.ensures) c.first_start.ensures.first in
+    let other_starts : StartsFirst other c.first_start-2.result =
+    subst (λ (rows : List (Entry g.row.V.Denot)). StartsFirst rows c.first_start-2.result)
+    (split_rows g.R.Rows.rows c.loop-row.other_rest c.split-3.result c.split-3.ensures) c.first_start-2.ensures.first in
     if_none c.nearer_start.result (λ is.
     let none = none_nearer rest other c.first_start.result c.first_start-2.result c.nearer_start.result starts other_starts c.nearer_start.ensures.behind is in
     so.whole ∙ ap (λ (xs : List (Entry g.row.V.Denot)). so.front ++ xs) (none.0 ∙ sym none.1) ∙ sym so.other_whole)
@@ -50,8 +54,11 @@ pub returns-clause-some : goal.returns-clause-some
 returns-clause-some g c =
     let rest = g.L.Rows.rows c.loop-row.rest in
     let other = g.R.Rows.rows c.loop-row.other_rest in
-    let starts : StartsFirst rest c.first_start.result = subst (λ (rows : List (Entry g.row.V.Denot)). StartsFirst rows c.first_start.result) (split_rows g.L.Rows.rows c.loop-row.rest c.split-2.result c.split-2.ensures) c.first_start.ensures.first in
-    let other_starts : StartsFirst other c.first_start-2.result = subst (λ (rows : List (Entry g.row.V.Denot)). StartsFirst rows c.first_start-2.result) (split_rows g.R.Rows.rows c.loop-row.other_rest c.split-3.result c.split-3.ensures) c.first_start-2.ensures.first in
+    let starts : StartsFirst rest c.first_start.result = subst (λ (rows : List (Entry g.row.V.Denot)). StartsFirst rows c.first_start.result)
+    (split_rows g.L.Rows.rows c.loop-row.rest c.split-2.result c.split-2.ensures) c.first_start.ensures.first in
+    let other_starts : StartsFirst other c.first_start-2.result =
+    subst (λ (rows : List (Entry g.row.V.Denot)). StartsFirst rows c.first_start-2.result)
+    (split_rows g.R.Rows.rows c.loop-row.other_rest c.split-3.result c.split-3.ensures) c.first_start-2.ensures.first in
     if_some (ShareFront (g.L.Rows.rows c.args.left) (g.R.Rows.rows c.args.right)) c.nearer_start.result (λ at is.
     let from = from_nearer rest other c.first_start.result c.first_start-2.result c.nearer_start.result starts other_starts c.nearer_start.ensures.behind at is in
     record { rest = rest; other_rest = other; behind = c.loop-row.invariant; from = from.0; other_from = from.1 })

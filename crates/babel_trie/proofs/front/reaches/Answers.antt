@@ -13,4 +13,5 @@ returns-then-bits-ge128 g c =
     let many : 128 ≤ bits = omega (arith, c.if-bits-ge128.true, c.saturating_sub-bits.ensures, c.len.ensures.value) in
     let most = pow_mono {i = 128} {j = bits} many in
     let zero : c.args.at / 2 ^ bits ≡ 0 = div-eq_of_lt (omega (arith, most)) in
-    le-leb 128 c.saturating_sub-bits.result c.if-bits-ge128.true ∙ sym (ap (λ n. nat_le n ((block_of c.args.row.now.0).start / 2 ^ bits)) zero ∙ leb-zero ((block_of c.args.row.now.0).start / 2 ^ bits))
+    le-leb 128 c.saturating_sub-bits.result c.if-bits-ge128.true
+    ∙ sym (ap (λ n. nat_le n ((block_of c.args.row.now.0).start / 2 ^ bits)) zero ∙ leb-zero ((block_of c.args.row.now.0).start / 2 ^ bits))

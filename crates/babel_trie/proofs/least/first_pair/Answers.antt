@@ -37,4 +37,5 @@ returns g c =
     let g' = answer w (map row_of right) in
     let f' = answer w (map row_of (filter p left)) in
     let g'' = answer w (map row_of (filter p right)) in
-    if_ok_by _ _ (first_pair-by (2 ^ w) (2 ^ w) f g' f' g'' (λ d s _ _. front-same w at left right c.requires.left_table c.requires.right_table shared d s)) c.first_pair_passed.result c.first_pair_passed.ensures
+    if_ok_by _ _ (first_pair-by (2 ^ w) (2 ^ w) f g' f' g''
+    (λ d s _ _. front-same w at left right c.requires.left_table c.requires.right_table shared d s)) c.first_pair_passed.result c.first_pair_passed.ensures

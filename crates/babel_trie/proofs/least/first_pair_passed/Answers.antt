@@ -13,7 +13,8 @@ loop-other-init g c =
     let w = c.args.width in
     let table = c.new-table.result in
     record {
-      sound = sound_by table.nodes.items table.numbers (elim [ Constant v ↦ elim [ Constant u ↦ refl | Stored m ↦ refl ] | Stored k ↦ elim [ Constant v ↦ refl | Stored m ↦ refl ] ]) c.new-table.ensures.sound;
+      sound = sound_by table.nodes.items table.numbers
+          (elim [ Constant v ↦ elim [ Constant u ↦ refl | Stored m ↦ refl ] | Stored k ↦ elim [ Constant v ↦ refl | Stored m ↦ refl ] ]) c.new-table.ensures.sound;
       pass = c.new-pass.ensures.pass w table.nodes.items c.requires.left_order c.requires.left_table;
       other = c.new-other.ensures.pass w table.nodes.items c.requires.right_order c.requires.right_table;
       reached = omega (arith, c.new-pass.ensures.start);
@@ -26,7 +27,8 @@ loop-other-init g c =
 
 pub reach_both-requires-clause-sound : goal.reach_both-requires-clause-sound
 reach_both-requires-clause-sound g c =
-    sound_by c.loop-other.table.nodes.items c.loop-other.table.numbers (elim [ Constant v ↦ elim [ Constant u ↦ refl | Stored m ↦ refl ] | Stored k ↦ elim [ Constant v ↦ refl | Stored m ↦ refl ] ]) c.loop-other.invariant.sound
+    sound_by c.loop-other.table.nodes.items c.loop-other.table.numbers
+    (elim [ Constant v ↦ elim [ Constant u ↦ refl | Stored m ↦ refl ] | Stored k ↦ elim [ Constant v ↦ refl | Stored m ↦ refl ] ]) c.loop-other.invariant.sound
 
 pub first_difference-requires-clause-trie : goal.first_difference-requires-clause-trie
 first_difference-requires-clause-trie g c =

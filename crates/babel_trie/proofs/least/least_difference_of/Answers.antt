@@ -38,7 +38,8 @@ returns-in_default-clause-least g c d s d_in s_in =
     let others = rows_of_ordered g.R.Rows.rows c.in_order-other_rows.result in
     let found = c.in_ok-dst.field-0 in
     let here = subst (λ n. IsFirstPair (2 ^ n) (2 ^ n) (answer n (map row_of rows)) (answer n (map row_of others)) found) c.width.ensures c.in_ok-dst.ensures in
-    let first : IsFirstPair (2 ^ w) (2 ^ w) (answers_in family left) (answers_in family right) found = first-same w (answer w (map row_of rows)) (answer w (map row_of others)) (answers_in family left) (answers_in family right)
+    let first : IsFirstPair (2 ^ w) (2 ^ w) (answers_in family left) (answers_in family right) found =
+    first-same w (answer w (map row_of rows)) (answer w (map row_of others)) (answers_in family left) (answers_in family right)
     (answers_of_entries family left rows c.in_ok-copy.ensures.prefixes c.requires.left_family c.requires.left_prefixes c.in_order-rows.ensures.permutation)
     (answers_of_entries family right others c.in_ok-other_copy.ensures.prefixes c.requires.right_family c.requires.right_prefixes c.in_order-other_rows.ensures.permutation) found here in
     let same = subst (IsFirstPair (2 ^ w) (2 ^ w) (answers_in family left) (answers_in family right)) c.in_default.is first in
@@ -55,11 +56,14 @@ returns-clause-least g c =
     let others = rows_of_ordered g.R.Rows.rows c.in_order-other_rows.result in
     let found = c.in_ok-dst.field-0 in
     let here = subst (λ n. IsFirstPair (2 ^ n) (2 ^ n) (answer n (map row_of rows)) (answer n (map row_of others)) found) c.width.ensures c.in_ok-dst.ensures in
-    let first : IsFirstPair (2 ^ w) (2 ^ w) (answers_in family left) (answers_in family right) found = first-same w (answer w (map row_of rows)) (answer w (map row_of others)) (answers_in family left) (answers_in family right)
+    let first : IsFirstPair (2 ^ w) (2 ^ w) (answers_in family left) (answers_in family right) found =
+    first-same w (answer w (map row_of rows)) (answer w (map row_of others)) (answers_in family left) (answers_in family right)
     (answers_of_entries family left rows c.in_ok-copy.ensures.prefixes c.requires.left_family c.requires.left_prefixes c.in_order-rows.ensures.permutation)
     (answers_of_entries family right others c.in_ok-other_copy.ensures.prefixes c.requires.right_family c.requires.right_prefixes c.in_order-other_rows.ensures.permutation) found here in
     let at = subst (IsFirstPair (2 ^ w) (2 ^ w) (answers_in family left) (answers_in family right)) c.in-Some.is first in
     let dst : c.unwrap-dst.result ≡ record { family = family; bits = c.in-Some.dst } = search rules in
     let src : c.unwrap-src.result ≡ record { family = family; bits = c.in-Some.src } = search rules in
     let P : Address → Address → Type 0 = λ x y. IsLeastDifference w (answers_in family left) (answers_in family right) x.bits y.bits in
-    subst (λ x. P x c.unwrap-src.result) (sym dst) (subst (P (record { family = family; bits = c.in-Some.dst })) (sym src) (least_from_first w (answers_in family left) (answers_in family right) (c.in-Some.dst, c.in-Some.src) at))
+    subst (λ x. P x c.unwrap-src.result) (sym dst)
+    (subst (P (record { family = family; bits = c.in-Some.dst })) (sym src)
+    (least_from_first w (answers_in family left) (answers_in family right) (c.in-Some.dst, c.in-Some.src) at))

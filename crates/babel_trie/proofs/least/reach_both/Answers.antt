@@ -32,7 +32,8 @@ returns-clause-pass g c rows p =
     let pass = c.reach.new.self in
     let enough : c.made.result ≤ cut.0 = omega (arith, c.max.ensures, cut.1) in
     let left = subst (λ xs. IsPassOver w g.L.Rows.rows rows xs c.leave.new.self) (sym cut.2) (c.made.ensures.enough w cut.0 rows nodes enough (c.leave.ensures.pass w rows nodes p)) in
-    way-grows w rows (rows_left g.L.Rows.rows pass) c.reach.new.table.nodes.items c.reach-2.new.table.nodes.items pass.now (ahead_of pass) c.in_ok-other_next.ensures.keeps (c.in_ok-next.ensures.pass rows left)
+    way-grows w rows (rows_left g.L.Rows.rows pass) c.reach.new.table.nodes.items c.reach-2.new.table.nodes.items pass.now
+    (ahead_of pass) c.in_ok-other_next.ensures.keeps (c.in_ok-next.ensures.pass rows left)
 
 pub returns-clause-other : goal.returns-clause-other
 returns-clause-other g c rows p =
@@ -42,4 +43,5 @@ returns-clause-other g c rows p =
     let other = c.leave-2.new.self in
     let enough : c.made-2.result ≤ cut.0 = omega (arith, c.max.ensures, cut.1) in
     let left = subst (λ xs. IsPassOver w g.R.Rows.rows rows xs other) (sym cut.2) (c.made-2.ensures.enough w cut.0 rows nodes enough (c.leave-2.ensures.pass w rows nodes p)) in
-    c.in_ok-other_next.ensures.pass rows (way-grows w rows (rows_left g.R.Rows.rows other) c.give_up_from.new.self.nodes.items c.reach.new.table.nodes.items other.now (ahead_of other) c.in_ok-next.ensures.keeps left)
+    c.in_ok-other_next.ensures.pass rows (way-grows w rows (rows_left g.R.Rows.rows other) c.give_up_from.new.self.nodes.items
+    c.reach.new.table.nodes.items other.now (ahead_of other) c.in_ok-next.ensures.keeps left)

@@ -33,4 +33,5 @@ returns-in_err-put-clause-err g c = let exit = err_from_is_err_and c.from_residu
     let same : leaf (Some v) ≡ u = ap (λ (w : Option g.row.V.Denot). leaf w) (sym c.in-Some.is) ∙ is in
     subst (λ x. StopsAmong Stopped given (map (entry_at c.args.family) (all x))) same
     (stops_at_last Stopped given _
-    (put_one c.args.family Stopped given c.args.dst c.node_prefix.result _ v c.requires.dst_family c.node_prefix.ensures.family c.node_prefix.ensures.block (c.in_err-put.ensures.err start given has))))
+    (put_one c.args.family Stopped given c.args.dst c.node_prefix.result _ v c.requires.dst_family c.node_prefix.ensures.family
+    c.node_prefix.ensures.block (c.in_err-put.ensures.err start given has))))

@@ -48,5 +48,6 @@ returns-in_ok-block-in-Split-clause-inside g c nodes t n p =
     let node = c.in-Split.node in
     let block = c.in_ok-block-in-Split.block in
     let passed = c.args.bits - block.bits in
-    let past = past_inside nodes node c.in-Constant.beside c.in-Constant.is t passed block.path c.in_ok-block-in-Split.ensures.few c.in_ok-block-in-Split.ensures.other (subst (λ x. Stands nodes x t) c.in-Split.is p) in
+    let past = past_inside nodes node c.in-Constant.beside c.in-Constant.is t passed block.path c.in_ok-block-in-Split.ensures.few
+    c.in_ok-block-in-Split.ensures.other (subst (λ x. Stands nodes x t) c.in-Split.is p) in
     subst (λ m. IsInside nodes (Split m) passed block.path c.in-Constant.beside t) (sym c.past.ensures) past

@@ -30,7 +30,8 @@ loop-others-preserved g c =
     let others = rows_of_split rows c.split-others-in-Some.result in
     let pushed = c.in_ok-push-2.ensures.items in
     let same : x.0 ≡ c.args.first.0 = search rules in
-    let next : rows_of_split rows c.loop-others.others ≡ x ∷ others = ap (rows_of_split rows) c.in-Some.is ∙ ap (λ ys. x ∷ ys) (rows-split rows behind c.split-others-in-Some.result c.split-others-in-Some.ensures) in
+    let next : rows_of_split rows c.loop-others.others ≡ x ∷ others = ap (rows_of_split rows) c.in-Some.is
+    ∙ ap (λ ys. x ∷ ys) (rows-split rows behind c.split-others-in-Some.result c.split-others-in-Some.ensures) in
     record {
       some = omega (arith, ap length pushed, length-append own (x ∷ []));
       parts = one_more (c.args.first ∷ rows c.args.behind) own (rows_of_split rows c.loop-others.others) others x so.parts next ∙ ap (λ ys. ys ++ others) (sym pushed);

@@ -15,5 +15,6 @@ returns-then-ends_with-clause-filled g c to lt =
 pub returns-clause-filled : goal.returns-clause-filled
 returns-clause-filled g c to lt =
     let a = c.args in
-    let other = subst (λ (xs : List (Change g.row.F.Denot)). (y : Change g.row.F.Denot) → slice_get xs (length xs - 1) ≡ Some y → y.sources ≢ a.change.sources) c.deref.ensures.value (c.ends_with.ensures.other c.if-ends_with.false) in
+    let other = subst (λ (xs : List (Change g.row.F.Denot)). (y : Change g.row.F.Denot) → slice_get xs (length xs - 1) ≡ Some y
+    → y.sources ≢ a.change.sources) c.deref.ensures.value (c.ends_with.ensures.other c.if-ends_with.false) in
     filled-push a.out.now.items c.push.new.self.items a.change to c.in_ok-push.ensures.items lt c.requires.runs c.requires.below other

@@ -39,8 +39,10 @@ returns g c =
     let fits = start_fits c.bits-from.result n (omega (arith, c.requires.place.room, high, pow_mono {i = c.args.width} {j = 128} c.requires.width)) in
     let place = place_of c.args.width n c.bits-from.result (omega (arith, few, c.requires.place.bits_in)) (omega (arith, c.requires.place.room, high)) in
     let same : (source_block f).start / 2 ^ n ≡ (source_block l).start / 2 ^ n =
-    ap (λ a. a / 2 ^ n) (sym from_is) ∙ same_above c.bits-from.result c.bits-last.result c.common_bits.result n (omega (arith, c.max-inner.ensures)) c.common_bits.ensures.same ∙ ap (λ a. a / 2 ^ n) last_is in
-    let inner = inner_rows source_block c.args.width c.args.bits c.args.start n rows f l (length rows - 1) c.requires.rows (sym c.in_ok-first.ensures.value) (omega (arith, some_listed rows f first_in)) (sym c.in_ok-last.ensures.value)
+    ap (λ a. a / 2 ^ n) (sym from_is) ∙ same_above c.bits-from.result c.bits-last.result c.common_bits.result n (omega (arith, c.max-inner.ensures))
+    c.common_bits.ensures.same ∙ ap (λ a. a / 2 ^ n) last_is in
+    let inner = inner_rows source_block c.args.width c.args.bits c.args.start n rows f l (length rows - 1) c.requires.rows
+    (sym c.in_ok-first.ensures.value) (omega (arith, some_listed rows f first_in)) (sym c.in_ok-last.ensures.value)
     (omega (arith, c.max-inner.ensures, c.len.ensures.value)) (omega (arith, few, c.requires.place.bits_in)) same in
     record {
       smaller = omega (arith, c.if-inner-bits.false);

@@ -12,7 +12,8 @@ pub returns-then-bits-middle-clause-point : goal.returns-then-bits-middle-clause
 returns-then-bits-middle-clause-point g c =
     let rows = c.args.rows.now in
     let x = c.index-rows-last.result in
-    let start_is : c.bits.result ≡ (source_block x).start = c.bits.ensures.value ∙ ap (λ (q : Address). q.bits) c.addr.ensures.value ∙ sym (ap (λ (r : Entry g.row.V.Denot). r.1.address.bits) c.index-rows-last.is) in
+    let start_is : c.bits.result ≡ (source_block x).start = c.bits.ensures.value ∙ ap (λ (q : Address). q.bits) c.addr.ensures.value
+    ∙ sym (ap (λ (r : Entry g.row.V.Denot). r.1.address.bits) c.index-rows-last.is) in
     let below : (source_block x).start < c.args.middle = subst (λ n. n < c.args.middle) start_is c.if-bits-middle.true in
     point_after (λ y. nat_lt (source_block y).start c.args.middle) rows c.requires x (not_empty rows c.is_empty.result c.is_empty.ensures c.if-is_empty.false) c.index-rows-last.is (lt-ltb _ _ below)
 
@@ -20,7 +21,8 @@ pub returns-then-bits-middle-2-clause-point : goal.returns-then-bits-middle-2-cl
 returns-then-bits-middle-2-clause-point g c =
     let rows = c.args.rows.now in
     let x = c.index-rows-0.result in
-    let start_is : c.bits-2.result ≡ (source_block x).start = c.bits-2.ensures.value ∙ ap (λ (q : Address). q.bits) c.addr-2.ensures.value ∙ sym (ap (λ (r : Entry g.row.V.Denot). r.1.address.bits) c.index-rows-0.is) in
+    let start_is : c.bits-2.result ≡ (source_block x).start = c.bits-2.ensures.value ∙ ap (λ (q : Address). q.bits) c.addr-2.ensures.value
+    ∙ sym (ap (λ (r : Entry g.row.V.Denot). r.1.address.bits) c.index-rows-0.is) in
     let above : c.args.middle ≤ (source_block x).start = subst (λ n. c.args.middle ≤ n) start_is c.if-bits-middle-2.true in
     let other : nat_lt (source_block x).start c.args.middle ≡ false = elim (cases_Bool (nat_lt (source_block x).start c.args.middle)) [
       | inl passes ↦ let lt : (source_block x).start < c.args.middle = ltb-true _ _ passes in absurd (omega arith)

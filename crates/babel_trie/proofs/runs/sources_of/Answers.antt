@@ -13,7 +13,8 @@ overflow_sub-result g c =
     let d = c.args.dst in
     let other : Change (Sources g.row.V.Denot) = record { start = 0; sources = no_sources } in
     let parted = IsPartitionedBy-leb (λ (x : Change (Sources g.row.V.Denot)). x.start) list d (starts_rise list c.requires.runs) in
-    let point = IsPartitionPoint-from_clause (λ (x : Change (Sources g.row.V.Denot)). nat_le x.start d) list c.partition_point-behind.result c.partition_point-behind.ensures.partitioned parted (λ a r q k. search rules) in
+    let point = IsPartitionPoint-from_clause (λ (x : Change (Sources g.row.V.Denot)). nat_le x.start d) list c.partition_point-behind.result
+    c.partition_point-behind.ensures.partitioned parted (λ a r q k. search rules) in
     point_some list c.partition_point-behind.result d other c.requires.from_zero point
 
 pub returns : goal.returns
@@ -22,5 +23,6 @@ returns g c none =
     let d = c.args.dst in
     let other = c.index-list-behind.result in
     let parted = IsPartitionedBy-leb (λ (x : Change (Sources g.row.V.Denot)). x.start) list d (starts_rise list c.requires.runs) in
-    let point = IsPartitionPoint-from_clause (λ (x : Change (Sources g.row.V.Denot)). nat_le x.start d) list c.partition_point-behind.result c.partition_point-behind.ensures.partitioned parted (λ a r q k. search rules) in
+    let point = IsPartitionPoint-from_clause (λ (x : Change (Sources g.row.V.Denot)). nat_le x.start d) list c.partition_point-behind.result
+    c.partition_point-behind.ensures.partitioned parted (λ a r q k. search rules) in
     said_point list c.partition_point-behind.result d other c.requires.from_zero point none c.partition_point-behind.ensures.bound

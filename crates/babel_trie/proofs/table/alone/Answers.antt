@@ -28,10 +28,13 @@ pub returns-clause-along : goal.returns-clause-along
 returns-clause-along g c nodes t p =
     let apart : c.args.inside ≡ c.args.beside → ⊥ = λ e. false≢true (sym c.if-are_same.false ∙ c.are_same.ensures.1 e) in
     let base = alone_node nodes c.args.beside c.args.inside c.by_path-low.result.0 c.by_path-low.result.1 c.args.path c.fork-node.result t p c.by_path-low.ensures apart c.fork-node.ensures in
-    (more_bits nodes c.args.beside (Same c.args.inside) c.args.path t p c.args.skip c.fork-node.result c.longer.result (omega (arith, c.requires.some, c.if-skip-eq1.false)) c.requires.path c.longer.ensures base.0 base.1).0
+    (more_bits nodes c.args.beside (Same c.args.inside) c.args.path t p c.args.skip c.fork-node.result c.longer.result
+    (omega (arith, c.requires.some, c.if-skip-eq1.false)) c.requires.path c.longer.ensures base.0 base.1).0
 
 pub returns-clause-normal : goal.returns-clause-normal
 returns-clause-normal g c nodes =
     let apart : c.args.inside ≡ c.args.beside → ⊥ = λ e. false≢true (sym c.if-are_same.false ∙ c.are_same.ensures.1 e) in
-    let base = alone_node nodes c.args.beside c.args.inside c.by_path-low.result.0 c.by_path-low.result.1 c.args.path c.fork-node.result (leaf c.args.inside) refl c.by_path-low.ensures apart c.fork-node.ensures in
-    (more_bits nodes c.args.beside (Same c.args.inside) c.args.path (leaf c.args.inside) refl c.args.skip c.fork-node.result c.longer.result (omega (arith, c.requires.some, c.if-skip-eq1.false)) c.requires.path c.longer.ensures base.0 base.1).1
+    let base = alone_node nodes c.args.beside c.args.inside c.by_path-low.result.0 c.by_path-low.result.1 c.args.path c.fork-node.result
+    (leaf c.args.inside) refl c.by_path-low.ensures apart c.fork-node.ensures in
+    (more_bits nodes c.args.beside (Same c.args.inside) c.args.path (leaf c.args.inside) refl c.args.skip c.fork-node.result c.longer.result
+    (omega (arith, c.requires.some, c.if-skip-eq1.false)) c.requires.path c.longer.ensures base.0 base.1).1

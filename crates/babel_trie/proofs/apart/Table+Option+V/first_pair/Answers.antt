@@ -26,7 +26,8 @@ bounds-right-0-2 g c = some_change c.args.width c.args.other.now.nodes.items c.a
 pub loop-src-smaller : goal.loop-src-smaller
 loop-src-smaller g c =
     let from : c.loop-src.at ≤ c.nearer-end.result = c.nearer-end.ensures.from c.loop-src.at c.last_before.ensures.from c.last_before-in-loop-src.ensures.from in
-    let falls : 2 ^ 128 - (c.nearer-end.result + 1) < 2 ^ 128 - c.loop-src.at = omega (arith, from, c.if-last-end.false, c.last_address-last.ensures, pow_mono {i = c.args.width} {j = 128} c.requires.width) in
+    let falls : 2 ^ 128 - (c.nearer-end.result + 1) < 2 ^ 128 - c.loop-src.at =
+    omega (arith, from, c.if-last-end.false, c.last_address-last.ensures, pow_mono {i = c.args.width} {j = 128} c.requires.width) in
     falls
 
 pub loop-src-init : goal.loop-src-init
@@ -67,8 +68,10 @@ first_difference-requires-clause-trie g c =
     said-step no_sources c.loop-src.here here left c.loop-src.lefts.now c.behind.result.0.now at d i.left_same c.behind.ensures.same ahead le in
     let there_is : (d : ℕ) → at ≤ d → StartBehind d c.behind-in-loop-src.result.0.now → said_at no_sources right d ≡ there = λ d le ahead.
     said-step no_sources c.loop-src.there there right c.loop-src.rights.now c.behind-in-loop-src.result.0.now at d i.right_same c.behind-in-loop-src.ensures.same ahead le in
-    let h : HasTrie w sources here = subst (λ (n : Sources (Option g.row.V.Denot)). HasTrie w sources n) (here_is at (omega arith) c.behind.ensures.behind) (c.requires.left.1.each no_sources at at_in) in
-    let k : HasTrie w others there = subst (λ (n : Sources (Option g.row.V.Denot)). HasTrie w others n) (there_is at (omega arith) c.behind-in-loop-src.ensures.behind) (c.requires.right.1.each no_sources at at_in) in
+    let h : HasTrie w sources here = subst (λ (n : Sources (Option g.row.V.Denot)). HasTrie w sources n)
+    (here_is at (omega arith) c.behind.ensures.behind) (c.requires.left.1.each no_sources at at_in) in
+    let k : HasTrie w others there = subst (λ (n : Sources (Option g.row.V.Denot)). HasTrie w others n)
+    (there_is at (omega arith) c.behind-in-loop-src.ensures.behind) (c.requires.right.1.each no_sources at at_in) in
     h
 
 pub first_difference-requires-clause-other_trie : goal.first_difference-requires-clause-other_trie
@@ -88,8 +91,10 @@ first_difference-requires-clause-other_trie g c =
     said-step no_sources c.loop-src.here here left c.loop-src.lefts.now c.behind.result.0.now at d i.left_same c.behind.ensures.same ahead le in
     let there_is : (d : ℕ) → at ≤ d → StartBehind d c.behind-in-loop-src.result.0.now → said_at no_sources right d ≡ there = λ d le ahead.
     said-step no_sources c.loop-src.there there right c.loop-src.rights.now c.behind-in-loop-src.result.0.now at d i.right_same c.behind-in-loop-src.ensures.same ahead le in
-    let h : HasTrie w sources here = subst (λ (n : Sources (Option g.row.V.Denot)). HasTrie w sources n) (here_is at (omega arith) c.behind.ensures.behind) (c.requires.left.1.each no_sources at at_in) in
-    let k : HasTrie w others there = subst (λ (n : Sources (Option g.row.V.Denot)). HasTrie w others n) (there_is at (omega arith) c.behind-in-loop-src.ensures.behind) (c.requires.right.1.each no_sources at at_in) in
+    let h : HasTrie w sources here = subst (λ (n : Sources (Option g.row.V.Denot)). HasTrie w sources n)
+    (here_is at (omega arith) c.behind.ensures.behind) (c.requires.left.1.each no_sources at at_in) in
+    let k : HasTrie w others there = subst (λ (n : Sources (Option g.row.V.Denot)). HasTrie w others n)
+    (there_is at (omega arith) c.behind-in-loop-src.ensures.behind) (c.requires.right.1.each no_sources at at_in) in
     k
 
 pub returns-in-Some : goal.returns-in-Some
@@ -109,11 +114,14 @@ returns-in-Some g c f f' p q =
     said-step no_sources c.loop-src.here here left c.loop-src.lefts.now c.behind.result.0.now at d i.left_same c.behind.ensures.same ahead le in
     let there_is : (d : ℕ) → at ≤ d → StartBehind d c.behind-in-loop-src.result.0.now → said_at no_sources right d ≡ there = λ d le ahead.
     said-step no_sources c.loop-src.there there right c.loop-src.rights.now c.behind-in-loop-src.result.0.now at d i.right_same c.behind-in-loop-src.ensures.same ahead le in
-    let h : HasTrie w sources here = subst (λ (n : Sources (Option g.row.V.Denot)). HasTrie w sources n) (here_is at (omega arith) c.behind.ensures.behind) (c.requires.left.1.each no_sources at at_in) in
-    let k : HasTrie w others there = subst (λ (n : Sources (Option g.row.V.Denot)). HasTrie w others n) (there_is at (omega arith) c.behind-in-loop-src.ensures.behind) (c.requires.right.1.each no_sources at at_in) in
+    let h : HasTrie w sources here = subst (λ (n : Sources (Option g.row.V.Denot)). HasTrie w sources n)
+    (here_is at (omega arith) c.behind.ensures.behind) (c.requires.left.1.each no_sources at at_in) in
+    let k : HasTrie w others there = subst (λ (n : Sources (Option g.row.V.Denot)). HasTrie w others n)
+    (there_is at (omega arith) c.behind-in-loop-src.ensures.behind) (c.requires.right.1.each no_sources at at_in) in
     let d = c.in-Some.ensures h.trie k.trie h.stands k.stands in
     first-same w (run_answers w sources no_sources left) (run_answers w others no_sources right) f f' (p.answers no_sources) (q.answers no_sources) (Some (at, c.in-Some.src))
-    (answers-first w no_sources sources others left right here there h k at i.below c.in-Some.src at_in (here_is at (omega arith) c.behind.ensures.behind) (there_is at (omega arith) c.behind-in-loop-src.ensures.behind) d)
+    (answers-first w no_sources sources others left right here there h k at i.below c.in-Some.src at_in
+    (here_is at (omega arith) c.behind.ensures.behind) (there_is at (omega arith) c.behind-in-loop-src.ensures.behind) d)
 
 pub returns-then-last-end : goal.returns-then-last-end
 returns-then-last-end g c f f' p q =
@@ -132,8 +140,10 @@ returns-then-last-end g c f f' p q =
     said-step no_sources c.loop-src.here here left c.loop-src.lefts.now c.behind.result.0.now at d i.left_same c.behind.ensures.same ahead le in
     let there_is : (d : ℕ) → at ≤ d → StartBehind d c.behind-in-loop-src.result.0.now → said_at no_sources right d ≡ there = λ d le ahead.
     said-step no_sources c.loop-src.there there right c.loop-src.rights.now c.behind-in-loop-src.result.0.now at d i.right_same c.behind-in-loop-src.ensures.same ahead le in
-    let h : HasTrie w sources here = subst (λ (n : Sources (Option g.row.V.Denot)). HasTrie w sources n) (here_is at (omega arith) c.behind.ensures.behind) (c.requires.left.1.each no_sources at at_in) in
-    let k : HasTrie w others there = subst (λ (n : Sources (Option g.row.V.Denot)). HasTrie w others n) (there_is at (omega arith) c.behind-in-loop-src.ensures.behind) (c.requires.right.1.each no_sources at at_in) in
+    let h : HasTrie w sources here = subst (λ (n : Sources (Option g.row.V.Denot)). HasTrie w sources n)
+    (here_is at (omega arith) c.behind.ensures.behind) (c.requires.left.1.each no_sources at at_in) in
+    let k : HasTrie w others there = subst (λ (n : Sources (Option g.row.V.Denot)). HasTrie w others n)
+    (there_is at (omega arith) c.behind-in-loop-src.ensures.behind) (c.requires.right.1.each no_sources at at_in) in
     let end = c.nearer-end.result in
     let ahead : (d : ℕ) → d ≤ end → StartBehind d c.behind.result.0.now = λ d le x t. omega (arith, c.last_before.ensures.behind x t, c.nearer-end.ensures.first) in
     let ahead' : (d : ℕ) → d ≤ end → StartBehind d c.behind-in-loop-src.result.0.now = λ d le x t. omega (arith, c.last_before-in-loop-src.ensures.behind x t, c.nearer-end.ensures.second) in
@@ -159,8 +169,10 @@ loop-src-preserved g c =
     said-step no_sources c.loop-src.here here left c.loop-src.lefts.now c.behind.result.0.now at d i.left_same c.behind.ensures.same ahead le in
     let there_is : (d : ℕ) → at ≤ d → StartBehind d c.behind-in-loop-src.result.0.now → said_at no_sources right d ≡ there = λ d le ahead.
     said-step no_sources c.loop-src.there there right c.loop-src.rights.now c.behind-in-loop-src.result.0.now at d i.right_same c.behind-in-loop-src.ensures.same ahead le in
-    let h : HasTrie w sources here = subst (λ (n : Sources (Option g.row.V.Denot)). HasTrie w sources n) (here_is at (omega arith) c.behind.ensures.behind) (c.requires.left.1.each no_sources at at_in) in
-    let k : HasTrie w others there = subst (λ (n : Sources (Option g.row.V.Denot)). HasTrie w others n) (there_is at (omega arith) c.behind-in-loop-src.ensures.behind) (c.requires.right.1.each no_sources at at_in) in
+    let h : HasTrie w sources here = subst (λ (n : Sources (Option g.row.V.Denot)). HasTrie w sources n)
+    (here_is at (omega arith) c.behind.ensures.behind) (c.requires.left.1.each no_sources at at_in) in
+    let k : HasTrie w others there = subst (λ (n : Sources (Option g.row.V.Denot)). HasTrie w others n)
+    (there_is at (omega arith) c.behind-in-loop-src.ensures.behind) (c.requires.right.1.each no_sources at at_in) in
     let end = c.nearer-end.result in
     let ahead : (d : ℕ) → d ≤ end → StartBehind d c.behind.result.0.now = λ d le x t. omega (arith, c.last_before.ensures.behind x t, c.nearer-end.ensures.first) in
     let ahead' : (d : ℕ) → d ≤ end → StartBehind d c.behind-in-loop-src.result.0.now = λ d le x t. omega (arith, c.last_before-in-loop-src.ensures.behind x t, c.nearer-end.ensures.second) in
@@ -168,7 +180,8 @@ loop-src-preserved g c =
     let from : at ≤ end = c.nearer-end.ensures.from at c.last_before.ensures.from c.last_before-in-loop-src.ensures.from in
     record {
       in_range = omega (arith, c.if-last-end.false);
-      below = answers-agree w no_sources sources others left right here there h k at i.below end (λ d low high. here_is d low (ahead d high)) (λ d low high. there_is d low (ahead' d high)) same (end + 1) (omega arith);
+      below = answers-agree w no_sources sources others left right here there h k at i.below end (λ d low high. here_is d low (ahead d high))
+          (λ d low high. there_is d low (ahead' d high)) same (end + 1) (omega arith);
       left_same = λ d le. c.behind.ensures.same d (omega arith) ∙ i.left_same d (omega arith);
       right_same = λ d le. c.behind-in-loop-src.ensures.same d (omega arith) ∙ i.right_same d (omega arith);
       left_runs = c.behind.ensures.runs;

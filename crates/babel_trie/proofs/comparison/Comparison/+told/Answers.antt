@@ -29,8 +29,11 @@ told-requires g t c κs within =
     let nodes = a.table.now.nodes.items in
     let some : 0 < a.bits = c.in_default.ensures.fork a.bits nodes nodes c.requires.left c.requires.right in
     let falls : a.bits - 1 < t = omega (arith, c.decreases) in
-    let lefts = halves_are_tries a.bits nodes a.left c.halves.result.0 c.halves.result.1 c.requires.left some (halved nodes a.left c.halves.result.0 c.halves.result.1 c.halves.ensures.one c.halves.ensures.node c.requires.left.trie c.requires.left.stands) in
-    let rights = halves_are_tries a.bits nodes a.right c.halves-2.result.0 c.halves-2.result.1 c.requires.right some (halved nodes a.right c.halves-2.result.0 c.halves-2.result.1 c.halves-2.ensures.one c.halves-2.ensures.node c.requires.right.trie c.requires.right.stands) in
+    let lefts = halves_are_tries a.bits nodes a.left c.halves.result.0 c.halves.result.1 c.requires.left some
+    (halved nodes a.left c.halves.result.0 c.halves.result.1 c.halves.ensures.one c.halves.ensures.node c.requires.left.trie c.requires.left.stands) in
+    let rights = halves_are_tries a.bits nodes a.right c.halves-2.result.0 c.halves-2.result.1 c.requires.right some
+    (halved nodes a.right c.halves-2.result.0 c.halves-2.result.1 c.halves-2.ensures.one c.halves-2.ensures.node c.requires.right.trie
+    c.requires.right.stands) in
     let left : IsTrie (a.bits - 1) nodes c.halves.result.0 = lefts.0 in
     let right : IsTrie (a.bits - 1) nodes c.halves-2.result.0 = rights.0 in
     search rules
@@ -44,8 +47,11 @@ told-requires-2 g t c κs within =
     let nodes = a.table.now.nodes.items in
     let some : 0 < a.bits = c.in_default.ensures.fork a.bits nodes nodes c.requires.left c.requires.right in
     let falls : a.bits - 1 < t = omega (arith, c.decreases) in
-    let lefts = halves_are_tries a.bits nodes a.left c.halves.result.0 c.halves.result.1 c.requires.left some (halved nodes a.left c.halves.result.0 c.halves.result.1 c.halves.ensures.one c.halves.ensures.node c.requires.left.trie c.requires.left.stands) in
-    let rights = halves_are_tries a.bits nodes a.right c.halves-2.result.0 c.halves-2.result.1 c.requires.right some (halved nodes a.right c.halves-2.result.0 c.halves-2.result.1 c.halves-2.ensures.one c.halves-2.ensures.node c.requires.right.trie c.requires.right.stands) in
+    let lefts = halves_are_tries a.bits nodes a.left c.halves.result.0 c.halves.result.1 c.requires.left some
+    (halved nodes a.left c.halves.result.0 c.halves.result.1 c.halves.ensures.one c.halves.ensures.node c.requires.left.trie c.requires.left.stands) in
+    let rights = halves_are_tries a.bits nodes a.right c.halves-2.result.0 c.halves-2.result.1 c.requires.right some
+    (halved nodes a.right c.halves-2.result.0 c.halves-2.result.1 c.halves-2.ensures.one c.halves-2.ensures.node c.requires.right.trie
+    c.requires.right.stands) in
     let left : IsTrie (a.bits - 1) nodes c.halves.result.1 = lefts.1 in
     let right : IsTrie (a.bits - 1) nodes c.halves-2.result.1 = rights.1 in
     search rules
@@ -59,7 +65,8 @@ join-requires-clause-low g t c =
     let q = halved nodes a.right c.halves-2.result.0 c.halves-2.result.1 c.halves-2.ensures.one c.halves-2.ensures.node c.requires.right.trie c.requires.right.stands in
     let low = c.in_ok-low.ensures.told p.low_half q.low_half p.low_stands q.low_stands in
     let fits : height low.0 ≤ 127 = low.2.fits 127 (omega (arith, p.low_lower, c.requires.left.fits, c.requires.width)) (omega (arith, q.low_lower, c.requires.right.fits, c.requires.width)) in
-    IsTrie-grows c.told.new.self.differences.nodes.items c.told-2.new.self.differences.nodes.items c.in_ok-high.ensures.keeps 127 c.in_ok-low.low (record { trie = low.0; stands = low.1; fits = fits; reduced = low.2.reduced })
+    IsTrie-grows c.told.new.self.differences.nodes.items c.told-2.new.self.differences.nodes.items c.in_ok-high.ensures.keeps 127 c.in_ok-low.low
+    (record { trie = low.0; stands = low.1; fits = fits; reduced = low.2.reduced })
 
 pub join-requires-clause-high : goal.join-requires-clause-high
 join-requires-clause-high g t c =
@@ -87,5 +94,18 @@ returns-clause-told g t c u v stands stands' =
     let high = c.in_ok-high.ensures.told p.high_half q.high_half p.high_stands q.high_stands in
     let joined = c.in_ok-join.ensures.joins low.0 high.0 (Stands-grows nodes2 nodes3 c.in_ok-high.ensures.keeps c.in_ok-low.low low.0 low.1) high.1 in
     told_halves nodes c.join.new.self.nodes.items a.left a.right c.halves.result.0 c.halves.result.1 c.halves-2.result.0 c.halves-2.result.1 c.join.new.whole u v low.0 high.0 p q
-    (λ bits t_in u_in. c.in_default.ensures.fork bits nodes nodes (record { trie = u; stands = stands; fits = t_in; reduced = subst IsReduced (one_shape nodes a.left c.requires.left.trie u c.requires.left.stands stands) c.requires.left.reduced })
-    (record { trie = v; stands = stands'; fits = u_in; reduced = subst IsReduced (one_shape nodes a.right c.requires.right.trie v c.requires.right.stands stands') c.requires.right.reduced })) low.2 high.2 joined
+    (λ bits t_in u_in. c.in_default.ensures.fork bits nodes nodes
+    (record {
+      trie = u;
+      stands = stands;
+      fits = t_in;
+      reduced =
+          subst IsReduced (one_shape nodes a.left c.requires.left.trie u c.requires.left.stands stands) c.requires.left.reduced;
+    })
+    (record {
+      trie = v;
+      stands = stands';
+      fits = u_in;
+      reduced =
+          subst IsReduced (one_shape nodes a.right c.requires.right.trie v c.requires.right.stands stands') c.requires.right.reduced;
+    })) low.2 high.2 joined

@@ -37,5 +37,6 @@ loop-node-preserved g c =
 pub returns : goal.returns
 returns g c =
     let nodes = c.args.self.now.nodes.items in
-    let e : c.loop-node.node-index ≡ length nodes = subst (λ xs. c.loop-node.node-index ≡ length xs) c.nodes-node-items.ensures (omega (arith, c.loop-node-test.false, c.loop-node.auto.node-index-end)) in
+    let e : c.loop-node.node-index ≡ length nodes = subst (λ xs. c.loop-node.node-index ≡ length xs) c.nodes-node-items.ensures
+    (omega (arith, c.loop-node-test.false, c.loop-node.auto.node-index-end)) in
     subst (λ n. AreCounted nodes n c.loop-node.counts.items) e c.loop-node.invariant

@@ -24,7 +24,8 @@ returns-clause-prefixes g c =
     let inside = c.self.inside in
     let w = width_of inside.family in
     let rows = run_rows w inside.sources.nodes.items inside.runs.items in
-    subst (All HasPrefixes) (ap (λ (t : BoxTable g.row.V.Denot). map (entry_at t.family) t.boxes) c.self.view_is ∙ sym (c.in_ok-put_boxes.ensures.ok c.in_ok-pairs.pairs [] c.in_ok-pairs.ensures.items))
+    subst (All HasPrefixes) (ap (λ (t : BoxTable g.row.V.Denot). map (entry_at t.family) t.boxes) c.self.view_is
+    ∙ sym (c.in_ok-put_boxes.ensures.ok c.in_ok-pairs.pairs [] c.in_ok-pairs.ensures.items))
     (All-map HasPrefixes (entry_at inside.family) rows
     (λ k d k_in. rows_prefixes w inside.sources.nodes.items inside.runs.items (answer w rows) c.self.invariant.runs (get_or rows k d) (Listed-get_or rows k d k_in)))
 

@@ -32,11 +32,15 @@ returns-clause-ok g c = on_ok_weaker c.push_runs.result (λ there start given ha
     let inside = c.self.inside in
     let Has = g.S.Sink.has start c.push_runs.new.out in
     subst (λ (t : BoxTable g.row.V.Denot). Has (given ++ map (entry_at t.family) t.boxes)) c.self.view_is
-    (subst (λ (xs : List (Change (Sources (Option g.row.V.Denot)))). Has (given ++ map (entry_at inside.family) (run_rows (width_of inside.family) inside.sources.nodes.items xs))) c.deref.ensures.value (there start given has))) c.push_runs.ensures.ok
+    (subst (λ (xs : List (Change (Sources (Option g.row.V.Denot)))). Has
+    (given ++ map (entry_at inside.family) (run_rows (width_of inside.family) inside.sources.nodes.items xs))) c.deref.ensures.value
+    (there start given has))) c.push_runs.ensures.ok
 
 pub returns-clause-err : goal.returns-clause-err
 returns-clause-err g c = on_err_weaker c.push_runs.result (λ there start given has.
     let inside = c.self.inside in
     let Stopped = g.S.Sink.stopped start c.push_runs.new.out in
     subst (λ (t : BoxTable g.row.V.Denot). StopsAmong Stopped given (map (entry_at t.family) t.boxes)) c.self.view_is
-    (subst (λ (xs : List (Change (Sources (Option g.row.V.Denot)))). StopsAmong Stopped given (map (entry_at inside.family) (run_rows (width_of inside.family) inside.sources.nodes.items xs))) c.deref.ensures.value (there start given has))) c.push_runs.ensures.err
+    (subst (λ (xs : List (Change (Sources (Option g.row.V.Denot)))). StopsAmong Stopped given
+    (map (entry_at inside.family) (run_rows (width_of inside.family) inside.sources.nodes.items xs))) c.deref.ensures.value
+    (there start given has))) c.push_runs.ensures.err

@@ -74,7 +74,8 @@ push_node-push_sources-requires g t c κs within =
     let nodes = c.args.self.now.nodes.items in
     let some = some_bits nodes c.args.bits c.args.node.now c.requires.trie in
     let b = c.block_of_node-bits.result.0 in
-    let tries = push.half_tries nodes (width_of c.args.family) c.args.bits c.args.place c.args.node.now (c.has_nothing_beside.ensures.yes c.if-has_nothing_beside.true) b c.block_of_node-bits.ensures.bits c.requires.trie in
+    let tries = push.half_tries nodes (width_of c.args.family) c.args.bits c.args.place c.args.node.now
+    (c.has_nothing_beside.ensures.yes c.if-has_nothing_beside.true) b c.block_of_node-bits.ensures.bits c.requires.trie in
     let falls : 2 * (b - 1) + 1 < t = omega (arith, c.decreases, some, c.block_of_node-bits.ensures.bits) in
     let half : HasTrie (b - 1) nodes c.args.node.now.low = tries.0 in
     let fewer : b - 1 ≤ width_of c.args.family = omega (arith, c.block_of_node-bits.ensures.bits, c.requires.bits) in
@@ -85,7 +86,8 @@ push_node-push_sources-requires-then-has_nothing_beside g t c κs within =
     let nodes = c.args.self.now.nodes.items in
     let some = some_bits nodes c.args.bits c.args.node.now c.requires.trie in
     let b = c.block_of_node-bits.result.0 in
-    let tries = push.half_tries nodes (width_of c.args.family) c.args.bits c.args.place c.args.node.now (c.has_nothing_beside.ensures.yes c.if-has_nothing_beside.true) b c.block_of_node-bits.ensures.bits c.requires.trie in
+    let tries = push.half_tries nodes (width_of c.args.family) c.args.bits c.args.place c.args.node.now
+    (c.has_nothing_beside.ensures.yes c.if-has_nothing_beside.true) b c.block_of_node-bits.ensures.bits c.requires.trie in
     let falls : 2 * (b - 1) + 1 < t = omega (arith, c.decreases, some, c.block_of_node-bits.ensures.bits) in
     let half : HasTrie (b - 1) nodes c.args.node.now.high = tries.1 in
     let fewer : b - 1 ≤ width_of c.args.family = omega (arith, c.block_of_node-bits.ensures.bits, c.requires.bits) in
@@ -99,7 +101,9 @@ push_node-returns-in_err-push_sources-clause-err g t c = let exit = err_from_is_
     let b = c.block_of_node-bits.result.0 in
     let none = c.has_nothing_beside.ensures.yes c.if-has_nothing_beside.true in
     let of = push.block_halves nodes (width_of family) c.args.bits c.args.place c.args.node.now none u p in
-    let is = push.half_rows nodes (width_of family) c.args.bits c.args.place c.args.node.now none u of b c.block_of_node-bits.result.1 c.places-low_place.result.0 c.places-low_place.result.1 c.block_of_node-bits.ensures.bits c.block_of_node-bits.ensures.place c.places-low_place.ensures.low c.places-low_place.ensures.high dst in
+    let is = push.half_rows nodes (width_of family) c.args.bits c.args.place c.args.node.now none u of b c.block_of_node-bits.result.1
+    c.places-low_place.result.0 c.places-low_place.result.1 c.block_of_node-bits.ensures.bits c.block_of_node-bits.ensures.place
+    c.places-low_place.ensures.low c.places-low_place.ensures.high dst in
     let low = rows_at dst (leaves (width_of family) (b - 1) c.places-low_place.result.0 of.low_half) in
     let high = rows_at dst (leaves (width_of family) (b - 1) c.places-low_place.result.1 of.high_half) in
     let all = rows_at dst (leaves (width_of family) c.args.bits c.args.place u) in
@@ -113,7 +117,9 @@ push_node-returns-then-has_nothing_beside-clause-ok g t c = on_ok_weaker c.push_
     let b = c.block_of_node-bits.result.0 in
     let none = c.has_nothing_beside.ensures.yes c.if-has_nothing_beside.true in
     let of = push.block_halves nodes (width_of family) c.args.bits c.args.place c.args.node.now none u p in
-    let is = push.half_rows nodes (width_of family) c.args.bits c.args.place c.args.node.now none u of b c.block_of_node-bits.result.1 c.places-low_place.result.0 c.places-low_place.result.1 c.block_of_node-bits.ensures.bits c.block_of_node-bits.ensures.place c.places-low_place.ensures.low c.places-low_place.ensures.high dst in
+    let is = push.half_rows nodes (width_of family) c.args.bits c.args.place c.args.node.now none u of b c.block_of_node-bits.result.1
+    c.places-low_place.result.0 c.places-low_place.result.1 c.block_of_node-bits.ensures.bits c.block_of_node-bits.ensures.place
+    c.places-low_place.ensures.low c.places-low_place.ensures.high dst in
     let low = rows_at dst (leaves (width_of family) (b - 1) c.places-low_place.result.0 of.low_half) in
     let high = rows_at dst (leaves (width_of family) (b - 1) c.places-low_place.result.1 of.high_half) in
     let all = rows_at dst (leaves (width_of family) c.args.bits c.args.place u) in
@@ -128,7 +134,9 @@ push_node-returns-then-has_nothing_beside-clause-err g t c = on_err_weaker c.pus
     let b = c.block_of_node-bits.result.0 in
     let none = c.has_nothing_beside.ensures.yes c.if-has_nothing_beside.true in
     let of = push.block_halves nodes (width_of family) c.args.bits c.args.place c.args.node.now none u p in
-    let is = push.half_rows nodes (width_of family) c.args.bits c.args.place c.args.node.now none u of b c.block_of_node-bits.result.1 c.places-low_place.result.0 c.places-low_place.result.1 c.block_of_node-bits.ensures.bits c.block_of_node-bits.ensures.place c.places-low_place.ensures.low c.places-low_place.ensures.high dst in
+    let is = push.half_rows nodes (width_of family) c.args.bits c.args.place c.args.node.now none u of b c.block_of_node-bits.result.1
+    c.places-low_place.result.0 c.places-low_place.result.1 c.block_of_node-bits.ensures.bits c.block_of_node-bits.ensures.place
+    c.places-low_place.ensures.low c.places-low_place.ensures.high dst in
     let low = rows_at dst (leaves (width_of family) (b - 1) c.places-low_place.result.0 of.low_half) in
     let high = rows_at dst (leaves (width_of family) (b - 1) c.places-low_place.result.1 of.high_half) in
     let all = rows_at dst (leaves (width_of family) c.args.bits c.args.place u) in
@@ -142,7 +150,8 @@ push_node-push_rows-requires g t c κs within =
     let some = some_bits nodes c.args.bits c.args.node.now c.requires.trie in
     let low = c.halves-low.result.0 in
     let high = c.halves-low.result.1 in
-    let tries = half_tries c.args.bits nodes node low high (omega (arith, some)) c.requires.trie (halved nodes node low high c.halves-low.ensures.one c.halves-low.ensures.node c.requires.trie.trie c.requires.trie.stands) in
+    let tries = half_tries c.args.bits nodes node low high (omega (arith, some)) c.requires.trie
+    (halved nodes node low high c.halves-low.ensures.one c.halves-low.ensures.node c.requires.trie.trie c.requires.trie.stands) in
     let falls : 2 * (c.args.bits - 1) + 1 < t = omega (arith, c.decreases, some) in
     let half : IsTrie (c.args.bits - 1) nodes low = tries.0 in
     let fewer : c.args.bits - 1 ≤ width_of c.args.family = omega (arith, c.requires.bits) in
@@ -155,14 +164,16 @@ push_node-push_rows-requires-2 g t c κs within =
     let some = some_bits nodes c.args.bits c.args.node.now c.requires.trie in
     let low = c.halves-low.result.0 in
     let high = c.halves-low.result.1 in
-    let tries = half_tries c.args.bits nodes node low high (omega (arith, some)) c.requires.trie (halved nodes node low high c.halves-low.ensures.one c.halves-low.ensures.node c.requires.trie.trie c.requires.trie.stands) in
+    let tries = half_tries c.args.bits nodes node low high (omega (arith, some)) c.requires.trie
+    (halved nodes node low high c.halves-low.ensures.one c.halves-low.ensures.node c.requires.trie.trie c.requires.trie.stands) in
     let falls : 2 * (c.args.bits - 1) + 1 < t = omega (arith, c.decreases, some) in
     let half : IsTrie (c.args.bits - 1) nodes high = tries.1 in
     let fewer : c.args.bits - 1 ≤ width_of c.args.family = omega (arith, c.requires.bits) in
     search rules
 
 pub push_node-returns-in_err-push_rows-clause-err : goal.push_node-returns-in_err-push_rows-clause-err
-push_node-returns-in_err-push_rows-clause-err g t c = let exit = err_from_is_err_and c.from_residual-in_err-push_rows.result c.from_residual-in_err-push_rows.ensures.1 in rw exit.1 (λ u start given p has.
+push_node-returns-in_err-push_rows-clause-err g t c = let exit =
+    err_from_is_err_and c.from_residual-in_err-push_rows.result c.from_residual-in_err-push_rows.ensures.1 in rw exit.1 (λ u start given p has.
     let nodes = c.args.self.now.nodes.items in
     let family = c.args.family in
     let dst = block_of c.args.dst in
@@ -217,7 +228,8 @@ push_sources-returns-in-Constant-clause-ok g t c = on_ok_weaker c.push_constant.
 
 pub push_sources-returns-in-Stored-clause-ok : goal.push_sources-returns-in-Stored-clause-ok
 push_sources-returns-in-Stored-clause-ok g t c = on_ok_weaker c.push_node.result (λ there u start given p has.
-    there u start given (stored_stands c.args.self.now.nodes.items c.nodes.result.now c.args.sources.now c.in-Stored.number c.index.result u c.index-nodes-index.result c.in-Stored.is c.nodes.ensures c.index.ensures c.index-nodes-index.is p) has) c.push_node.ensures.ok
+    there u start given (stored_stands c.args.self.now.nodes.items c.nodes.result.now c.args.sources.now c.in-Stored.number c.index.result u
+    c.index-nodes-index.result c.in-Stored.is c.nodes.ensures c.index.ensures c.index-nodes-index.is p) has) c.push_node.ensures.ok
 
 pub push_rows-returns-in-Same-clause-err : goal.push_rows-returns-in-Same-clause-err
 push_rows-returns-in-Same-clause-err g t c = on_err_weaker c.push_constant.result (λ there u start given p has.
@@ -231,7 +243,8 @@ push_sources-returns-in-Constant-clause-err g t c = on_err_weaker c.push_constan
 
 pub push_sources-returns-in-Stored-clause-err : goal.push_sources-returns-in-Stored-clause-err
 push_sources-returns-in-Stored-clause-err g t c = on_err_weaker c.push_node.result (λ there u start given p has.
-    there u start given (stored_stands c.args.self.now.nodes.items c.nodes.result.now c.args.sources.now c.in-Stored.number c.index.result u c.index-nodes-index.result c.in-Stored.is c.nodes.ensures c.index.ensures c.index-nodes-index.is p) has) c.push_node.ensures.err
+    there u start given (stored_stands c.args.self.now.nodes.items c.nodes.result.now c.args.sources.now c.in-Stored.number c.index.result u
+    c.index-nodes-index.result c.in-Stored.is c.nodes.ensures c.index.ensures c.index-nodes-index.is p) has) c.push_node.ensures.err
 
 pub push_node-halves-low-requires : goal.push_node-halves-low-requires
 push_node-halves-low-requires g t c = (c.args.bits, omega (arith, c.requires.bits, width_le c.args.family), c.requires.trie)
@@ -254,7 +267,8 @@ push_sources-push_node-requires g t c κs within =
     let node = c.index-nodes-index.result in
     let whole = c.requires.trie in
     let falls : 2 * c.args.bits < t = omega (arith, c.decreases) in
-    let stands = stored_stands nodes c.nodes.result.now c.args.sources.now c.in-Stored.number c.index.result whole.trie node c.in-Stored.is c.nodes.ensures c.index.ensures c.index-nodes-index.is whole.stands in
+    let stands = stored_stands nodes c.nodes.result.now c.args.sources.now c.in-Stored.number c.index.result whole.trie node c.in-Stored.is
+    c.nodes.ensures c.index.ensures c.index-nodes-index.is whole.stands in
     let trie : IsTrie c.args.bits nodes (Split node) = record { trie = whole.trie; stands = stands; fits = whole.fits; reduced = whole.reduced } in
     search rules
 

@@ -40,7 +40,8 @@ returns-clause-ok g c u start given p has =
     let is : leaf (Some v) ≡ u = one_shape nodes c.args.whole (leaf (Some v)) u whole_is p in
     let src = c.whole.result in
     subst (λ x. Has (given ++ map (entry_at c.args.family) (rows_at (block_of c.args.dst) (leaves w w 0 x)))) is
-    (put_one c.args.family Has given c.args.dst src _ v c.requires.dst_family (ap (λ a. a.address.family) c.whole.ensures) (ap block_of c.whole.ensures ∙ whole_block w) (c.in_ok-put.ensures.ok start given has))
+    (put_one c.args.family Has given c.args.dst src _ v c.requires.dst_family (ap (λ a. a.address.family) c.whole.ensures)
+    (ap block_of c.whole.ensures ∙ whole_block w) (c.in_ok-put.ensures.ok start given has))
 
 pub returns-in_err-put-clause-err : goal.returns-in_err-put-clause-err
 returns-in_err-put-clause-err g c = let exit = err_from_is_err_and c.from_residual.result c.from_residual.ensures.1 in rw exit.1 (λ u start given p has.
@@ -53,4 +54,5 @@ returns-in_err-put-clause-err g c = let exit = err_from_is_err_and c.from_residu
     let src = c.whole.result in
     subst (λ x. StopsAmong Stopped given (map (entry_at c.args.family) (rows_at (block_of c.args.dst) (leaves w w 0 x)))) is
     (stops_at_last Stopped given _
-    (put_one c.args.family Stopped given c.args.dst src _ v c.requires.dst_family (ap (λ a. a.address.family) c.whole.ensures) (ap block_of c.whole.ensures ∙ whole_block w) (c.in_err-put.ensures.err start given has))))
+    (put_one c.args.family Stopped given c.args.dst src _ v c.requires.dst_family (ap (λ a. a.address.family) c.whole.ensures)
+    (ap block_of c.whole.ensures ∙ whole_block w) (c.in_err-put.ensures.err start given has))))

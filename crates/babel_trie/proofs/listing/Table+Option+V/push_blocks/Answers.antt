@@ -58,7 +58,8 @@ returns-then-end-last-clause-ok g c =
     (subst (λ rows. Has start ((given ++ map (entry_at c.args.family) (rows_of w (each_with t so.blocks))) ++ map (entry_at c.args.family) rows))
     (ap (λ (d : Block). rows_at d (leaves w w 0 h.trie)) c.block_prefix-dst.ensures.block
     ∙ ap (λ u. rows_at b (leaves w w 0 u)) (sym (sources_at-stands w c.args.self.now.nodes.items c.args.sources h)))
-    (c.in_ok-push_block.ensures.ok h.trie start (given ++ map (entry_at c.args.family) (rows_of w (each_with t so.blocks))) (opened_stands c.args.self.now.nodes.items c.args.sources c.opened-whole.result h.trie c.opened-whole.ensures h.stands) (so.put start given has))) in
+    (c.in_ok-push_block.ensures.ok h.trie start (given ++ map (entry_at c.args.family) (rows_of w (each_with t so.blocks)))
+    (opened_stands c.args.self.now.nodes.items c.args.sources c.opened-whole.result h.trie c.opened-whole.ensures h.stands) (so.put start given has))) in
     let cut = cut_to w c.args.from c.args.last at bits c.last_address-end.result so.blocks so.from_in so.at_in c.requires.fits c.first_bits-bits.ensures.fit c.last_address-end.ensures so.cut in
     λ start given has. subst (λ bs. Has start (given ++ map (entry_at c.args.family) (rows_of w (each_with t bs))))
     (largest_is w c.args.from c.args.last c.requires.fits (so.blocks ++ b ∷ []) (cut_whole w c.args.from c.args.last c.last_address-end.result (so.blocks ++ b ∷ []) c.if-end-last.true cut))
@@ -79,7 +80,8 @@ loop-end-preserved g c =
     (subst (λ rows. Has start ((given ++ map (entry_at c.args.family) (rows_of w (each_with t so.blocks))) ++ map (entry_at c.args.family) rows))
     (ap (λ (d : Block). rows_at d (leaves w w 0 h.trie)) c.block_prefix-dst.ensures.block
     ∙ ap (λ u. rows_at b (leaves w w 0 u)) (sym (sources_at-stands w c.args.self.now.nodes.items c.args.sources h)))
-    (c.in_ok-push_block.ensures.ok h.trie start (given ++ map (entry_at c.args.family) (rows_of w (each_with t so.blocks))) (opened_stands c.args.self.now.nodes.items c.args.sources c.opened-whole.result h.trie c.opened-whole.ensures h.stands) (so.put start given has))) in
+    (c.in_ok-push_block.ensures.ok h.trie start (given ++ map (entry_at c.args.family) (rows_of w (each_with t so.blocks)))
+    (opened_stands c.args.self.now.nodes.items c.args.sources c.opened-whole.result h.trie c.opened-whole.ensures h.stands) (so.put start given has))) in
     let room : at + 2 ^ bits ≤ c.args.last + 1 = c.first_bits-bits.ensures.fit.room in
     record {
       from_in = omega arith;
@@ -105,9 +107,11 @@ returns-in_err-push_block-clause-err g c =
     let exit = err_from_is_err_and c.from_residual.result c.from_residual.ensures.1 in
     rw exit.1 (λ start given has.
     stop_first c.args.family (Stopped start) given (rows_of w (each_with t (so.blocks ++ b ∷ []))) (rows_of w (each_with t more)) (rows_of w (each_with t (largest_in w c.args.from c.args.last)))
-    (ap (λ bs. rows_of w (each_with t bs)) (sym (cut_goes_on w c.args.from c.args.last (at + 2 ^ bits) (so.blocks ++ b ∷ []) (omega arith) c.requires.fits cut)) ∙ each_with-append w t (so.blocks ++ b ∷ []) more)
+    (ap (λ bs. rows_of w (each_with t bs)) (sym (cut_goes_on w c.args.from c.args.last (at + 2 ^ bits) (so.blocks ++ b ∷ [])
+    (omega arith) c.requires.fits cut)) ∙ each_with-append w t (so.blocks ++ b ∷ []) more)
     (stop_then c.args.family (Stopped start) given (rows_of w (each_with t so.blocks)) (rows_at b (leaves w w 0 t)) (rows_of w (each_with t (so.blocks ++ b ∷ []))) (each_with-push w t so.blocks b)
     (subst (λ rows. StopsAmong (Stopped start) (given ++ map (entry_at c.args.family) (rows_of w (each_with t so.blocks))) (map (entry_at c.args.family) rows))
     (ap (λ (d : Block). rows_at d (leaves w w 0 h.trie)) c.block_prefix-dst.ensures.block
     ∙ ap (λ u. rows_at b (leaves w w 0 u)) (sym (sources_at-stands w c.args.self.now.nodes.items c.args.sources h)))
-    (c.in_err-push_block.ensures.err h.trie start (given ++ map (entry_at c.args.family) (rows_of w (each_with t so.blocks))) (opened_stands c.args.self.now.nodes.items c.args.sources c.opened-whole.result h.trie c.opened-whole.ensures h.stands) (so.put start given has)))))
+    (c.in_err-push_block.ensures.err h.trie start (given ++ map (entry_at c.args.family) (rows_of w (each_with t so.blocks)))
+    (opened_stands c.args.self.now.nodes.items c.args.sources c.opened-whole.result h.trie c.opened-whole.ensures h.stands) (so.put start given has)))))

@@ -16,7 +16,9 @@ invariant-loop-end g l = record {
   blocks : List Block;
   cut : IsCutTo (width_of l.family) l.from l.last l.at blocks;
   can : g.S.Sink.can_put l.out;
-  put : (start : g.row.S.Denot) (rows : List (Entry g.row.V.Denot)) → g.S.Sink.has start l.fn.out rows → g.S.Sink.has start l.out (rows ++ map (entry_at l.family) (rows_of (width_of l.family) (each_with (sources_at (width_of l.family) l.self.nodes.items l.fn.sources) blocks)));
+  put : (start : g.row.S.Denot) (rows : List (Entry g.row.V.Denot)) → g.S.Sink.has start l.fn.out rows
+      → g.S.Sink.has start l.out (rows ++ map (entry_at l.family)
+      (rows_of (width_of l.family) (each_with (sources_at (width_of l.family) l.self.nodes.items l.fn.sources) blocks)));
 }
 
 abbrev pub decreases-loop-end : goal.decreases-loop-end

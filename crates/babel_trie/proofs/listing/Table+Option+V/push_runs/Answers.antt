@@ -45,7 +45,8 @@ push_blocks-requires-clause-trie g c =
     let w = width_of c.args.family in
     let run = c.in-Some.run'.now in
     let later = c.in-Some.later.now in
-    let each = subst (λ (xs : List (Change (Sources (Option g.row.V.Denot)))). (x : Change (Sources (Option g.row.V.Denot))) → Listed xs x → HasTrie w c.args.self.now.nodes.items x.sources) c.in-Some.ensures.cases.0 c.loop-run.invariant.each in
+    let each = subst (λ (xs : List (Change (Sources (Option g.row.V.Denot)))). (x : Change (Sources (Option g.row.V.Denot))) → Listed xs x
+    → HasTrie w c.args.self.now.nodes.items x.sources) c.in-Some.ensures.cases.0 c.loop-run.invariant.each in
     each run (inl refl)
 
 pub push_blocks-requires-clause-some : goal.push_blocks-requires-clause-some
@@ -76,7 +77,8 @@ loop-run-preserved-in_ok-push_blocks g c =
     let rising : IsRising (2 ^ w) (run ∷ later) = subst (IsRising (2 ^ w)) c.in-Some.ensures.cases.0 c.loop-run.invariant.rising in
     let top_is : c.last_address-top.result + 1 ≡ 2 ^ w = omega (arith, c.last_address-top.ensures, ap (λ (n : ℕ). 2 ^ n) c.width.ensures) in
     let same : start_or (c.last_address-top.result + 1) later ≡ start_or (2 ^ w) later = ap (λ (e : ℕ). start_or e later) top_is in
-    let each = subst (λ (xs : List (Change (Sources (Option g.row.V.Denot)))). (x : Change (Sources (Option g.row.V.Denot))) → Listed xs x → HasTrie w c.args.self.now.nodes.items x.sources) c.in-Some.ensures.cases.0 c.loop-run.invariant.each in
+    let each = subst (λ (xs : List (Change (Sources (Option g.row.V.Denot)))). (x : Change (Sources (Option g.row.V.Denot))) → Listed xs x
+    → HasTrie w c.args.self.now.nodes.items x.sources) c.in-Some.ensures.cases.0 c.loop-run.invariant.each in
     let sources = c.args.self.now.nodes.items in
     let all = run_rows w sources c.args.runs.now in
     let done = c.loop-run.invariant.done in
@@ -97,7 +99,8 @@ loop-run-preserved g c =
     let w = width_of c.args.family in
     let run = c.in-Some.run'.now in
     let later = c.in-Some.later.now in
-    let each = subst (λ (xs : List (Change (Sources (Option g.row.V.Denot)))). (x : Change (Sources (Option g.row.V.Denot))) → Listed xs x → HasTrie w c.args.self.now.nodes.items x.sources) c.in-Some.ensures.cases.0 c.loop-run.invariant.each in
+    let each = subst (λ (xs : List (Change (Sources (Option g.row.V.Denot)))). (x : Change (Sources (Option g.row.V.Denot))) → Listed xs x
+    → HasTrie w c.args.self.now.nodes.items x.sources) c.in-Some.ensures.cases.0 c.loop-run.invariant.each in
     let sources = c.args.self.now.nodes.items in
     let all = run_rows w sources c.args.runs.now in
     let done = c.loop-run.invariant.done in

@@ -28,9 +28,12 @@ lay_inside-returns-in-Some-clause-laid g t c start u inner inside =
     let block = a.narrowed.now.block in
     let nodes = a.self.now.nodes.items in
     let one = c.in-Some.ensures in
-    let fits : height inside.inside ≤ block.bits = subst (λ x. height x ≤ block.bits) (one_shape nodes a.narrowed.now.trie c.requires.trie.trie inside.inside c.requires.trie.stands inside.stands) c.requires.trie.fits in
+    let fits : height inside.inside ≤ block.bits =
+    subst (λ x. height x ≤ block.bits) (one_shape nodes a.narrowed.now.trie c.requires.trie.trie inside.inside c.requires.trie.stands
+    inside.stands) c.requires.trie.fits in
     let laid = overlaid_one a.width block.bits block.start a.rows.now one.0 nodes inside.inside c.in-Some.only inner.place inner.rows_in c.requires.one one.1 one.2 one.3 in
-    laid_along a.width a.bits start block.bits block.start block.path a.rows.now inner nodes nodes nodes a.narrowed.now.trie (Same (Some c.in-Some.only)) c.alone.result a.narrowed.now.beside u inside fits laid (c.alone.ensures.along nodes laid.new laid.stands)
+    laid_along a.width a.bits start block.bits block.start block.path a.rows.now inner nodes nodes nodes a.narrowed.now.trie
+    (Same (Some c.in-Some.only)) c.alone.result a.narrowed.now.beside u inside fits laid (c.alone.ensures.along nodes laid.new laid.stands)
 
 pub lay_inside-lead_to-requires-clause-inside : goal.lay_inside-lead_to-requires-clause-inside
 lay_inside-lead_to-requires-clause-inside g t c =
@@ -46,9 +49,12 @@ lay_inside-returns-clause-laid g t c start u inner inside =
     let a = c.args in
     let block = a.narrowed.now.block in
     let nodes = a.self.now.nodes.items in
-    let fits : height inside.inside ≤ block.bits = subst (λ x. height x ≤ block.bits) (one_shape nodes a.narrowed.now.trie c.requires.trie.trie inside.inside c.requires.trie.stands inside.stands) c.requires.trie.fits in
+    let fits : height inside.inside ≤ block.bits =
+    subst (λ x. height x ≤ block.bits) (one_shape nodes a.narrowed.now.trie c.requires.trie.trie inside.inside c.requires.trie.stands
+    inside.stands) c.requires.trie.fits in
     let laid = c.in_ok-lay.ensures.laid inside.inside inside.stands in
-    laid_along a.width a.bits start block.bits block.start block.path a.rows.now inner nodes c.lay.new.self.nodes.items c.lead_to.new.self.nodes.items a.narrowed.now.trie c.lay.new.trie c.lead_to.new.trie a.narrowed.now.beside u inside fits laid
+    laid_along a.width a.bits start block.bits block.start block.path a.rows.now inner nodes c.lay.new.self.nodes.items c.lead_to.new.self.nodes.items
+    a.narrowed.now.trie c.lay.new.trie c.lead_to.new.trie a.narrowed.now.beside u inside fits laid
     (c.in_ok-lead_to.ensures.along laid.new laid.stands)
 
 pub lay-lay_inside-requires : goal.lay-lay_inside-requires
@@ -61,7 +67,14 @@ lay-lay_inside-requires g t c κs within =
     let inside = ensures.inside nodes c.requires.trie.trie c.requires.normal c.requires.trie.stands in
     let falls : 3 * block.bits + 1 < t = omega (arith, c.decreases, ensures.inner.smaller) in
     let inner : (start : ℕ) × IsInner source_block a.width a.bits start a.rows.now block.bits block.start block.path = (a.start, ensures.inner) in
-    let trie : IsTrie block.bits nodes narrowed.trie = record { trie = inside.inside; stands = inside.stands; fits = inside.lower block.bits (omega (arith, c.requires.trie.fits, ensures.inner.smaller)); reduced = inside.reduced c.requires.trie.reduced } in
+    let trie : IsTrie block.bits nodes narrowed.trie =
+    record {
+      trie = inside.inside;
+      stands = inside.stands;
+      fits =
+          inside.lower block.bits (omega (arith, c.requires.trie.fits, ensures.inner.smaller));
+      reduced = inside.reduced c.requires.trie.reduced;
+    } in
     let normal : IsNormalLoose nodes narrowed.trie = ensures.normal nodes c.requires.normal in
     let bits : a.bits ≤ a.width = c.requires.place.bits_in in
     search rules
@@ -99,13 +112,22 @@ lay-lay-requires g t c κs within =
     let set = c.set.ensures.is nodes c.requires.trie.trie c.requires.trie.stands in
     let x = opening nodes c.in-Some-half.beside (some_holds _ c.half.ensures.beside c.in-Some-half.is) in
     let have = some_holds _ c.half.ensures.halves c.in-Some-half.is x.0 x.1 in
-    let tries = tries_by a.width a.bits a.start rest.middle a.rows.now c.parts.result.0.now rest.low.now rest.high.now parts middle c.requires.one nodes c.set.new.trie c.in-Split-Some.node c.requires.trie.trie set c.in-Split-Some.is-0 c.requires.trie.fits c.requires.trie.reduced c.in-Some-half.inside x.0 only.low have in
+    let tries = tries_by a.width a.bits a.start rest.middle a.rows.now c.parts.result.0.now rest.low.now rest.high.now parts middle c.requires.one
+    nodes c.set.new.trie c.in-Split-Some.node c.requires.trie.trie set c.in-Split-Some.is-0 c.requires.trie.fits c.requires.trie.reduced
+    c.in-Some-half.inside x.0 only.low have in
     let falls : 3 * (a.bits - 1) < t = omega (arith, c.decreases, parts.some) in
     let trie : IsTrie (a.bits - 1) nodes c.in-Some-half.inside = tries.0 in
-    let normal : IsNormalLoose nodes c.in-Some-half.inside = normal_by a.width a.bits a.start rest.middle a.rows.now c.parts.result.0.now rest.low.now rest.high.now parts middle c.requires.one nodes c.set.new.trie c.in-Split-Some.node c.requires.trie.trie set c.in-Split-Some.is-0 c.requires.trie.fits c.requires.trie.reduced c.in-Some-half.inside x.0 only.low have (form_from_sound _ nodes a.self.now.numbers c.requires.sound) (c.set.ensures.normal nodes c.requires.normal) in
-    let place : IsPlace a.width (a.bits - 1) only.start = only_place a.width a.bits a.start rest.middle a.rows.now c.parts.result.0.now rest.low.now rest.high.now parts middle c.requires.one only.low only.rows.now only.start half in
-    let rows : InBlock source_block a.width (a.bits - 1) only.start only.rows.now = only_rows a.width a.bits a.start rest.middle a.rows.now c.parts.result.0.now rest.low.now rest.high.now parts middle c.requires.one only.low only.rows.now only.start half in
-    let one : HasOneDestination only.rows.now = only_one a.width a.bits a.start rest.middle a.rows.now c.parts.result.0.now rest.low.now rest.high.now parts middle c.requires.one only.low only.rows.now only.start half in
+    let normal : IsNormalLoose nodes c.in-Some-half.inside = normal_by a.width a.bits a.start rest.middle a.rows.now c.parts.result.0.now rest.low.now
+    rest.high.now parts middle c.requires.one nodes c.set.new.trie c.in-Split-Some.node c.requires.trie.trie set c.in-Split-Some.is-0
+    c.requires.trie.fits c.requires.trie.reduced c.in-Some-half.inside x.0 only.low have
+    (form_from_sound _ nodes a.self.now.numbers c.requires.sound) (c.set.ensures.normal nodes c.requires.normal) in
+    let place : IsPlace a.width (a.bits - 1) only.start = only_place a.width a.bits a.start rest.middle a.rows.now c.parts.result.0.now rest.low.now
+    rest.high.now parts middle c.requires.one only.low only.rows.now only.start half in
+    let rows : InBlock source_block a.width (a.bits - 1) only.start only.rows.now =
+    only_rows a.width a.bits a.start rest.middle a.rows.now c.parts.result.0.now rest.low.now rest.high.now parts middle c.requires.one only.low
+    only.rows.now only.start half in
+    let one : HasOneDestination only.rows.now = only_one a.width a.bits a.start rest.middle a.rows.now c.parts.result.0.now rest.low.now rest.high.now
+    parts middle c.requires.one only.low only.rows.now only.start half in
     search rules
 
 pub lay-join_beside-requires-clause-inside : goal.lay-join_beside-requires-clause-inside
@@ -118,7 +140,9 @@ lay-join_beside-requires-clause-inside g t c =
     let set = c.set.ensures.is nodes c.requires.trie.trie c.requires.trie.stands in
     let x = opening nodes c.in-Some-half.beside (some_holds _ c.half.ensures.beside c.in-Some-half.is) in
     let have = some_holds _ c.half.ensures.halves c.in-Some-half.is x.0 x.1 in
-    let tries = tries_by a.width a.bits a.start rest.middle a.rows.now c.parts.result.0.now rest.low.now rest.high.now parts middle c.requires.one nodes c.set.new.trie c.in-Split-Some.node c.requires.trie.trie set c.in-Split-Some.is-0 c.requires.trie.fits c.requires.trie.reduced c.in-Some-half.inside x.0 c.in-Split-Some.only.low have in
+    let tries = tries_by a.width a.bits a.start rest.middle a.rows.now c.parts.result.0.now rest.low.now rest.high.now parts middle c.requires.one
+    nodes c.set.new.trie c.in-Split-Some.node c.requires.trie.trie set c.in-Split-Some.is-0 c.requires.trie.fits c.requires.trie.reduced
+    c.in-Some-half.inside x.0 c.in-Split-Some.only.low have in
     let laid = c.in_ok-lay.ensures.laid tries.0.trie tries.0.stands in
     let fits : height laid.new ≤ 127 = omega (arith, laid.fits tries.0.fits, c.requires.place.bits_in, c.requires.width) in
     record { trie = laid.new; stands = laid.stands; fits = fits; reduced = laid.reduced tries.0.reduced }
@@ -133,7 +157,9 @@ lay-join_beside-requires-clause-beside g t c =
     let set = c.set.ensures.is nodes c.requires.trie.trie c.requires.trie.stands in
     let x = opening nodes c.in-Some-half.beside (some_holds _ c.half.ensures.beside c.in-Some-half.is) in
     let have = some_holds _ c.half.ensures.halves c.in-Some-half.is x.0 x.1 in
-    let tries = tries_by a.width a.bits a.start rest.middle a.rows.now c.parts.result.0.now rest.low.now rest.high.now parts middle c.requires.one nodes c.set.new.trie c.in-Split-Some.node c.requires.trie.trie set c.in-Split-Some.is-0 c.requires.trie.fits c.requires.trie.reduced c.in-Some-half.inside x.0 c.in-Split-Some.only.low have in
+    let tries = tries_by a.width a.bits a.start rest.middle a.rows.now c.parts.result.0.now rest.low.now rest.high.now parts middle c.requires.one
+    nodes c.set.new.trie c.in-Split-Some.node c.requires.trie.trie set c.in-Split-Some.is-0 c.requires.trie.fits c.requires.trie.reduced
+    c.in-Some-half.inside x.0 c.in-Split-Some.only.low have in
     stored_trie (a.bits - 1) nodes c.lay.new.self.nodes.items c.in-Some-half.beside x.0 c.in_ok-lay.ensures.keeps x.1 tries.1 (omega (arith, c.requires.place.bits_in, c.requires.width))
 
 pub lay-returns-in-Some-half-clause-keeps : goal.lay-returns-in-Some-half-clause-keeps
@@ -157,8 +183,10 @@ lay-returns-in-Some-half-clause-laid g t c u p =
     let x = opening nodes beside (some_holds _ c.half.ensures.beside c.in-Some-half.is) in
     let have = some_holds _ c.half.ensures.halves c.in-Some-half.is x.0 x.1 in
     let keeps = c.in_ok-lay.ensures.keeps in
-    laid_by a.width a.bits a.start rest.middle a.rows.now c.parts.result.0.now rest.low.now rest.high.now parts middle c.requires.one nodes c.set.new.trie c.in-Split-Some.node u set c.in-Split-Some.is-0 fits reduced c.in-Some-half.inside x.0 only.low only.rows.now only.start half have
-    nodes2 c.join_beside.new.self.nodes.items c.lay.new.trie c.join_beside.new.whole keeps c.in_ok-lay.ensures.laid (c.in_ok-join_beside.ensures.joins x.0 (Opens-grows nodes nodes2 keeps beside x.0 x.1))
+    laid_by a.width a.bits a.start rest.middle a.rows.now c.parts.result.0.now rest.low.now rest.high.now parts middle c.requires.one nodes
+    c.set.new.trie c.in-Split-Some.node u set c.in-Split-Some.is-0 fits reduced c.in-Some-half.inside x.0 only.low only.rows.now only.start half have
+    nodes2 c.join_beside.new.self.nodes.items c.lay.new.trie c.join_beside.new.whole keeps c.in_ok-lay.ensures.laid
+    (c.in_ok-join_beside.ensures.joins x.0 (Opens-grows nodes nodes2 keeps beside x.0 x.1))
 
 pub lay-lay_halves-requires : goal.lay-lay_halves-requires
 lay-lay_halves-requires g t c κs within =
@@ -172,7 +200,8 @@ lay-lay_halves-requires g t c κs within =
     let trie : IsTrie a.bits nodes c.set.new.trie = set_trie a.bits own nodes c.set.new.trie c.requires.trie.trie set c.requires.trie.fits c.requires.trie.reduced in
     let normal : IsNormalLoose nodes c.set.new.trie = c.set.ensures.normal nodes c.requires.normal in
     let middle : rest.middle ≡ a.start + 2 ^ (a.bits - 1) = some_holds _ c.parts.ensures.middle c.in-Some-rest.is in
-    let rows : AreParted source_block a.width a.bits a.start (rest.low.now ++ rest.high.now) [] rest.low.now rest.high.now = rest_parted a.width a.bits a.start a.rows.now own rest.low.now rest.high.now parts in
+    let rows : AreParted source_block a.width a.bits a.start (rest.low.now ++ rest.high.now) [] rest.low.now rest.high.now =
+    rest_parted a.width a.bits a.start a.rows.now own rest.low.now rest.high.now parts in
     let one : HasOneDestination (rest.low.now ++ rest.high.now) = one_right own (rest.low.now ++ rest.high.now) (subst HasOneDestination parts.whole c.requires.one) in
     search rules
 
@@ -183,7 +212,8 @@ lay-returns-clause-laid g t c u p =
     let rest = c.in-Some-rest.rest in
     let parts = some_holds _ c.parts.ensures.halves c.in-Some-rest.is in
     let set = c.set.ensures.is nodes u p in
-    laid_over_set a.width a.bits a.start a.rows.now c.parts.result.0.now rest.low.now rest.high.now parts c.requires.one nodes c.lay_halves.new.self.nodes.items c.set.new.trie c.lay_halves.new.trie u set
+    laid_over_set a.width a.bits a.start a.rows.now c.parts.result.0.now rest.low.now rest.high.now parts c.requires.one nodes
+    c.lay_halves.new.self.nodes.items c.set.new.trie c.lay_halves.new.trie u set
     (c.in_ok-lay_halves.ensures.laid set.new set.stands)
 
 pub lay_halves-lay_half-requires : goal.lay_halves-lay_half-requires
@@ -237,7 +267,8 @@ lay_halves-join-requires-clause-low g t c =
     let trie = (half_tries a.bits nodes a.trie.now low high c.requires.rows.some whole (halved nodes a.trie.now low high halves.one halves.node whole.trie whole.stands)).0 in
     let laid = c.in_ok-lay_half.ensures.laid trie.trie trie.stands in
     let fits : height laid.new ≤ 127 = omega (arith, laid.fits trie.fits, c.requires.rows.place.bits_in, c.requires.width) in
-    IsTrie-grows c.lay_half.new.self.nodes.items c.lay_half-2.new.self.nodes.items c.in_ok-lay_half-2.ensures.keeps 127 c.lay_half.new.trie (record { trie = laid.new; stands = laid.stands; fits = fits; reduced = laid.reduced trie.reduced })
+    IsTrie-grows c.lay_half.new.self.nodes.items c.lay_half-2.new.self.nodes.items c.in_ok-lay_half-2.ensures.keeps 127 c.lay_half.new.trie
+    (record { trie = laid.new; stands = laid.stands; fits = fits; reduced = laid.reduced trie.reduced })
 
 pub lay_halves-join-requires-clause-high : goal.lay_halves-join-requires-clause-high
 lay_halves-join-requires-clause-high g t c =

@@ -80,12 +80,14 @@ returns-clause-pass g c rows p =
     elim c.if-end-last_address.branch [
       | then-end-last_address+in_ok-push t ↦
           let back : Change (Reached V) = record { start = c.last_address-end.result + 1; sources = self.now.sources } in
-          let entered = way-entered n q c.requires.reached more new.sources.trie c.in_ok-trie.ensures.keeps c.in_ok-trie.ensures.overlaid new start_is refl made_is back end_is refl (omega (arith, t.if-end-last_address.true, last_is)) in
+          let entered = way-entered n q c.requires.reached more new.sources.trie c.in_ok-trie.ensures.keeps c.in_ok-trie.ensures.overlaid new start_is
+          refl made_is back end_is refl (omega (arith, t.if-end-last_address.true, last_is)) in
           let ahead : reverse (self.ahead.items ++ back ∷ []) ≡ back ∷ reverse self.ahead.items = reverse-push self.ahead.items back in
           subst (λ (x : Pass V g.row.R.Denot). Under (reverse x.ahead.items)) (sym t.self-is)
           (subst (λ (xs : List (Change (Reached V))). Under (reverse xs)) (sym t.in_ok-push.ensures.items) (subst Under (sym ahead) entered))
       | else-end-last_address t ↦
-          let entered = way-entered_last n q c.requires.reached more new.sources.trie c.in_ok-trie.ensures.keeps c.in_ok-trie.ensures.overlaid new start_is refl made_is (omega (arith, t.if-end-last_address.false, last_is, end_is)) in
+          let entered = way-entered_last n q c.requires.reached more new.sources.trie c.in_ok-trie.ensures.keeps c.in_ok-trie.ensures.overlaid new
+          start_is refl made_is (omega (arith, t.if-end-last_address.false, last_is, end_is)) in
           subst (λ (x : Pass V g.row.R.Denot). Under (reverse x.ahead.items)) (sym t.self-is) entered
     ]
 
@@ -101,19 +103,28 @@ returns-clause-keeps g c = c.in_ok-trie.ensures.keeps
 pub returns-clause-start : goal.returns-clause-start
 returns-clause-start g c = c.bits-start.ensures.value ∙ ap (λ (x : Address). x.bits) c.addr.ensures.value
 
-fewer_left : {V R : Type 0} (rows : R → List (Entry V)) (rest others : Option (Entry V × R)) (first : Entry V) (behind : R) (own : List (Entry V)) → rest ≡ Some (first, behind) → first ∷ rows behind ≡ own ++ rows_of_split rows others → 0 < length own → length (rows_of_split rows others) < length (rows_of_split rows rest)
+fewer_left : {V R : Type 0} (rows : R → List (Entry V)) (rest others : Option (Entry V × R)) (first : Entry V) (behind : R) (own : List (Entry V))
+    → rest ≡ Some (first, behind) → first ∷ rows behind ≡ own ++ rows_of_split rows others → 0 < length own
+    → length (rows_of_split rows others) < length (rows_of_split rows rest)
 fewer_left rows rest others first behind own next parts some =
     omega (arith, ap (λ split. length (rows_of_split rows split)) next, ap length parts, length-append own (rows_of_split rows others), some)
 
 pub returns-clause-fewer : goal.returns-clause-fewer
 returns-clause-fewer g c =
     let items = c.args.self.now.ahead.items in
-    let fewer = fewer_left g.R.Rows.rows c.args.self.now.rest c.in_ok-others.others c.args.first c.args.behind c.first_destination.new.own.items c.requires.next c.in_ok-others.ensures.parts c.in_ok-others.ensures.some in
+    let fewer = fewer_left g.R.Rows.rows c.args.self.now.rest c.in_ok-others.others c.args.first c.args.behind c.first_destination.new.own.items
+    c.requires.next c.in_ok-others.ensures.parts c.in_ok-others.ensures.some in
     elim c.if-end-last_address.branch [
-      | then-end-last_address+in_ok-push t ↦ omega (arith, fewer, ap (λ (x : Pass g.row.V.Denot g.row.R.Denot). length x.ahead.items) t.self-is, ap length t.in_ok-push.ensures.items ∙ length-append items _)
+      | then-end-last_address+in_ok-push t ↦ omega (
+        arith,
+        fewer,
+        ap (λ (x : Pass g.row.V.Denot g.row.R.Denot). length x.ahead.items) t.self-is,
+        ap length t.in_ok-push.ensures.items ∙ length-append items _,
+      )
       | else-end-last_address t ↦ omega (arith, fewer, ap (λ (x : Pass g.row.V.Denot g.row.R.Denot). length x.ahead.items) t.self-is)
     ]
 
 pub returns-clause-rows : goal.returns-clause-rows
 returns-clause-rows g c =
-    fewer_left g.R.Rows.rows c.args.self.now.rest c.in_ok-others.others c.args.first c.args.behind c.first_destination.new.own.items c.requires.next c.in_ok-others.ensures.parts c.in_ok-others.ensures.some
+    fewer_left g.R.Rows.rows c.args.self.now.rest c.in_ok-others.others c.args.first c.args.behind c.first_destination.new.own.items c.requires.next
+    c.in_ok-others.ensures.parts c.in_ok-others.ensures.some

@@ -44,7 +44,8 @@ loop-next-preserved g c =
     let last = subst (λ (xs : List (Change (Reached g.row.V.Denot))). slice_get xs (length xs - 1) ≡ Some next) c.deref.ensures.value (sym c.in-Some.ensures.value) in
     let count : vec_len old.ahead ≡ length old.ahead.items = omega (arith, old.ahead.ok.0) in
     let rest : new.items ≡ take (length old.ahead.items - 1) old.ahead.items = c.pop.ensures.rest ∙ ap (λ n. take (n - 1) old.ahead.items) count in
-    let popped : reverse old.ahead.items ≡ next ∷ reverse new.items = ap reverse (split-last old.ahead.items next last) ∙ reverse-push (take (length old.ahead.items - 1) old.ahead.items) next ∙ ap (λ xs. next ∷ reverse xs) (sym rest) in
+    let popped : reverse old.ahead.items ≡ next ∷ reverse new.items = ap reverse (split-last old.ahead.items next last)
+    ∙ reverse-push (take (length old.ahead.items - 1) old.ahead.items) next ∙ ap (λ xs. next ∷ reverse xs) (sym rest) in
     let fewer : length new.items < length old.ahead.items = omega (arith, ap length popped, length-reverse old.ahead.items, length-reverse new.items) in
     let from : (row : Entry g.row.V.Denot) → Listed left row → next.start ≤ (block_of row.0).start =
     λ row t. omega (arith, c.if-at-next.false, c.requires.rows row (subst (λ split. Listed (rows_of_split g.R.Rows.rows split) row) i.rest t)) in
@@ -86,6 +87,7 @@ returns-in_default-clause-behind g c =
 pub returns-in_default-clause-fewer : goal.returns-in_default-clause-fewer
 returns-in_default-clause-fewer g c some =
     elim (c.loop-next.invariant.fewer some) [
-      | inl never ↦ absurd (never (none_ahead c.loop-next.self.ahead.items c.args.at (subst (λ (xs : List (Change (Reached g.row.V.Denot))). None ≡ slice_get xs (length xs - 1)) c.deref.ensures.value c.in_default.ensures.value)))
+      | inl never ↦ absurd (never (none_ahead c.loop-next.self.ahead.items c.args.at
+          (subst (λ (xs : List (Change (Reached g.row.V.Denot))). None ≡ slice_get xs (length xs - 1)) c.deref.ensures.value c.in_default.ensures.value)))
       | inr lt ↦ lt
     ]

@@ -14,7 +14,8 @@ returns-clause-pass g c width nodes order table =
     let rows = g.R.Rows.rows in
     let all = rows c.args.rows in
     let now : Change (Reached g.row.V.Denot) = record { start = 0; sources = record { trie = Constant None; made = 0 } } in
-    way-first width all (rows_of_split rows c.split.result) nodes now c.new.result.items table order (rows-split rows all c.split.result c.split.ensures) refl refl (Same None, refl, refl) c.new.ensures.items
+    way-first width all (rows_of_split rows c.split.result) nodes now c.new.result.items table order
+    (rows-split rows all c.split.result c.split.ensures) refl refl (Same None, refl, refl) c.new.ensures.items
 
 pub returns-clause-few : goal.returns-clause-few
 returns-clause-few g c =

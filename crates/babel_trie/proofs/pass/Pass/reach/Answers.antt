@@ -49,7 +49,8 @@ leave-requires-clause-rows g c row t =
 
 pub enter-requires-clause-sound : goal.enter-requires-clause-sound
 enter-requires-clause-sound g c =
-    sound_by c.loop-self.table.nodes.items c.loop-self.table.numbers (elim [ Constant v ↦ elim [ Constant u ↦ refl | Stored m ↦ refl ] | Stored k ↦ elim [ Constant v ↦ refl | Stored m ↦ refl ] ]) c.loop-self.invariant.sound
+    sound_by c.loop-self.table.nodes.items c.loop-self.table.numbers
+    (elim [ Constant v ↦ elim [ Constant u ↦ refl | Stored m ↦ refl ] | Stored k ↦ elim [ Constant v ↦ refl | Stored m ↦ refl ] ]) c.loop-self.invariant.sound
 
 pub enter-requires-clause-pass : goal.enter-requires-clause-pass
 enter-requires-clause-pass g c =
@@ -73,7 +74,8 @@ loop-self-preserved g c =
     }
 
 -- an address before the first row is before all, and any is where there is none
-before_some : {V R : Type 0} (rows : R → List (Entry V)) (split : Option (Entry V × R)) (first : Entry V) (behind : R) (at start : ℕ) → split ≡ Some (first, behind) → InOrder RowOrder (rows_of_split rows split) →
+before_some : {V R : Type 0} (rows : R → List (Entry V)) (split : Option (Entry V × R)) (first : Entry V) (behind : R) (at start : ℕ)
+    → split ≡ Some (first, behind) → InOrder RowOrder (rows_of_split rows split) →
     start ≡ (block_of first.0).start → at < start → (row : Entry V) → Listed (rows_of_split rows split) row → at < (block_of row.0).start
 before_some rows split first behind at start is order start_is lt row t = omega (arith, first-least (rows_of_split rows split) (rows behind) first (ap (rows_of_split rows) is) order row t)
 
@@ -93,7 +95,8 @@ leave-requires-2-clause-rows g c row t =
     let rest = c.loop-self.self.rest in
     let p = c.loop-self.invariant.pass r.0 r.1 in
     let before : (x : Entry g.row.V.Denot) → Listed (rows_of_split rows rest) x → at < (block_of x.0).start = elim c.match-self.branch [
-      | in-Some+then-at-start w ↦ before_some rows rest w.in-Some.first w.in-Some.behind at w.bits-start.result w.in-Some.is (left_order p) (w.bits-start.ensures.value ∙ ap (λ (x : Address). x.bits) w.addr.ensures.value) w.if-at-start.true
+      | in-Some+then-at-start w ↦ before_some rows rest w.in-Some.first w.in-Some.behind at w.bits-start.result w.in-Some.is (left_order p)
+          (w.bits-start.ensures.value ∙ ap (λ (x : Address). x.bits) w.addr.ensures.value) w.if-at-start.true
       | in_default w ↦ before_none rows rest at w.in_default.is
     ] in
     omega (arith, before row t)
@@ -105,7 +108,8 @@ next_start-requires g c =
 
 pub returns-clause-sound : goal.returns-clause-sound
 returns-clause-sound g c =
-    sound_by c.loop-self.table.nodes.items c.loop-self.table.numbers (elim [ Constant v ↦ elim [ Constant u ↦ refl | Stored m ↦ refl ] | Stored k ↦ elim [ Constant v ↦ refl | Stored m ↦ refl ] ]) c.loop-self.invariant.sound
+    sound_by c.loop-self.table.nodes.items c.loop-self.table.numbers
+    (elim [ Constant v ↦ elim [ Constant u ↦ refl | Stored m ↦ refl ] | Stored k ↦ elim [ Constant v ↦ refl | Stored m ↦ refl ] ]) c.loop-self.invariant.sound
 
 pub returns-clause-behind : goal.returns-clause-behind
 returns-clause-behind g c =
@@ -115,7 +119,8 @@ returns-clause-behind g c =
     let rest = c.loop-self.self.rest in
     let p = c.loop-self.invariant.pass r.0 r.1 in
     let before : (x : Entry g.row.V.Denot) → Listed (rows_of_split rows rest) x → at < (block_of x.0).start = elim c.match-self.branch [
-      | in-Some+then-at-start w ↦ before_some rows rest w.in-Some.first w.in-Some.behind at w.bits-start.result w.in-Some.is (left_order p) (w.bits-start.ensures.value ∙ ap (λ (x : Address). x.bits) w.addr.ensures.value) w.if-at-start.true
+      | in-Some+then-at-start w ↦ before_some rows rest w.in-Some.first w.in-Some.behind at w.bits-start.result w.in-Some.is (left_order p)
+          (w.bits-start.ensures.value ∙ ap (λ (x : Address). x.bits) w.addr.ensures.value) w.if-at-start.true
       | in_default w ↦ before_none rows rest at w.in_default.is
     ] in
     let new = c.leave-2.new.self in
@@ -137,7 +142,8 @@ returns-clause-fewer g c some =
     let rest = c.loop-self.self.rest in
     let p = c.loop-self.invariant.pass r.0 r.1 in
     let before : (x : Entry g.row.V.Denot) → Listed (rows_of_split rows rest) x → at < (block_of x.0).start = elim c.match-self.branch [
-      | in-Some+then-at-start w ↦ before_some rows rest w.in-Some.first w.in-Some.behind at w.bits-start.result w.in-Some.is (left_order p) (w.bits-start.ensures.value ∙ ap (λ (x : Address). x.bits) w.addr.ensures.value) w.if-at-start.true
+      | in-Some+then-at-start w ↦ before_some rows rest w.in-Some.first w.in-Some.behind at w.bits-start.result w.in-Some.is (left_order p)
+          (w.bits-start.ensures.value ∙ ap (λ (x : Address). x.bits) w.addr.ensures.value) w.if-at-start.true
       | in_default w ↦ before_none rows rest at w.in_default.is
     ] in
     let left = ap (λ split. length (rows_of_split rows split)) c.leave-2.ensures.rest in

@@ -21,7 +21,8 @@ use Rattle.babel_trie.proofs.pass.Table+Option+V.table_runs.Goals as goal
 use Rattle.babel_trie.proofs.pass.Table+Option+V.table_runs.Goals.{then-due-len+then-nodes-ge-FEW_NODES+in_ok-early_count+else-branch-most, else-due-len}
 
 -- nothing is said
-none_said : {V : Type 0} (w : ℕ) (f : Answers V) (nodes : List (Node (Option V))) (list : List (Change (Sources (Option V)))) → list ≡ [] → AreRuns list × StartBelow 0 list × Says w 0 f nodes list × (length list ≡ 0)
+none_said : {V : Type 0} (w : ℕ) (f : Answers V) (nodes : List (Node (Option V))) (list : List (Change (Sources (Option V)))) → list ≡ []
+    → AreRuns list × StartBelow 0 list × Says w 0 f nodes list × (length list ≡ 0)
 none_said w f nodes [] is = (tt, (λ x t. elim t [ ]), (λ none d lt. absurd (omega arith)), refl)
 none_said w f nodes (x ∷ list) is = cc
 
@@ -46,7 +47,8 @@ loop-due-init g c =
 
 pub early_count-requires-clause-sound : goal.early_count-requires-clause-sound
 early_count-requires-clause-sound g c =
-    sound_by c.loop-due.self.nodes.items c.loop-due.self.numbers (elim [ Constant v ↦ elim [ Constant u ↦ refl | Stored m ↦ refl ] | Stored k ↦ elim [ Constant v ↦ refl | Stored m ↦ refl ] ]) c.loop-due.invariant.sound
+    sound_by c.loop-due.self.nodes.items c.loop-due.self.numbers
+    (elim [ Constant v ↦ elim [ Constant u ↦ refl | Stored m ↦ refl ] | Stored k ↦ elim [ Constant v ↦ refl | Stored m ↦ refl ] ]) c.loop-due.invariant.sound
 
 pub early_count-requires-clause-runs : goal.early_count-requires-clause-runs
 early_count-requires-clause-runs g c =
@@ -64,7 +66,8 @@ early_count-requires-clause-runs g c =
 
 pub returns-then-branch-most-clause-sound : goal.returns-then-branch-most-clause-sound
 returns-then-branch-most-clause-sound g c =
-    sound_by c.loop-due.self.nodes.items c.loop-due.self.numbers (elim [ Constant v ↦ elim [ Constant u ↦ refl | Stored m ↦ refl ] | Stored k ↦ elim [ Constant v ↦ refl | Stored m ↦ refl ] ]) c.loop-due.invariant.sound
+    sound_by c.loop-due.self.nodes.items c.loop-due.self.numbers
+    (elim [ Constant v ↦ elim [ Constant u ↦ refl | Stored m ↦ refl ] | Stored k ↦ elim [ Constant v ↦ refl | Stored m ↦ refl ] ]) c.loop-due.invariant.sound
 
 pub returns-then-branch-most-clause-runs : goal.returns-then-branch-most-clause-runs
 returns-then-branch-most-clause-runs g c =
@@ -79,7 +82,8 @@ returns-then-branch-most-clause-runs g c =
     let some : 0 < length list = omega (arith, c.if-due-len.true, c.len.ensures, i.due) in
     let begun = some_below c.loop-due.at list i.below some in
     let h = so_far w c.loop-due.at f nodes list i.runs i.below in
-    let runs = subst (λ (xs : List (Change (Sources (Option V)))). HasRuns w nodes xs h) (sym is) (has_runs_so_far w c.loop-due.at f nodes list i.runs i.below i.says begun (omega (arith, i.within))) in
+    let runs = subst (λ (xs : List (Change (Sources (Option V)))). HasRuns w nodes xs h) (sym is)
+    (has_runs_so_far w c.loop-due.at f nodes list i.runs i.below i.says begun (omega (arith, i.within))) in
     let agree = subst (λ (xs : List (Change (Sources (Option V)))). AgreeUpTo w xs f h) (sym is) (agree_so_far w c.loop-due.at f nodes list i.runs i.below) in
     let boxes = boxes_exist (test_by g.V.Ord.cmp g.met.V.Ord.total g.met.V.LawfulOrd.exact) w f in
     let few = c.in_ok-early_count.ensures w f h boxes.0 runs agree boxes.1 in
@@ -87,7 +91,8 @@ returns-then-branch-most-clause-runs g c =
 
 pub reach-requires-clause-sound : goal.reach-requires-clause-sound
 reach-requires-clause-sound g c =
-    sound_by c.loop-due.self.nodes.items c.loop-due.self.numbers (elim [ Constant v ↦ elim [ Constant u ↦ refl | Stored m ↦ refl ] | Stored k ↦ elim [ Constant v ↦ refl | Stored m ↦ refl ] ]) c.loop-due.invariant.sound
+    sound_by c.loop-due.self.nodes.items c.loop-due.self.numbers
+    (elim [ Constant v ↦ elim [ Constant u ↦ refl | Stored m ↦ refl ] | Stored k ↦ elim [ Constant v ↦ refl | Stored m ↦ refl ] ]) c.loop-due.invariant.sound
 
 pub returns-in_default-clause-keeps : goal.returns-in_default-clause-keeps
 returns-in_default-clause-keeps g c k node e = c.in_ok-next.ensures.keeps k node (c.loop-due.invariant.keeps k node e)
@@ -138,7 +143,8 @@ loop-due-preserved g c =
       runs = filled.runs;
       below = filled.below;
       due = elim c.if-due-len.branch [
-        | then-due-len+then-nodes-ge-FEW_NODES+in_ok-early_count+else-branch-most w ↦ omega (arith, w.due-is, w.saturating_mul-due.ensures, w.len-then-nodes-ge-FEW_NODES.ensures, w.if-due-len.true, c.len.ensures, i.due)
+        | then-due-len+then-nodes-ge-FEW_NODES+in_ok-early_count+else-branch-most w ↦ omega
+            (arith, w.due-is, w.saturating_mul-due.ensures, w.len-then-nodes-ge-FEW_NODES.ensures, w.if-due-len.true, c.len.ensures, i.due)
         | else-due-len w ↦ omega (arith, w.due-is, i.due)
       ];
       says = says-more w at start (answer w (map row_of rows)) c.loop-due.self.nodes.items table.nodes.items c.loop-due.list.items list c.sources-sources.result reach.keeps filled

@@ -21,7 +21,8 @@ table_runs-requires-clause-table g c =
 pub returns-then-are_in_order-clause-runs : goal.returns-then-are_in_order-clause-runs
 returns-then-are_in_order-clause-runs g c =
     let rows = g.R.Rows.rows c.args.rows in
-    let Known = λ (n : ℕ) (rs : List (Row g.row.V.Denot)). MatchOption c.in_ok-runs.runs (HasMoreBoxes c.args.most n (answer n rs)) (λ list. HasRuns n c.table_runs.new.self.nodes.items list.items (answer n rs)) in
+    let Known = λ (n : ℕ) (rs : List (Row g.row.V.Denot)). MatchOption c.in_ok-runs.runs (HasMoreBoxes c.args.most n (answer n rs))
+    (λ list. HasRuns n c.table_runs.new.self.nodes.items list.items (answer n rs)) in
     subst (Known (width_of c.args.family)) (sym (rows_in-all c.args.family rows c.requires.family)) (subst (λ n. Known n (map row_of rows)) c.width.ensures c.in_ok-runs.ensures.runs)
 
 pub table_runs-requires-2-clause-table : goal.table_runs-requires-2-clause-table
@@ -29,7 +30,8 @@ table_runs-requires-2-clause-table g c =
     let w = width_of c.args.family in
     let rows = g.R.Rows.rows c.args.rows in
     let table = table_of_entries c.args.family rows c.in_ok-sorted.ensures.prefixes c.requires.family c.requires.prefixes in
-    let here = subst (λ (xs : List (Entry g.row.V.Denot)). IsTable w (map row_of xs)) (sym c.as_slice.ensures.value) (table_of_sorted w rows c.in_ok-sorted.sorted.items table c.in_ok-sorted.ensures.permutation) in
+    let here = subst (λ (xs : List (Entry g.row.V.Denot)). IsTable w (map row_of xs)) (sym c.as_slice.ensures.value)
+    (table_of_sorted w rows c.in_ok-sorted.sorted.items table c.in_ok-sorted.ensures.permutation) in
     subst (λ n. IsTable n (map row_of c.as_slice.result.now)) (sym c.width-2.ensures) here
 
 pub returns-clause-runs : goal.returns-clause-runs
@@ -43,7 +45,8 @@ returns-clause-runs g c =
     let wide = subst (λ n. Known n (map row_of c.as_slice.result.now)) c.width-2.ensures c.in_ok-runs-2.ensures.runs in
     let here = subst (λ (xs : List (Entry g.row.V.Denot)). Known w (map row_of xs)) c.as_slice.ensures.value wide in
     subst (Known w) (sym (rows_in-all c.args.family rows c.requires.family))
-    (RunsOrMore-same (λ list. list.items) c.args.most w nodes (answer w (map row_of c.in_ok-sorted.sorted.items)) (answer w (map row_of rows)) runs (answers_of_sorted w rows c.in_ok-sorted.sorted.items table c.in_ok-sorted.ensures.permutation) here)
+    (RunsOrMore-same (λ list. list.items) c.args.most w nodes (answer w (map row_of c.in_ok-sorted.sorted.items)) (answer w (map row_of rows)) runs
+    (answers_of_sorted w rows c.in_ok-sorted.sorted.items table c.in_ok-sorted.ensures.permutation) here)
 
 pub returns-clause-few : goal.returns-clause-few
 returns-clause-few g c =

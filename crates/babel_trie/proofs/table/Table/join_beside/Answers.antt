@@ -27,7 +27,8 @@ returns-in-Split-Stored-clause-joins g c x opens =
     let keeps = c.in_ok-number.ensures.grows in
     let at : Opens old (Stored c.in-Split-Stored.field-0-1) x = subst (λ (s : Sources g.row.V.Denot). Opens old s x) c.in-Split-Stored.is-1 opens in
     let found : Opens new (Stored c.in_ok-number.number) inside = (node, c.in_ok-number.ensures.found, c.in-Split-Stored.is-0) in
-    let made = joins_beside new old keeps c.args.low inside x node at.0 c.in-Split-Stored.is-0 at.2 (Stored c.in_ok-number.number) c.args.beside c.in_order.result.0 c.in_order.result.1 found (Opens-grows old new keeps c.args.beside x opens) c.in_order.ensures in
+    let made = joins_beside new old keeps c.args.low inside x node at.0 c.in-Split-Stored.is-0 at.2 (Stored c.in_ok-number.number) c.args.beside
+    c.in_order.result.0 c.in_order.result.1 found (Opens-grows old new keeps c.args.beside x opens) c.in_order.ensures in
     subst (λ (m : Node g.row.V.Denot). JoinsBy c.args.low old inside x new (Split m)) (sym c.fork.ensures) made.0
 
 pub opened-requires : goal.opened-requires
@@ -43,14 +44,17 @@ each_half P false inside beside first second by p q = (subst P (sym by.0) q, sub
 pub join-requires-clause-low : goal.join-requires-clause-low
 join-requires-clause-low g c =
     let nodes = c.args.self.now.nodes.items in
-    (each_half (IsTrie 127 nodes) c.args.low c.args.inside.now c.opened.result c.in_order-2.result.0 c.in_order-2.result.1 c.in_order-2.ensures c.requires.inside (opened_trie nodes 127 c.args.beside c.opened.result c.opened.ensures c.requires.beside)).0
+    (each_half (IsTrie 127 nodes) c.args.low c.args.inside.now c.opened.result c.in_order-2.result.0 c.in_order-2.result.1 c.in_order-2.ensures
+    c.requires.inside (opened_trie nodes 127 c.args.beside c.opened.result c.opened.ensures c.requires.beside)).0
 
 pub join-requires-clause-high : goal.join-requires-clause-high
 join-requires-clause-high g c =
     let nodes = c.args.self.now.nodes.items in
-    (each_half (IsTrie 127 nodes) c.args.low c.args.inside.now c.opened.result c.in_order-2.result.0 c.in_order-2.result.1 c.in_order-2.ensures c.requires.inside (opened_trie nodes 127 c.args.beside c.opened.result c.opened.ensures c.requires.beside)).1
+    (each_half (IsTrie 127 nodes) c.args.low c.args.inside.now c.opened.result c.in_order-2.result.0 c.in_order-2.result.1 c.in_order-2.ensures
+    c.requires.inside (opened_trie nodes 127 c.args.beside c.opened.result c.opened.ensures c.requires.beside)).1
 
-joined_by : {V : Type 0} (old new : List (Node V)) (low : Bool) (inside beside first second whole : Loose V) → AreHalvesBy low inside beside first second → Joins old first second new whole → JoinsBy low old inside beside new whole
+joined_by : {V : Type 0} (old new : List (Node V)) (low : Bool) (inside beside first second whole : Loose V)
+    → AreHalvesBy low inside beside first second → Joins old first second new whole → JoinsBy low old inside beside new whole
 joined_by old new true inside beside first second whole by joins = subst (λ y. Joins old y beside new whole) by.0 (subst (λ y. Joins old first y new whole) by.1 joins)
 joined_by old new false inside beside first second whole by joins = subst (λ y. Joins old y inside new whole) by.0 (subst (λ y. Joins old first y new whole) by.1 joins)
 
@@ -59,4 +63,6 @@ returns-clause-joins g c x opens =
     let old = c.args.self.now.nodes.items in
     let new = c.join.new.self.nodes.items in
     let one = one_opening old c.args.beside c.opened.result x c.opened.ensures opens in
-    subst (λ (y : Loose g.row.V.Denot). JoinsBy c.args.low old c.args.inside.now y new c.join.new.whole) one (joined_by old new c.args.low c.args.inside.now c.opened.result c.in_order-2.result.0 c.in_order-2.result.1 c.join.new.whole c.in_order-2.ensures c.in_ok-join.ensures.joins)
+    subst (λ (y : Loose g.row.V.Denot). JoinsBy c.args.low old c.args.inside.now y new c.join.new.whole) one
+    (joined_by old new c.args.low c.args.inside.now c.opened.result c.in_order-2.result.0 c.in_order-2.result.1 c.join.new.whole
+    c.in_order-2.ensures c.in_ok-join.ensures.joins)
