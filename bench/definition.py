@@ -308,24 +308,30 @@ def lookup_run(rng, table, words, dump):
 
 
 def note_of_routes(left, right):
-    """What is noted where two tables answer alike."""
+    """What is noted where two tables answer alike: the text, and the lines as JSON."""
     number = sum(left.get(key) != right.get(key) for key in {*left, *right})
+    if not number:
+        return "", []
     differ = "1 route differs" if number == 1 else f"{number} routes differ"
-    return f"note: the same answers, but {differ}; compare --routes shows it" if number else ""
+    return (
+        f"note: the same answers, but {differ}; compare --routes shows it",
+        [f'{{"note":"routes-differ","routes":{number}}}'],
+    )
 
 
 def compare_runs(left, right, words, dumps, every):
     words = [*words, "--other-from", "192.0.2.1", *dumps]
     least = difference(left, right)
-    end = (0, note_of_routes(left, right)) if least is None else (1, "")
+    note, as_json = note_of_routes(left, right) if least is None else ("", [])
+    end = (0 if least is None else 1), note
     yield ["compare", *words], text_of_difference(least), *end
     if every:
         found = list(differences(left, right))
         yield ["compare", "--all", *words], text_of_differences(found), *end
-        yield ["compare", "--all", "--json", *words], json_of_differences(found), *end
+        yield ["compare", "--all", "--json", *words], json_of_differences(found) + as_json, *end
         yield ["compare", "--all", "--count", *words], [f"differences {len(found)}"], *end
         count = [f'{{"differences":{len(found)}}}']
-        yield ["compare", "--all", "--count", "--json", *words], count, *end
+        yield ["compare", "--all", "--count", "--json", *words], count + as_json, *end
 
 
 def expected_runs(rng, updates, others, dumps, options):

@@ -1,34 +1,95 @@
 # Completions of babel-dump for bash.
 
-_babel_dump() {
-    local word=${COMP_WORDS[COMP_CWORD]} command=${COMP_WORDS[1]}
-    local names="show lookup pairs normalise key compare diff senders extract help --help --version"
-    local options="--from --interface --accept-cut --hold --strict --quiet --json"
+# The files that the line names after its command. The word at the cursor may be empty: something
+# has to stand there.
+_babel_dump_files() {
+    local word words skip=
+    read -ra words <<<"${COMP_LINE:0:COMP_POINT}_${COMP_LINE:COMP_POINT}"
+    for word in "${words[@]:2}"; do
+        if [[ $skip ]]; then
+            skip=
+        elif [[ $word == --*=* ]]; then
+            :
+        elif [[ " $_babel_dump_valued " == *" $word "* ]]; then
+            skip=yes
+        elif [[ $word != -* ]]; then
+            printf '%s\n' "${word/#\~\//$HOME/}"
+        fi
+    done
+}
+
+# The senders of a capture: the first file that the line names, or a later one.
+_babel_dump_senders() {
+    local file
+    file=$(_babel_dump_files | sed -n "$1p")
+    [[ -f $file ]] && "${COMP_WORDS[0]}" senders --accept-cut --quiet "$file" 2>/dev/null |
+        cut -d ' ' -f 1
+}
+
+# The options that a word follows.
+_babel_dump_valued="--from --other-from --interface --other-interface --to --src --each --ignore"
+_babel_dump_valued="$_babel_dump_valued --color --body --max-routes --max-octets --within --match"
+_babel_dump_valued="$_babel_dump_valued --source --id"
+
+# The options of a command.
+_babel_dump_options() {
+    local options="--from --interface --accept-cut --hold --strict --quiet --json --short"
     options="$options --max-routes --max-octets --help"
-    case $command in
-        show) options=${options/ --strict/} ;;
+    local filters="--within --match --source --id"
+    case $1 in
+        show) options="${options/ --strict/} $filters --summary" ;;
         lookup) options="$options --to --src --each" ;;
-        pairs) options="$options --count --ignore --routes" ;;
-        normalise) options="${options/ --json/} --hex --body --ignore --routes" ;;
-        key) options="${options/ --json/} --ignore --routes" ;;
+        pairs) options="$options $filters --count --ignore --routes" ;;
+        normalise) options="${options/ --json --short/} --hex --body --ignore --routes" ;;
+        key) options="${options/ --json --short/} --ignore --routes" ;;
         compare)
             options="$options --other-from --other-interface --ignore --routes --all --count"
             ;;
         diff)
             options="${options/ --json/} --other-from --other-interface --ignore --stat --color"
             ;;
-        senders) options="--accept-cut --strict --quiet --json --max-octets --help" ;;
+        senders) options="--accept-cut --strict --quiet --json --short --max-octets --help" ;;
         extract)
             options="--from --interface --hex --accept-cut --strict --quiet --max-octets --help"
             ;;
-        *) options=$names ;;
+        *) options= ;;
     esac
-    if [[ $COMP_CWORD -gt 1 && $word != -* ]]; then
-        mapfile -t COMPREPLY < <(compgen -f -- "$word")
-    else
-        [[ $COMP_CWORD -eq 1 ]] && options=$names
-        mapfile -t COMPREPLY < <(compgen -W "$options" -- "$word")
-    fi
+    printf '%s\n' "$options"
 }
 
-complete -o filenames -F _babel_dump babel-dump
+_babel_dump() {
+    local names="show lookup pairs normalise key compare diff senders extract help --help --version"
+    local line=${COMP_LINE:0:COMP_POINT} words word option front= found=
+    # COMP_WORDS is cut at colons, which addresses have.
+    read -ra words <<<"$line"
+    [[ $line == *[[:blank:]] ]] && words+=("")
+    word=${words[-1]} option=${words[-2]}
+    if [[ $word == --*=* ]]; then
+        option=${word%%=*} word=${word#*=}
+    fi
+    case ${#words[@]}:$option in
+        2:*) found=$names ;;
+        *:--from) found=$(_babel_dump_senders 1) ;;
+        *:--other-from) found=$(_babel_dump_senders 2) ;;
+        *:--ignore)
+            [[ $word == *,* ]] && front=${word%,*},
+            found="next-hop router-id seqno metric"
+            ;;
+        *:--color) found="auto always never" ;;
+        *:--each) ;;
+        *)
+            [[ " $_babel_dump_valued " == *" $option "* ]] && return
+            [[ $word == -* ]] && found=$(_babel_dump_options "${words[1]}")
+            ;;
+    esac
+    if [[ $found || $word == -* ]]; then
+        mapfile -t COMPREPLY < <(compgen -P "$front" -W "$found" -- "${word#"$front"}")
+    elif [[ $option != --*from ]]; then
+        compopt -o filenames 2>/dev/null
+        mapfile -t COMPREPLY < <(compgen -f -- "$word")
+    fi
+    # What stands before the last colon or = is no part of the word that bash completes.
+    COMPREPLY=("${COMPREPLY[@]#"${word%"${word##*:}"}"}")
+}
+
+complete -F _babel_dump babel-dump

@@ -5,9 +5,10 @@
 
 Each dump is one of examples/routers, with one to four octets changed, and in one of eight dumps the
 end cut off. Both programs must write the same octets and texts and give the same status in each
-run: `show`, `pairs`, also with `--count`, `normalise` at some size of a packet's body, two lookups,
-and `compare` with the dump as it was, each with and without `--hold`; `normalise` and `compare`
-with `--routes`, too. Exits 1 where they do not. The same seed makes the same dumps.
+run: `show`, also with `--short`, `pairs`, also with `--count`, `normalise` at some size of a
+packet's body, two lookups, and `compare` with the dump as it was, each with and without `--hold`;
+`normalise` and `compare` with `--routes`, too. Exits 1 where they do not. The same seed makes the
+same dumps.
 """
 
 import argparse
@@ -42,6 +43,7 @@ def runs(sender, original, dump, body):
     for hold in [], ["--hold"]:
         sent = [*hold, "--from", sender]
         yield ["show", *sent, dump]
+        yield ["show", "--short", *sent, dump]
         yield ["pairs", *sent, dump]
         yield ["pairs", "--count", *sent, dump]
         yield ["normalise", *sent, "--body", str(body), "--hex", dump]

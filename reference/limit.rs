@@ -10,6 +10,8 @@
 //!     limit compare [--hold] [--routes [--all] [--count]] --from A --other-from B FILE OTHER
 //!     limit diff [--hold] --from A --other-from B FILE OTHER
 //!
+//! With --short, of each but normalise, addresses have their short texts (RFC 5952, 4).
+//!
 //! It reads packets where they lie in one buffer into rows, which it sorts once. Sorted rows are a
 //! tree whose brackets are the destination prefixes: one pass over them gives runs of destinations
 //! with one function of the source. The canonical pairs are the largest aligned blocks of the runs,
@@ -211,12 +213,15 @@ impl Address for u128 {
     }
 
     fn print<W: Write>(self, out: &mut Out<W>) {
-        for group in Ipv6Addr::from(self).segments() {
-            let skipped = (group | 1).leading_zeros() / 4;
-            let text = u64::from(hex_digits(group)) << 32 | u64::from(b':') << 24;
-            out.put((text << (8 * skipped)).to_be_bytes(), 5 - skipped as usize);
+        let groups = Ipv6Addr::from(self).segments();
+        match out.short.then(|| zero_run(&groups)).flatten() {
+            Some(run) => {
+                out.groups(&groups[..run.start]);
+                out.text(b"::");
+                out.groups(&groups[run.end..]);
+            }
+            None => out.groups(&groups),
         }
-        out.at -= 1;
     }
 
     fn of(addr: Addr) -> Option<u128> {
@@ -241,6 +246,18 @@ impl Address for u128 {
 }
 
 const LINK_LOCAL: u128 = 0xfe80 << 112;
+
+/// The first longest run of two or more zero groups.
+fn zero_run(groups: &[u16; 8]) -> Option<Range<usize>> {
+    let (mut longest, mut run) = (0..1, 0);
+    for (place, group) in groups.iter().enumerate() {
+        run = if *group == 0 { run + 1 } else { 0 };
+        if run > longest.len() {
+            longest = place + 1 - run..place + 1;
+        }
+    }
+    (longest.len() > 1).then_some(longest)
+}
 
 /// The highest bits of an IPv6 address, by how many: a shift of so wide a number is slower.
 static TOPS: [u128; 129] = {
@@ -270,13 +287,10 @@ impl Addr {
         (!text.contains('.')).then_some(Addr::V6(addr.into()))
     }
 
-    fn text(self) -> String {
+    fn print<W: Write>(self, out: &mut Out<W>) {
         match self {
-            Addr::V4(addr) => Ipv4Addr::from(addr).to_string(),
-            Addr::V6(addr) => {
-                let groups = Ipv6Addr::from(addr).segments();
-                groups.map(|group| format!("{group:x}")).join(":")
-            }
+            Addr::V4(addr) => addr.print(out),
+            Addr::V6(addr) => addr.print(out),
         }
     }
 }
@@ -2167,6 +2181,7 @@ fn hex_digits(number: u16) -> u32 {
 struct Out<W: Write> {
     sink: W,
     hex: bool,
+    short: bool,
     octets: Vec<u8>,
     at: usize,
 }
@@ -2179,6 +2194,7 @@ impl<W: Write> Out<W> {
         Out {
             sink,
             hex,
+            short: false,
             octets,
             at: 0,
         }
@@ -2225,10 +2241,28 @@ impl<W: Write> Out<W> {
         self.at += 5 - skipped;
     }
 
+    /// Groups in hexadecimal, joined by `:`.
+    fn groups(&mut self, groups: &[u16]) {
+        for group in groups {
+            let skipped = (group | 1).leading_zeros() / 4;
+            let text = u64::from(hex_digits(*group)) << 32 | u64::from(b':') << 24;
+            self.put((text << (8 * skipped)).to_be_bytes(), 5 - skipped as usize);
+        }
+        self.at -= usize::from(!groups.is_empty());
+    }
+
     fn prefix<A: Address>(&mut self, prefix: Prefix<A>) {
         prefix.bits.print(self);
         self.text(b"/");
         self.small_number(prefix.len);
+    }
+
+    fn source<A: Address>(&mut self, src: Prefix<A>) {
+        if self.short && src.len == 0 {
+            return;
+        }
+        self.text(b" from ");
+        self.prefix(src);
     }
 
     fn answer<A: Address>(&mut self, owners: &[Owner<A>], value: u64) {
@@ -2260,8 +2294,7 @@ impl<W: Write> Out<W> {
         value: u64,
     ) -> io::Result<()> {
         self.prefix(dst);
-        self.text(b" from ");
-        self.prefix(src);
+        self.source(src);
         self.text(b" ");
         self.answer(owners, value);
         self.hand_over_if_full()
@@ -2270,8 +2303,7 @@ impl<W: Write> Out<W> {
     fn difference<A: Address>(&mut self, owners: &[Owner<A>], difference: &RouteDifference<A>) {
         self.text(b"differ ");
         self.prefix(difference.key.0);
-        self.text(b" from ");
-        self.prefix(difference.key.1);
+        self.source(difference.key.1);
         self.text(b"\nleft ");
         self.answer(owners, difference.left);
         self.text(b"right ");
@@ -2467,7 +2499,7 @@ fn read_words(mut words: impl Iterator<Item = String>) -> Option<Words> {
     let (mut options, mut flags, mut files) = (HashMap::new(), Vec::new(), Vec::new());
     while let Some(word) = words.next() {
         match word.strip_prefix("--") {
-            Some(flag @ ("hex" | "hold" | "count" | "all" | "routes")) => {
+            Some(flag @ ("hex" | "hold" | "count" | "all" | "routes" | "short")) => {
                 flags.push(flag.to_string());
             }
             Some(option) => {
@@ -2487,6 +2519,13 @@ fn read_words(mut words: impl Iterator<Item = String>) -> Option<Words> {
 impl Words {
     fn has(&self, flag: &str) -> bool {
         self.flags.iter().any(|word| word == flag)
+    }
+
+    /// Standard output, for lines.
+    fn out(&self) -> Out<io::StdoutLock<'static>> {
+        let mut out = Out::new(io::stdout().lock(), false);
+        out.short = self.has("short");
+        out
     }
 
     fn addr(&self, option: &str) -> Result<Addr, Failure> {
@@ -2540,19 +2579,20 @@ impl Words {
 
 fn run(words: &Words) -> Result<u8, Failure> {
     match words.command.as_str() {
-        "show" => show(words.only_table()?),
+        "show" => show(words),
         "lookup" => lookup(words),
-        "pairs" if words.has("routes") => rows(words.only_table()?, words.has("count")),
-        "pairs" => pairs(&canonical(words.only_table()?)?, words.has("count")),
+        "pairs" if words.has("routes") => rows(words),
+        "pairs" => pairs(words),
         "normalise" => normalise(words),
         "compare" | "diff" => compare(words),
         other => Err(Failure::Usage(format!("no command {other}"))),
     }
 }
 
-fn show(mut table: Table) -> Result<u8, Failure> {
+fn show(words: &Words) -> Result<u8, Failure> {
+    let mut table = words.only_table()?;
     table.sort();
-    let out = &mut Out::new(io::stdout().lock(), false);
+    let out = &mut words.out();
     put_rows(out, &table.v4)?;
     put_rows(out, &table.v6)?;
     out.words(&format!("tlvs {}\n", table.report.tlvs));
@@ -2579,7 +2619,7 @@ fn lookup_each(words: &Words, name: &str) -> Result<u8, Failure> {
     let mut table = words.only_table()?;
     table.sort();
     let nestings = (table.v4.nesting(), table.v6.nesting());
-    let out = &mut Out::new(io::stdout().lock(), false);
+    let out = &mut words.out();
     let mut status = 0;
     for line in text.lines() {
         let pair = line.split_once(' ').map(|(dst, src)| (Addr::parse(dst), Addr::parse(src)));
@@ -2629,7 +2669,7 @@ fn lookup(words: &Words) -> Result<u8, Failure> {
         return Err(Failure::Usage(text));
     }
     let table = words.only_table()?;
-    let out = &mut Out::new(io::stdout().lock(), false);
+    let out = &mut words.out();
     let value = match asked {
         (Addr::V4(dst), Addr::V4(src)) => look_up(out, &table.v4, dst, src),
         (Addr::V6(dst), Addr::V6(src)) => look_up(out, &table.v6, dst, src),
@@ -2668,10 +2708,11 @@ fn canonical(mut table: Table) -> Result<Canons, Failure> {
 }
 
 /// The rows of a table, or how many there are.
-fn rows(mut table: Table, count: bool) -> Result<u8, Failure> {
+fn rows(words: &Words) -> Result<u8, Failure> {
+    let mut table = words.only_table()?;
     table.sort();
-    let out = &mut Out::new(io::stdout().lock(), false);
-    if count {
+    let out = &mut words.out();
+    if words.has("count") {
         let rows = table.v4.rows.len() + table.v6.rows.len();
         out.words(&format!("rows {rows}\n"));
     } else {
@@ -2682,9 +2723,10 @@ fn rows(mut table: Table, count: bool) -> Result<u8, Failure> {
     Ok(0)
 }
 
-fn pairs(canons: &Canons, count: bool) -> Result<u8, Failure> {
-    let out = &mut Out::new(io::stdout().lock(), false);
-    if count {
+fn pairs(words: &Words) -> Result<u8, Failure> {
+    let canons = &canonical(words.only_table()?)?;
+    let out = &mut words.out();
+    if words.has("count") {
         let Canons { rows, pairs, .. } = canons;
         out.words(&format!("rows {rows}\npairs {pairs}\n"));
     } else {
@@ -2734,9 +2776,9 @@ fn compare(words: &Words) -> Result<u8, Failure> {
     left.sort();
     right.sort();
     if words.has("routes") || words.command == "diff" {
-        return compare_routes(&listed(words, senders), &left, &right);
+        return compare_routes(&mut words.out(), &listed(words, senders), &left, &right);
     }
-    let out = &mut Out::new(io::stdout().lock(), false);
+    let out = &mut words.out();
     let differ =
         put_difference(out, &left.v4, &right.v4) || put_difference(out, &left.v6, &right.v6);
     if !differ {
@@ -2763,19 +2805,18 @@ fn put_difference<A: Address>(out: &mut Out<impl Write>, left: &Rows<A>, right: 
 }
 
 /// What is written of the keys for which two tables hold what differs.
-enum Listed {
+enum Listed<'a> {
     First,
     All,
     Count,
-    /// The rows, after these lines.
-    Diff(String),
+    /// The rows, after lines of these files and senders.
+    Diff([(&'static str, &'a str, Addr); 2]),
 }
 
-fn listed(words: &Words, senders: (Addr, Addr)) -> Listed {
+fn listed(words: &Words, senders: (Addr, Addr)) -> Listed<'_> {
     if words.command == "diff" {
         let file = |place| words.files.get(place).map_or("-", String::as_str);
-        let (left, right) = (senders.0.text(), senders.1.text());
-        return Listed::Diff(format!("--- {} {left}\n+++ {} {right}\n", file(0), file(1)));
+        return Listed::Diff([("--- ", file(0), senders.0), ("+++ ", file(1), senders.1)]);
     }
     match (words.has("count"), words.has("all")) {
         (true, _) => Listed::Count,
@@ -2785,8 +2826,12 @@ fn listed(words: &Words, senders: (Addr, Addr)) -> Listed {
 }
 
 /// The keys for which two sorted tables hold what differs.
-fn compare_routes(listed: &Listed, left: &Table, right: &Table) -> Result<u8, Failure> {
-    let out = &mut Out::new(io::stdout().lock(), false);
+fn compare_routes(
+    out: &mut Out<impl Write>,
+    listed: &Listed,
+    left: &Table,
+    right: &Table,
+) -> Result<u8, Failure> {
     let mut found = 0;
     put_routes(out, &left.v4, &right.v4, listed, &mut found)?;
     put_routes(out, &left.v6, &right.v6, listed, &mut found)?;
@@ -2815,9 +2860,13 @@ fn put_routes<A: Address>(
         match listed {
             Listed::Count => {}
             Listed::First | Listed::All => out.difference(owners, &difference),
-            Listed::Diff(before) => {
+            Listed::Diff(heads) => {
                 if *found == 0 {
-                    out.words(before);
+                    for (mark, file, sender) in heads {
+                        out.words(&format!("{mark}{file} "));
+                        sender.print(out);
+                        out.text(b"\n");
+                    }
                 }
                 out.changed_row(owners, b"-", &difference, difference.left)?;
                 out.changed_row(owners, b"+", &difference, difference.right)?;

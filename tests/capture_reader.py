@@ -519,41 +519,49 @@ def sender_line(origin, sent, names, as_json):
             "name": name_text(name) or None,
         }
         says.update(packets=len(sent), octets=octets, updates=updates)
-        return json.dumps(says, separators=(",", ":")) + "\n"
+        return json_line(says)
     counts = f"packets {len(sent)} octets {octets} updates {updates}"
     return f"{address} {place_text(place, name)} {counts}\n"
 
 
 COOKED = (
-    "note: frames of Linux cooked, version 1, name no interface, so links can't be told apart; "
-    "record with -y LINUX_SLL2"
+    "frames of Linux cooked, version 1, name no interface, so links can't be told apart; record "
+    "with -y LINUX_SLL2"
 )
 
 
 def short_note(found):
     """Of `senders` alone: how many frames were too short to tell."""
-    if not found.short:
-        return ()
-    return (f"note: {found.short} frame{'' if found.short == 1 else 's'} too short to tell",)
+    if found.short:
+        frames = "1 frame" if found.short == 1 else f"{found.short} frames"
+        yield f"{frames} too short to tell", {"note": "too-short", "frames": found.short}
 
 
 def notes_of(found):
-    """The notes on a capture: what was left out, and where it is cut."""
-    counts = [
-        f"{reason} {len(found.left_out[reason])} first {found.left_out[reason][0]}"
+    """The notes on a capture, as text and as an object: what was left out, and where it is cut."""
+    reasons = [
+        {"reason": reason, "count": len(numbers), "first": numbers[0]}
         for reason in REASONS
-        if reason in found.left_out
+        if (numbers := found.left_out.get(reason))
     ]
-    notes = []
-    if counts:
+    if reasons:
         total = sum(map(len, found.left_out.values()))
         datagrams = "datagram" if total == 1 else "datagrams"
-        notes.append(f"note: {total} {datagrams} left out: {', '.join(counts)}")
+        counts = ", ".join("{reason} {count} first {first}".format(**each) for each in reasons)
+        yield f"{total} {datagrams} left out: {counts}", {"note": "left-out", "reasons": reasons}
     if found.cooked:
-        notes.append(COOKED)
+        yield COOKED, {"note": "cooked-1"}
     if found.cut is not None:
-        notes.append(f"note: capture cut short at {found.cut}, and read up to there")
-    return tuple(notes)
+        text = f"capture cut short at {found.cut}, and read up to there"
+        yield text, {"note": "capture-cut", "at": found.cut}
+
+
+def texts_of(notes):
+    return tuple(f"note: {text}" for text, _ in notes)
+
+
+def json_line(says):
+    return json.dumps(says, separators=(",", ":")) + "\n"
 
 
 def refuse_if_strict(found, strict):
@@ -572,10 +580,10 @@ def senders(octets, as_json=False, strict=False, accept_cut=False, limit=USUAL_O
         return Answer(3, errors=(str(fault),))
     origins = sorted(found.packets, key=by_place)
     lines = [sender_line(origin, found.packets[origin], found.names, as_json) for origin in origins]
-    none = () if lines else ("no Babel packets",)
-    return Answer(
-        0 if lines else 1, "".join(lines).encode(), none + notes_of(found) + short_note(found)
-    )
+    status, none = (0, ()) if lines else (1, ("no Babel packets",))
+    notes = [*notes_of(found), *short_note(found)]
+    lines += [json_line(says) for _, says in notes if as_json]
+    return Answer(status, "".join(lines).encode(), none + texts_of(notes))
 
 
 def extract(
@@ -596,7 +604,8 @@ def extract(
     except Fault as fault:
         return Answer(3, errors=(str(fault),))
     if not found.packets:
-        return Answer(1, errors=(f"no packets from {name}", *notes_of(found)))
+        return Answer(1, errors=(f"no packets from {name}", *texts_of(notes_of(found))))
     (sent,) = found.packets.values()
     dump = b"".join(sent)
-    return Answer(0, (dump.hex() + "\n").encode() if as_hex else dump, notes_of(found))
+    output = (dump.hex() + "\n").encode() if as_hex else dump
+    return Answer(0, output, texts_of(notes_of(found)))

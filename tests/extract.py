@@ -607,9 +607,11 @@ def run(program, words, capture=b"", **how):
 
 
 def without_notes(answer):
+    """The answer without its notes, on standard error and as JSON."""
+    lines = answer.output.splitlines(keepends=True)
     return reader.Answer(
         answer.status,
-        answer.output,
+        b"".join(line for line in lines if not line.startswith(b'{"note":')),
         tuple(line for line in answer.errors if not line.startswith("note: ")),
     )
 

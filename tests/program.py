@@ -1,9 +1,11 @@
 """The program as a process: program.txt, and what a shell's words can't bring about."""
 
+import ipaddress
 import itertools
 import json
 import os
 import pathlib
+import random
 import re
 import resource
 import shutil
@@ -31,6 +33,16 @@ COMMANDS = (
     "show", "lookup", "pairs", "normalise", "key", "compare", "diff", "senders", "extract"
 )
 ONE_ROUTE = TOP / "examples/one-route.dump"
+ONE_ROUTE_SHOWN = (
+    b"10.0.0.0/8 from 0.0.0.0/0 via 192.0.2.1 id 0200000000000001 seqno 1 metric 256\ntlvs 2\n"
+)
+COMPLETIONS = "babel-dump.bash", "_babel-dump", "babel-dump.fish"
+INSTALLED = (
+    "man/man1/babel-dump.1",
+    "bash-completion/completions/babel-dump",
+    "zsh/site-functions/_babel-dump",
+    "fish/vendor_completions.d/babel-dump.fish",
+)
 
 
 def packet(body):
@@ -208,8 +220,8 @@ def check_little_memory(program, folder, tally):
 
 
 def words_of(text):
-    """The long options in a text."""
-    return set(re.findall(r"--[a-z][a-z-]*", text))
+    """The long options in a text; fish writes each after `-l`, and an option after it."""
+    return {f"--{name}" for name in re.findall(r"(?:--| -l (?=[a-z-]+ -))([a-z][a-z-]*)", text)}
 
 
 def help_of(program, *words):
@@ -220,18 +232,59 @@ def help_of(program, *words):
 def check_manual(program, tally):
     """The manual page and the completions have each command and each option, and no other."""
     manual = (TOP / "docs/babel-dump.1").read_text().replace("\\-", "-")
-    completions = (TOP / "docs/babel-dump.bash").read_text()
+    completions = {name: (TOP / "docs" / name).read_text() for name in COMPLETIONS}
     options = words_of(help_of(program)) | {"--version"}
     for command in COMMANDS:
         options |= words_of(help_of(program, command))
         expect(tally, f"{command} in the manual page", f"\n.B {command}\n" in manual, True)
+        for name, text in completions.items():
+            found = re.search(rf"[ '\"(]{command}[ :)]", text) is not None
+            expect(tally, f"{command} in {name}", found, True)
     expect(tally, "the options in the manual page", words_of(manual), options)
-    expect(tally, "the options in the completions", words_of(completions), options)
+    for name, text in completions.items():
+        expect(tally, f"the options in {name}", words_of(text), options)
     if shutil.which("groff"):
         page = subprocess.run(
             ["groff", "-ww", "-man", "-Tutf8", TOP / "docs/babel-dump.1"], capture_output=True
         )
         expect(tally, "what groff says of the manual page", page.stderr, b"")
+
+
+# What bash and fish complete, by the line to its end, and what stands there.
+COMPLETED = (
+    ("babel-dump nor", ["normalise"]),
+    ("babel-dump key --ro", ["--routes"]),
+    ("babel-dump show x.pcap --from f", ["fe80:0:0:0:0:0:0:1", "fe80:0:0:0:0:0:0:2"]),
+    ("babel-dump compare x.pcap now.pcap --other-from f", ["fe80:0:0:0:0:0:0:1"]),
+    ("babel-dump show x.dump --from f", []),
+    ("babel-dump pairs --ignore next-hop,s", ["next-hop,seqno"]),
+    ("babel-dump diff --color a", ["always", "auto"]),
+)
+
+# How a shell lists what it completes of the line $1.
+SHELLS = {
+    "bash": """. "$2"; COMP_LINE=$1 COMP_POINT=${#1} COMP_WORDS=(babel-dump); _babel_dump
+        printf '%s\\n' "${COMPREPLY[@]}" """,
+    "fish": "source $argv[2]; complete -C $argv[1] | string replace -r '\\t.*' ''",
+}
+
+
+def check_completions(folder, tally):
+    """The shells that are here complete options, words and senders."""
+    for shell, script in SHELLS.items():
+        if not shutil.which(shell):
+            continue
+        for line, wanted in COMPLETED:
+            more = ["completions"] if shell == "bash" else []
+            words = [shell, "-c", script, *more, line, TOP / f"docs/babel-dump.{shell}"]
+            how = {"cwd": folder, "capture_output": True, "text": True}
+            path = f"{folder / 'tools'}:{os.environ['PATH']}"
+            done = subprocess.run(words, env={**os.environ, "PATH": path}, **how)
+            found = sorted(done.stdout.split()), done.stderr
+            expect(tally, f"{shell} completes {line}", found, (wanted, ""))
+    if shutil.which("zsh"):
+        done = subprocess.run(["zsh", "-n", TOP / "docs/_babel-dump"], capture_output=True)
+        expect(tally, "zsh reads its completions", (done.returncode, done.stderr), (0, b""))
 
 
 def example_captures():
@@ -267,8 +320,13 @@ def check_examples(program, folder, tally):
 
 
 def text_of(line):
-    """What `show` and `pairs` write as text where they write this line as JSON."""
+    """What `show` and `pairs` write as text where they write this line as JSON; a note on standard
+    error."""
     said = json.loads(line)
+    if said.get("note") == "ignored":
+        counts = ["{reason} {count} first {first}".format(**each) for each in said["ignored"]]
+        total = sum(each["count"] for each in said["ignored"])
+        return f"! note: {total} of {said['tlvs']} TLVs ignored: {', '.join(counts)}\n"
     if "tlvs" in said:
         ignored = [
             "ignored {reason} {count} first {first}\n".format(**each) for each in said["ignored"]
@@ -286,11 +344,50 @@ def check_json(program, tally):
         for command in "show", "pairs":
             words = [program, command, "--hold", "--from", sender, ROUTERS / f"{name}.dump"]
             text, lines = (
-                subprocess.run(words + more, check=True, capture_output=True, text=True).stdout
+                subprocess.run(words + more, check=True, capture_output=True)
                 for more in ([], ["--json"])
             )
-            found = "".join(map(text_of, lines.splitlines()))
-            tally.check(f"{command} --json of {name}", transcript.difference(text, found))
+            printed = re.sub("(?m)^! hint: .*\n", "", transcript.printed(text))
+            found = "".join(map(text_of, lines.stdout.decode().splitlines()))
+            tally.check(f"{command} --json of {name}", transcript.difference(printed, found))
+
+
+def groups_of(number):
+    return [number >> place & 0xFFFF for place in range(112, -16, -16)]
+
+
+def long_text(number):
+    return ":".join(f"{group:x}" for group in groups_of(number))
+
+
+def short_text(number):
+    """The text of RFC 5952, 4, as Python has it; of an IPv4-mapped address a later Python has the
+    dotted ending of 5."""
+    if number >> 32 == 0xFFFF:
+        return "::ffff:{6:x}:{7:x}".format(*groups_of(number))
+    return str(ipaddress.IPv6Address(number))
+
+
+def addresses(count):
+    """So many IPv6 addresses with many groups of zero; every tenth is IPv4-mapped."""
+    draw = random.Random(count)
+    for place in range(count):
+        if place % 10 == 0:
+            yield 0xFFFF << 32 | draw.getrandbits(draw.choice((8, 16, 24, 32)))
+        else:
+            groups = [draw.getrandbits(draw.choice((0, 0, 4, 8, 12, 16))) for _ in range(8)]
+            yield sum(group << 16 * power for power, group in enumerate(groups))
+
+
+def check_short(program, tally):
+    """Python writes the same short texts of ten thousand addresses."""
+    numbers = addresses(10_000)
+    pairs = list(zip(numbers, numbers))
+    words = [program, "lookup", "--short", "--quiet", "--from", "::", "--each", "-", os.devnull]
+    asked = "".join(f"{long_text(dst)} {long_text(src)}\n" for dst, src in pairs)
+    wanted = "".join(f"{short_text(dst)} from {short_text(src)} none\n" for dst, src in pairs)
+    found = subprocess.run(words, input=asked, capture_output=True, text=True).stdout
+    tally.check("--short of 10,000 addresses", transcript.difference(wanted, found))
 
 
 def check_install(folder, tally):
@@ -300,12 +397,26 @@ def check_install(folder, tally):
     found = subprocess.run(
         [folder / "usr/bin/babel-dump", *words], env={"PATH": ""}, capture_output=True
     )
-    wanted = (
-        b"10.0.0.0/8 from 0.0.0.0/0 via 192.0.2.1 id 0200000000000001 seqno 1 metric 256\ntlvs 2\n"
-    )
-    expect(tally, "the installed program", found.stdout, wanted)
-    for name in "man/man1/babel-dump.1", "bash-completion/completions/babel-dump":
+    expect(tally, "the installed program", found.stdout, ONE_ROUTE_SHOWN)
+    for name in INSTALLED:
         expect(tally, f"{name} is installed", (folder / "usr/share" / name).is_file(), True)
+
+
+def check_package(folder, tally):
+    """The Debian package has what is installed, and lintian has no error for it."""
+    if not shutil.which("dpkg-deb"):
+        return
+    done = subprocess.run([TOP / "install", "--deb"], capture_output=True, text=True, check=True)
+    package = re.search(r"in '(.*)'", done.stdout)[1]
+    subprocess.run(["dpkg-deb", "-x", package, folder / "package"], check=True)
+    found = subprocess.run(
+        [folder / "package/usr/bin/babel-dump", *SHOW, ONE_ROUTE], env={}, capture_output=True
+    )
+    expect(tally, "the program of the package", found.stdout, ONE_ROUTE_SHOWN)
+    if shutil.which("lintian"):
+        told = subprocess.run(["lintian", package], capture_output=True, text=True)
+        errors = [line for line in told.stdout.splitlines() if line.startswith("E:")]
+        expect(tally, "what lintian says of the package", (told.returncode, errors), (0, []))
 
 
 def check(tally, _long):
@@ -325,5 +436,8 @@ def check(tally, _long):
         check_little_memory(program, folder, tally)
         check_manual(program, tally)
         check_examples(program, folder, tally)
+        check_completions(folder, tally)
         check_json(program, tally)
+        check_short(program, tally)
         check_install(folder, tally)
+        check_package(folder, tally)

@@ -1,5 +1,5 @@
 -- The keys that two lists of rows hold differently are all their differences, of which there is one list.
-use Rattle.std.proofs.Common.{◌≡◌, Bool, true, false, cond, List, [], ◌∷◌, map, Option, Some, None, refl, sym, ap, subst, ◌∙◌, inl, inr, Contains}
+use Rattle.std.proofs.Common.{◌≡◌, Bool, true, false, cond, List, [], ◌∷◌, ◌++◌, map, Option, Some, None, refl, sym, ap, subst, ◌∙◌, inl, inr, Contains}
 use Rattle.std.specs.Prelude.{◌≢◌, ◌⊎◌, not}
 use Rattle.std.specs.List.{AllByRecursion, filter}
 use Rattle.std.specs.List.Sorted.{IsStrictlySortedBy}
@@ -8,7 +8,7 @@ use Rattle.std.specs.BTreeMap.{is_at}
 use Rattle.std.specs.Ordering.{is_ne}
 use Rattle.std.specs.declared.cmp.Ordering.{Ordering}
 use Rattle.std.specs.declared.cmp.Ordering.TheVariants.{Less, Equal, Greater}
-use Rattle.std.proofs.lemmas.Cmp.{eq_by_cmp_equiv}
+use Rattle.std.proofs.lemmas.Cmp.{eq_by_cmp_equiv, tied_itself}
 use Rattle.std.proofs.lemmas.Map.Entries.{lookup-filter-values, option_filter}
 use Rattle.std.proofs.lemmas.Map.Keys.{IsDistinct-from_sorted}
 use Rattle.std.proofs.lemmas.Map.Views.{Contains-from_lookup, lookup-from_Contains}
@@ -28,7 +28,7 @@ use Rattle.babel_canon.specs.declared.every_difference.Difference.{Difference}
 use Rattle.babel_canon.specs.Joined.{Joined, differ, difference_of, differing, joined}
 use Rattle.babel_canon.specs.Routes.{AreRouteDifferences, HoldFor, IsRouteDifference, NoneWhereRoutesSame, RouteDifferencesAreOne}
 use Rattle.babel_canon.proofs.Boxes.{held_test, held_tied, rising_one}
-use Rattle.babel_canon.proofs.JoinedRows.{both, joined_found, joined_rising}
+use Rattle.babel_canon.proofs.JoinedRows.{both, first_equal, joined_found, joined_rising, kept_later}
 
 -- ---- what rows hold for a key is found there
 
@@ -168,6 +168,17 @@ differences_are rows others up down = record {
         subst (Contains (differing rows others)) is_difference
         (Contains-from_Listed (differing rows others) (difference_of (key, (row_at rows key, row_at others key)))
         (map-Listed difference_of kept (key, (row_at rows key, row_at others key)) (Listed-from_Contains kept (key, (row_at rows key, row_at others key)) at)))
+
+-- ---- what both begin with is no difference
+
+alike_first : (alike rows others : List Pair) → differing (alike ++ rows) (alike ++ others) ≡ differing rows others
+alike_first [] rows others = refl
+alike_first (row ∷ alike) rows others =
+    let first = first_equal (row ∷ alike ++ rows) (row ∷ alike ++ others) (alike ++ rows) (alike ++ others) row row refl refl (tied_itself key_total row.0) in
+    sym (kept_later _ _ _ first (ap is_ne (held_tied row.1))) ∙ alike_first alike rows others
+
+pub alike_passed : (rows others left right alike : List Pair) → rows ≡ alike ++ left → others ≡ alike ++ right → differing left right ≡ differing rows others
+alike_passed rows others left right alike is also = rw (is, also) (sym (alike_first alike left right))
 
 -- ---- there is one list of them
 

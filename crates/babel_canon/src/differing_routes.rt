@@ -95,6 +95,7 @@ impl<'a> Iterator for RouteDifferences<'a> {
     ghost remaining = { item_count differences_left };
 
     fn next(&mut self) -> Option<Difference> {
+        self.left.pass_alike(&mut self.right);
         while let Some((key, (left, right))) = self.next_key() {
             if differ(&left, &right) {
                 return Some(Difference { key, left, right });

@@ -50,8 +50,8 @@ impl<'a> NextHeader<'a> {
     ghost use Rattle.babel_capture.specs.Headers.{is_unkept, past_header, past_headers};
     ghost use Rattle.babel_capture.specs.Layers.{next_header};
 
-    /// The header after the extension headers, of which at most `MAX_EXTENSION_HEADERS` are passed
-    /// over.
+    /// The header after the extension headers, of which at most `MAX_EXTENSION_HEADERS` are
+    /// skipped.
     pub fn past_all(self) -> NextHeader<'a>
         ensures { next_header result ≡ past_headers 8 (next_header self.entry) }
     {

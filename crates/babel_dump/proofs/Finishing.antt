@@ -1,5 +1,6 @@
 -- A run that finished wrote what was found, or answered why nothing was found.
 use Rattle.std.proofs.Common.{◌≡◌, ℕ, List, Option, None, Some, Result, Ok, Err, arith, ap, sym, subst, refl, inl, inr}
+use Rattle.std.proofs.lemmas.Result.{IfOk-weaker}
 use Rattle.std.specs.Prelude.{IfOk, IfErr}
 use Rattle.babel_dump.specs.Command.{CompareCause}
 use Rattle.babel_dump.specs.Device.{AppendsPrefix}
@@ -99,6 +100,15 @@ pub called_status : (calls : Calls) (result : Result Outcome RunFault) → Calle
 called_status calls (Ok outcome) run = record { no_failure = run.no_failure; reads = run.reads; failures = run.failures; ends = run.ends }
 called_status calls (Err fault) run = record { no_failure = tt; reads = run.reads; failures = run.failures; ends = run.ends }
 
+-- what was found says more
+pub says_weaker : (calls : Calls) (Cause : RunFault → Type 0) (Holds Others : List ℕ → Outcome → Type 0) (found : Result Found RunFault)
+    → ((text : List ℕ) (outcome : Outcome) → Holds text outcome → Others text outcome) → Gathered calls Cause (Says Holds) found → Gathered calls Cause (Says Others) found
+says_weaker calls Cause Holds Others found weaker gathered = record {
+  made = IfOk-weaker found (Says Holds) (Says Others) (λ f. weaker (found_text f) f.outcome) gathered.made;
+  cause = gathered.cause;
+  called = gathered.called;
+}
+
 -- a run over one dump, whose status is answered alone
 pub ran_alone : (reader : Input) (writer : Output) (Cause : InputFault → Type 0) (Holds : List ℕ → Outcome → Type 0) (found : Result Found RunFault)
     (result : Result Outcome RunFault) → Gathered (calls_of reader) (OfFirst Cause) (Says Holds) found → Finished writer found result
@@ -115,18 +125,19 @@ not_compared reader other untouched (inr (memory, sound, other_sound)) = absurd 
 
 -- a job's fault is not that of a write
 no_write : (job : Job) (reader other : Reads) (untouched : Type 0) → CauseBy job reader other untouched run_faults.Write → ⊥
-no_write (jobs.Show reading format file quiet) reader other untouched cause = cause
+no_write (jobs.Show reading filter summary format file quiet) reader other untouched cause = cause
 no_write (jobs.Lookup reading pair format file quiet) reader other untouched cause = cause
+no_write (jobs.AnySource reading dst format file quiet) reader other untouched cause = cause
 no_write (jobs.Each reading format file pairs quiet) reader other untouched (inl (refuses, unread)) = absurd cc
 no_write (jobs.Each reading format file pairs quiet) reader other untouched (inr (asked, no_failure, cause)) = cause
 no_write (jobs.Normalise reading view body hex file quiet) reader other untouched cause = cause
 no_write (jobs.Key reading view routes file quiet) reader other untouched cause = cause
-no_write (jobs.Pairs reading view count format file quiet) reader other untouched cause = cause
+no_write (jobs.Pairs reading view filter count format file quiet) reader other untouched cause = cause
 no_write (jobs.Compare reading other_reading view format file another quiet) reader other untouched cause = not_compared _ _ untouched cause
 no_write (jobs.Differences reading other_reading view count format file another quiet) reader other untouched (inl cause) = not_compared _ _ untouched cause
 no_write (jobs.Differences reading other_reading view count format file another quiet) reader other untouched (inr (many, have)) = absurd cc
 no_write (jobs.RouteOctets reading view body hex file quiet) reader other untouched cause = cause
-no_write (jobs.RouteRows reading view count format file quiet) reader other untouched cause = cause
+no_write (jobs.RouteRows reading view filter count format file quiet) reader other untouched cause = cause
 no_write (jobs.CompareRoutes reading other_reading view listed format file another quiet) reader other untouched cause = not_compared _ _ untouched cause
 no_write (jobs.Diff reading other_reading view style file another quiet) reader other untouched cause = not_compared _ _ untouched cause
 no_write (jobs.Senders reading format file quiet) reader other untouched cause = cause

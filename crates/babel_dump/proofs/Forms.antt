@@ -1,5 +1,5 @@
 -- What the canonical octets, and the canonical pairs, of a reader's dump are.
-use Rattle.std.proofs.Common.{◌≡◌, ℕ, Bool, List, ap, subst, ◌∙◌, arith, inl, inr}
+use Rattle.std.proofs.Common.{◌≡◌, ℕ, List, ap, subst, ◌∙◌, arith, inl, inr}
 use Rattle.std.specs.Prelude.{◌≢◌}
 use Rattle.babel_tlv.specs.declared.fault.Fault.{Fault}
 use Rattle.babel_tlv.specs.declared.fault.Fault.TheVariants as faults
@@ -26,9 +26,7 @@ use Rattle.babel_canon.specs.Packing.{TextIsOne}
 use Rattle.babel_canon.specs.Views.{HeadlineUnder}
 use Rattle.babel_canon.specs.ViewsTell.{AllNormalises}
 use Rattle.babel_dump.specs.Given.{GaveNormal, GaveRoutes, GaveTable, Input, IsFaultOfForm, IsNormal}
-use Rattle.babel_dump.specs.InFormat.{pairs_or_counts_in}
 use Rattle.babel_dump.specs.Parts.{SaysPairs}
-use Rattle.babel_dump.specs.declared.format.Format.{Format}
 
 -- the canonical octets of what is seen of the table are those of the dump under the view
 pub gave_normal : Headline → HeadlineUnder → AllNormalises → AnswersAreTold
@@ -74,9 +72,9 @@ gave_normal headline under all are_told reader view body table seen report octet
     }
 
 -- the canonical pairs have a text
-pub says_pairs : TextIsOne → (limits : Bounds) (view : View) (count : Bool) (format : Format) (table seen : Routes) (pairs : List Pair) (text : List ℕ) → seen ≡ seen_table view table
-    → AreCanonical limits seen.rows pairs → text ≡ pairs_or_counts_in format view count table.rows pairs → SaysPairs limits view count format table.rows text
-says_pairs one limits view count format table seen pairs text seen_is are_seen text_is =
+pub says_pairs : TextIsOne → (limits : Bounds) (view : View) (in_text : List Pair → List Pair → List ℕ) (table seen : Routes) (pairs : List Pair) (text : List ℕ)
+    → seen ≡ seen_table view table → AreCanonical limits seen.rows pairs → text ≡ in_text table.rows pairs → SaysPairs limits view in_text table.rows text
+says_pairs one limits view in_text table seen pairs text seen_is are_seen text_is =
     let size : IsBodySize 1024 = record { room = omega arith; said = omega arith } in
     let are : AreCanonical limits (seen_rows view table.rows) pairs = subst (λ (t : Routes). AreCanonical limits t.rows pairs) seen_is are_seen in
     let whole = one 1024 pairs size are.boxes.are_rows.each in

@@ -2,7 +2,9 @@
 use Rattle.std.proofs.Common.{◌≡◌, ◌≢◌, refl, ℕ, ◌<◌, ◌≤◌, Bool, true, false, if◌then◌else◌, List, [], ◌++◌, length, length-append, take}
 use Rattle.std.proofs.Common.{Option, None, Some, Result, Ok, Err, inl, inr, ◌⊎◌, arith, append-nil, subst, ap, sym, ◌∙◌}
 use Rattle.std.specs.Prelude.{zero, suc}
+use Rattle.std.specs.Option.{SomeIff}
 use Rattle.std.specs.Io.KnownBytes.{Appends, Consumes, IsAtEnd}
+use Rattle.babel_prefix.specs.Address.{Address}
 use Rattle.babel_capture.specs.Gathering.{Gathering}
 use Rattle.babel_capture.specs.declared.wanted.Wanted.{Wanted}
 use Rattle.babel_capture.specs.declared.wanted.Wanted.TheVariants as wanteds
@@ -35,6 +37,8 @@ use Rattle.babel_canon.specs.declared.verdict.Verdict.{Verdict}
 use Rattle.babel_canon.proofs.OneOutcome.{boxes_same, form_is_one}
 use Rattle.babel_canon.proofs.OneDifferences.{differences_are_one}
 use Rattle.babel_canon.proofs.OneVerdict.{verdict_is_one}
+use Rattle.babel_dump.specs.AnySource.{HasSourceSpecific, LooksUpAnySource, any_source}
+use Rattle.babel_dump.proofs.AnySourceLaws.{told_one}
 use Rattle.babel_dump.specs.AskedPairs.{AskFor, IsFirstWrong, asking, lines_of}
 use Rattle.babel_dump.specs.CaptureGiven.{GaveCapture, GaveSound, IsReadSo}
 use Rattle.babel_dump.specs.CaptureRun.{CaptureCause, IsOutcomeOf}
@@ -42,14 +46,16 @@ use Rattle.babel_dump.specs.CaptureText.{dump_status, dump_text, senders_in, sen
 use Rattle.babel_dump.specs.Command.{CompareCause, Compares, DifferencesCause, HaveDifferences, InTurn, IsOfMany, IsOfMemory, ListsDifferences, ListsPairs, WritesNormal}
 use Rattle.babel_dump.specs.Each.{EachCause, GavePairsOf, GaveText, LooksUpAsked, RefusesPairs}
 use Rattle.babel_dump.specs.Files.{name_of}
+use Rattle.babel_dump.specs.Filter.{kept_pairs_in, kept_rows}
 use Rattle.babel_dump.specs.Given.{GaveAll, GaveDump, GaveTable, GaveUnread, GaveTables, Input, IsFaultOfForm, IsFaultOfGiven, IsOfWhole, Reads, dump_of}
-use Rattle.babel_dump.specs.InFormat.{answer_line_in, differences_or_count_in, each_in, lookup_in, pairs_or_counts_in, show_in, verdict_in}
+use Rattle.babel_dump.specs.InFormat.{answer_line_in, differences_or_count_in, each_in, lookup_in, verdict_in}
 use Rattle.babel_dump.specs.JobRun.{CauseBy, SaysBy, capture_of}
 use Rattle.babel_dump.specs.KeyText.{key_line}
 use Rattle.babel_dump.specs.OneOutcome.{Contents, FaultIsOfAll, FaultIsOne, HasContents, IsOfDump, IsOfOctets, NothingWritten}
 use Rattle.babel_dump.specs.OneOutcome.{OutcomeIsOne, OutcomeOrFault, RanOver, WrittenIsPrefix, octets_at, reading_at}
 use Rattle.babel_dump.specs.Run.{InputCause, OfFirst, UnlessWrite}
 use Rattle.babel_dump.specs.RunText.{answer_in, differences_status, each_status, form_text, lookup_status, verdict_status}
+use Rattle.babel_dump.specs.Summary.{shown_in}
 use Rattle.babel_dump.specs.TextParts.{lacks_route}
 use Rattle.babel_dump.specs.LeftOut.{first_left_out}
 use Rattle.babel_dump.specs.Strict.{IsNotReadWhole, IsReadWhole}
@@ -200,6 +206,20 @@ table_says_one text_of status_of table too text text_too outcome outcome_too sam
   outcome_is ∙ ap (λ (t : Routes). record { status = status_of t; reports = reports.Dump t.report }) same ∙ sym too_outcome,
 )
 
+any_source_one : (reading : Reading) (dst : Address) (format : Format) (dump : Contents) (one two : Reads) (text text_too : List ℕ) (outcome outcome_too : Outcome)
+    → HasContents one.old dump → HasContents two.old dump
+    → LooksUpAnySource (dump_of one reading) dst format text outcome → LooksUpAnySource (dump_of two reading) dst format text_too outcome_too
+    → (text ≡ text_too) × (outcome ≡ outcome_too)
+any_source_one reading dst format dump one two text text_too outcome outcome_too has has_too says again =
+    let src = any_source dst.family in
+    let same = table_one reading dump one two says.table again.table has has_too says.gave again.gave in
+    let told = told_one says.told again.told _ src says.told_if (subst (λ (t : Routes). SomeIff again.told (HasSourceSpecific dst t.rows) src) (sym same) again.told_if) in (
+      says.text_is ∙ ap (λ (t : Routes). lookup_in format dst src (answer_in t dst src)) same ∙ sym again.text_is,
+      says.outcome_is ∙ ap (λ (t : Routes). record { status = lookup_status (answer_in t dst src); reports = reports.AnySource t.report says.told }) same
+          ∙ ap (λ (o : Option Address). record { status = lookup_status (answer_in again.table dst src); reports = reports.AnySource again.table.report o }) told
+          ∙ sym again.outcome_is,
+    )
+
 normal_one : (reading : Reading) (view : View) (body : ℕ) (hex : Bool) (dump : Contents) (one two : Reads) (text text_too : List ℕ) (outcome outcome_too : Outcome)
     → HasContents one.old dump → HasContents two.old dump
     → WritesNormal (dump_of one reading) view body hex text outcome → WritesNormal (dump_of two reading) view body hex text_too outcome_too
@@ -238,16 +258,16 @@ routes_one reading view body hex dump one two text text_too outcome outcome_too 
       says.outcome_is ∙ ap (λ r. record { status = 0; reports = reports.Dump r }) reported ∙ sym again.outcome_is,
     )
 
-pairs_one : (reading : Reading) (view : View) (count : Bool) (format : Format) (dump : Contents) (one two : Reads) (text text_too : List ℕ) (outcome outcome_too : Outcome)
+pairs_one : (reading : Reading) (view : View) (in_text : List Pair → List Pair → List ℕ) (dump : Contents) (one two : Reads) (text text_too : List ℕ) (outcome outcome_too : Outcome)
     → HasContents one.old dump → HasContents two.old dump
-    → ListsPairs (dump_of one reading) view count format text outcome → ListsPairs (dump_of two reading) view count format text_too outcome_too
+    → ListsPairs (dump_of one reading) view in_text text outcome → ListsPairs (dump_of two reading) view in_text text_too outcome_too
     → (text ≡ text_too) × (outcome ≡ outcome_too)
-pairs_one reading view count format dump one two text text_too outcome outcome_too has has_too says again =
+pairs_one reading view in_text dump one two text text_too outcome outcome_too has has_too says again =
     let same = table_one reading dump one two says.table again.table has has_too says.gave.gave again.gave.gave in
     let rows = ap (λ (t : Routes). t.rows) same in
     let pairs = boxes_same (seen_rows view says.table.rows) (seen_rows view again.table.rows) says.canon.pairs again.canon.pairs (ap (seen_rows view) rows)
     says.gave.is_canon.boxes again.gave.is_canon.boxes in (
-      says.text_is ∙ ap (λ (r : List Pair). pairs_or_counts_in format view count r says.canon.pairs) rows ∙ ap (pairs_or_counts_in format view count again.table.rows) pairs ∙ sym again.text_is,
+      says.text_is ∙ ap (λ (r : List Pair). in_text r says.canon.pairs) rows ∙ ap (in_text again.table.rows) pairs ∙ sym again.text_is,
       says.outcome_is ∙ ap (λ (t : Routes). record { status = 0; reports = reports.Dump t.report }) same ∙ sym again.outcome_is,
     )
 
@@ -436,13 +456,15 @@ module _ (reading : CaptureReading) (wanted : Wanted) (contents : Contents) (one
 says_one : (job : Job) (octets other : Contents) (one two one_other two_other : Reads) (text text_too : List ℕ) (outcome outcome_too : Outcome)
     → HasContents one.old octets → HasContents two.old octets → HasContents one_other.old other → HasContents two_other.old other
     → SaysBy job one one_other text outcome → SaysBy job two two_other text_too outcome_too → (text ≡ text_too) × (outcome ≡ outcome_too)
-says_one (jobs.Show reading format file quiet) octets other one two one_other two_other text text_too outcome outcome_too has has_too other_has other_has_too says again =
-    table_says_one (show_in format) (λ _. 0) says.table again.table text text_too outcome outcome_too
+says_one (jobs.Show reading filter summary format file quiet) octets other one two one_other two_other text text_too outcome outcome_too has has_too other_has other_has_too says again =
+    table_says_one (shown_in format filter summary quiet) (λ _. 0) says.table again.table text text_too outcome outcome_too
     (table_one reading octets one two says.table again.table has has_too says.gave again.gave) says.text_is says.outcome_is again.text_is again.outcome_is
 says_one (jobs.Lookup reading pair format file quiet) octets other one two one_other two_other text text_too outcome outcome_too has has_too other_has other_has_too says again =
     table_says_one (λ t. lookup_in format pair.dst pair.src (answer_in t pair.dst pair.src)) (λ t. lookup_status (answer_in t pair.dst pair.src))
     says.table again.table text text_too outcome outcome_too
     (table_one reading octets one two says.table again.table has has_too says.gave again.gave) says.text_is says.outcome_is again.text_is again.outcome_is
+says_one (jobs.AnySource reading dst format file quiet) octets other one two one_other two_other text text_too outcome outcome_too has has_too other_has other_has_too says again =
+    any_source_one reading dst format octets one two text text_too outcome outcome_too has has_too says again
 says_one (jobs.Each reading format file pairs quiet) octets other one two one_other two_other text text_too outcome outcome_too has has_too other_has other_has_too says again =
     each_one reading format octets other one two one_other two_other text text_too outcome outcome_too has has_too other_has other_has_too says again
 says_one (jobs.Normalise reading view body hex file quiet) octets other one two one_other two_other text text_too outcome outcome_too has has_too other_has other_has_too says again =
@@ -453,8 +475,8 @@ says_one (jobs.Key reading view false file quiet) octets other one two one_other
 says_one (jobs.Key reading view true file quiet) octets other one two one_other two_other text text_too outcome outcome_too has has_too other_has other_has_too says again =
     let same = routes_one reading view 1024 false octets one two says.octets again.octets outcome outcome_too has has_too says.writes again.writes in
     (says.text_is ∙ ap (λ octets. key_line octets (name_of file)) same.0 ∙ sym again.text_is, same.1)
-says_one (jobs.Pairs reading view count format file quiet) octets other one two one_other two_other text text_too outcome outcome_too has has_too other_has other_has_too says again =
-    pairs_one reading view count format octets one two text text_too outcome outcome_too has has_too says again
+says_one (jobs.Pairs reading view filter count format file quiet) octets other one two one_other two_other text text_too outcome outcome_too has has_too other_has other_has_too says again =
+    pairs_one reading view (kept_pairs_in format view filter count) octets one two text text_too outcome outcome_too has has_too says again
 says_one (jobs.Compare reading other_reading view format file another quiet) octets other one two one_other two_other text text_too outcome outcome_too has has_too other_has other_has_too says again =
     compares_one reading other_reading view octets other one two one_other two_other has has_too other_has other_has_too format text text_too outcome outcome_too says again
 says_one (jobs.Differences reading other_reading view count format file another quiet) octets other one two
@@ -462,8 +484,8 @@ says_one (jobs.Differences reading other_reading view count format file another 
     lists_one reading other_reading view octets other one two one_other two_other has has_too other_has other_has_too count format text text_too outcome outcome_too says again
 says_one (jobs.RouteOctets reading view body hex file quiet) octets other one two one_other two_other text text_too outcome outcome_too has has_too other_has other_has_too says again =
     routes_one reading view body hex octets one two text text_too outcome outcome_too has has_too says again
-says_one (jobs.RouteRows reading view count format file quiet) octets other one two one_other two_other text text_too outcome outcome_too has has_too other_has other_has_too says again =
-    table_says_one (λ t. rows_or_count_in format view count t.rows) (λ _. 0) says.table again.table text text_too outcome outcome_too
+says_one (jobs.RouteRows reading view filter count format file quiet) octets other one two one_other two_other text text_too outcome outcome_too has has_too other_has other_has_too says again =
+    table_says_one (λ t. rows_or_count_in format view count (kept_rows filter t.rows)) (λ _. 0) says.table again.table text text_too outcome outcome_too
     (table_one reading octets one two says.table again.table has has_too says.gave again.gave) says.text_is says.outcome_is again.text_is again.outcome_is
 says_one (jobs.CompareRoutes reading other_reading view listed format file another quiet)
     octets other one two one_other two_other text text_too outcome outcome_too has has_too other_has other_has_too says again =
@@ -472,7 +494,7 @@ says_one (jobs.CompareRoutes reading other_reading view listed format file anoth
 says_one (jobs.Diff reading other_reading view style file another quiet)
     octets other one two one_other two_other text text_too outcome outcome_too has has_too other_has other_has_too says again =
     tells_routes_one reading other_reading view octets other one two one_other two_other has has_too other_has other_has_too
-    (diff_text style view (head_lines (name_of file) (name_of another) reading other_reading)) text text_too outcome outcome_too says again
+    (diff_text style view (head_lines style.spelling (name_of file) (name_of another) reading other_reading)) text text_too outcome outcome_too says again
 says_one (jobs.Senders reading format file quiet) octets other one two one_other two_other text text_too outcome outcome_too has has_too other_has other_has_too says again =
     capture_says_one reading wanteds.Everyone octets one two has has_too (senders_in format) (λ g. senders_status g.senders) says.gathering again.gathering says.cut again.cut
     text text_too outcome outcome_too says.gave again.gave says.text_is says.outcome_is again.text_is again.outcome_is
@@ -539,19 +561,20 @@ FaultOfCapture reading wanted contents fault =
 
 -- the fault that a job has of the octets of its readers, and of what was left out of them
 abbrev pub FaultOf : Job → Contents → Contents → RunFault → Type 0
-FaultOf (jobs.Show reading format file quiet) octets other fault = FaultAt sides.First (FaultOfDump reading octets) fault
+FaultOf (jobs.Show reading filter summary format file quiet) octets other fault = FaultAt sides.First (FaultOfDump reading octets) fault
 FaultOf (jobs.Lookup reading pair format file quiet) octets other fault = FaultAt sides.First (FaultOfDump reading octets) fault
+FaultOf (jobs.AnySource reading dst format file quiet) octets other fault = FaultAt sides.First (FaultOfDump reading octets) fault
 FaultOf (jobs.Each reading format file pairs quiet) octets other fault =
     FaultOfPairs reading other.octets fault ⊎ (((asked : List AddrPair) × AreAskedBy reading other.octets asked) × FaultAt sides.First (FaultOfDump reading octets) fault)
 FaultOf (jobs.Normalise reading view body hex file quiet) octets other fault = FaultAt sides.First (FaultOfForm reading view octets) fault
 FaultOf (jobs.Key reading view false file quiet) octets other fault = FaultAt sides.First (FaultOfForm reading view octets) fault
 FaultOf (jobs.Key reading view true file quiet) octets other fault = FaultAt sides.First (FaultOfDump reading octets) fault
-FaultOf (jobs.Pairs reading view count format file quiet) octets other fault = FaultAt sides.First (FaultOfForm reading view octets) fault
+FaultOf (jobs.Pairs reading view filter count format file quiet) octets other fault = FaultAt sides.First (FaultOfForm reading view octets) fault
 FaultOf (jobs.Compare reading other_reading view format file another quiet) octets other fault = FaultOfBoth reading other_reading octets other fault
 FaultOf (jobs.Differences reading other_reading view count format file another quiet) octets other fault =
     FaultOfDifferences reading other_reading view octets other fault
 FaultOf (jobs.RouteOctets reading view body hex file quiet) octets other fault = FaultAt sides.First (FaultOfDump reading octets) fault
-FaultOf (jobs.RouteRows reading view count format file quiet) octets other fault = FaultAt sides.First (FaultOfDump reading octets) fault
+FaultOf (jobs.RouteRows reading view filter count format file quiet) octets other fault = FaultAt sides.First (FaultOfDump reading octets) fault
 FaultOf (jobs.CompareRoutes reading other_reading view listed format file another quiet) octets other fault = FaultOfBoth reading other_reading octets other fault
 FaultOf (jobs.Diff reading other_reading view style file another quiet) octets other fault = FaultOfBoth reading other_reading octets other fault
 FaultOf (jobs.Senders reading format file quiet) octets other fault = FaultAt sides.First (FaultOfCapture reading wanteds.Everyone octets) fault
@@ -685,9 +708,11 @@ of_capture reading wanted reader contents Several input_faults.Read has is cause
 
 cause_of : (job : Job) (reader second : Reads) (untouched : Type 0) (octets other : Contents) (fault : RunFault) → HasContents reader.old octets → HasContents second.old other
     → IsOfOctets fault → CauseBy job reader second untouched fault → FaultOf job octets other fault
-cause_of (jobs.Show reading format file quiet) reader second untouched octets other fault has other_has is cause =
+cause_of (jobs.Show reading filter summary format file quiet) reader second untouched octets other fault has other_has is cause =
     at_first _ _ fault (λ f is cause. of_dump reading reader octets f has is cause) is cause
 cause_of (jobs.Lookup reading pair format file quiet) reader second untouched octets other fault has other_has is cause =
+    at_first _ _ fault (λ f is cause. of_dump reading reader octets f has is cause) is cause
+cause_of (jobs.AnySource reading dst format file quiet) reader second untouched octets other fault has other_has is cause =
     at_first _ _ fault (λ f is cause. of_dump reading reader octets f has is cause) is cause
 cause_of (jobs.Each reading format file pairs quiet) reader second untouched octets other fault has other_has is cause =
     of_each reading reader second octets other fault has other_has is cause
@@ -697,7 +722,7 @@ cause_of (jobs.Key reading view false file quiet) reader second untouched octets
     at_first _ _ fault (λ f is cause. of_form reading view reader octets f has is cause) is cause
 cause_of (jobs.Key reading view true file quiet) reader second untouched octets other fault has other_has is cause =
     at_first _ _ fault (λ f is cause. of_dump reading reader octets f has is cause) is cause
-cause_of (jobs.Pairs reading view count format file quiet) reader second untouched octets other fault has other_has is cause =
+cause_of (jobs.Pairs reading view filter count format file quiet) reader second untouched octets other fault has other_has is cause =
     at_first _ _ fault (λ f is cause. of_form reading view reader octets f has is cause) is cause
 cause_of (jobs.Compare reading other_reading view format file another quiet) reader second untouched octets other fault has other_has is cause =
     of_compare reading other_reading reader second untouched octets other fault has other_has is cause
@@ -705,7 +730,7 @@ cause_of (jobs.Differences reading other_reading view count format file another 
     of_differences reading other_reading view reader second untouched octets other fault has other_has is cause
 cause_of (jobs.RouteOctets reading view body hex file quiet) reader second untouched octets other fault has other_has is cause =
     at_first _ _ fault (λ f is cause. of_dump reading reader octets f has is cause) is cause
-cause_of (jobs.RouteRows reading view count format file quiet) reader second untouched octets other fault has other_has is cause =
+cause_of (jobs.RouteRows reading view filter count format file quiet) reader second untouched octets other fault has other_has is cause =
     at_first _ _ fault (λ f is cause. of_dump reading reader octets f has is cause) is cause
 cause_of (jobs.CompareRoutes reading other_reading view listed format file another quiet) reader second untouched octets other fault has other_has is cause =
     of_compare reading other_reading reader second untouched octets other fault has other_has is cause
@@ -777,9 +802,11 @@ normal_no_fault reading view body hex reader dump text outcome fault has says is
 
 says_no_fault : (job : Job) (reader second : Reads) (octets other : Contents) (text : List ℕ) (outcome : Outcome) (fault : RunFault) → HasContents reader.old octets
     → HasContents second.old other → SaysBy job reader second text outcome → FaultOf job octets other fault → ⊥
-says_no_fault (jobs.Show reading format file quiet) reader second octets other text outcome fault has other_has says (of_input, is, is_fault) =
+says_no_fault (jobs.Show reading filter summary format file quiet) reader second octets other text outcome fault has other_has says (of_input, is, is_fault) =
     sound_no_fault reading octets says.table of_input (sound (dump_of reader reading) octets says.table has says.gave) is_fault
 says_no_fault (jobs.Lookup reading pair format file quiet) reader second octets other text outcome fault has other_has says (of_input, is, is_fault) =
+    sound_no_fault reading octets says.table of_input (sound (dump_of reader reading) octets says.table has says.gave) is_fault
+says_no_fault (jobs.AnySource reading dst format file quiet) reader second octets other text outcome fault has other_has says (of_input, is, is_fault) =
     sound_no_fault reading octets says.table of_input (sound (dump_of reader reading) octets says.table has says.gave) is_fault
 says_no_fault (jobs.Each reading format file pairs quiet) reader second octets other text outcome fault has other_has says (inl is_fault) =
     asked_no_fault reading other.octets says.asked fault (asked_by (dump_of second reading) other.octets says.asked other_has.octets says.gave) is_fault
@@ -791,7 +818,7 @@ says_no_fault (jobs.Key reading view false file quiet) reader second octets othe
     normal_no_fault reading view 1024 false reader octets says.octets outcome of_input has says.writes is_fault
 says_no_fault (jobs.Key reading view true file quiet) reader second octets other text outcome fault has other_has says (of_input, is, is_fault) =
     sound_no_fault reading octets says.writes.gave.table of_input (sound (dump_of reader reading) octets says.writes.gave.table has says.writes.gave.gave) is_fault
-says_no_fault (jobs.Pairs reading view count format file quiet) reader second octets other text outcome fault has other_has says (of_input, is, is_fault) =
+says_no_fault (jobs.Pairs reading view filter count format file quiet) reader second octets other text outcome fault has other_has says (of_input, is, is_fault) =
     form_no_fault reading view octets says.table says.canon.pairs of_input (sound (dump_of reader reading) octets says.table has says.gave.gave)
     says.gave.is_canon.boxes says.gave.is_canon.few is_fault
 says_no_fault (jobs.Compare reading other_reading view format file another quiet) reader second octets other text outcome fault has other_has says is_fault =
@@ -807,7 +834,7 @@ says_no_fault (jobs.Differences reading other_reading view count format file ano
     absurd (omega (arith, same, few, many))
 says_no_fault (jobs.RouteOctets reading view body hex file quiet) reader second octets other text outcome fault has other_has says (of_input, is, is_fault) =
     sound_no_fault reading octets says.gave.table of_input (sound (dump_of reader reading) octets says.gave.table has says.gave.gave) is_fault
-says_no_fault (jobs.RouteRows reading view count format file quiet) reader second octets other text outcome fault has other_has says (of_input, is, is_fault) =
+says_no_fault (jobs.RouteRows reading view filter count format file quiet) reader second octets other text outcome fault has other_has says (of_input, is, is_fault) =
     sound_no_fault reading octets says.table of_input (sound (dump_of reader reading) octets says.table has says.gave) is_fault
 says_no_fault (jobs.CompareRoutes reading other_reading view listed format file another quiet) reader second octets other text outcome fault has other_has says is_fault =
     both_no_fault reading other_reading octets other says.table says.other_table fault (sound (dump_of reader reading) octets says.table has says.gave.gave)
@@ -871,8 +898,9 @@ pairs_fault_one reading text fault fault_too (inr (is, over)) (inl (line_too, is
 pairs_fault_one reading text fault fault_too (inr (is, over)) (inr (is_too, over_too)) = is ∙ sym is_too
 
 fault_one : (job : Job) (octets other : Contents) (fault too : RunFault) → FaultOf job octets other fault → FaultOf job octets other too → fault ≡ too
-fault_one (jobs.Show reading format file quiet) octets other fault too one two = at_side_one sides.First _ fault too (dump_fault_one reading octets) one two
+fault_one (jobs.Show reading filter summary format file quiet) octets other fault too one two = at_side_one sides.First _ fault too (dump_fault_one reading octets) one two
 fault_one (jobs.Lookup reading pair format file quiet) octets other fault too one two = at_side_one sides.First _ fault too (dump_fault_one reading octets) one two
+fault_one (jobs.AnySource reading dst format file quiet) octets other fault too one two = at_side_one sides.First _ fault too (dump_fault_one reading octets) one two
 fault_one (jobs.Each reading format file pairs quiet) octets other fault too (inl one) (inl two) = pairs_fault_one reading other.octets fault too one two
 fault_one (jobs.Each reading format file pairs quiet) octets other fault too (inl one) (inr (asked, two)) = absurd (asked_no_fault reading other.octets asked.0 fault asked.1 one)
 fault_one (jobs.Each reading format file pairs quiet) octets other fault too (inr (asked, one)) (inl two) = absurd (asked_no_fault reading other.octets asked.0 too asked.1 two)
@@ -880,12 +908,12 @@ fault_one (jobs.Each reading format file pairs quiet) octets other fault too (in
 fault_one (jobs.Normalise reading view body hex file quiet) octets other fault too one two = at_side_one sides.First _ fault too (form_fault_one reading view octets) one two
 fault_one (jobs.Key reading view false file quiet) octets other fault too one two = at_side_one sides.First _ fault too (form_fault_one reading view octets) one two
 fault_one (jobs.Key reading view true file quiet) octets other fault too one two = at_side_one sides.First _ fault too (dump_fault_one reading octets) one two
-fault_one (jobs.Pairs reading view count format file quiet) octets other fault too one two = at_side_one sides.First _ fault too (form_fault_one reading view octets) one two
+fault_one (jobs.Pairs reading view filter count format file quiet) octets other fault too one two = at_side_one sides.First _ fault too (form_fault_one reading view octets) one two
 fault_one (jobs.Compare reading other_reading view format file another quiet) octets other fault too one two = both_fault_one reading other_reading octets other fault too one two
 fault_one (jobs.Differences reading other_reading view count format file another quiet) octets other fault too one two =
     differences_fault_one reading other_reading view octets other fault too one two
 fault_one (jobs.RouteOctets reading view body hex file quiet) octets other fault too one two = at_side_one sides.First _ fault too (dump_fault_one reading octets) one two
-fault_one (jobs.RouteRows reading view count format file quiet) octets other fault too one two = at_side_one sides.First _ fault too (dump_fault_one reading octets) one two
+fault_one (jobs.RouteRows reading view filter count format file quiet) octets other fault too one two = at_side_one sides.First _ fault too (dump_fault_one reading octets) one two
 fault_one (jobs.CompareRoutes reading other_reading view listed format file another quiet) octets other fault too one two = both_fault_one reading other_reading octets other fault too one two
 fault_one (jobs.Diff reading other_reading view style file another quiet) octets other fault too one two = both_fault_one reading other_reading octets other fault too one two
 fault_one (jobs.Senders reading format file quiet) octets other fault too one two = at_side_one sides.First _ fault too (capture_fault_one reading wanteds.Everyone octets) one two
@@ -1007,10 +1035,12 @@ of_no_capture side reading wanted contents fault has =
 
 dump_fault_of : (job : Job) (side : Side) (octets other : Contents) (fault : Fault) → fault ≢ faults.TooManyPairs
     → FaultOf job octets other (run_faults.Input side (input_faults.Dump fault)) → HasDumpFault job side (octets_at side octets other) fault
-dump_fault_of (jobs.Show reading format file quiet) side octets other fault not_pairs has =
-    of_one (jobs.Show reading format file quiet) reading side octets other fault _ refl (own_fault reading octets fault) has
+dump_fault_of (jobs.Show reading filter summary format file quiet) side octets other fault not_pairs has =
+    of_one (jobs.Show reading filter summary format file quiet) reading side octets other fault _ refl (own_fault reading octets fault) has
 dump_fault_of (jobs.Lookup reading pair format file quiet) side octets other fault not_pairs has =
     of_one (jobs.Lookup reading pair format file quiet) reading side octets other fault _ refl (own_fault reading octets fault) has
+dump_fault_of (jobs.AnySource reading dst format file quiet) side octets other fault not_pairs has =
+    of_one (jobs.AnySource reading dst format file quiet) reading side octets other fault _ refl (own_fault reading octets fault) has
 dump_fault_of (jobs.Each reading format file pairs quiet) side octets other fault not_pairs (inl (inl (line, is, few, wrong))) = absurd cc
 dump_fault_of (jobs.Each reading format file pairs quiet) side octets other fault not_pairs (inl (inr (is, over))) = absurd cc
 dump_fault_of (jobs.Each reading format file pairs quiet) side octets other fault not_pairs (inr (asked, has)) =
@@ -1021,8 +1051,8 @@ dump_fault_of (jobs.Key reading view false file quiet) side octets other fault n
     of_one (jobs.Key reading view false file quiet) reading side octets other fault _ refl (own_form_fault reading view octets fault not_pairs) has
 dump_fault_of (jobs.Key reading view true file quiet) side octets other fault not_pairs has =
     of_one (jobs.Key reading view true file quiet) reading side octets other fault _ refl (own_fault reading octets fault) has
-dump_fault_of (jobs.Pairs reading view count format file quiet) side octets other fault not_pairs has =
-    of_one (jobs.Pairs reading view count format file quiet) reading side octets other fault _ refl (own_form_fault reading view octets fault not_pairs) has
+dump_fault_of (jobs.Pairs reading view filter count format file quiet) side octets other fault not_pairs has =
+    of_one (jobs.Pairs reading view filter count format file quiet) reading side octets other fault _ refl (own_form_fault reading view octets fault not_pairs) has
 dump_fault_of (jobs.Compare reading other_reading view format file another quiet) side octets other fault not_pairs has =
     of_both (jobs.Compare reading other_reading view format file another quiet) reading other_reading side octets other fault refl refl has
 dump_fault_of (jobs.Differences reading other_reading view count format file another quiet) side octets other fault not_pairs (inl has) =
@@ -1031,8 +1061,8 @@ dump_fault_of (jobs.Differences reading other_reading view count format file ano
     let same : fault ≡ faults.TooManyPairs = cc in absurd (not_pairs same)
 dump_fault_of (jobs.RouteOctets reading view body hex file quiet) side octets other fault not_pairs has =
     of_one (jobs.RouteOctets reading view body hex file quiet) reading side octets other fault _ refl (own_fault reading octets fault) has
-dump_fault_of (jobs.RouteRows reading view count format file quiet) side octets other fault not_pairs has =
-    of_one (jobs.RouteRows reading view count format file quiet) reading side octets other fault _ refl (own_fault reading octets fault) has
+dump_fault_of (jobs.RouteRows reading view filter count format file quiet) side octets other fault not_pairs has =
+    of_one (jobs.RouteRows reading view filter count format file quiet) reading side octets other fault _ refl (own_fault reading octets fault) has
 dump_fault_of (jobs.CompareRoutes reading other_reading view listed format file another quiet) side octets other fault not_pairs has =
     of_both (jobs.CompareRoutes reading other_reading view listed format file another quiet) reading other_reading side octets other fault refl refl has
 dump_fault_of (jobs.Diff reading other_reading view style file another quiet) side octets other fault not_pairs has =

@@ -1,7 +1,7 @@
 -- A text that is written in slices, one after the other.
 use Rattle.std.proofs.Common.{◌≡◌, ℕ, suc, ◌+◌, ◌<◌, ◌≤◌, List, [], ◌∷◌, ◌++◌, length, get_or, take, drop, drop-cons, flat_map, Result}
 use Rattle.std.proofs.Common.{Ok, Err, refl, sym, ap, subst, ◌∙◌, append_assoc, append-nil, take-append-drop, arith}
-use Rattle.std.proofs.lemmas.List.{take_all}
+use Rattle.std.proofs.lemmas.List.{drop_all, take_all}
 use Rattle.std.proofs.Math.Seq.{take-append-add, take-append_seam}
 use Rattle.std.specs.Prelude.{IsErr}
 use Rattle.std.specs.Io.KnownBytes.{Appends, Keeps}
@@ -154,12 +154,41 @@ not_flushed a b c text e first kept failures flushes = record {
 next : (i : ℕ) → suc i ≡ i + 1
 next i = omega arith
 
+-- the text of the items from one on
+next_text : {A : Type 0} (f : A → List ℕ) (xs : List A) (i : ℕ) (x : A) → i < length xs → x ≡ get_or xs i x
+    → flat_map f (drop i xs) ≡ f x ++ flat_map f (drop (i + 1) xs)
+next_text f xs i x within is =
+    ap (flat_map f) (drop-cons xs i x within ∙ ap (λ y. y ∷ drop (suc i) xs) (sym is)) ∙ ap (λ (k : ℕ). f x ++ flat_map f (drop k xs)) (next i)
+
 -- the next of the lines was put behind what is left
 pub pushed_next : {A : Type 0} (f : A → List ℕ) (xs : List A) (i : ℕ) (x : A) (writer : Output) (text left now : List ℕ)
     → Took writer text (left ++ flat_map f (drop i xs)) → i < length xs → x ≡ get_or xs i x → now ≡ left ++ f x → Took writer text (now ++ flat_map f (drop (i + 1) xs))
 pushed_next f xs i x writer text left now first within is put =
-    pushed writer text left (f x) now _ (flat_map f (drop (i + 1) xs)) first put
-    (ap (flat_map f) (drop-cons xs i x within ∙ ap (λ y. y ∷ drop (suc i) xs) (sym is)) ∙ ap (λ (k : ℕ). f x ++ flat_map f (drop k xs)) (next i))
+    pushed writer text left (f x) now _ (flat_map f (drop (i + 1) xs)) first put (next_text f xs i x within is)
+
+-- the next of the items was written by itself
+pub wrote_next : {A : Type 0} (f : A → List ℕ) (xs : List A) (i : ℕ) (x : A) (a b c : OutputState) (text line : List ℕ)
+    → Took (output a b) text (flat_map f (drop i xs)) → i < length xs → x ≡ get_or xs i x → line ≡ f x → Took (output b c) line []
+    → Took (output a c) text (flat_map f (drop (i + 1) xs))
+wrote_next f xs i x a b c text line first within is put next =
+    took_more a b c text (f x) [] (flat_map f (drop (i + 1) xs)) (subst (λ (l : List ℕ). Took (output a b) text l) (next_text f xs i x within is) first)
+    (subst (λ (l : List ℕ). Took (output b c) l []) put next)
+
+-- or the write failed
+pub broke_next : {A T E : Type 0} (f : A → List ℕ) (xs : List A) (i : ℕ) (x : A) (a b c : OutputState) (text line : List ℕ) (r : Result T E)
+    → Took (output a b) text (flat_map f (drop i xs)) → i < length xs → x ≡ get_or xs i x → line ≡ f x → Broke (output b c) line → IsErr r
+    → WroteText (output a c) text r
+broke_next f xs i x a b c text line (Ok t) first within is put broke err = absurd cc
+broke_next f xs i x a b c text line (Err e) first within is put broke err =
+    broke_text (output a c) text e (broke_on a b c text (f x) (flat_map f (drop (i + 1) xs))
+    (subst (λ (l : List ℕ). Took (output a b) text l) (next_text f xs i x within is) first) (subst (λ (l : List ℕ). Broke (output b c) l) put broke))
+
+-- after the last of them there is nothing to write
+pub wrote_none : {A T E : Type 0} (f : A → List ℕ) (xs : List A) (i : ℕ) (a b c : OutputState) (text : List ℕ) (r : Result T E)
+    → Took (output a b) text (flat_map f (drop i xs)) → length xs ≤ i → WroteText (output b c) [] r → WroteText (output a c) text r
+wrote_none f xs i a b c text r first past last =
+    subst (λ (l : List ℕ). WroteText (output a c) l r) (append-nil text)
+    (wrote_last a b c text [] [] r (subst (λ (l : List ℕ). Took (output a b) text l) (ap (flat_map f) (drop_all i xs past)) first) last)
 
 -- the same of an item by its place
 pub pushed_at : {A : Type 0} (f : A → List ℕ) (xs : List A) (i : ℕ) (d : A) (writer : Output) (text left now : List ℕ)

@@ -1,12 +1,10 @@
--- The lines that the runs of captures write: this project's own. The texts of addresses are those
--- of RFC 4291, 2.2.
+-- The lines that the runs of captures write: this project's own.
 use Rattle.std.specs.Prelude.{ℕ, Bool, ◌==◌, ◌||◌, if◌then◌else◌, List, [], ◌∷◌, ◌++◌}
 use Rattle.std.specs.Prelude.{map, codes, Option, None, Some}
 use Rattle.std.specs.List.{flat_map}
 use Rattle.std.specs.Fmt.{decimal}
 use Rattle.std.specs.Char.{is_ascii_alphanumeric}
 use Rattle.hex.specs.Hex.{encode_lower}
-use Rattle.babel_prefix.specs.Text.{printed}
 use Rattle.babel_capture.specs.Gathering.{Gathering, name_of}
 use Rattle.babel_capture.specs.Place.{vlan_numbers}
 use Rattle.babel_capture.specs.Tallies.{Senders}
@@ -17,8 +15,10 @@ use Rattle.babel_capture.specs.declared.tallies.Tally.{Tally}
 use Rattle.babel_dump.specs.InFormat.{in_format}
 use Rattle.babel_dump.specs.JsonText.{quoted}
 use Rattle.babel_dump.specs.RunText.{form_text, newline}
+use Rattle.babel_dump.specs.Spelling.{address_text}
 use Rattle.babel_dump.specs.declared.format.Format.{Format}
 use Rattle.babel_dump.specs.declared.format.Format.TheVariants as formats
+use Rattle.babel_dump.specs.declared.spelling.Spelling.{Spelling}
 
 -- the octet of a name stands for itself: a letter, a digit, `.`, `-` or `_`
 abbrev pub is_plain : ℕ → Bool
@@ -32,19 +32,25 @@ abbrev pub escaped : (escape : List ℕ) → List ℕ → List ℕ
 escaped escape name = flat_map (octet_text escape) name
 
 -- `\x`, whose backslash is two in JSON
+abbrev pub text_escape : List ℕ
+text_escape = codes "\\x"
+
+abbrev pub json_escape : List ℕ
+json_escape = codes "\\\\x"
+
 abbrev pub escape : Format → List ℕ
-escape format = in_format format (codes "\\x") (codes "\\\\x")
+escape format = in_format format text_escape json_escape
 
 -- ` (NAME)`, or nothing where there is none
 abbrev pub name_text : List ℕ → List ℕ
 name_text [] = []
 name_text (octet ∷ octets) =
-    codes " (" ++ escaped (escape formats.Text) (octet ∷ octets) ++ codes ")"
+    codes " (" ++ escaped text_escape (octet ∷ octets) ++ codes ")"
 
 -- `"NAME"`, or `null`
 abbrev pub name_json : List ℕ → List ℕ
 name_json [] = codes "null"
-name_json (octet ∷ octets) = quoted (escaped (escape formats.Json) (octet ∷ octets))
+name_json (octet ∷ octets) = quoted (escaped json_escape (octet ∷ octets))
 
 -- ` link N`, or nothing where there is none
 abbrev pub link_text : Option ℕ → List ℕ
@@ -70,8 +76,9 @@ abbrev pub vlans_json : Vlans → List ℕ
 vlans_json vlans = codes "[" ++ marked [] (codes ",") (vlan_numbers vlans) ++ codes "]"
 
 -- `ADDRESS interface N`, and ` link N vlan N.N packets N octets N updates N`
-abbrev pub sender_front : Origin → List ℕ
-sender_front origin = printed origin.sender ++ codes " interface " ++ decimal origin.place.interface
+abbrev pub sender_front : Spelling → Origin → List ℕ
+sender_front spelling origin =
+    address_text spelling origin.sender ++ codes " interface " ++ decimal origin.place.interface
 
 abbrev pub sender_end : Place → Tally → List ℕ
 sender_end place tally =
@@ -80,15 +87,15 @@ sender_end place tally =
     ++ newline
 
 -- `ADDRESS interface N (NAME) link N vlan N.N packets N octets N updates N`
-abbrev pub sender_line : (name : List ℕ) → Origin × Tally → List ℕ
-sender_line name sender =
-    sender_front sender.0 ++ name_text name ++ sender_end sender.0.place sender.1
+abbrev pub sender_line : Spelling → (name : List ℕ) → Origin × Tally → List ℕ
+sender_line spelling name sender =
+    sender_front spelling sender.0 ++ name_text name ++ sender_end sender.0.place sender.1
 
 -- `{"address":"ADDRESS","interface":N,"link":N,"vlans":[N,N],"name":`, and
 -- `,"packets":N,"octets":N,"updates":N}`
-abbrev pub sender_front_json : Origin → List ℕ
-sender_front_json origin =
-    codes "{\"address\":\"" ++ printed origin.sender ++ codes "\",\"interface\":"
+abbrev pub sender_front_json : Spelling → Origin → List ℕ
+sender_front_json spelling origin =
+    codes "{\"address\":\"" ++ address_text spelling origin.sender ++ codes "\",\"interface\":"
     ++ decimal origin.place.interface
     ++ codes ",\"link\":" ++ link_json origin.place.link ++ codes ",\"vlans\":"
     ++ vlans_json origin.place.vlans
@@ -101,11 +108,13 @@ sender_end_json tally =
 
 -- `{"address":"ADDRESS","interface":N,"link":N,"vlans":[N,N],"name":"NAME"`, and then
 -- `,"packets":N,"octets":N,"updates":N}`
-abbrev pub sender_json : (name : List ℕ) → Origin × Tally → List ℕ
-sender_json name sender = sender_front_json sender.0 ++ name_json name ++ sender_end_json sender.1
+abbrev pub sender_json : Spelling → (name : List ℕ) → Origin × Tally → List ℕ
+sender_json spelling name sender =
+    sender_front_json spelling sender.0 ++ name_json name ++ sender_end_json sender.1
 
 abbrev pub sender_in : Format → (name : List ℕ) → Origin × Tally → List ℕ
-sender_in format name sender = in_format format (sender_line name sender) (sender_json name sender)
+sender_in (formats.Text spelling) name sender = sender_line spelling name sender
+sender_in (formats.Json spelling) name sender = sender_json spelling name sender
 
 -- with the name that the capture has for its interface
 abbrev pub named_in : Format → Gathering → Origin × Tally → List ℕ

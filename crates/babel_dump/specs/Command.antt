@@ -4,6 +4,7 @@ use Rattle.std.specs.Prelude.{ℕ, Bool, false, true, ◌≡◌, ◌≢◌, ◌<
 use Rattle.babel_prefix.specs.Address.{Address}
 use Rattle.babel_tlv.specs.declared.fault.Fault.TheVariants as faults
 use Rattle.babel_tlv.specs.declared.view.View.{View}
+use Rattle.babel_tlv.specs.Pair.{Pair}
 use Rattle.babel_tlv.specs.Views.{keeps_all}
 use Rattle.babel_table.specs.Counts.{Counts}
 use Rattle.babel_table.specs.Rows.{Routes}
@@ -15,6 +16,7 @@ use Rattle.babel_canon.specs.Verdict.{IsVerdict}
 use Rattle.babel_canon.specs.declared.every_difference.Difference.{Difference}
 use Rattle.babel_canon.specs.declared.verdict.Verdict.{Verdict}
 use Rattle.babel_dump.specs.DiffText.{diff_text, head_lines}
+use Rattle.babel_dump.specs.Filter.{kept_rows}
 use Rattle.babel_dump.specs.Given.{GaveNormal, GavePairs, GaveRoutes, GaveTable, GaveTables, Input}
 use Rattle.babel_dump.specs.Given.{IsFaultOfForm, IsFaultOfGiven}
 use Rattle.babel_dump.specs.InFormat.{differences_or_count_in, lookup_in}
@@ -24,6 +26,7 @@ use Rattle.babel_dump.specs.KeyText.{key_line}
 use Rattle.babel_dump.specs.Run.{Called, InputCause, OfStatus, Output, Ran, RanAlone, calls_of}
 use Rattle.babel_dump.specs.RunText.{answer_in, differences_status, form_text}
 use Rattle.babel_dump.specs.RunText.{lookup_status, verdict_status}
+use Rattle.babel_dump.specs.declared.filter.Filter.{Filter}
 use Rattle.babel_dump.specs.declared.format.Format.{Format}
 use Rattle.babel_dump.specs.declared.input_fault.InputFault.TheVariants as input_faults
 use Rattle.babel_dump.specs.declared.job.DiffStyle.{DiffStyle}
@@ -52,12 +55,12 @@ pub record IsOutcomeOfAnswers (status : ℕ) (table other : Routes) (outcome : O
       × (outcome.reports ≡ reports.Alike table.report other.report (length routes))
   pub unlike : status ≢ 0 → outcome.reports ≡ reports.Dumps table.report other.report
 
--- `show`: the rows and the report of the dump's table
-pub record Shows (reader : Input) (format : Format) (text : List ℕ) (outcome : Outcome) :
-    Type 0 where
+-- `show`: the dump's table, in a text
+pub record Shows (reader : Input) (in_text : Routes → List ℕ) (text : List ℕ)
+    (outcome : Outcome) : Type 0 where
   pub table : Routes
   pub gave : GaveTable reader table
-  pub text_is : text ≡ show_in format table
+  pub text_is : text ≡ in_text table
   pub outcome_is : IsOutcome outcome 0 table.report
 
 -- `lookup`: what the dump's table answers for a destination and a source
@@ -77,14 +80,14 @@ pub record WritesNormal (reader : Input) (view : View) (body : ℕ) (hex : Bool)
   pub text_is : text ≡ form_text hex octets
   pub outcome_is : IsOutcome outcome 0 report
 
--- `pairs`: the canonical pairs of the dump's table under a view, or how many rows and pairs there
--- are
-pub record ListsPairs (reader : Input) (view : View) (count : Bool) (format : Format)
-    (text : List ℕ) (outcome : Outcome) : Type 0 where
+-- `pairs`: the rows of the dump's table and its canonical pairs under a view, in a text
+pub record ListsPairs (reader : Input) (view : View)
+    (in_text : (rows pairs : List Pair) → List ℕ) (text : List ℕ) (outcome : Outcome) :
+    Type 0 where
   pub table : Routes
   pub canon : Canonical
   pub gave : GavePairs reader view table canon
-  pub text_is : text ≡ pairs_or_counts_in format view count table.rows canon.pairs
+  pub text_is : text ≡ in_text table.rows canon.pairs
   pub outcome_is : IsOutcome outcome 0 table.report
 
 -- `compare`: how the answers of the dumps' tables compare under a view
@@ -140,12 +143,13 @@ pub record WritesKey (reader : Input) (view : View) (routes : Bool) (file : List
   pub writes : WritesOctets routes reader view octets outcome
   pub text_is : text ≡ key_line octets file
 
--- `pairs --routes`: the rows of the dump's table, as a view shows them, or how many there are
-pub record ListsRoutes (reader : Input) (view : View) (count : Bool) (format : Format)
-    (text : List ℕ) (outcome : Outcome) : Type 0 where
+-- `pairs --routes`: the rows of the dump's table that a filter keeps, as a view shows them, or how
+-- many there are
+pub record ListsRoutes (reader : Input) (view : View) (filter : Filter) (count : Bool)
+    (format : Format) (text : List ℕ) (outcome : Outcome) : Type 0 where
   pub table : Routes
   pub gave : GaveTable reader table
-  pub text_is : text ≡ rows_or_count_in format view count table.rows
+  pub text_is : text ≡ rows_or_count_in format view count (kept_rows filter table.rows)
   pub outcome_is : IsOutcome outcome 0 table.report
 
 -- the keys for which the dumps' tables hold what differs under a view, in a text of the number of
@@ -175,7 +179,8 @@ abbrev pub ShowsDiff :
     → List ℕ → Outcome → Type 0
 ShowsDiff reader other view style file other_file =
     TellsRoutes reader other view
-    (diff_text style view (head_lines file other_file reader.reading other.reading))
+    (diff_text style view
+    (head_lines style.spelling file other_file reader.reading other.reading))
 
 -- the reader gave a dump without a fault, of which nothing was left unread if it is read strictly
 abbrev pub GaveSound : Input → Type 0
@@ -218,7 +223,8 @@ DifferencesCause reader other view untouched fault =
 
 abbrev pub RanShow : Input → Format → Output → Result ℕ RunFault → Type 0
 RanShow reader format writer =
-    RanAlone reader (InputCause reader (IsFaultOfGiven reader)) writer (Shows reader format)
+    RanAlone reader (InputCause reader (IsFaultOfGiven reader)) writer
+    (Shows reader (show_in format))
 
 abbrev pub RanLookup : Input → Address → Address → Format → Output → Result ℕ RunFault → Type 0
 RanLookup reader dst src format writer =
@@ -233,7 +239,7 @@ RanNormalise reader body hex writer =
 abbrev pub RanPairs : Input → Bool → Format → Output → Result ℕ RunFault → Type 0
 RanPairs reader count format writer =
     RanAlone reader (InputCause reader (IsFaultOfForm reader keeps_all)) writer
-    (ListsPairs reader keeps_all count format)
+    (ListsPairs reader keeps_all (pairs_or_counts_in format keeps_all count))
 
 -- `untouched` says that the other reader is as it was
 pub record RanCompare (reader other : Input) (format : Format) (writer : Output)

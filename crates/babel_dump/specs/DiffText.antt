@@ -4,7 +4,6 @@ use Rattle.std.specs.Prelude.{ℕ, Bool, if◌then◌else◌, ◌-◌, List, [],
 use Rattle.std.specs.Prelude.{length, filter, is_none, Option, None, Some}
 use Rattle.std.specs.List.{flat_map}
 use Rattle.std.specs.Fmt.{decimal}
-use Rattle.babel_prefix.specs.Text.{printed}
 use Rattle.babel_capture.specs.declared.place.Place.{Place}
 use Rattle.babel_tlv.specs.declared.held.Held.{Held}
 use Rattle.babel_tlv.specs.declared.view.View.{View}
@@ -13,10 +12,12 @@ use Rattle.babel_canon.specs.declared.every_difference.Difference.{Difference}
 use Rattle.babel_dump.specs.CaptureText.{link_text, vlans_text}
 use Rattle.babel_dump.specs.KeyText.{file_text}
 use Rattle.babel_dump.specs.RunText.{newline, pair_text}
+use Rattle.babel_dump.specs.Spelling.{address_text}
 use Rattle.babel_dump.specs.declared.job.DiffStyle.{DiffStyle}
 use Rattle.babel_dump.specs.declared.reading.Reading.{Reading}
 use Rattle.babel_dump.specs.declared.run_fault.Side.{Side}
 use Rattle.babel_dump.specs.declared.run_fault.Side.TheVariants as sides
+use Rattle.babel_dump.specs.declared.spelling.Spelling.{Spelling}
 
 -- ` interface N link N vlan N.N`, or nothing where no place is named
 abbrev pub place_text : Option Place → List ℕ
@@ -25,14 +26,16 @@ place_text (Some place) =
     codes " interface " ++ decimal place.interface ++ link_text place.link ++ vlans_text place.vlans
 
 -- `FILE ADDRESS interface N link N vlan N.N`: the file, the sender of its dump, and its place
-abbrev pub head_line : (mark file : List ℕ) → Reading → List ℕ
-head_line mark file reading =
-    mark ++ file_text file ++ codes " " ++ printed reading.sender ++ place_text reading.place
-    ++ newline
+abbrev pub head_line : Spelling → (mark file : List ℕ) → Reading → List ℕ
+head_line spelling mark file reading =
+    mark ++ file_text file ++ codes " " ++ address_text spelling reading.sender
+    ++ place_text reading.place ++ newline
 
-abbrev pub head_lines : (file other_file : List ℕ) → (reading other_reading : Reading) → List ℕ
-head_lines file other_file reading other_reading =
-    head_line (codes "--- ") file reading ++ head_line (codes "+++ ") other_file other_reading
+abbrev pub head_lines :
+    Spelling → (file other_file : List ℕ) → (reading other_reading : Reading) → List ℕ
+head_lines spelling file other_file reading other_reading =
+    head_line spelling (codes "--- ") file reading
+    ++ head_line spelling (codes "+++ ") other_file other_reading
 
 -- the escape that sets this, where there are colours
 abbrev pub escape : (coloured : Bool) → List ℕ → List ℕ
@@ -48,15 +51,16 @@ abbrev pub row_end : (coloured : Bool) → List ℕ
 row_end coloured = escape coloured (codes "0") ++ newline
 
 -- `-ROW`, `+ROW`, or nothing where the dump on this side has no row
-abbrev pub marked_row : (coloured : Bool) → View → Side → RouteKey → Option Held → List ℕ
-marked_row coloured view side key None = []
-marked_row coloured view side key (Some held) =
-    row_mark coloured side ++ pair_text view (key, held) ++ row_end coloured
+abbrev pub marked_row : DiffStyle → View → Side → RouteKey → Option Held → List ℕ
+marked_row style view side key None = []
+marked_row style view side key (Some held) =
+    row_mark style.coloured side ++ pair_text style.spelling view (key, held)
+    ++ row_end style.coloured
 
-abbrev pub change_text : (coloured : Bool) → View → Difference → List ℕ
-change_text coloured view difference =
-    marked_row coloured view sides.First difference.key difference.left
-    ++ marked_row coloured view sides.Other difference.key difference.right
+abbrev pub change_text : DiffStyle → View → Difference → List ℕ
+change_text style view difference =
+    marked_row style view sides.First difference.key difference.left
+    ++ marked_row style view sides.Other difference.key difference.right
 
 -- `N gone, N new, N changed, N alike`
 abbrev pub stat_text : (gone new changed alike : ℕ) → List ℕ
@@ -77,5 +81,5 @@ stat_line rows differences =
 abbrev pub diff_text : DiffStyle → View → (heads : List ℕ) → (rows : ℕ) → List Difference → List ℕ
 diff_text style view heads rows [] = []
 diff_text style view heads rows differences =
-    heads ++ flat_map (change_text style.coloured view) differences
+    heads ++ flat_map (change_text style view) differences
     ++ (if style.stat then stat_line rows differences else [])

@@ -12,16 +12,17 @@ name_of (files.Named name) = string_bytes name
 
 -- where the input is read from, or the first of two
 abbrev pub first_file : Job → DumpFile
-first_file (jobs.Show reading format file quiet) = file
+first_file (jobs.Show reading filter summary format file quiet) = file
 first_file (jobs.Lookup reading pair format file quiet) = file
+first_file (jobs.AnySource reading dst format file quiet) = file
 first_file (jobs.Each reading format file pairs quiet) = file
 first_file (jobs.Normalise reading view body hex file quiet) = file
 first_file (jobs.Key reading view routes file quiet) = file
-first_file (jobs.Pairs reading view count format file quiet) = file
+first_file (jobs.Pairs reading view filter count format file quiet) = file
 first_file (jobs.Compare reading other_reading view format file other quiet) = file
 first_file (jobs.Differences reading other_reading view count format file other quiet) = file
 first_file (jobs.RouteOctets reading view body hex file quiet) = file
-first_file (jobs.RouteRows reading view count format file quiet) = file
+first_file (jobs.RouteRows reading view filter count format file quiet) = file
 first_file (jobs.CompareRoutes reading other_reading view listed format file other quiet) = file
 first_file (jobs.Diff reading other_reading view style file other quiet) = file
 first_file (jobs.Senders reading format file quiet) = file

@@ -23,11 +23,12 @@ use Rattle.babel_dump.specs.declared.job.Listed.TheVariants as listeds
 
 -- the text, or the JSON that says the same
 abbrev pub in_format : Format → (text json : List ℕ) → List ℕ
-in_format formats.Text text json = text
-in_format formats.Json text json = json
+in_format (formats.Text spelling) text json = text
+in_format (formats.Json spelling) text json = json
 
 abbrev pub line_in : Format → View → RouteKey × Held → List ℕ
-line_in format view pair = in_format format (pair_line view pair) (pair_json view pair)
+line_in (formats.Text spelling) view pair = pair_line spelling view pair
+line_in (formats.Json spelling) view pair = pair_json spelling view pair
 
 -- a line for each pair
 abbrev pub pairs_in : Format → View → List (RouteKey × Held) → List ℕ
@@ -54,12 +55,12 @@ abbrev pub show_in : Format → Routes → List ℕ
 show_in format table = pairs_in format keeps_all table.rows ++ report_in format table.report
 
 abbrev pub lookup_in : Format → (dst src : Address) → Option Held → List ℕ
-lookup_in format dst src answer =
-    in_format format (answer_text keeps_all answer ++ newline) (lookup_json dst src answer)
+lookup_in (formats.Text spelling) dst src answer = answer_text spelling keeps_all answer ++ newline
+lookup_in (formats.Json spelling) dst src answer = lookup_json spelling dst src answer
 
 abbrev pub answer_line_in : Format → (dst src : Address) → Option Held → List ℕ
-answer_line_in format dst src answer =
-    in_format format (answer_line dst src answer) (lookup_json dst src answer)
+answer_line_in (formats.Text spelling) dst src answer = answer_line spelling dst src answer
+answer_line_in (formats.Json spelling) dst src answer = lookup_json spelling dst src answer
 
 -- a line for each pair of addresses
 abbrev pub each_in : Format → Routes → List AddrPair → List ℕ
@@ -68,12 +69,12 @@ each_in format table pairs =
     pairs
 
 abbrev pub verdict_in : Format → View → Verdict → List ℕ
-verdict_in format view verdict =
-    in_format format (verdict_text view verdict) (verdict_json view verdict)
+verdict_in (formats.Text spelling) view verdict = verdict_text spelling view verdict
+verdict_in (formats.Json spelling) view verdict = verdict_json spelling view verdict
 
 abbrev pub difference_in : Format → View → Difference → List ℕ
-difference_in format view difference =
-    in_format format (difference_text view difference) (difference_json view difference)
+difference_in (formats.Text spelling) view difference = difference_text spelling view difference
+difference_in (formats.Json spelling) view difference = difference_json spelling view difference
 
 -- `same` where there is no difference
 abbrev pub differences_in : Format → View → List Difference → List ℕ

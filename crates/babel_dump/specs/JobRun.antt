@@ -2,6 +2,7 @@
 use Rattle.std.specs.Prelude.{ℕ, List, Option, None, Some, Result}
 use Rattle.babel_capture.specs.declared.wanted.Wanted.{Wanted}
 use Rattle.babel_capture.specs.declared.wanted.Wanted.TheVariants as wanteds
+use Rattle.babel_dump.specs.AnySource.{LooksUpAnySource}
 use Rattle.babel_dump.specs.CaptureGiven.{CaptureInput, capture_from}
 use Rattle.babel_dump.specs.CaptureRun.{CaptureCause, Extracts, IsNoFault, IsOnSeveral}
 use Rattle.babel_dump.specs.CaptureRun.{ListsSenders, capture_calls}
@@ -10,8 +11,10 @@ use Rattle.babel_dump.specs.Command.{ComparesRoutes, ListsPairs, ListsRoutes, Lo
 use Rattle.babel_dump.specs.Command.{ShowsDiff, WritesKey, WritesNormal, WritesRoutes}
 use Rattle.babel_dump.specs.Each.{EachCause, LooksUpAsked}
 use Rattle.babel_dump.specs.Files.{name_of}
+use Rattle.babel_dump.specs.Filter.{kept_pairs_in}
 use Rattle.babel_dump.specs.Given.{IsFaultOfForm, IsFaultOfGiven, IsFaultOfOctets, Reads, dump_of}
 use Rattle.babel_dump.specs.Run.{Called, Calls, InputCause, OfFirst, Output, Ran, calls_of}
+use Rattle.babel_dump.specs.Summary.{shown_in}
 use Rattle.babel_dump.specs.declared.capture_reading.CaptureReading.{CaptureReading}
 use Rattle.babel_dump.specs.declared.job.Job.{Job}
 use Rattle.babel_dump.specs.declared.job.Job.TheVariants as jobs
@@ -25,25 +28,28 @@ capture_of reader reading wanted = capture_from reader.old reader.new reading wa
 -- what a job says of what its readers gave, in its text and its outcome: what its command does,
 -- with the job's own words
 abbrev pub SaysBy : Job → (reader other : Reads) → List ℕ → Outcome → Type 0
-SaysBy (jobs.Show reading format file quiet) reader other = Shows (dump_of reader reading) format
+SaysBy (jobs.Show reading filter summary format file quiet) reader other =
+    Shows (dump_of reader reading) (shown_in format filter summary quiet)
 SaysBy (jobs.Lookup reading pair format file quiet) reader other =
     LooksUp (dump_of reader reading) pair.dst pair.src format
+SaysBy (jobs.AnySource reading dst format file quiet) reader other =
+    LooksUpAnySource (dump_of reader reading) dst format
 SaysBy (jobs.Each reading format file pairs quiet) reader other =
     LooksUpAsked (dump_of reader reading) (dump_of other reading) format
 SaysBy (jobs.Normalise reading view body hex file quiet) reader other =
     WritesNormal (dump_of reader reading) view body hex
 SaysBy (jobs.Key reading view routes file quiet) reader other =
     WritesKey (dump_of reader reading) view routes (name_of file)
-SaysBy (jobs.Pairs reading view count format file quiet) reader other =
-    ListsPairs (dump_of reader reading) view count format
+SaysBy (jobs.Pairs reading view filter count format file quiet) reader other =
+    ListsPairs (dump_of reader reading) view (kept_pairs_in format view filter count)
 SaysBy (jobs.Compare reading other_reading view format file another quiet) reader other =
     Compares (dump_of reader reading) (dump_of other other_reading) view format
 SaysBy (jobs.Differences reading other_reading view count format file another quiet) reader other =
     ListsDifferences (dump_of reader reading) (dump_of other other_reading) view count format
 SaysBy (jobs.RouteOctets reading view body hex file quiet) reader other =
     WritesRoutes (dump_of reader reading) view body hex
-SaysBy (jobs.RouteRows reading view count format file quiet) reader other =
-    ListsRoutes (dump_of reader reading) view count format
+SaysBy (jobs.RouteRows reading view filter count format file quiet) reader other =
+    ListsRoutes (dump_of reader reading) view filter count format
 SaysBy (jobs.CompareRoutes reading other_reading view listed format file another quiet)
     reader other =
     ComparesRoutes (dump_of reader reading) (dump_of other other_reading) view listed format
@@ -57,9 +63,11 @@ SaysBy (jobs.Extract reading sender place hex file quiet) reader other =
 
 -- why it says nothing; `untouched` says that the other reader is as it was
 abbrev pub CauseBy : Job → (reader other : Reads) → (untouched : Type 0) → RunFault → Type 0
-CauseBy (jobs.Show reading format file quiet) reader other untouched =
+CauseBy (jobs.Show reading filter summary format file quiet) reader other untouched =
     OfFirst (InputCause (dump_of reader reading) (IsFaultOfGiven (dump_of reader reading)))
 CauseBy (jobs.Lookup reading pair format file quiet) reader other untouched =
+    OfFirst (InputCause (dump_of reader reading) (IsFaultOfGiven (dump_of reader reading)))
+CauseBy (jobs.AnySource reading dst format file quiet) reader other untouched =
     OfFirst (InputCause (dump_of reader reading) (IsFaultOfGiven (dump_of reader reading)))
 CauseBy (jobs.Each reading format file pairs quiet) reader other untouched =
     EachCause (dump_of reader reading) (dump_of other reading)
@@ -68,7 +76,7 @@ CauseBy (jobs.Normalise reading view body hex file quiet) reader other untouched
 CauseBy (jobs.Key reading view routes file quiet) reader other untouched =
     let dump = dump_of reader reading in
     OfFirst (InputCause dump (IsFaultOfOctets routes dump view))
-CauseBy (jobs.Pairs reading view count format file quiet) reader other untouched =
+CauseBy (jobs.Pairs reading view filter count format file quiet) reader other untouched =
     OfFirst (InputCause (dump_of reader reading) (IsFaultOfForm (dump_of reader reading) view))
 CauseBy (jobs.Compare reading other_reading view format file another quiet) reader other untouched =
     CompareCause (dump_of reader reading) (dump_of other other_reading) untouched
@@ -77,7 +85,7 @@ CauseBy (jobs.Differences reading other_reading view count format file another q
     DifferencesCause (dump_of reader reading) (dump_of other other_reading) view untouched
 CauseBy (jobs.RouteOctets reading view body hex file quiet) reader other untouched =
     OfFirst (InputCause (dump_of reader reading) (IsFaultOfGiven (dump_of reader reading)))
-CauseBy (jobs.RouteRows reading view count format file quiet) reader other untouched =
+CauseBy (jobs.RouteRows reading view filter count format file quiet) reader other untouched =
     OfFirst (InputCause (dump_of reader reading) (IsFaultOfGiven (dump_of reader reading)))
 CauseBy (jobs.CompareRoutes reading other_reading view listed format file another quiet)
     reader other untouched =
@@ -92,13 +100,16 @@ CauseBy (jobs.Extract reading sender place hex file quiet) reader other untouche
 
 -- how often it may call its first reader, and the other where it reads that too
 abbrev pub first_calls : Job → Reads → Calls
-first_calls (jobs.Show reading format file quiet) reader = calls_of (dump_of reader reading)
+first_calls (jobs.Show reading filter summary format file quiet) reader =
+    calls_of (dump_of reader reading)
 first_calls (jobs.Lookup reading pair format file quiet) reader = calls_of (dump_of reader reading)
+first_calls (jobs.AnySource reading dst format file quiet) reader =
+    calls_of (dump_of reader reading)
 first_calls (jobs.Each reading format file pairs quiet) reader = calls_of (dump_of reader reading)
 first_calls (jobs.Normalise reading view body hex file quiet) reader =
     calls_of (dump_of reader reading)
 first_calls (jobs.Key reading view routes file quiet) reader = calls_of (dump_of reader reading)
-first_calls (jobs.Pairs reading view count format file quiet) reader =
+first_calls (jobs.Pairs reading view filter count format file quiet) reader =
     calls_of (dump_of reader reading)
 first_calls (jobs.Compare reading other_reading view format file another quiet) reader =
     calls_of (dump_of reader reading)
@@ -106,7 +117,7 @@ first_calls (jobs.Differences reading other_reading view count format file anoth
     calls_of (dump_of reader reading)
 first_calls (jobs.RouteOctets reading view body hex file quiet) reader =
     calls_of (dump_of reader reading)
-first_calls (jobs.RouteRows reading view count format file quiet) reader =
+first_calls (jobs.RouteRows reading view filter count format file quiet) reader =
     calls_of (dump_of reader reading)
 first_calls (jobs.CompareRoutes reading other_reading view listed format file another quiet)
     reader =

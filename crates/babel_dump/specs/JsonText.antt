@@ -7,7 +7,6 @@ use Rattle.std.specs.Option.{option_map}
 use Rattle.std.specs.Fmt.{decimal}
 use Rattle.hex.specs.Hex.{encode_lower}
 use Rattle.babel_prefix.specs.Address.{Address}
-use Rattle.babel_prefix.specs.Text.{printed, printed_prefix}
 use Rattle.babel_tlv.specs.declared.reason.Reason.{Reason}
 use Rattle.babel_tlv.specs.declared.held.Held.{Held}
 use Rattle.babel_tlv.specs.declared.held.Held.TheVariants as helds
@@ -19,6 +18,8 @@ use Rattle.babel_canon.specs.declared.verdict.Verdict.{Verdict}
 use Rattle.babel_canon.specs.declared.verdict.Verdict.TheVariants as verdicts
 use Rattle.babel_canon.specs.declared.every_difference.Difference.{Difference}
 use Rattle.babel_dump.specs.RunText.{newline, reason_name}
+use Rattle.babel_dump.specs.Spelling.{address_text, prefix_text}
+use Rattle.babel_dump.specs.declared.spelling.Spelling.{Spelling}
 
 -- `"TEXT"`
 abbrev pub quoted : List ℕ → List ℕ
@@ -29,18 +30,18 @@ abbrev pub kept_json : (kept : Bool) → List ℕ → List ℕ
 kept_json kept value = if kept then value else codes "null"
 
 -- `{"next_hop":"ADDRESS","router_id":"ROUTERID","seqno":N,"metric":N}`
-abbrev pub announcement_json : View → Announcement → List ℕ
-announcement_json view ann =
-    codes "{\"next_hop\":" ++ kept_json view.next_hop (quoted (printed ann.next_hop))
+abbrev pub announcement_json : Spelling → View → Announcement → List ℕ
+announcement_json spelling view ann =
+    codes "{\"next_hop\":" ++ kept_json view.next_hop (quoted (address_text spelling ann.next_hop))
     ++ codes ",\"router_id\":" ++ kept_json view.router_id (quoted (encode_lower ann.router_id))
     ++ codes ",\"seqno\":" ++ kept_json view.seqno (decimal ann.seqno)
     ++ codes ",\"metric\":" ++ kept_json view.metric (decimal ann.metric) ++ codes "}"
 
 -- the announcement, `"unreachable"`, or `null`
-abbrev pub answer_json : View → Option Held → List ℕ
-answer_json view None = codes "null"
-answer_json view (Some (helds.Route ann)) = announcement_json view ann
-answer_json view (Some helds.Unreachable) = codes "\"unreachable\""
+abbrev pub answer_json : Spelling → View → Option Held → List ℕ
+answer_json spelling view None = codes "null"
+answer_json spelling view (Some (helds.Route ann)) = announcement_json spelling view ann
+answer_json spelling view (Some helds.Unreachable) = codes "\"unreachable\""
 
 -- `"destination":"DST","source":"SRC"`, of their texts
 abbrev pub addressed_json : (dst src : List ℕ) → List ℕ
@@ -48,17 +49,19 @@ addressed_json dst src =
     codes "\"destination\":\"" ++ dst ++ codes "\",\"source\":\"" ++ src ++ codes "\""
 
 -- `{"destination":"DST","source":"SRC","answer":ANSWER}`
-abbrev pub answered_line : View → (dst src : List ℕ) → Option Held → List ℕ
-answered_line view dst src answer =
-    codes "{" ++ addressed_json dst src ++ codes ",\"answer\":" ++ answer_json view answer
+abbrev pub answered_line : Spelling → View → (dst src : List ℕ) → Option Held → List ℕ
+answered_line spelling view dst src answer =
+    codes "{" ++ addressed_json dst src ++ codes ",\"answer\":" ++ answer_json spelling view answer
     ++ codes "}" ++ newline
 
-abbrev pub pair_json : View → RouteKey × Held → List ℕ
-pair_json view pair =
-    answered_line view (printed_prefix pair.0.dst) (printed_prefix pair.0.src) (Some pair.1)
+abbrev pub pair_json : Spelling → View → RouteKey × Held → List ℕ
+pair_json spelling view pair =
+    answered_line spelling view (prefix_text spelling pair.0.dst) (prefix_text spelling pair.0.src)
+    (Some pair.1)
 
-abbrev pub lookup_json : (dst src : Address) → Option Held → List ℕ
-lookup_json dst src answer = answered_line keeps_all (printed dst) (printed src) answer
+abbrev pub lookup_json : Spelling → (dst src : Address) → Option Held → List ℕ
+lookup_json spelling dst src answer =
+    answered_line spelling keeps_all (address_text spelling dst) (address_text spelling src) answer
 
 -- `{"rows":N,"pairs":N}`
 abbrev pub counts_json : ℕ → ℕ → List ℕ
@@ -66,44 +69,53 @@ counts_json rows pairs =
     codes "{\"rows\":" ++ decimal rows ++ codes ",\"pairs\":" ++ decimal pairs ++ codes "}"
     ++ newline
 
--- `{"reason":"NAME","count":N,"first":OFFSET}`
-abbrev pub ignored_object : Reason → ℕ × ℕ → List ℕ
-ignored_object reason counted =
-    codes "{\"reason\":\"" ++ reason_name reason ++ codes "\",\"count\":" ++ decimal counted.0
+-- `{"reason":"NAME","count":N,"first":PLACE}`
+abbrev pub counted_object : (name : List ℕ) → ℕ × ℕ → List ℕ
+counted_object name counted =
+    codes "{\"reason\":\"" ++ name ++ codes "\",\"count\":" ++ decimal counted.0
     ++ codes ",\"first\":"
     ++ decimal counted.1 ++ codes "}"
 
--- `{"tlvs":N,"ignored":[..]}`, with an object for each reason that occurred, and commas between
-abbrev pub report_json : Counts → List ℕ
-report_json counts =
-    codes "{\"tlvs\":" ++ decimal counts.tlvs ++ codes ",\"ignored\":["
+-- the object of a reason to ignore TLVs, with the offset of the first
+abbrev pub ignored_object : Reason → ℕ × ℕ → List ℕ
+ignored_object reason = counted_object (reason_name reason)
+
+-- `"tlvs":N,"ignored":[..]`, with an object for each reason that occurred, and commas between
+abbrev pub report_members : Counts → List ℕ
+report_members counts =
+    codes "\"tlvs\":" ++ decimal counts.tlvs ++ codes ",\"ignored\":["
     ++ join_by (λ value. value) (codes ",")
     (filter_map (λ reason. option_map (ignored_object reason)
     (count_at counts.ignored (reason_place reason))) all_reasons)
-    ++ codes "]}" ++ newline
+    ++ codes "]"
+
+-- `{"tlvs":N,"ignored":[..]}`
+abbrev pub report_json : Counts → List ℕ
+report_json counts = codes "{" ++ report_members counts ++ codes "}" ++ newline
 
 -- `{"same":true}`
 abbrev pub same_json : List ℕ
 same_json = codes "{\"same\":true}" ++ newline
 
 -- `{"same":false,"destination":"DST","source":"SRC","left":ANSWER,"right":ANSWER}`, of two texts
-abbrev pub differ_json : View → (dst src : List ℕ) → (left right : Option Held) → List ℕ
-differ_json view dst src left right =
+abbrev pub differ_json :
+    Spelling → View → (dst src : List ℕ) → (left right : Option Held) → List ℕ
+differ_json spelling view dst src left right =
     codes "{\"same\":false," ++ addressed_json dst src
-    ++ codes ",\"left\":" ++ answer_json view left
-    ++ codes ",\"right\":" ++ answer_json view right ++ codes "}" ++ newline
+    ++ codes ",\"left\":" ++ answer_json spelling view left
+    ++ codes ",\"right\":" ++ answer_json spelling view right ++ codes "}" ++ newline
 
 -- the line of a verdict, of two addresses
-abbrev pub verdict_json : View → Verdict → List ℕ
-verdict_json view verdicts.Same = same_json
-verdict_json view (verdicts.Differ dst src left right) =
-    differ_json view (printed dst) (printed src) left right
+abbrev pub verdict_json : Spelling → View → Verdict → List ℕ
+verdict_json spelling view verdicts.Same = same_json
+verdict_json spelling view (verdicts.Differ dst src left right) =
+    differ_json spelling view (address_text spelling dst) (address_text spelling src) left right
 
 -- the line of a difference, of two prefixes
-abbrev pub difference_json : View → Difference → List ℕ
-difference_json view difference =
-    differ_json view (printed_prefix difference.key.dst) (printed_prefix difference.key.src)
-    difference.left difference.right
+abbrev pub difference_json : Spelling → View → Difference → List ℕ
+difference_json spelling view difference =
+    differ_json spelling view (prefix_text spelling difference.key.dst)
+    (prefix_text spelling difference.key.src) difference.left difference.right
 
 -- `{"NAME":N}`
 abbrev pub count_json : List ℕ → ℕ → List ℕ

@@ -1,9 +1,22 @@
 -- Which datagrams of a capture were left out, by its report: this project's own.
-use Rattle.std.specs.Prelude.{◌≡◌, ℕ, nat_lt, if◌then◌else◌, List, [], ◌∷◌, Option, None, Some}
+use Rattle.std.specs.Prelude.{◌≡◌, ℕ, nat_lt, if◌then◌else◌, List, [], ◌∷◌, codes}
+use Rattle.std.specs.Prelude.{Option, None, Some}
 use Rattle.std.specs.List.{AllByRecursion}
 use Rattle.babel_capture.specs.Counts.{Counts, all_reasons, count_at, reason_place}
 use Rattle.babel_capture.specs.declared.reason.Reason.{Reason}
+use Rattle.babel_capture.specs.declared.reason.Reason.TheVariants as reasons
 use Rattle.babel_dump.specs.declared.left_out.LeftOutDatagram.{LeftOutDatagram}
+
+-- the name of a reason
+abbrev pub left_out_name : Reason → List ℕ
+left_out_name reasons.Truncated = codes "truncated"
+left_out_name reasons.BadMagic = codes "bad-magic"
+left_out_name reasons.BadVersion = codes "bad-version"
+left_out_name reasons.Fragment = codes "fragment"
+left_out_name reasons.Snapped = codes "snapped"
+left_out_name reasons.CutShort = codes "cut-short"
+left_out_name reasons.OtherPort = codes "other-port"
+left_out_name reasons.NotLinkLocal = codes "not-link-local"
 
 -- the first datagram that was left out for a reason, if any was
 abbrev pub first_counted : Reason → Option (ℕ × ℕ) → Option LeftOutDatagram

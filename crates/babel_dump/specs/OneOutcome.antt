@@ -50,8 +50,8 @@ pub record RanOver (job : Job) (contents other : Contents) (before after : List 
   pub took : writer.old.taken ≡ Some before
   pub takes : writer.new.taken ≡ Some after
 
--- the fault is that of a dump's octets, or of what was left out: no call failed, no memory was
--- wanting, and it is no fault of a capture's octets
+-- the fault is that of a dump's octets, or of what was left out: no call failed, memory did
+-- not run out, and it is no fault of a capture's octets
 abbrev pub IsOfDump : InputFault → Type 0
 IsOfDump (input_faults.Dump fault) = fault ≢ faults.Memory
 IsOfDump (input_faults.Ignored tlv) = Unit {0}
@@ -98,18 +98,19 @@ FaultIsOne =
 
 -- how the dump on a side is read, where a job reads one there, and what it is
 abbrev pub reading_at : Side → Job → Option Reading
-reading_at sides.First (jobs.Show reading format file quiet) = Some reading
+reading_at sides.First (jobs.Show reading filter summary format file quiet) = Some reading
 reading_at sides.First (jobs.Lookup reading pair format file quiet) = Some reading
+reading_at sides.First (jobs.AnySource reading dst format file quiet) = Some reading
 reading_at sides.First (jobs.Each reading format file pairs quiet) = Some reading
 reading_at sides.First (jobs.Normalise reading view body hex file quiet) = Some reading
 reading_at sides.First (jobs.Key reading view routes file quiet) = Some reading
-reading_at sides.First (jobs.Pairs reading view count format file quiet) = Some reading
+reading_at sides.First (jobs.Pairs reading view filter count format file quiet) = Some reading
 reading_at sides.First (jobs.Compare reading other_reading view format file other quiet) =
     Some reading
 reading_at sides.First (jobs.Differences reading other_reading view count format file other quiet) =
     Some reading
 reading_at sides.First (jobs.RouteOctets reading view body hex file quiet) = Some reading
-reading_at sides.First (jobs.RouteRows reading view count format file quiet) = Some reading
+reading_at sides.First (jobs.RouteRows reading view filter count format file quiet) = Some reading
 reading_at sides.First
     (jobs.CompareRoutes reading other_reading view listed format file other quiet) =
     Some reading

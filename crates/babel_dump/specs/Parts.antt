@@ -23,7 +23,7 @@ use Rattle.babel_dump.specs.Command.{IsOfMany, IsOfMemory, IsOutcome, IsOutcomeO
 use Rattle.babel_dump.specs.Command.{IsOutcomeOfBoth}
 use Rattle.babel_dump.specs.Device.{AppendsPrefix}
 use Rattle.babel_dump.specs.Given.{GaveAll, GaveTables, Input, Reads}
-use Rattle.babel_dump.specs.InFormat.{differences_or_count_in, pairs_or_counts_in, verdict_in}
+use Rattle.babel_dump.specs.InFormat.{differences_or_count_in, verdict_in}
 use Rattle.babel_dump.specs.JobRun.{CauseBy, OtherCalled, SaysBy, first_calls, other_calls}
 use Rattle.babel_dump.specs.Run.{Called, Calls, Output}
 use Rattle.babel_dump.specs.RunText.{answer_in, differences_status, form_text, verdict_status}
@@ -78,13 +78,13 @@ pub record GaveBoth (reader other : Input) (view : View) (seen : SeenTables) : T
   pub left_is : seen.left ≡ seen_table view table
   pub right_is : seen.right ≡ seen_table view other_table
 
--- the text is that of the canonical pairs of what a view sees of rows, or of their count
-pub record SaysPairs (limits : Bounds) (view : View) (count : Bool) (format : Format)
+-- the text is that of rows, and of the canonical pairs of what a view sees of them
+pub record SaysPairs (limits : Bounds) (view : View) (in_text : (rows pairs : List Pair) → List ℕ)
     (rows : List Pair) (text : List ℕ) : Type 0 where
   pub canon : Canonical
   pub is_canon : IsCanonical limits 1024 (seen_rows view rows) canon
   pub fewest : AreFewest (seen_rows view rows) canon.pairs
-  pub text_is : text ≡ pairs_or_counts_in format view count rows canon.pairs
+  pub text_is : text ≡ in_text rows canon.pairs
 
 -- the text and the outcome are those of how two tables compare
 pub record SaysVerdict (view : View) (format : Format) (seen : SeenTables) (text : List ℕ)
@@ -124,7 +124,7 @@ pub record SaysRoutes (seen : SeenTables) (in_text : (rows : ℕ) → List Diffe
   pub outcome_is : IsOutcomeOfBoth outcome (differences_status (length differences))
       seen.left.report seen.right.report
 
--- two tables have more differences than the limit, or memory was wanting
+-- two tables have more differences than the limit, or memory ran out
 abbrev pub HasManyDifferences : Bounds → SeenTables → RunFault → Type 0
 HasManyDifferences limits seen fault =
     IsOfMemory fault

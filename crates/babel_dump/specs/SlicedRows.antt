@@ -3,6 +3,7 @@ use Rattle.std.specs.Prelude.{ℕ, ◌≡◌, List, [], ◌++◌, Result, Ok, Er
 use Rattle.std.specs.List.{flat_map}
 use Rattle.babel_dump.specs.CaptureText.{senders_in}
 use Rattle.babel_dump.specs.DiffText.{change_text}
+use Rattle.babel_dump.specs.Filter.{kept_rows}
 use Rattle.babel_dump.specs.InFormat.{answer_line_in, difference_in, pairs_in}
 use Rattle.babel_dump.specs.Run.{Output}
 use Rattle.babel_dump.specs.Slices.{WroteText}
@@ -24,12 +25,12 @@ answered_in format answered =
 -- the lines that name two dumps, and the rows that they hold differently
 abbrev pub diff_lines : DiffRows → List ℕ
 diff_lines diff =
-    diff.heads.items ++ flat_map (change_text diff.coloured diff.view) diff.list.items
+    diff.heads.items ++ flat_map (change_text diff.style diff.view) diff.list.items
 
 -- a line for each row
 abbrev pub lines_of : Format → Rows → List ℕ
-lines_of format (rows.Table view table) = pairs_in format view table.rows
-lines_of format (rows.Pairs view pairs) = pairs_in format view pairs
+lines_of format (rows.Table filter view table) = pairs_in format view (kept_rows filter table.rows)
+lines_of format (rows.Pairs filter view pairs) = pairs_in format view (kept_rows filter pairs)
 lines_of format (rows.Answers answers) = flat_map (answered_in format) answers.items
 lines_of format (rows.Differences view differences) =
     flat_map (difference_in format view) differences.items

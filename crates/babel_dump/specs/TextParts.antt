@@ -4,6 +4,9 @@ use Rattle.std.specs.List.{filter, filter_map, flat_map, join_by}
 use Rattle.std.specs.Option.{option_map}
 use Rattle.hex.specs.Hex.{encode_lower}
 use Rattle.babel_prefix.specs.Address.{Address}
+use Rattle.babel_capture.specs.Counts.{Counts as CaptureCounts}
+use Rattle.babel_capture.specs.Counts.{count_at as left_out_at, reason_place as left_out_place}
+use Rattle.babel_capture.specs.declared.reason.Reason.{Reason as LeftOutReason}
 use Rattle.babel_capture.specs.declared.tallies.Origin.{Origin}
 use Rattle.babel_capture.specs.declared.tallies.Tally.{Tally}
 use Rattle.babel_tlv.specs.declared.reason.Reason.{Reason}
@@ -12,10 +15,12 @@ use Rattle.babel_table.specs.Rows.{Routes}
 use Rattle.babel_dump.specs.CaptureText.{sender_end, sender_end_json, sender_front}
 use Rattle.babel_dump.specs.CaptureText.{sender_front_json}
 use Rattle.babel_dump.specs.InFormat.{in_format}
-use Rattle.babel_dump.specs.JsonText.{ignored_object, same_json}
+use Rattle.babel_dump.specs.JsonText.{counted_object, ignored_object, same_json}
+use Rattle.babel_dump.specs.LeftOut.{left_out_name}
 use Rattle.babel_dump.specs.RunText.{answer_in, ignored_line, lookup_status}
 use Rattle.babel_dump.specs.RunText.{newline, same_text}
 use Rattle.babel_dump.specs.declared.format.Format.{Format}
+use Rattle.babel_dump.specs.declared.format.Format.TheVariants as formats
 
 -- two lower-case hexadecimal digits for each octet
 abbrev pub hex_digits : List ℕ → List ℕ
@@ -41,6 +46,14 @@ ignored_objects counts reasons =
     (λ reason. option_map (ignored_object reason) (count_at counts.ignored (reason_place reason)))
     reasons
 
+-- an object for each of these reasons for which a datagram was left out
+abbrev pub left_out_objects : CaptureCounts → List LeftOutReason → List (List ℕ)
+left_out_objects counts reasons =
+    filter_map
+    (λ reason. option_map (counted_object (left_out_name reason))
+    (left_out_at counts.left_out (left_out_place reason)))
+    reasons
+
 -- with a comma between each two
 abbrev pub comma_separated : List (List ℕ) → List ℕ
 comma_separated values = join_by (λ value. value) (codes ",") values
@@ -60,8 +73,10 @@ closing format (octet ∷ octets) = in_format format (codes ")") (codes "\"")
 
 -- the parts of a sender's line before the octets of the name and after them
 abbrev pub to_name : Format → Origin → (name : List ℕ) → List ℕ
-to_name format origin name =
-    in_format format (sender_front origin) (sender_front_json origin) ++ opening format name
+to_name (formats.Text spelling) origin name =
+    sender_front spelling origin ++ opening (formats.Text spelling) name
+to_name (formats.Json spelling) origin name =
+    sender_front_json spelling origin ++ opening (formats.Json spelling) name
 
 abbrev pub after_name : Format → Origin × Tally → (name : List ℕ) → List ℕ
 after_name format sender name =

@@ -3,6 +3,7 @@ ghost use Rattle.std.specs.Io.{ReadsAtMost};
 ghost use Rattle.babel_dump.specs.Device.{InputState, ReadGave, failed_calls, ended_reads};
 
 use crate::left_out::LeftOutDatagram;
+use babel_table::USUAL_SEED;
 use std::io;
 use std::io::Read;
 
@@ -33,6 +34,11 @@ pub trait ByteIn {
     /// The first datagram that was left out of what it gave, if that was cut from a capture.
     fn left_out(&self) -> Option<LeftOutDatagram>
         ensures { result ≡ (state self.now).left_out };
+
+    /// The seed by which keys are found in what it gave: `Feeder::with_seed`.
+    fn seed(&self) -> u128 {
+        USUAL_SEED
+    }
 }
 
 /// A device over any reader of std.

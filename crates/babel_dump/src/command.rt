@@ -1,4 +1,5 @@
 //! The command line, as `clap` reads it.
+use crate::filter_options::with_filter;
 use clap::{Arg, ArgAction, ArgGroup, Command, value_parser};
 use std::alloc::{AllocError, Global};
 
@@ -39,13 +40,13 @@ macro_rules! after_help {
 
 const AFTER_HELP: &str = after_help!(
     "IPv4 routes with an IPv6 next hop (address encoding 4, AE 4 for short, RFC 9229) are not \
-     read.",
-    "babeld sends them on links without IPv4 addresses. They and their retractions are ignored and",
-    "counted as unknown-encoding, so that an answer for IPv4 can be missing or stale.\n",
+     read. babeld sends them on links without IPv4 addresses. They and their retractions are \
+     ignored and counted as unknown-encoding, so that an answer for IPv4 can be missing or \
+     stale.\n",
     examples:
     "senders x.pcap",
     "show --from fe80::1 x.pcap",
-    "lookup --from fe80::1 --to 10.1.2.3 --src 0.0.0.0 x.pcap";
+    "lookup --from fe80::1 --to 10.1.2.3 x.pcap";
     "0  done; a lookup has a route; the compared dumps answer the same",
     "1  a lookup has no route: none or unreachable; the compared dumps differ; a capture has no \
      packets"
@@ -54,14 +55,16 @@ const AFTER_HELP: &str = after_help!(
 const AFTER_SHOW: &str = after_help!(
     examples:
     "show --from fe80::1 x.pcap",
-    "show --hold --from fe80::1 x.pcap | grep -v unreachable";
+    "show --hold --from fe80::1 x.pcap | grep -v unreachable",
+    "show --quiet --match 10.1.2.3 --from fe80::1 x.pcap",
+    "show --summary --from fe80::1 x.pcap";
     "0  done"
 );
 
 const AFTER_LOOKUP: &str = after_help!(
     examples:
-    "lookup --from fe80::1 --to 10.1.2.3 --src 0.0.0.0 x.pcap",
-    "lookup --from 192.0.2.1 --to 10.1.2.3 --src 0.0.0.0 < x.dump",
+    "lookup --from fe80::1 --to 10.1.2.3 x.pcap",
+    "lookup --from 192.0.2.1 --to 10.1.2.3 --src 10.9.8.7 < x.dump",
     "lookup --from fe80::1 --each pairs.txt x.pcap";
     "0  each answer is a route",
     "1  an answer is none or unreachable"
@@ -76,9 +79,9 @@ const AFTER_NORMALISE: &str = after_help!(
 
 const AFTER_KEY: &str = after_help!(
     refused: "a dump or a capture";
-    "Each line is HEX  FILE, as sha256sum writes it. Keys of one --ignore and one --hold are equal",
-    "exactly if the answers are, or, with --routes, the routes. The status is the greatest of all",
-    "files.\n",
+    "Each line is the key, two blanks and the file, as sha256sum writes it. Keys of one --ignore \
+     and one --hold are equal exactly if the answers are, or, with --routes, the routes. The \
+     status is the greatest of all files.\n",
     examples:
     "key --from fe80::1 before.pcap now.pcap",
     "key --routes --ignore seqno --from fe80::1 x.pcap";
@@ -95,7 +98,8 @@ const AFTER_PAIRS: &str = after_help!(
 const AFTER_COMPARE: &str = after_help!(
     examples:
     "compare --from fe80::1 before.pcap now.pcap",
-    "compare --all --ignore next-hop,metric --from fe80::1 --other-from fe80::2 x.pcap x.pcap",
+    "compare --all --from fe80::1 --other-from fe80::2 x.pcap x.pcap",
+    "compare --ignore seqno,metric --from fe80::1 before.pcap now.pcap",
     "compare --routes --all --from fe80::1 before.pcap now.pcap";
     "0  every destination and source has the same answer, or, with --routes, no route differs",
     "1  at least one destination and source has a different answer, or one route differs"
@@ -161,7 +165,15 @@ fn show<'a>(alloc: Global) -> Result<Command<'a>, AllocError> {
     let command = Command::new(alloc, "show")
         .about(about)
         .after_help(AFTER_SHOW);
-    of_one_dump(alloc, command)?.arg(json(alloc))
+    let summary = flag(
+        alloc,
+        "summary",
+        "Print only how many routes, router-ids and next hops there are",
+    );
+    with_filter(alloc, of_one_dump(alloc, command)?)?
+        .arg(summary)?
+        .arg(json(alloc))?
+        .arg(short(alloc))
 }
 
 /// The command for one answer, or for one a pair.
@@ -174,19 +186,15 @@ fn lookup<'a>(alloc: Global) -> Result<Command<'a>, AllocError> {
     let src = address(
         alloc,
         "src",
-        "The source to look up, of the destination's family",
+        "The source to look up, of the destination's family [default: 0.0.0.0 or ::]",
     );
     of_one_dump(alloc, command)?
         .arg(strict(alloc))?
         .arg(json(alloc))?
-        .arg(unless_each(to)?)?
-        .arg(unless_each(src)?)?
+        .arg(short(alloc))?
+        .arg(to.required(false).required_unless_present("each")?)?
+        .arg(src.required(false))?
         .arg(each(alloc)?)
-}
-
-/// An option that is required where pairs are not read from a file.
-fn unless_each(arg: Arg<'_>) -> Result<Arg<'_>, AllocError> {
-    arg.required(false).required_unless_present("each")
 }
 
 /// The option for the pairs to look up.
@@ -204,8 +212,7 @@ fn each<'a>(alloc: Global) -> Result<Arg<'a>, AllocError> {
 
 /// The command for the canonical octets.
 fn normalise<'a>(alloc: Global) -> Result<Command<'a>, AllocError> {
-    let about =
-        "Write the canonical octets, which are the same for all inputs with the same answers";
+    let about = "Write the canonical octets, equal for inputs that answer alike";
     let command = Command::new(alloc, "normalise")
         .about(about)
         .after_help(AFTER_NORMALISE);
@@ -229,7 +236,7 @@ fn normalise<'a>(alloc: Global) -> Result<Command<'a>, AllocError> {
 
 /// The command for the keys of files.
 fn key<'a>(alloc: Global) -> Result<Command<'a>, AllocError> {
-    let about = "Print the SHA-256 of the canonical octets of each file, as sha256sum does";
+    let about = "Print the SHA-256 of the canonical octets of each file";
     let command = Command::new(alloc, "key")
         .about(about)
         .after_help(AFTER_KEY);
@@ -246,7 +253,7 @@ fn key<'a>(alloc: Global) -> Result<Command<'a>, AllocError> {
 
 /// The command for the canonical pairs.
 fn pairs<'a>(alloc: Global) -> Result<Command<'a>, AllocError> {
-    let about = "Print the canonical pairs: the largest blocks of addresses that share one answer";
+    let about = "Print the canonical pairs: the largest blocks that share one answer";
     let command = Command::new(alloc, "pairs")
         .about(about)
         .after_help(AFTER_PAIRS);
@@ -255,7 +262,7 @@ fn pairs<'a>(alloc: Global) -> Result<Command<'a>, AllocError> {
         "count",
         "Print only how many rows and how many canonical pairs there are",
     );
-    of_one_dump(alloc, command)?
+    with_filter(alloc, of_one_dump(alloc, command)?)?
         .arg(strict(alloc))?
         .arg(ignore(alloc))?
         .arg(routes(
@@ -263,17 +270,19 @@ fn pairs<'a>(alloc: Global) -> Result<Command<'a>, AllocError> {
             "Print the routes, a line for each, in place of the pairs",
         ))?
         .arg(json(alloc))?
+        .arg(short(alloc))?
         .arg(count)
 }
 
 /// The command for the answers of two dumps.
 fn compare<'a>(alloc: Global) -> Result<Command<'a>, AllocError> {
-    let about = "Print \"same\", or the lowest destination and source for which two inputs differ";
+    let about = "Print \"same\", or the lowest addresses for which two inputs differ";
     let command = Command::new(alloc, "compare")
         .about(about)
         .after_help(AFTER_COMPARE);
     of_two_dumps(alloc, command)?
         .arg(json(alloc))?
+        .arg(short(alloc))?
         .arg(routes(alloc, "Compare the routes, not the answers"))?
         .arg(all(alloc))?
         .arg(count_of_all(alloc)?)?
@@ -287,8 +296,7 @@ fn compare<'a>(alloc: Global) -> Result<Command<'a>, AllocError> {
 
 /// The command for the routes of two dumps, as people read changes.
 fn diff<'a>(alloc: Global) -> Result<Command<'a>, AllocError> {
-    let about =
-        "Print the routes that differ between two inputs, as diff does: - is gone, + is new";
+    let about = "Print the routes that differ in two inputs: - is gone, + is new";
     let command = Command::new(alloc, "diff")
         .about(about)
         .after_help(AFTER_DIFF);
@@ -303,7 +311,10 @@ fn diff<'a>(alloc: Global) -> Result<Command<'a>, AllocError> {
         .value_parser(&COLORS[..])
         .action(ArgAction::Set)
         .help("When routes are in colour; auto is on a terminal alone [default: never]");
-    of_two_dumps(alloc, command)?.arg(stat)?.arg(color)
+    of_two_dumps(alloc, command)?
+        .arg(stat)?
+        .arg(color)?
+        .arg(short(alloc))
 }
 
 /// The command with what each command over two dumps has.
@@ -372,12 +383,13 @@ fn count_of_all<'a>(alloc: Global) -> Result<Arg<'a>, AllocError> {
 
 /// The command for the senders of a capture.
 fn senders<'a>(alloc: Global) -> Result<Command<'a>, AllocError> {
-    let about = "List who sent Babel packets in a capture (pcap, pcapng), at which place, and how \
-                 many packets, octets and Updates";
+    let about = "List who sent Babel packets in a capture, where, and how much";
     let command = Command::new(alloc, "senders")
         .about(about)
         .after_help(AFTER_SENDERS);
-    of_one_capture(alloc, command)?.arg(json(alloc))
+    of_one_capture(alloc, command)?
+        .arg(json(alloc))?
+        .arg(short(alloc))
 }
 
 /// The command for the dump of one sender of a capture.
@@ -528,10 +540,10 @@ fn ignore<'a>(alloc: Global) -> Arg<'a> {
     Arg::new(alloc, "ignore")
         .long("ignore")
         .value_name("LIST")
-        .action(ArgAction::Set)
+        .action(ArgAction::Append)
         .help(
             "Fields of a route that do not count: next-hop, router-id, seqno, metric, separated by \
-             commas",
+             commas; may be repeated",
         )
 }
 
@@ -540,9 +552,16 @@ fn json<'a>(alloc: Global) -> Arg<'a> {
     flag(alloc, "json", "Print one JSON object per line")
 }
 
+/// The option for short texts of addresses.
+fn short<'a>(alloc: Global) -> Arg<'a> {
+    let help =
+        "Write addresses as RFC 5952 does, fe80::1, and leave out a source prefix of length 0";
+    flag(alloc, "short", help)
+}
+
 /// The option that leaves notes out.
 fn quiet<'a>(alloc: Global) -> Arg<'a> {
-    let help = "Suppress the notes on standard error";
+    let help = "Suppress the notes on standard error, and, of show, what comes after the routes";
     flag(alloc, "quiet", help)
 }
 

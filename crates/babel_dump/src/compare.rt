@@ -6,6 +6,7 @@ ghost use Rattle.babel_dump.specs.Parts.{Gathered, Says, SaysVerdict};
 ghost use Rattle.babel_dump.specs.Run.{Called, calls_of, output};
 ghost use Rattle.babel_dump.specs.RunText.{verdict_status};
 ghost use Rattle.babel_dump.specs.declared.format.Format.TheVariants as formats;
+ghost use Rattle.babel_dump.specs.declared.spelling.Spelling.TheVariants as spellings;
 
 use crate::both::{SeenTables, compared, read_both};
 use crate::byte_in::ByteIn;
@@ -16,6 +17,7 @@ use crate::output::verdict_output;
 use crate::reading::Reading;
 use crate::run_fault::RunFault;
 use crate::slices::{Found, finish};
+use crate::spelling::Spelling;
 use babel_canon::Verdict;
 use babel_prefix::Addr;
 use babel_table::Limits;
@@ -47,11 +49,12 @@ pub fn run_compare<R: ByteIn, S: ByteIn, W: ByteOut>(
     ensures { let dump = input limits mode sender (R.state reader.old) (R.state reader.new) in
         let other_dump = input limits mode other_sender (S.state other.old) (S.state other.new) in
         let output = output (W.state writer.old) (W.state writer.new) in
-        RanCompare dump other_dump formats.Text output (other.new ≡ other.old) result }
+        RanCompare dump other_dump (formats.Text spellings.Long) output (other.new ≡ other.old)
+        result }
 {
     let reading = Reading::of(limits, mode, sender);
     let other_reading = Reading::of(limits, mode, other_sender);
-    let (view, format) = (View::all(), Format::Text);
+    let (view, format) = (View::all(), Format::Text(Spelling::Long));
     let found = find_verdict(alloc, reading, other_reading, view, format, reader, other);
     status_alone(finish(writer, found))
 }

@@ -19,10 +19,12 @@ use crate::format::Format;
 use crate::job::DiffStyle;
 use crate::key_text::push_file;
 use crate::outcome::{Outcome, Reports};
-use crate::push::{push_addr, push_decimal, push_link, push_marked, push_octet, push_text};
+use crate::push::{push_decimal, push_link, push_marked, push_octet, push_text};
+use crate::push_addr::push_addr;
 use crate::reading::Reading;
 use crate::run_fault::RunFault;
 use crate::slices::{Found, Rows};
+use crate::spelling::Spelling;
 use babel_canon::{Difference, route_differences};
 use babel_capture::Place;
 use babel_tlv::View;
@@ -58,7 +60,7 @@ pub(crate) fn find_diff<R: ByteIn, S: ByteIn>(
     found_diff(alloc, one, another, view, style, file, other_file, &seen)
 }
 
-/// The text of the rows that two tables hold differently. Want of memory is the first dump's.
+/// The text of the rows that two tables hold differently. Out of memory is the first dump's.
 fn found_diff(
     alloc: Global,
     reading: Reading,
@@ -70,7 +72,8 @@ fn found_diff(
     seen: &SeenTables,
 ) -> Result<Found, RunFault>
     ensures ok { IfOk result (Says (SaysRoutes seen.now
-        (diff_text style view (head_lines file.now other_file.now reading other_reading)))) }
+        (diff_text style view
+        (head_lines style.spelling file.now other_file.now reading other_reading)))) }
     ensures err { IfErr result IsOfMemory }
 {
     let list = route_differences(alloc, &seen.left, &seen.right)?;
@@ -78,9 +81,10 @@ fn found_diff(
         status: differences_status(list.len()),
         reports: Reports::Dumps(*seen.left.report(), *seen.right.report()),
     };
-    let heads = head_lines(alloc, file, other_file, reading, other_reading)?;
+    let spelling = style.spelling;
+    let heads = head_lines(alloc, spelling, file, other_file, reading, other_reading)?;
     let (rows, after) = diff_rows(alloc, view, style, heads, seen.left.rows().len(), list)?;
-    Ok(Found::rows(alloc, Format::Text, rows, after, outcome)?)
+    Ok(Found::rows(alloc, Format::Text(spelling), rows, after, outcome)?)
 }
 
 /// The lines of differences, where the first dump has so many rows, and the text after them.
@@ -92,7 +96,7 @@ fn diff_rows(
     rows: usize,
     list: Vec<Difference>,
 ) -> Result<(Rows, Vec<u8>), AllocError>
-    ensures { IfOk result (λ found. lines_of formats.Text found.0 ++ found.1.items
+    ensures { IfOk result (λ found. lines_of (formats.Text style.spelling) found.0 ++ found.1.items
         ≡ diff_text style view heads.items rows list.items) }
 {
     if list.is_empty() {
@@ -105,7 +109,7 @@ fn diff_rows(
     };
     let diff = DiffRows {
         heads,
-        coloured: style.coloured,
+        style,
         view,
         list,
     };
@@ -115,30 +119,37 @@ fn diff_rows(
 /// The lines that name the two dumps.
 fn head_lines(
     alloc: Global,
+    spelling: Spelling,
     file: &str,
     other_file: &str,
     reading: Reading,
     other_reading: Reading,
 ) -> Result<Vec<u8>, AllocError>
     ensures { IfOk result (λ text. text.items
-        ≡ head_lines file.now other_file.now reading other_reading) }
+        ≡ head_lines spelling file.now other_file.now reading other_reading) }
 {
     let mut text = Vec::new(alloc);
-    push_head(&mut text, "--- ", file, reading)?;
-    push_head(&mut text, "+++ ", other_file, other_reading)?;
+    push_head(&mut text, spelling, "--- ", file, reading)?;
+    push_head(&mut text, spelling, "+++ ", other_file, other_reading)?;
     Ok(text)
 }
 
 /// Appends the line that names a dump: its file, its sender, and its place, where one is named.
-fn push_head(text: &mut Vec<u8>, mark: &str, file: &str, reading: Reading) -> Result<(), AllocError>
+fn push_head(
+    text: &mut Vec<u8>,
+    spelling: Spelling,
+    mark: &str,
+    file: &str,
+    reading: Reading,
+) -> Result<(), AllocError>
     ensures { OnOk result (text.new.items
-        ≡ text.old.items ++ head_line mark.now file.now reading) }
+        ≡ text.old.items ++ head_line spelling mark.now file.now reading) }
 {
     text.extend_from_slice(mark.as_bytes())?;
     push_file(text, file.as_bytes())?;
     text.reserve(ROOM)?;
     push_octet(text, b' ');
-    push_addr(text, reading.sender);
+    push_addr(text, spelling, reading.sender);
     push_place(text, reading.place);
     push_octet(text, b'\n');
     Ok(())

@@ -7,6 +7,7 @@ ghost use Rattle.babel_dump.specs.SlicedRows.{diff_lines};
 ghost use Rattle.babel_dump.specs.Slices.{HasRoom, TookRoom, WroteFront};
 
 use crate::byte_out::ByteOut;
+use crate::job::DiffStyle;
 use crate::push::{push_pair, push_text};
 use crate::run_fault::Side;
 use crate::slices::make_room;
@@ -18,7 +19,7 @@ use babel_tlv::{Held, Key, View};
 #[derive(Drop)]
 pub(crate) struct DiffRows {
     pub heads: Vec<u8>,
-    pub coloured: bool,
+    pub style: DiffStyle,
     pub view: View,
     pub list: Vec<Difference>,
 }
@@ -36,13 +37,13 @@ pub(crate) fn write_diff<W: ByteOut>(
         (diff_lines diff.now) buffer.new.items result }
 {
     write_all(writer, &diff.heads)?;
-    write_changes(writer, diff.coloured, diff.view, &diff.list, buffer)
+    write_changes(writer, diff.style, diff.view, &diff.list, buffer)
 }
 
 /// Writes the rows of differences, but for the last of them, which the buffer has.
 fn write_changes<W: ByteOut>(
     writer: &mut W,
-    coloured: bool,
+    style: DiffStyle,
     view: View,
     list: &[Difference],
     buffer: &mut Vec<u8>,
@@ -51,12 +52,12 @@ fn write_changes<W: ByteOut>(
     requires empty { buffer.old.items ≡ [] }
     requires room { 384 ≤ vec_capacity buffer.old }
     ensures { WroteFront (output (W.state writer.old) (W.state writer.new))
-        (flat_map (change_text coloured view) list.now) buffer.new.items result }
+        (flat_map (change_text style view) list.now) buffer.new.items result }
 {
     for difference in list {
         let Difference { key, left, right } = *difference;
-        write_row(writer, coloured, view, Side::First, key, left, buffer)?;
-        write_row(writer, coloured, view, Side::Other, key, right, buffer)?;
+        write_row(writer, style, view, Side::First, key, left, buffer)?;
+        write_row(writer, style, view, Side::Other, key, right, buffer)?;
     }
     Ok(())
 }
@@ -65,7 +66,7 @@ fn write_changes<W: ByteOut>(
 /// last of both, which the buffer has then.
 fn write_row<W: ByteOut>(
     writer: &mut W,
-    coloured: bool,
+    style: DiffStyle,
     view: View,
     side: Side,
     key: Key,
@@ -75,19 +76,19 @@ fn write_row<W: ByteOut>(
     requires few_failures { (W.state writer.old).failures < 2 ^ 64 - 1 }
     requires room { 384 ≤ vec_capacity buffer.old }
     ensures front { WroteFront (output (W.state writer.old) (W.state writer.new))
-        (buffer.old.items ++ marked_row coloured view side key held)
+        (buffer.old.items ++ marked_row style view side key held)
         buffer.new.items result }
     ensures room { OnOk result (384 ≤ vec_capacity buffer.new) }
 {
     make_room(writer, buffer)?;
-    push_row(buffer, coloured, view, side, key, held);
+    push_row(buffer, style, view, side, key, held);
     Ok(())
 }
 
 /// Appends the row of the dump on this side, if it has one: a line.
 fn push_row(
     buffer: &mut Vec<u8>,
-    coloured: bool,
+    style: DiffStyle,
     view: View,
     side: Side,
     key: Key,
@@ -95,13 +96,13 @@ fn push_row(
 )
     requires { HasRoom buffer.old 196 }
     ensures text { buffer.new.items
-        ≡ buffer.old.items ++ marked_row coloured view side key held }
+        ≡ buffer.old.items ++ marked_row style view side key held }
     ensures room { TookRoom buffer.old buffer.new 196 }
 {
     if let Some(held) = held {
-        push_text(buffer, row_mark(coloured, side));
-        push_pair(buffer, view, key, held);
-        push_text(buffer, row_end(coloured));
+        push_text(buffer, row_mark(style.coloured, side));
+        push_pair(buffer, style.spelling, view, key, held);
+        push_text(buffer, row_end(style.coloured));
     }
 }
 

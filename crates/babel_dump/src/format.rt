@@ -1,8 +1,19 @@
+use crate::spelling::Spelling;
+
 /// How a run writes what it found.
 #[derive(Clone, Copy, Debug, PartialEq, Eq)]
 pub enum Format {
     /// Lines to be read by people.
-    Text,
+    Text(Spelling),
     /// Lines of one JSON object each (RFC 8259), to be read by programs.
-    Json,
+    Json(Spelling),
+}
+
+impl Format {
+    /// How it writes addresses.
+    pub fn spelling(self) -> Spelling {
+        match self {
+            Format::Text(spelling) | Format::Json(spelling) => spelling,
+        }
+    }
 }

@@ -44,8 +44,8 @@ pub enum Hint {
              no next hop")]
     NoNextHop(&'static str),
     /// The octets of a capture begin as a dump does.
-    #[error("hint: this looks like a dump, not a capture: use show, lookup, normalise, pairs or \
-             compare")]
+    #[error("hint: this looks like a dump, not a capture: use show, lookup, normalise, key, pairs, \
+             compare or diff")]
     Dump,
     /// The octets are no capture.
     #[error("hint: a capture is a file of pcap or pcapng, as tcpdump -w writes it")]
@@ -74,9 +74,12 @@ pub enum Hint {
     /// The sender has no packets in the capture, or none on the interface that is named.
     #[error("hint: senders lists who sent, and at which places")]
     Senders,
-    /// The sender is on several interfaces.
-    #[error("hint: choose one with --interface")]
-    Interface,
+    /// The sender is on several interfaces. This option names one.
+    #[error("hint: choose one with {0}")]
+    Interface(&'static str),
+    /// A line of `--each` is no pair of addresses.
+    #[error("hint: a line has a destination and a source of one family, with blanks between them")]
+    NotAPair,
     /// The fault of a dump in a capture tells where a TLV is in the dump.
     #[error("hint: this counts the octets of the dump, as extract writes it")]
     Offset,
@@ -97,7 +100,8 @@ impl Hint {
         match fault {
             RunFault::Input(side, fault) => Hint::of_input(job, *side, fault, begins),
             RunFault::Pairs(PairsFault::TooLong) => Some(Hint::Octets(job.most_octets())),
-            RunFault::Pairs(_) | RunFault::Write => None,
+            RunFault::Pairs(PairsFault::NotAPair { .. }) => Some(Hint::NotAPair),
+            RunFault::Pairs(PairsFault::Read) | RunFault::Write => None,
         }
     }
 
@@ -132,7 +136,7 @@ impl Hint {
             InputFault::Dump(fault) => Hint::of_dump(job, *fault, begins),
             InputFault::Ignored(tlv) => Hint::of_reason(tlv.reason, side),
             InputFault::Capture(fault) => Hint::of_capture(job, fault, begins),
-            InputFault::SeveralInterfaces(_) => Some(Hint::Interface),
+            InputFault::SeveralInterfaces(_) => Some(Hint::Interface(side.place_option())),
             InputFault::NoPackets(_) => Some(Hint::Senders),
             InputFault::LeftOut(_) | InputFault::NoUpdates | InputFault::Read => None,
         }

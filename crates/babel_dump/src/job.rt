@@ -4,9 +4,11 @@ ghost use Rattle.babel_dump.specs.Files.{first_file, name_of, other_file};
 
 use crate::addr_pair::AddrPair;
 use crate::capture_reading::CaptureReading;
+use crate::filter::Filter;
 use crate::format::Format;
 use crate::key_text::Named;
 use crate::reading::Reading;
+use crate::spelling::Spelling;
 use babel_canon::Body;
 use babel_capture::Place;
 use babel_prefix::Addr;
@@ -20,14 +22,27 @@ pub enum Job {
     /// `show`: the rows of a dump's table and its report.
     Show {
         reading: Reading,
+        /// Which rows are shown, or summed up.
+        filter: Filter,
+        /// Whether only how many rows there are is shown: `--summary`.
+        summary: bool,
         format: Format,
         file: DumpFile,
+        /// Whether no line comes after the rows, and no note: `--quiet`.
         quiet: bool,
     },
     /// `lookup`: what a dump answers for two addresses.
     Lookup {
         reading: Reading,
         pair: AddrPair,
+        format: Format,
+        file: DumpFile,
+        quiet: bool,
+    },
+    /// `lookup` without `--src`: what a dump answers for a destination, from 0.0.0.0 or ::.
+    AnySource {
+        reading: Reading,
+        dst: Addr,
         format: Format,
         file: DumpFile,
         quiet: bool,
@@ -66,6 +81,8 @@ pub enum Job {
     Pairs {
         reading: Reading,
         view: View,
+        /// Which pairs are listed, or which rows and pairs are counted.
+        filter: Filter,
         /// Whether only the rows and the pairs are counted: `--count`.
         count: bool,
         format: Format,
@@ -107,6 +124,8 @@ pub enum Job {
     RouteRows {
         reading: Reading,
         view: View,
+        /// Which rows are listed, or counted.
+        filter: Filter,
         /// Whether the rows are only counted: `--count`.
         count: bool,
         format: Format,
@@ -174,6 +193,8 @@ pub struct DiffStyle {
     pub stat: bool,
     /// Whether rows are in colour: `--color`.
     pub coloured: bool,
+    /// How addresses are written: `--short`.
+    pub spelling: Spelling,
 }
 
 /// Where a dump, a capture, or the pairs of `--each`, are read from.
@@ -205,6 +226,7 @@ impl Job {
         match self {
             Job::Show { file, .. }
             | Job::Lookup { file, .. }
+            | Job::AnySource { file, .. }
             | Job::Each { file, .. }
             | Job::Normalise { file, .. }
             | Job::Key { file, .. }
@@ -248,6 +270,7 @@ impl Job {
         match self {
             Job::Show { reading, .. }
             | Job::Lookup { reading, .. }
+            | Job::AnySource { reading, .. }
             | Job::Each { reading, .. }
             | Job::Normalise { reading, .. }
             | Job::Key { reading, .. }
@@ -309,6 +332,23 @@ impl Job {
         }
     }
 
+    /// How it writes what it finds; text where its command has no `--json`.
+    pub fn format(&self) -> Format {
+        match self {
+            Job::Show { format, .. }
+            | Job::Lookup { format, .. }
+            | Job::AnySource { format, .. }
+            | Job::Each { format, .. }
+            | Job::Pairs { format, .. }
+            | Job::Compare { format, .. }
+            | Job::Differences { format, .. }
+            | Job::RouteRows { format, .. }
+            | Job::CompareRoutes { format, .. }
+            | Job::Senders { format, .. } => *format,
+            _ => Format::Text(Spelling::Long),
+        }
+    }
+
     /// Whether its output says which TLVs were ignored, as that of `show` does.
     pub fn reports_ignored(&self) -> bool {
         matches!(self, Job::Show { .. })
@@ -319,6 +359,7 @@ impl Job {
         match self {
             Job::Show { quiet, .. }
             | Job::Lookup { quiet, .. }
+            | Job::AnySource { quiet, .. }
             | Job::Each { quiet, .. }
             | Job::Normalise { quiet, .. }
             | Job::Key { quiet, .. }

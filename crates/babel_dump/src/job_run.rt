@@ -5,6 +5,7 @@ ghost use Rattle.babel_dump.specs.JobRun.{RanJob};
 ghost use Rattle.babel_dump.specs.Parts.{FoundBy};
 ghost use Rattle.babel_dump.specs.Run.{output};
 
+use crate::any_source::find_any_source;
 use crate::byte_in::ByteIn;
 use crate::byte_out::ByteOut;
 use crate::compare::find_verdict;
@@ -75,15 +76,24 @@ fn find<R: ByteIn, S: ByteIn>(
         } => find_key(alloc, reading, view, routes, file.name(), reader),
         Job::Show {
             reading,
+            filter,
+            summary,
             format,
+            quiet,
             ..
-        } => find_rows(alloc, reading, format, reader),
+        } => find_rows(alloc, reading, filter, summary, quiet, format, reader),
         Job::Lookup {
             reading,
             pair,
             format,
             ..
         } => find_answer(alloc, reading, pair, format, reader),
+        Job::AnySource {
+            reading,
+            dst,
+            format,
+            ..
+        } => find_any_source(alloc, reading, dst, format, reader),
         Job::Each {
             reading,
             format,
@@ -99,10 +109,11 @@ fn find<R: ByteIn, S: ByteIn>(
         Job::Pairs {
             reading,
             view,
+            filter,
             count,
             format,
             ..
-        } => find_pairs(alloc, reading, view, count, format, reader),
+        } => find_pairs(alloc, reading, view, filter, count, format, reader),
         Job::Compare {
             reading,
             other_reading,
@@ -137,10 +148,11 @@ fn find<R: ByteIn, S: ByteIn>(
         Job::RouteRows {
             reading,
             view,
+            filter,
             count,
             format,
             ..
-        } => find_route_rows(alloc, reading, view, count, format, reader),
+        } => find_route_rows(alloc, reading, view, filter, count, format, reader),
         Job::CompareRoutes {
             reading,
             other_reading,

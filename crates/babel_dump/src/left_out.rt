@@ -1,8 +1,8 @@
 //! Datagrams of a capture that were left out.
-ghost use Rattle.std.specs.Prelude.{◌≡◌, IfSome};
+ghost use Rattle.std.specs.Prelude.{◌≡◌, ◌≤◌, IfSome, length};
 ghost use Rattle.std.specs.Option.{IfNone};
 ghost use Rattle.babel_dump.specs.LeftOut.{LeavesNoneOut, first_among, first_counted};
-ghost use Rattle.babel_dump.specs.LeftOut.{first_left_out, sooner};
+ghost use Rattle.babel_dump.specs.LeftOut.{first_left_out, left_out_name, sooner};
 
 use babel_capture::{Reason, Report};
 use std::fmt;
@@ -30,7 +30,7 @@ impl fmt::Display for LeftOutDatagram {
 /// How many datagrams of a capture were left out, and why: what a note after the output says.
 #[derive(Clone, Copy)]
 pub struct LeftOutNote {
-    report: Report,
+    pub report: Report,
     left_out: u64,
 }
 
@@ -113,7 +113,7 @@ fn sooner(
 }
 
 /// The reasons, in their order.
-const REASONS: [Reason; 8] = [
+pub(crate) const REASONS: [Reason; 8] = [
     Reason::Truncated,
     Reason::BadMagic,
     Reason::BadVersion,
@@ -125,7 +125,10 @@ const REASONS: [Reason; 8] = [
 ];
 
 /// The name of a reason.
-fn name(reason: Reason) -> &'static str {
+pub(crate) fn name(reason: Reason) -> &'static str
+    ensures text { result.now ≡ left_out_name reason }
+    ensures short { length result.now ≤ 18 }
+{
     match reason {
         Reason::Truncated => "truncated",
         Reason::BadMagic => "bad-magic",

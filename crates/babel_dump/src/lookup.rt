@@ -7,6 +7,7 @@ ghost use Rattle.babel_dump.specs.Parts.{Gathered, Says};
 ghost use Rattle.babel_dump.specs.Run.{InputCause, OfFirst, calls_of, output};
 ghost use Rattle.babel_dump.specs.RunText.{lookup_status};
 ghost use Rattle.babel_dump.specs.declared.format.Format.TheVariants as formats;
+ghost use Rattle.babel_dump.specs.declared.spelling.Spelling.TheVariants as spellings;
 
 use crate::addr_pair::AddrPair;
 use crate::byte_in::ByteIn;
@@ -18,6 +19,7 @@ use crate::output::lookup_output;
 use crate::reading::Reading;
 use crate::run_fault::RunFault;
 use crate::slices::{Found, finish};
+use crate::spelling::Spelling;
 use babel_prefix::Addr;
 use babel_table::Limits;
 use babel_tlv::{Held, Mode};
@@ -45,10 +47,11 @@ pub fn run_lookup<R: ByteIn, W: ByteOut>(
     requires writer { HasRoomToWrite (W.state writer.old) }
     ensures { let dump = input limits mode sender (R.state reader.old) (R.state reader.new) in
         let output = output (W.state writer.old) (W.state writer.new) in
-        RanLookup dump dst src formats.Text output result }
+        RanLookup dump dst src (formats.Text spellings.Long) output result }
 {
     let reading = Reading::of(limits, mode, sender);
-    let found = find_answer(alloc, reading, AddrPair { dst, src }, Format::Text, reader);
+    let (pair, format) = (AddrPair { dst, src }, Format::Text(Spelling::Long));
+    let found = find_answer(alloc, reading, pair, format, reader);
     status_alone(finish(writer, found))
 }
 

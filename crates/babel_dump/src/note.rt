@@ -1,41 +1,85 @@
-use crate::reason_text::{Counted, REASONS};
-use babel_table::Report;
+//! What there is to know after the output: a value, which standard error has as a line, and the
+//! output as a JSON object.
+use crate::ignored_note::IgnoredNote;
+use crate::left_out::LeftOutNote;
+use crate::run_fault::Side;
+use crate::spelling::Spelling;
+use babel_prefix::{Addr, Short};
 use std::fmt;
 
-/// How many TLVs of a dump were ignored, and why: what a note after the output says.
+/// What there is to know of an input after the output. `Display` gives its words.
 #[derive(Clone, Copy)]
-pub struct Note<'a> {
-    report: &'a Report,
-    ignored: u64,
+pub enum Note {
+    /// TLVs of a dump were ignored.
+    Ignored(IgnoredNote),
+    /// Datagrams of a capture were left out.
+    LeftOut(LeftOutNote),
+    /// Babel packets came in frames that name no interface: of Linux cooked, version 1.
+    Cooked,
+    /// A capture is cut short at this offset, and was read up to there.
+    CaptureCut(u64),
+    /// So many frames were too short to tell whether they had a datagram of Babel.
+    TooShort(u64),
+    /// A dump has no Update.
+    NoUpdates,
+    /// So many routes differ of two dumps that answer the same.
+    RoutesDiffer(u64),
+    /// A lookup was for this source, which is written so, and routes to its destination are
+    /// source-specific.
+    Source(Spelling, Addr),
 }
 
-impl<'a> Note<'a> {
-    /// The note about a dump with this report; `None` if no TLV was ignored.
-    pub fn of(report: &'a Report) -> Option<Note<'a>> {
-        let mut ignored: u64 = 0;
-        for reason in &REASONS {
-            if let Some((count, _first)) = report.ignored(*reason) {
-                ignored = ignored.saturating_add(count);
+impl fmt::Display for Note {
+    fn fmt<W: fmt::Write>(&self, f: &mut fmt::Formatter<W>) -> fmt::Result {
+        match self {
+            Note::Ignored(note) => write!(f, "{note}"),
+            Note::LeftOut(note) => write!(f, "{note}"),
+            Note::Cooked => f.write_str(
+                "frames of Linux cooked, version 1, name no interface, so links can't be told \
+                 apart; record with -y LINUX_SLL2",
+            ),
+            Note::CaptureCut(at) => write!(f, "capture cut short at {at}, and read up to there"),
+            Note::TooShort(1) => f.write_str("1 frame too short to tell"),
+            Note::TooShort(frames) => write!(f, "{frames} frames too short to tell"),
+            Note::NoUpdates => f.write_str("no Updates"),
+            Note::RoutesDiffer(routes) => {
+                let differ = if *routes == 1 {
+                    "route differs"
+                } else {
+                    "routes differ"
+                };
+                write!(
+                    f,
+                    "the same answers, but {routes} {differ}; compare --routes shows it"
+                )
             }
-        }
-        if ignored == 0 {
-            None
-        } else {
-            Some(Note { report, ignored })
+            Note::Source(Spelling::Long, source) => write_source(f, source),
+            Note::Source(Spelling::Short, source) => write_source(f, &Short(*source)),
         }
     }
 }
 
-impl fmt::Display for Note<'_> {
+/// Writes which source an answer is for.
+fn write_source<A: fmt::Display, W: fmt::Write>(
+    f: &mut fmt::Formatter<W>,
+    source: &A,
+) -> fmt::Result {
+    write!(
+        f,
+        "the answer is for the source {source}; routes to it are source-specific"
+    )
+}
+
+/// A note, and the input that it is about; that is the first if it is about both. `Display` gives
+/// its line on standard error.
+#[derive(Clone, Copy)]
+pub struct SideNote {
+    pub side: Side,
+    pub note: Note,
+}
+
+impl fmt::Display for SideNote {
     fn fmt<W: fmt::Write>(&self, f: &mut fmt::Formatter<W>) -> fmt::Result {
-        write!(f, "{} of {} TLVs ignored", self.ignored, self.report.tlvs())?;
-        let mut mark = ": ";
-        for reason in &REASONS {
-            if let Some((count, first)) = self.report.ignored(*reason) {
-                write!(f, "{mark}{}", Counted(*reason, count, first))?;
-                mark = ", ";
-            }
-        }
-        Ok(())
+        write!(f, "note: {}{}", self.side, self.note)
     }
 }

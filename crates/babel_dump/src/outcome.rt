@@ -3,6 +3,7 @@ ghost use Rattle.babel_dump.specs.Run.{run_status};
 
 use crate::run_fault::RunFault;
 use babel_capture::Report as CaptureReport;
+use babel_prefix::Addr;
 use babel_table::Report;
 
 /// What a run answers: its status, and the reports of what it read.
@@ -18,6 +19,9 @@ pub struct Outcome {
 pub enum Reports {
     /// Of a dump: which TLVs were ignored.
     Dump(Report),
+    /// Of a dump in which a route was looked up for any source, and the source that it was looked
+    /// up for, if routes to the destination are source-specific.
+    AnySource(Report, Option<Addr>),
     /// Of the two dumps of a comparison, in their order.
     Dumps(Report, Report),
     /// Of the two dumps of a comparison that answer the same, and how many of their routes differ.

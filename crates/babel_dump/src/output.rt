@@ -55,8 +55,15 @@ impl Line for Answered {
     fn push(self, buffer: &mut Vec<u8>, format: Format, _view: View) {
         let Answered { pair, held } = self;
         match format {
-            Format::Text => push_answer_line(buffer, pair, held),
-            Format::Json => push_answered(buffer, View::all(), pair.dst, pair.src, held),
+            Format::Text(spelling) => push_answer_line(buffer, spelling, pair, held),
+            Format::Json(spelling) => push_answered(
+                buffer,
+                spelling,
+                View::all(),
+                pair.dst,
+                pair.src,
+                held,
+            ),
         }
     }
 }
@@ -70,8 +77,10 @@ impl Line for Difference {
         let Difference { key, left, right } = self;
         let (dst, src) = (key.dst(), key.src());
         match format {
-            Format::Text => push_differ(buffer, view, dst, src, left, right),
-            Format::Json => push_differ_json(buffer, view, dst, src, left, right),
+            Format::Text(spelling) => push_differ(buffer, spelling, view, dst, src, left, right),
+            Format::Json(spelling) => push_differ_json(
+                buffer, spelling, view, dst, src, left, right,
+            ),
         }
     }
 }
@@ -83,8 +92,8 @@ pub(crate) fn push_line(buffer: &mut Vec<u8>, format: Format, view: View, key: K
     ensures room { TookRoom buffer.old buffer.new 384 }
 {
     match format {
-        Format::Text => push_pair_line(buffer, view, key, held),
-        Format::Json => push_pair_json(buffer, view, key, held),
+        Format::Text(spelling) => push_pair_line(buffer, spelling, view, key, held),
+        Format::Json(spelling) => push_pair_json(buffer, spelling, view, key, held),
     }
 }
 
@@ -95,8 +104,8 @@ pub(crate) fn push_to_name(buffer: &mut Vec<u8>, format: Format, origin: Origin,
     ensures room { TookRoom buffer.old buffer.new 384 }
 {
     match format {
-        Format::Text => push_sender_front(buffer, origin),
-        Format::Json => push_sender_front_json(buffer, origin),
+        Format::Text(spelling) => push_sender_front(buffer, spelling, origin),
+        Format::Json(spelling) => push_sender_front_json(buffer, spelling, origin),
     }
     push_text(buffer, opening(format, name));
 }
@@ -116,8 +125,8 @@ pub(crate) fn push_after_name(
 {
     push_text(buffer, closing(format, name));
     match format {
-        Format::Text => push_sender_end(buffer, origin.place, tally),
-        Format::Json => push_sender_end_json(buffer, tally),
+        Format::Text(_) => push_sender_end(buffer, origin.place, tally),
+        Format::Json(_) => push_sender_end_json(buffer, tally),
     }
 }
 
@@ -127,10 +136,10 @@ fn opening(format: Format, name: &[u8]) -> &'static str
     ensures short { length result.now ≤ 4 }
 {
     match (format, name.is_empty()) {
-        (Format::Text, true) => "",
-        (Format::Text, false) => " (",
-        (Format::Json, true) => "null",
-        (Format::Json, false) => "\"",
+        (Format::Text(_), true) => "",
+        (Format::Text(_), false) => " (",
+        (Format::Json(_), true) => "null",
+        (Format::Json(_), false) => "\"",
     }
 }
 
@@ -141,8 +150,8 @@ fn closing(format: Format, name: &[u8]) -> &'static str
 {
     match (format, name.is_empty()) {
         (_, true) => "",
-        (Format::Text, false) => ")",
-        (Format::Json, false) => "\"",
+        (Format::Text(_), false) => ")",
+        (Format::Json(_), false) => "\"",
     }
 }
 
@@ -152,8 +161,8 @@ pub(crate) fn escape_of(format: Format) -> &'static str
     ensures short { length result.now ≤ 3 }
 {
     match format {
-        Format::Text => r"\x",
-        Format::Json => r"\\x",
+        Format::Text(_) => r"\x",
+        Format::Json(_) => r"\\x",
     }
 }
 
@@ -167,8 +176,8 @@ pub(crate) fn report_output(
 {
     let mut text = Vec::with_capacity(alloc, LONGEST_TEXT)?;
     match format {
-        Format::Text => push_report(&mut text, report),
-        Format::Json => push_report_json(&mut text, report),
+        Format::Text(_) => push_report(&mut text, report),
+        Format::Json(_) => push_report_json(&mut text, report),
     }
     Ok(text)
 }
@@ -184,8 +193,8 @@ pub(crate) fn counts_output(
 {
     let mut text = Vec::with_capacity(alloc, LONGEST_TEXT)?;
     match format {
-        Format::Text => push_counts(&mut text, rows, pairs),
-        Format::Json => push_counts_json(&mut text, rows, pairs),
+        Format::Text(_) => push_counts(&mut text, rows, pairs),
+        Format::Json(_) => push_counts_json(&mut text, rows, pairs),
     }
     Ok(text)
 }
@@ -201,8 +210,15 @@ pub(crate) fn lookup_output(
 {
     let mut text = Vec::with_capacity(alloc, LONGEST_TEXT)?;
     match format {
-        Format::Text => push_lookup(&mut text, answer),
-        Format::Json => push_answered(&mut text, View::all(), pair.dst, pair.src, answer),
+        Format::Text(spelling) => push_lookup(&mut text, spelling, answer),
+        Format::Json(spelling) => push_answered(
+            &mut text,
+            spelling,
+            View::all(),
+            pair.dst,
+            pair.src,
+            answer,
+        ),
     }
     Ok(text)
 }
@@ -226,8 +242,12 @@ pub(crate) fn verdict_output(
         } => {
             let mut text = Vec::with_capacity(alloc, LONGEST_TEXT)?;
             match format {
-                Format::Text => push_differ(&mut text, view, dst, src, left, right),
-                Format::Json => push_differ_json(&mut text, view, dst, src, left, right),
+                Format::Text(spelling) => push_differ(
+                    &mut text, spelling, view, dst, src, left, right,
+                ),
+                Format::Json(spelling) => push_differ_json(
+                    &mut text, spelling, view, dst, src, left, right,
+                ),
             }
             Ok(text)
         }
@@ -240,8 +260,8 @@ pub(crate) fn same_output(alloc: Global, format: Format) -> Result<Vec<u8>, Allo
 {
     let mut text = Vec::with_capacity(alloc, LONGEST_TEXT)?;
     match format {
-        Format::Text => push_text(&mut text, "same\n"),
-        Format::Json => push_text(&mut text, "{\"same\":true}\n"),
+        Format::Text(_) => push_text(&mut text, "same\n"),
+        Format::Json(_) => push_text(&mut text, "{\"same\":true}\n"),
     }
     Ok(text)
 }
@@ -258,8 +278,8 @@ pub(crate) fn count_output(
 {
     let mut text = Vec::with_capacity(alloc, LONGEST_TEXT)?;
     match format {
-        Format::Text => push_count(&mut text, name, count),
-        Format::Json => push_count_json(&mut text, name, count),
+        Format::Text(_) => push_count(&mut text, name, count),
+        Format::Json(_) => push_count_json(&mut text, name, count),
     }
     Ok(text)
 }

@@ -3,19 +3,21 @@ ghost use Rattle.std.specs.Prelude.{OnErr, vec_capacity};
 ghost use Rattle.babel_tlv.specs.Pair.{Pair};
 
 use crate::byte_out::ByteOut;
+use crate::filter::Filter;
 use crate::format::Format;
-use crate::output::push_line;
-use crate::slices::make_room;
+use crate::slices::write_kept;
 use crate::write::WriteFailed;
 use babel_canon::PairSink;
 use babel_tlv::{Held, Key, View};
 
-/// Writes the line of each pair, but for the last of them, which the buffer has.
+/// Writes the line of each pair that a filter keeps, but for the last of them, which the buffer
+/// has.
 #[derive(Drop)]
 pub(crate) struct PairLines<'a, W> {
     pub writer: &'a mut W,
     pub buffer: &'a mut Vec<u8>,
     pub format: Format,
+    pub filter: Filter,
     pub view: View,
 }
 
@@ -41,8 +43,14 @@ impl<'a, W: ByteOut> PairSink for PairLines<'a, W> {
             → HasLines W.state start self.old pairs
             → StoppedAtLine W.state start self.new (pairs ++ (key, held) ∷ [])) }
     {
-        make_room(self.writer, self.buffer)?;
-        push_line(self.buffer, self.format, self.view, key, held);
-        Ok(())
+        write_kept(
+            self.writer,
+            self.format,
+            &self.filter,
+            self.view,
+            key,
+            held,
+            self.buffer,
+        )
     }
 }

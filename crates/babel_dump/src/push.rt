@@ -1,10 +1,6 @@
 //! Lines, appended octet by octet to a buffer that has room for them, with no formatter between.
-ghost use Rattle.std.specs.Prelude.{◌≡◌, ◌+◌, ℕ, false, List, ◌∷◌, [], ◌++◌, ◌*◌, ◌/◌, ◌%◌, ◌^◌};
-ghost use Rattle.std.specs.Prelude.{◌<◌, ◌≤◌, if◌then◌else◌, length, map};
-ghost use Rattle.std.specs.List.{join_with_byte};
-ghost use Rattle.std.specs.Fmt.{decimal, digits, digit_glyph};
-ghost use Rattle.babel_prefix.specs.declared.family.Family.TheVariants.{V6};
-ghost use Rattle.babel_prefix.specs.Text.{printed, printed_bits, printed_prefix};
+ghost use Rattle.std.specs.Prelude.{◌≡◌, ◌+◌, ◌∷◌, [], ◌++◌, ◌*◌, ◌≤◌, if◌then◌else◌, length};
+ghost use Rattle.std.specs.Fmt.{decimal};
 ghost use Rattle.babel_tlv.specs.Views.{keeps_all};
 ghost use Rattle.babel_dump.specs.CaptureText.{link_text, marked, octet_text};
 ghost use Rattle.babel_dump.specs.CaptureText.{sender_end, sender_front};
@@ -12,66 +8,80 @@ ghost use Rattle.babel_dump.specs.RunText.{announcement_text, answer_line, answe
 ghost use Rattle.babel_dump.specs.RunText.{counts_text, count_text, differ_lines};
 ghost use Rattle.babel_dump.specs.RunText.{held_text, kept_text, newline, pair_line, pair_text};
 ghost use Rattle.babel_dump.specs.Slices.{HasRoom, TookRoom};
+ghost use Rattle.babel_dump.specs.Spelling.{address_text};
 ghost use Rattle.babel_dump.specs.TextParts.{hex_digits, nonzero};
 
 use crate::addr_pair::AddrPair;
+use crate::push_addr::{Shown, push_addr, push_from, push_prefix};
+use crate::spelling::Spelling;
 use babel_capture::{Origin, Place, Tally};
-use babel_prefix::{Addr, Family, Prefix};
+use babel_prefix::Addr;
 use babel_tlv::{Ann, Held, Key, View};
 use itoa::{Buffer, Integer};
 
 /// Appends a row of a table, as the runs show it under a view: a line.
-pub(crate) fn push_pair_line(buffer: &mut Vec<u8>, view: View, key: Key, held: Held)
+pub(crate) fn push_pair_line(
+    buffer: &mut Vec<u8>,
+    spelling: Spelling,
+    view: View,
+    key: Key,
+    held: Held,
+)
     requires { HasRoom buffer.old 186 }
-    ensures text { buffer.new.items ≡ buffer.old.items ++ pair_line view (key, held) }
+    ensures text { buffer.new.items ≡ buffer.old.items ++ pair_line spelling view (key, held) }
     ensures room { TookRoom buffer.old buffer.new 186 }
 {
-    push_pair(buffer, view, key, held);
+    push_pair(buffer, spelling, view, key, held);
     push_octet(buffer, b'\n');
 }
 
 /// Appends a row of a table, without the line's end.
-pub(crate) fn push_pair(buffer: &mut Vec<u8>, view: View, key: Key, held: Held)
+pub(crate) fn push_pair(buffer: &mut Vec<u8>, spelling: Spelling, view: View, key: Key, held: Held)
     requires { HasRoom buffer.old 185 }
-    ensures text { buffer.new.items ≡ buffer.old.items ++ pair_text view (key, held) }
+    ensures text { buffer.new.items ≡ buffer.old.items ++ pair_text spelling view (key, held) }
     ensures room { TookRoom buffer.old buffer.new 185 }
 {
-    push_prefix(buffer, key.dst());
-    push_text(buffer, " from ");
-    push_prefix(buffer, key.src());
+    push_prefix(buffer, spelling, key.dst());
+    push_from(buffer, spelling, key.src());
     push_octet(buffer, b' ');
-    push_held(buffer, view, held);
+    push_held(buffer, spelling, view, held);
 }
 
 /// Appends what is answered for a destination and a source.
-pub(crate) fn push_answer_line(buffer: &mut Vec<u8>, pair: AddrPair, answer: Option<Held>)
+pub(crate) fn push_answer_line(
+    buffer: &mut Vec<u8>,
+    spelling: Spelling,
+    pair: AddrPair,
+    answer: Option<Held>,
+)
     requires { HasRoom buffer.old 174 }
     ensures text { buffer.new.items
-        ≡ buffer.old.items ++ answer_line pair.dst pair.src answer }
+        ≡ buffer.old.items ++ answer_line spelling pair.dst pair.src answer }
     ensures room { TookRoom buffer.old buffer.new 174 }
 {
-    push_addr(buffer, pair.dst);
+    push_addr(buffer, spelling, pair.dst);
     push_text(buffer, " from ");
-    push_addr(buffer, pair.src);
+    push_addr(buffer, spelling, pair.src);
     push_octet(buffer, b' ');
-    push_answer(buffer, View::all(), answer);
+    push_answer(buffer, spelling, View::all(), answer);
     push_octet(buffer, b'\n');
 }
 
 /// Appends the line of a lookup's answer.
-pub(crate) fn push_lookup(buffer: &mut Vec<u8>, answer: Option<Held>)
+pub(crate) fn push_lookup(buffer: &mut Vec<u8>, spelling: Spelling, answer: Option<Held>)
     requires { HasRoom buffer.old 89 }
     ensures text { buffer.new.items
-        ≡ buffer.old.items ++ (answer_text keeps_all answer ++ newline) }
+        ≡ buffer.old.items ++ (answer_text spelling keeps_all answer ++ newline) }
     ensures room { TookRoom buffer.old buffer.new 89 }
 {
-    push_answer(buffer, View::all(), answer);
+    push_answer(buffer, spelling, View::all(), answer);
     push_octet(buffer, b'\n');
 }
 
 /// Appends what two tables answer for a destination and a source, under a view: three lines.
 pub(crate) fn push_differ<A: Shown>(
     buffer: &mut Vec<u8>,
+    spelling: Spelling,
     view: View,
     dst: A,
     src: A,
@@ -79,20 +89,19 @@ pub(crate) fn push_differ<A: Shown>(
     right: Option<Held>,
 )
     requires { HasRoom buffer.old 293 }
-    ensures text { buffer.new.items
-        ≡ buffer.old.items ++ differ_lines view (A.text dst) (A.text src) left right }
+    ensures text { buffer.new.items ≡ buffer.old.items
+        ++ differ_lines spelling view (A.text spelling dst) (A.from spelling src) left right }
     ensures room { TookRoom buffer.old buffer.new 293 }
 {
     push_text(buffer, "differ ");
-    dst.push(buffer);
-    push_text(buffer, " from ");
-    src.push(buffer);
+    dst.push(buffer, spelling);
+    src.push_from(buffer, spelling);
     push_octet(buffer, b'\n');
     push_text(buffer, "left ");
-    push_answer(buffer, view, left);
+    push_answer(buffer, spelling, view, left);
     push_octet(buffer, b'\n');
     push_text(buffer, "right ");
-    push_answer(buffer, view, right);
+    push_answer(buffer, spelling, view, right);
     push_octet(buffer, b'\n');
 }
 
@@ -123,12 +132,12 @@ pub(crate) fn push_count(buffer: &mut Vec<u8>, name: &str, count: usize)
 }
 
 /// Appends a sender and the number of its interface: the front of a line.
-pub(crate) fn push_sender_front(buffer: &mut Vec<u8>, origin: Origin)
+pub(crate) fn push_sender_front(buffer: &mut Vec<u8>, spelling: Spelling, origin: Origin)
     requires { HasRoom buffer.old 70 }
-    ensures text { buffer.new.items ≡ buffer.old.items ++ sender_front origin }
+    ensures text { buffer.new.items ≡ buffer.old.items ++ sender_front spelling origin }
     ensures room { TookRoom buffer.old buffer.new 70 }
 {
-    push_addr(buffer, origin.sender);
+    push_addr(buffer, spelling, origin.sender);
     push_text(buffer, " interface ");
     push_decimal(buffer, origin.place.interface);
 }
@@ -198,37 +207,37 @@ pub(crate) fn push_name_octet(buffer: &mut Vec<u8>, escape: &str, octet: u8)
 }
 
 /// Appends what is answered, under a view: what stands for a key, or `none`.
-fn push_answer(buffer: &mut Vec<u8>, view: View, answer: Option<Held>)
+fn push_answer(buffer: &mut Vec<u8>, spelling: Spelling, view: View, answer: Option<Held>)
     requires { HasRoom buffer.old 88 }
-    ensures text { buffer.new.items ≡ buffer.old.items ++ answer_text view answer }
+    ensures text { buffer.new.items ≡ buffer.old.items ++ answer_text spelling view answer }
     ensures room { TookRoom buffer.old buffer.new 88 }
 {
     match answer {
-        Some(held) => push_held(buffer, view, held),
+        Some(held) => push_held(buffer, spelling, view, held),
         None => push_text(buffer, "none"),
     }
 }
 
 /// Appends what stands for a key, under a view.
-fn push_held(buffer: &mut Vec<u8>, view: View, held: Held)
+fn push_held(buffer: &mut Vec<u8>, spelling: Spelling, view: View, held: Held)
     requires { HasRoom buffer.old 88 }
-    ensures text { buffer.new.items ≡ buffer.old.items ++ held_text view held }
+    ensures text { buffer.new.items ≡ buffer.old.items ++ held_text spelling view held }
     ensures room { TookRoom buffer.old buffer.new 88 }
 {
     match held {
-        Held::Route(ann) => push_announcement(buffer, view, ann),
+        Held::Route(ann) => push_announcement(buffer, spelling, view, ann),
         Held::Unreachable => push_text(buffer, "unreachable"),
     }
 }
 
 /// Appends the route that is announced, under a view.
-fn push_announcement(buffer: &mut Vec<u8>, view: View, ann: Ann)
+fn push_announcement(buffer: &mut Vec<u8>, spelling: Spelling, view: View, ann: Ann)
     requires { HasRoom buffer.old 88 }
-    ensures text { buffer.new.items ≡ buffer.old.items ++ announcement_text view ann }
+    ensures text { buffer.new.items ≡ buffer.old.items ++ announcement_text spelling view ann }
     ensures room { TookRoom buffer.old buffer.new 88 }
 {
     push_text(buffer, "via ");
-    push_next_hop(buffer, view.next_hop, ann.next_hop());
+    push_next_hop(buffer, spelling, view.next_hop, ann.next_hop());
     push_text(buffer, " id ");
     push_kept_id(buffer, view.router_id, ann.router_id());
     push_text(buffer, " seqno ");
@@ -238,13 +247,14 @@ fn push_announcement(buffer: &mut Vec<u8>, view: View, ann: Ann)
 }
 
 /// Appends the next hop where it is kept, or `-`.
-fn push_next_hop(buffer: &mut Vec<u8>, kept: bool, next_hop: Addr)
+fn push_next_hop(buffer: &mut Vec<u8>, spelling: Spelling, kept: bool, next_hop: Addr)
     requires { HasRoom buffer.old 39 }
-    ensures text { buffer.new.items ≡ buffer.old.items ++ kept_text kept (printed next_hop) }
+    ensures text { buffer.new.items
+        ≡ buffer.old.items ++ kept_text kept (address_text spelling next_hop) }
     ensures room { TookRoom buffer.old buffer.new 39 }
 {
     if kept {
-        push_addr(buffer, next_hop);
+        push_addr(buffer, spelling, next_hop);
     } else {
         push_octet(buffer, b'-');
     }
@@ -278,123 +288,6 @@ pub(crate) fn push_number(buffer: &mut Vec<u8>, kept: bool, ignored: &str, numbe
     }
 }
 
-/// What stands for a destination or a source in a line: an address or a prefix.
-pub(crate) trait Shown: Copy {
-    ghost text: { Self → List ℕ };
-
-    fn push(self, buffer: &mut Vec<u8>)
-        requires { HasRoom buffer.old 45 }
-        ensures text { buffer.new.items ≡ buffer.old.items ++ text self }
-        ensures room { TookRoom buffer.old buffer.new 45 };
-}
-
-impl Shown for Addr {
-    ghost use Rattle.babel_prefix.specs.Text.{printed};
-
-    ghost text = { printed };
-
-    fn push(self, buffer: &mut Vec<u8>) {
-        push_addr(buffer, self);
-    }
-}
-
-impl Shown for Prefix {
-    ghost use Rattle.babel_prefix.specs.Text.{printed_prefix};
-
-    ghost text = { printed_prefix };
-
-    fn push(self, buffer: &mut Vec<u8>) {
-        push_prefix(buffer, self);
-    }
-}
-
-/// Appends the address, `/`, and the length in decimal.
-pub(crate) fn push_prefix(buffer: &mut Vec<u8>, prefix: Prefix)
-    requires { HasRoom buffer.old 45 }
-    ensures text { buffer.new.items ≡ buffer.old.items ++ printed_prefix prefix }
-    ensures room { TookRoom buffer.old buffer.new 45 }
-{
-    push_addr(buffer, prefix.addr());
-    push_octet(buffer, b'/');
-    push_decimal(buffer, prefix.len());
-}
-
-/// Appends the address.
-pub(crate) fn push_addr(buffer: &mut Vec<u8>, addr: Addr)
-    requires { HasRoom buffer.old 39 }
-    ensures text { buffer.new.items ≡ buffer.old.items ++ printed addr }
-    ensures room { TookRoom buffer.old buffer.new 39 }
-{
-    match addr.family() {
-        Family::V4 => push_dotted(buffer, (addr.bits() as u32).to_be_bytes()),
-        Family::V6 => push_groups(buffer, addr.bits()),
-    }
-}
-
-/// Appends the four octets in decimal, joined by `.`.
-fn push_dotted(buffer: &mut Vec<u8>, octets: [u8; 4])
-    requires { HasRoom buffer.old 23 }
-    ensures text { buffer.new.items
-        ≡ buffer.old.items ++ join_with_byte 46 (map decimal octets) }
-    ensures room { TookRoom buffer.old buffer.new 23 }
-{
-    let [a, b, c, d] = octets;
-    push_decimal(buffer, a);
-    push_octet(buffer, b'.');
-    push_decimal(buffer, b);
-    push_octet(buffer, b'.');
-    push_decimal(buffer, c);
-    push_octet(buffer, b'.');
-    push_decimal(buffer, d);
-}
-
-/// Appends the eight groups in hexadecimal, joined by `:`.
-fn push_groups(buffer: &mut Vec<u8>, bits: u128)
-    requires { HasRoom buffer.old 39 }
-    ensures text { buffer.new.items ≡ buffer.old.items ++ printed_bits V6 bits }
-    ensures room { TookRoom buffer.old buffer.new 39 }
-{
-    push_four_groups(
-        buffer,
-        group(bits, 7),
-        group(bits, 6),
-        group(bits, 5),
-        group(bits, 4),
-    );
-    push_octet(buffer, b':');
-    push_four_groups(
-        buffer,
-        group(bits, 3),
-        group(bits, 2),
-        group(bits, 1),
-        group(bits, 0),
-    );
-}
-
-/// The group of 16 bits at a place, the lowest at place 0.
-fn group(bits: u128, place: u8) -> u16
-    requires { place ≤ 7 }
-    ensures { result ≡ bits / 2 ^ (16 * place) % 2 ^ 16 }
-{
-    (bits >> (16 * place) & 0xffff) as u16
-}
-
-/// Appends four groups in hexadecimal, joined by `:`.
-fn push_four_groups(buffer: &mut Vec<u8>, a: u16, b: u16, c: u16, d: u16)
-    requires { HasRoom buffer.old 19 }
-    ensures text { buffer.new.items ≡ buffer.old.items
-        ++ join_with_byte 58 (map (digits 16 false) (a ∷ b ∷ c ∷ d ∷ [])) }
-    ensures room { TookRoom buffer.old buffer.new 19 }
-{
-    push_group(buffer, a);
-    push_octet(buffer, b':');
-    push_group(buffer, b);
-    push_octet(buffer, b':');
-    push_group(buffer, c);
-    push_octet(buffer, b':');
-    push_group(buffer, d);
-}
-
 /// Appends a number in decimal.
 pub(crate) fn push_decimal<I: Integer>(buffer: &mut Vec<u8>, number: I)
     requires { HasRoom buffer.old I.MAX_STR_LEN }
@@ -403,33 +296,6 @@ pub(crate) fn push_decimal<I: Integer>(buffer: &mut Vec<u8>, number: I)
 {
     let mut digits = Buffer::new();
     push_text(buffer, digits.format(number));
-}
-
-/// Appends a group of 16 bits in hexadecimal.
-fn push_group(buffer: &mut Vec<u8>, group: u16)
-    requires { HasRoom buffer.old 4 }
-    ensures text { buffer.new.items ≡ buffer.old.items ++ digits 16 false group }
-    ensures room { TookRoom buffer.old buffer.new 4 }
-{
-    if group < 0x10 {
-        push_digit(buffer, group as u8);
-        return;
-    }
-    if group < 0x100 {
-        push_digit(buffer, (group / 0x10) as u8);
-        push_digit(buffer, (group % 0x10) as u8);
-        return;
-    }
-    if group < 0x1000 {
-        push_digit(buffer, (group / 0x100) as u8);
-        push_digit(buffer, (group / 0x10 % 0x10) as u8);
-        push_digit(buffer, (group % 0x10) as u8);
-        return;
-    }
-    push_digit(buffer, (group / 0x1000) as u8);
-    push_digit(buffer, (group / 0x100 % 0x10) as u8);
-    push_digit(buffer, (group / 0x10 % 0x10) as u8);
-    push_digit(buffer, (group % 0x10) as u8);
 }
 
 /// Appends a router-id as 16 lower-case hexadecimal digits.
@@ -452,21 +318,6 @@ fn push_hex(buffer: &mut Vec<u8>, octet: u8)
     let mut digits = [0; 2];
     hex::encode_to_slice([octet], &mut digits).unwrap();
     push_octets(buffer, &digits);
-}
-
-/// Appends a digit.
-fn push_digit(buffer: &mut Vec<u8>, digit: u8)
-    requires digit { digit < 16 }
-    requires room { HasRoom buffer.old 1 }
-    ensures text { buffer.new.items ≡ buffer.old.items ++ digit_glyph false digit ∷ [] }
-    ensures room { TookRoom buffer.old buffer.new 1 }
-{
-    let glyph = if digit < 10 {
-        b'0' + digit
-    } else {
-        b'a' + (digit - 10)
-    };
-    push_octet(buffer, glyph);
 }
 
 /// Appends an octet.

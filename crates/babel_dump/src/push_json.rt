@@ -2,47 +2,54 @@
 //! or a router-id has a character that JSON escapes.
 ghost use Rattle.std.specs.Prelude.{◌≡◌, ◌+◌, ◌++◌, Some, length};
 ghost use Rattle.hex.specs.Hex.{encode_lower};
-ghost use Rattle.babel_prefix.specs.Text.{printed};
 ghost use Rattle.babel_dump.specs.CaptureText.{link_json, sender_end_json};
 ghost use Rattle.babel_dump.specs.CaptureText.{sender_front_json, vlans_json};
 ghost use Rattle.babel_dump.specs.JsonText.{addressed_json, announcement_json, answer_json};
 ghost use Rattle.babel_dump.specs.JsonText.{answered_line, counts_json, differ_json};
 ghost use Rattle.babel_dump.specs.JsonText.{count_json, kept_json, pair_json, quoted};
 ghost use Rattle.babel_dump.specs.Slices.{HasRoom, TookRoom};
+ghost use Rattle.babel_dump.specs.Spelling.{address_text};
 
-use crate::push::{
-    Shown, push_addr, push_decimal, push_marked, push_number, push_octet, push_router_id, push_text,
-};
+use crate::push::{push_decimal, push_marked, push_number, push_octet, push_router_id, push_text};
+use crate::push_addr::{Shown, push_addr};
+use crate::spelling::Spelling;
 use babel_capture::{Origin, Tally, Vlans};
 use babel_prefix::Addr;
 use babel_tlv::{Ann, Held, Key, View};
 
 /// Appends a row of a table, as the runs show it under a view.
-pub(crate) fn push_pair_json(buffer: &mut Vec<u8>, view: View, key: Key, held: Held)
+pub(crate) fn push_pair_json(
+    buffer: &mut Vec<u8>,
+    spelling: Spelling,
+    view: View,
+    key: Key,
+    held: Held,
+)
     requires { HasRoom buffer.old 245 }
-    ensures text { buffer.new.items ≡ buffer.old.items ++ pair_json view (key, held) }
+    ensures text { buffer.new.items ≡ buffer.old.items ++ pair_json spelling view (key, held) }
     ensures room { TookRoom buffer.old buffer.new 245 }
 {
-    push_answered(buffer, view, key.dst(), key.src(), Some(held));
+    push_answered(buffer, spelling, view, key.dst(), key.src(), Some(held));
 }
 
 /// Appends what is answered for a destination and a source, under a view: an object.
 pub(crate) fn push_answered<A: Shown>(
     buffer: &mut Vec<u8>,
+    spelling: Spelling,
     view: View,
     dst: A,
     src: A,
     answer: Option<Held>,
 )
     requires { HasRoom buffer.old 245 }
-    ensures text { buffer.new.items
-        ≡ buffer.old.items ++ answered_line view (A.text dst) (A.text src) answer }
+    ensures text { buffer.new.items ≡ buffer.old.items
+        ++ answered_line spelling view (A.text spelling dst) (A.text spelling src) answer }
     ensures room { TookRoom buffer.old buffer.new 245 }
 {
     push_text(buffer, "{");
-    push_addressed(buffer, dst, src);
+    push_addressed(buffer, spelling, dst, src);
     push_text(buffer, r#","answer":"#);
-    push_answer_json(buffer, view, answer);
+    push_answer_json(buffer, spelling, view, answer);
     push_text(buffer, "}");
     push_octet(buffer, b'\n');
 }
@@ -50,6 +57,7 @@ pub(crate) fn push_answered<A: Shown>(
 /// Appends what two tables answer for a destination and a source, under a view: an object.
 pub(crate) fn push_differ_json<A: Shown>(
     buffer: &mut Vec<u8>,
+    spelling: Spelling,
     view: View,
     dst: A,
     src: A,
@@ -57,16 +65,16 @@ pub(crate) fn push_differ_json<A: Shown>(
     right: Option<Held>,
 )
     requires { HasRoom buffer.old 379 }
-    ensures text { buffer.new.items
-        ≡ buffer.old.items ++ differ_json view (A.text dst) (A.text src) left right }
+    ensures text { buffer.new.items ≡ buffer.old.items
+        ++ differ_json spelling view (A.text spelling dst) (A.text spelling src) left right }
     ensures room { TookRoom buffer.old buffer.new 379 }
 {
     push_text(buffer, r#"{"same":false,"#);
-    push_addressed(buffer, dst, src);
+    push_addressed(buffer, spelling, dst, src);
     push_text(buffer, r#","left":"#);
-    push_answer_json(buffer, view, left);
+    push_answer_json(buffer, spelling, view, left);
     push_text(buffer, r#","right":"#);
-    push_answer_json(buffer, view, right);
+    push_answer_json(buffer, spelling, view, right);
     push_text(buffer, "}");
     push_octet(buffer, b'\n');
 }
@@ -100,13 +108,13 @@ pub(crate) fn push_count_json(buffer: &mut Vec<u8>, name: &str, count: usize)
 }
 
 /// Appends a sender and its place: the front of an object, up to the interface's name.
-pub(crate) fn push_sender_front_json(buffer: &mut Vec<u8>, origin: Origin)
+pub(crate) fn push_sender_front_json(buffer: &mut Vec<u8>, spelling: Spelling, origin: Origin)
     requires { HasRoom buffer.old 166 }
-    ensures text { buffer.new.items ≡ buffer.old.items ++ sender_front_json origin }
+    ensures text { buffer.new.items ≡ buffer.old.items ++ sender_front_json spelling origin }
     ensures room { TookRoom buffer.old buffer.new 166 }
 {
     push_text(buffer, r#"{"address":""#);
-    push_addr(buffer, origin.sender);
+    push_addr(buffer, spelling, origin.sender);
     push_text(buffer, r#"","interface":"#);
     push_decimal(buffer, origin.place.interface);
     push_text(buffer, r#","link":"#);
@@ -156,51 +164,51 @@ fn push_link_json(buffer: &mut Vec<u8>, link: Option<u32>)
 }
 
 /// Appends a destination and a source: two members of an object.
-fn push_addressed<A: Shown>(buffer: &mut Vec<u8>, dst: A, src: A)
+fn push_addressed<A: Shown>(buffer: &mut Vec<u8>, spelling: Spelling, dst: A, src: A)
     requires { HasRoom buffer.old 118 }
     ensures text { buffer.new.items
-        ≡ buffer.old.items ++ addressed_json (A.text dst) (A.text src) }
+        ≡ buffer.old.items ++ addressed_json (A.text spelling dst) (A.text spelling src) }
     ensures room { TookRoom buffer.old buffer.new 118 }
 {
     push_text(buffer, r#""destination":""#);
-    dst.push(buffer);
+    dst.push(buffer, spelling);
     push_text(buffer, r#"","source":""#);
-    src.push(buffer);
+    src.push(buffer, spelling);
     push_text(buffer, "\"");
 }
 
 /// Appends what is answered, under a view: the object of a route, `"unreachable"`, or `null`.
-fn push_answer_json(buffer: &mut Vec<u8>, view: View, answer: Option<Held>)
+fn push_answer_json(buffer: &mut Vec<u8>, spelling: Spelling, view: View, answer: Option<Held>)
     requires { HasRoom buffer.old 114 }
-    ensures text { buffer.new.items ≡ buffer.old.items ++ answer_json view answer }
+    ensures text { buffer.new.items ≡ buffer.old.items ++ answer_json spelling view answer }
     ensures room { TookRoom buffer.old buffer.new 114 }
 {
     match answer {
-        Some(held) => push_held_json(buffer, view, held),
+        Some(held) => push_held_json(buffer, spelling, view, held),
         None => push_text(buffer, "null"),
     }
 }
 
 /// Appends what stands for a key, under a view: an object, or `"unreachable"`.
-fn push_held_json(buffer: &mut Vec<u8>, view: View, held: Held)
+fn push_held_json(buffer: &mut Vec<u8>, spelling: Spelling, view: View, held: Held)
     requires { HasRoom buffer.old 114 }
-    ensures text { buffer.new.items ≡ buffer.old.items ++ answer_json view (Some held) }
+    ensures text { buffer.new.items ≡ buffer.old.items ++ answer_json spelling view (Some held) }
     ensures room { TookRoom buffer.old buffer.new 114 }
 {
     match held {
-        Held::Route(ann) => push_announcement_json(buffer, view, ann),
+        Held::Route(ann) => push_announcement_json(buffer, spelling, view, ann),
         Held::Unreachable => push_text(buffer, r#""unreachable""#),
     }
 }
 
 /// Appends the route that is announced, under a view: an object.
-fn push_announcement_json(buffer: &mut Vec<u8>, view: View, ann: Ann)
+fn push_announcement_json(buffer: &mut Vec<u8>, spelling: Spelling, view: View, ann: Ann)
     requires { HasRoom buffer.old 114 }
-    ensures text { buffer.new.items ≡ buffer.old.items ++ announcement_json view ann }
+    ensures text { buffer.new.items ≡ buffer.old.items ++ announcement_json spelling view ann }
     ensures room { TookRoom buffer.old buffer.new 114 }
 {
     push_text(buffer, r#"{"next_hop":"#);
-    push_next_hop(buffer, view.next_hop, ann.next_hop());
+    push_next_hop(buffer, spelling, view.next_hop, ann.next_hop());
     push_text(buffer, r#","router_id":"#);
     push_kept_id(buffer, view.router_id, ann.router_id());
     push_text(buffer, r#","seqno":"#);
@@ -211,15 +219,15 @@ fn push_announcement_json(buffer: &mut Vec<u8>, view: View, ann: Ann)
 }
 
 /// Appends the next hop where it is kept, or `null`.
-fn push_next_hop(buffer: &mut Vec<u8>, kept: bool, next_hop: Addr)
+fn push_next_hop(buffer: &mut Vec<u8>, spelling: Spelling, kept: bool, next_hop: Addr)
     requires { HasRoom buffer.old 41 }
     ensures text { buffer.new.items
-        ≡ buffer.old.items ++ kept_json kept (quoted (printed next_hop)) }
+        ≡ buffer.old.items ++ kept_json kept (quoted (address_text spelling next_hop)) }
     ensures room { TookRoom buffer.old buffer.new 41 }
 {
     if kept {
         push_text(buffer, "\"");
-        push_addr(buffer, next_hop);
+        push_addr(buffer, spelling, next_hop);
         push_text(buffer, "\"");
     } else {
         push_text(buffer, "null");

@@ -1,6 +1,7 @@
 //! The lines of a report, appended to a buffer that has room for them.
 ghost use Rattle.std.specs.Prelude.{◌≡◌, ℕ, Option, ◌++◌, ◌*◌, ◌≤◌, Some, length};
-ghost use Rattle.babel_dump.specs.JsonText.{ignored_object, report_json};
+ghost use Rattle.babel_dump.specs.JsonText.{counted_object, ignored_object, report_json};
+ghost use Rattle.babel_dump.specs.JsonText.{report_members};
 ghost use Rattle.babel_dump.specs.RunText.{ignored_line, report_text};
 ghost use Rattle.babel_dump.specs.Slices.{HasRoom, TookRoom};
 ghost use Rattle.babel_dump.specs.TextParts.{comma_separated, ignored_lines, ignored_objects};
@@ -54,12 +55,23 @@ pub(crate) fn push_report_json(buffer: &mut Vec<u8>, report: &Report)
     requires { HasRoom buffer.old 1483 }
     ensures { buffer.new.items ≡ buffer.old.items ++ report_json report.now }
 {
-    push_text(buffer, r#"{"tlvs":"#);
+    push_text(buffer, "{");
+    push_report_members(buffer, report);
+    push_text(buffer, "}");
+    push_octet(buffer, b'\n');
+}
+
+/// Appends the members of a report's object.
+pub(crate) fn push_report_members(buffer: &mut Vec<u8>, report: &Report)
+    requires { HasRoom buffer.old 1480 }
+    ensures text { buffer.new.items ≡ buffer.old.items ++ report_members report.now }
+    ensures room { TookRoom buffer.old buffer.new 1480 }
+{
+    push_text(buffer, r#""tlvs":"#);
     push_decimal(buffer, report.tlvs());
     push_text(buffer, r#","ignored":["#);
     push_ignored_json(buffer, report, &REASONS);
-    push_text(buffer, "]}");
-    push_octet(buffer, b'\n');
+    push_text(buffer, "]");
 }
 
 /// Appends an object for each of these reasons that occurred, with a comma between each two.
@@ -85,8 +97,18 @@ fn push_ignored_object(buffer: &mut Vec<u8>, reason: Reason, count: u64, first: 
     ensures text { buffer.new.items ≡ buffer.old.items ++ ignored_object reason (count, first) }
     ensures room { TookRoom buffer.old buffer.new 89 }
 {
+    push_counted_object(buffer, name(reason), count, first);
+}
+
+/// Appends how many there are for the reason of this name, and where the first is: an object.
+pub(crate) fn push_counted_object(buffer: &mut Vec<u8>, name: &str, count: u64, first: u64)
+    requires room { HasRoom buffer.old 89 }
+    requires short { length name.now ≤ 18 }
+    ensures text { buffer.new.items ≡ buffer.old.items ++ counted_object name.now (count, first) }
+    ensures room { TookRoom buffer.old buffer.new 89 }
+{
     push_text(buffer, r#"{"reason":""#);
-    push_text(buffer, name(reason));
+    push_text(buffer, name);
     push_text(buffer, r#"","count":"#);
     push_decimal(buffer, count);
     push_text(buffer, r#","first":"#);

@@ -3,6 +3,7 @@ ghost use Rattle.std.specs.Prelude.{◌≡◌, ◌++◌, IfErr, IfOk};
 ghost use Rattle.babel_dump.specs.Command.{CompareCause, ComparesRoutes, IsOfMemory};
 ghost use Rattle.babel_dump.specs.Command.{ListsRoutes, WritesRoutes};
 ghost use Rattle.babel_dump.specs.Device.{HasRoomToCount};
+ghost use Rattle.babel_dump.specs.Filter.{kept_rows};
 ghost use Rattle.babel_dump.specs.Given.{GaveRoutes, IsFaultOfGiven, read_from};
 ghost use Rattle.babel_dump.specs.InFormat.{listed_in, rows_or_count_in};
 ghost use Rattle.babel_dump.specs.Parts.{Gathered, Says, SaysRoutes};
@@ -12,6 +13,7 @@ ghost use Rattle.babel_dump.specs.SlicedRows.{lines_of};
 use crate::both::{SeenTables, read_both};
 use crate::byte_in::ByteIn;
 use crate::differences::{difference_rows, differences_status};
+use crate::filter::Filter;
 use crate::format::Format;
 use crate::input::read_table;
 use crate::job::Listed;
@@ -69,12 +71,13 @@ pub(crate) fn read_route_octets<R: ByteIn>(
     Ok((*seen.report(), octets))
 }
 
-/// Reads a dump to its end, or to its first fault, and finds its rows, as a view shows them, or,
-/// with `count`, how many there are.
+/// Reads a dump to its end, or to its first fault, and finds its rows that a filter keeps, as a
+/// view shows them, or, with `count`, how many there are.
 pub(crate) fn find_route_rows<R: ByteIn>(
     alloc: Global,
     reading: Reading,
     view: View,
+    filter: Filter,
     count: bool,
     format: Format,
     reader: &mut R,
@@ -82,33 +85,35 @@ pub(crate) fn find_route_rows<R: ByteIn>(
     requires { HasRoomToCount (R.state reader.old) }
     ensures { let dump = read_from (R.state reader.old) (R.state reader.new) reading in
         Gathered (calls_of dump) (OfFirst (InputCause dump (IsFaultOfGiven dump)))
-        (Says (ListsRoutes dump view count format)) result }
+        (Says (ListsRoutes dump view filter count format)) result }
 {
     let table = read_table(alloc, reading, reader)?;
     let outcome = Outcome {
         status: 0,
         reports: Reports::Dump(*table.report()),
     };
-    let (rows, after) = found_rows(alloc, view, count, format, table)?;
+    let (rows, after) = found_rows(alloc, view, filter, count, format, table)?;
     Ok(Found::rows(alloc, format, rows, after, outcome)?)
 }
 
-/// A table's rows, as a view shows them, or no row, and the line of how many there are.
+/// A table's rows that a filter keeps, as a view shows them, or no row, and the line of how many
+/// there are.
 fn found_rows(
     alloc: Global,
     view: View,
+    filter: Filter,
     count: bool,
     format: Format,
     table: Table,
 ) -> Result<(Rows, Vec<u8>), AllocError>
     ensures { IfOk result (λ found. lines_of format found.0 ++ found.1.items
-        ≡ rows_or_count_in format view count table.rows) }
+        ≡ rows_or_count_in format view count (kept_rows filter table.rows)) }
 {
     if count {
-        let text = count_output(alloc, format, "rows", table.rows().len())?;
+        let text = count_output(alloc, format, "rows", filter.count(&table))?;
         return Ok((Rows::Empty, text));
     }
-    Ok((Rows::Table(view, table), Vec::new(alloc)))
+    Ok((Rows::Table(filter, view, table), Vec::new(alloc)))
 }
 
 /// Reads two dumps, the first to its end before the other, and makes the lines of the keys for

@@ -26,6 +26,14 @@ impl Side {
             Side::Other => "--other-from",
         }
     }
+
+    /// The option that names the place where the packets of the dump on this side were captured.
+    pub fn place_option(self) -> &'static str {
+        match self {
+            Side::First => "--interface",
+            Side::Other => "--other-interface",
+        }
+    }
 }
 
 impl fmt::Display for Side {

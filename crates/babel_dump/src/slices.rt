@@ -1,10 +1,12 @@
 //! Lines that are written in slices: a buffer takes them, and is written out where it has no room
 //! for one more. So a text of any length takes no more memory than the buffer, which is there
 //! before the first octet is written.
-ghost use Rattle.std.specs.Prelude.{◌≡◌, ◌++◌, ◌-◌, ◌^◌, ◌<◌, ◌≤◌, [], IfOk, OnOk, vec_capacity};
+ghost use Rattle.std.specs.Prelude.{◌≡◌, ◌∷◌, ◌++◌, ◌-◌, ◌^◌, ◌<◌, ◌≤◌, [], IfOk, OnOk};
+ghost use Rattle.std.specs.Prelude.{vec_capacity};
 ghost use Rattle.std.specs.List.{flat_map};
 ghost use Rattle.babel_dump.specs.CaptureText.{escape, escaped, sender_in, senders_in};
 ghost use Rattle.babel_dump.specs.Device.{HasRoomToWrite};
+ghost use Rattle.babel_dump.specs.Filter.{kept_rows};
 ghost use Rattle.babel_dump.specs.InFormat.{pairs_in};
 ghost use Rattle.babel_dump.specs.Run.{output};
 ghost use Rattle.babel_dump.specs.SlicedRows.{Finished, found_text, lines_of};
@@ -12,6 +14,7 @@ ghost use Rattle.babel_dump.specs.Slices.{HasRoom, WroteFront, WroteText};
 
 use crate::byte_out::ByteOut;
 use crate::diff_rows::{DiffRows, write_diff};
+use crate::filter::Filter;
 use crate::format::Format;
 use crate::outcome::Outcome;
 use crate::output::{Answered, Line, escape_of, push_after_name, push_line, push_to_name};
@@ -19,20 +22,21 @@ use crate::pair_lines::PairLines;
 use crate::push::{push_name_octet, push_octets};
 use crate::run_fault::RunFault;
 use crate::slice_buffer::{LONGEST_LINE, SliceBuffer};
+use crate::spelling::Spelling;
 use crate::write::{WriteFailed, write_all, write_text};
 use babel_canon::{CanonicalPairs, Difference};
 use babel_capture::{Gathered, Origin, Tally};
 use babel_table::Table;
-use babel_tlv::View;
+use babel_tlv::{Held, Key, View};
 use std::alloc::{AllocError, Global};
 
 /// Rows of which each has a line.
 #[derive(Drop)]
 pub(crate) enum Rows {
-    /// The rows of a table, as a view shows them.
-    Table(View, Table),
-    /// Pairs, as a view shows them.
-    Pairs(View, CanonicalPairs),
+    /// The rows of a table that a filter keeps, as a view shows them.
+    Table(Filter, View, Table),
+    /// The pairs that a filter keeps, as a view shows them.
+    Pairs(Filter, View, CanonicalPairs),
     /// What is answered for destinations and sources.
     Answers(Vec<Answered>),
     /// Differences, as a view shows them.
@@ -84,7 +88,13 @@ impl Found {
         ensures text { IfOk result (λ found. found_text found ≡ text.items) }
         ensures outcome { IfOk result (λ found. found.outcome ≡ outcome) }
     {
-        Found::rows(alloc, Format::Text, Rows::Empty, text, outcome)
+        Found::rows(
+            alloc,
+            Format::Text(Spelling::Long),
+            Rows::Empty,
+            text,
+            outcome,
+        )
     }
 }
 
@@ -123,8 +133,12 @@ fn write_rows<W: ByteOut>(
         (lines_of format rows) buffer.new.items result }
 {
     match rows {
-        Rows::Table(view, table) => write_table(writer, format, view, &table, buffer),
-        Rows::Pairs(view, pairs) => write_pairs(writer, format, view, pairs, buffer),
+        Rows::Table(filter, view, table) => {
+            write_table(writer, format, &filter, view, &table, buffer)
+        }
+        Rows::Pairs(filter, view, pairs) => {
+            write_pairs(writer, format, filter, view, pairs, buffer)
+        }
         Rows::Answers(answers) => write_lines(writer, format, View::all(), &answers, buffer),
         Rows::Differences(view, listed) => write_lines(writer, format, view, &listed, buffer),
         Rows::Diff(diff) => write_diff(writer, &diff, buffer),
@@ -133,10 +147,12 @@ fn write_rows<W: ByteOut>(
     }
 }
 
-/// Writes the lines of a table, but for the last of them, which the buffer has.
+/// Writes the lines of the rows of a table that a filter keeps, but for the last of them, which the
+/// buffer has.
 fn write_table<W: ByteOut>(
     writer: &mut W,
     format: Format,
+    filter: &Filter,
     view: View,
     table: &Table,
     buffer: &mut Vec<u8>,
@@ -145,19 +161,45 @@ fn write_table<W: ByteOut>(
     requires empty { buffer.old.items ≡ [] }
     requires room { 384 ≤ vec_capacity buffer.old }
     ensures { WroteFront (output (W.state writer.old) (W.state writer.new))
-        (pairs_in format view table.now.rows) buffer.new.items result }
+        (pairs_in format view (kept_rows filter.now table.now.rows)) buffer.new.items result }
 {
     for (key, held) in table.rows() {
+        write_kept(writer, format, filter, view, key, held, buffer)?;
+    }
+    Ok(())
+}
+
+/// Writes the line of a row, if a filter keeps it, after what the buffer has, but for the last of
+/// both, which the buffer has then.
+pub(crate) fn write_kept<W: ByteOut>(
+    writer: &mut W,
+    format: Format,
+    filter: &Filter,
+    view: View,
+    key: Key,
+    held: Held,
+    buffer: &mut Vec<u8>,
+) -> Result<(), WriteFailed>
+    requires few_failures { (W.state writer.old).failures < 2 ^ 64 - 1 }
+    requires room { 384 ≤ vec_capacity buffer.old }
+    ensures front { WroteFront (output (W.state writer.old) (W.state writer.new))
+        (buffer.old.items ++ pairs_in format view (kept_rows filter.now ((key, held) ∷ [])))
+        buffer.new.items result }
+    ensures room { OnOk result (384 ≤ vec_capacity buffer.new) }
+{
+    if filter.keeps(&key, &held) {
         make_room(writer, buffer)?;
         push_line(buffer, format, view, key, held);
     }
     Ok(())
 }
 
-/// Writes the lines of pairs, but for the last of them, which the buffer has.
+/// Writes the lines of the pairs that a filter keeps, but for the last of them, which the buffer
+/// has.
 fn write_pairs<W: ByteOut>(
     writer: &mut W,
     format: Format,
+    filter: Filter,
     view: View,
     pairs: CanonicalPairs,
     buffer: &mut Vec<u8>,
@@ -166,12 +208,13 @@ fn write_pairs<W: ByteOut>(
     requires empty { buffer.old.items ≡ [] }
     requires room { 384 ≤ vec_capacity buffer.old }
     ensures { WroteFront (output (W.state writer.old) (W.state writer.new))
-        (pairs_in format view pairs) buffer.new.items result }
+        (pairs_in format view (kept_rows filter pairs)) buffer.new.items result }
 {
     let mut lines = PairLines {
         writer,
         buffer,
         format,
+        filter,
         view,
     };
     pairs.put(&mut lines)

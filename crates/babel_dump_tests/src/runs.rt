@@ -2,6 +2,7 @@ mod captures;
 mod devices;
 mod failures;
 mod forms;
+mod notes;
 mod one_call;
 mod one_command;
 mod pairs_files;

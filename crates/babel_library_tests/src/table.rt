@@ -5,6 +5,7 @@ mod changes;
 mod faults;
 mod pieces;
 mod refused_memory;
+mod seeds;
 mod updates;
 
 ghost use Rattle.std.specs.Prelude.{◌≡◌, ◌<◌, ◌^◌};

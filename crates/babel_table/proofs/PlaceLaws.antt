@@ -19,9 +19,9 @@ use Rattle.babel_prefix.proofs.Insertion.{is_at-sym, lookup-insert}
 use Rattle.babel_table.proofs.SaidLaws.{at_itself, place-read}
 
 -- the slot has another place than the key's
-abbrev pub IsPassed : List RouteKey → List (ℕ × ℕ) → RouteKey → ℕ → Type 0
-IsPassed keys slots key at =
-    HoldsAt (λ slot. (slot.1 < 4294967295) × ((place : ℕ) → slot ≡ (tag_of key, place) → IsPlace keys key place → ⊥)) slots at
+abbrev pub IsPassed : List RouteKey → Places → RouteKey → ℕ → Type 0
+IsPassed keys places key at =
+    HoldsAt (λ slot. (slot.1 < 4294967295) × ((place : ℕ) → slot ≡ (tag_of places.seed key, place) → IsPlace keys key place → ⊥)) places.slots at
 
 pub below_more : (P : ℕ → Type 0) (n : ℕ) → ((m : ℕ) → m < n → P m) → P n → (m : ℕ) → m < n + 1 → P m
 below_more P n below here m lt = elim (cases_lt m n) [
@@ -33,14 +33,14 @@ below_more P n below here m lt = elim (cases_lt m n) [
 pub holds_at : (P : ℕ × ℕ → Type 0) (slots : List (ℕ × ℕ)) (at : ℕ) (x d : ℕ × ℕ) → at < length slots → x ≡ get_or slots at d → P x → HoldsAt P slots at
 holds_at P slots at x d inside is p e = subst P (is ∙ get_or_default slots at d e inside) p
 
-pub start_is : (places : Places) (key : RouteKey) (tag len : ℕ) → tag ≡ tag_of key → len ≡ length places.slots → start_of places key ≡ tag % (len - 8)
+pub start_is : (places : Places) (key : RouteKey) (tag len : ℕ) → tag ≡ tag_of places.seed key → len ≡ length places.slots → start_of places key ≡ tag % (len - 8)
 start_is places key tag len t l = cc
 
 -- ---- a search
 
 module _ (keys : List RouteKey) (places : Places) (key : RouteKey) where
   -- what a search is past is not the key's slot
-  not_passed : (step place : ℕ) → ((before : ℕ) → before < step → IsPassed keys places.slots key (start_of places key + before))
+  not_passed : (step place : ℕ) → ((before : ℕ) → before < step → IsPassed keys places key (start_of places key + before))
       → IsPlace keys key place → (listed : IsListed places key place) → step ≤ 8 → listed.far < step → ⊥
   not_passed step place passed at listed near lt = elim listed.here [
     | inl here ↦ (passed listed.far lt (0, 0)).1 place (here.1 (0, 0)) at
@@ -48,7 +48,7 @@ module _ (keys : List RouteKey) (places : Places) (key : RouteKey) where
   ]
 
   -- a slot that has no place ends a search
-  pub ends_at_free : (step : ℕ) → ((before : ℕ) → before < step → IsPassed keys places.slots key (start_of places key + before)) → step < 8
+  pub ends_at_free : (step : ℕ) → ((before : ℕ) → before < step → IsPassed keys places key (start_of places key + before)) → step < 8
       → HoldsAt (λ slot. slot.1 ≡ 4294967295) places.slots (start_of places key + step)
       → IsUnlisted keys places key
   ends_at_free step passed near free place at listed = elim (cases_lt listed.far step) [
@@ -56,8 +56,8 @@ module _ (keys : List RouteKey) (places : Places) (key : RouteKey) where
     | inr le ↦ elim (eq-or-lt_of_le le) [
       | inl is ↦ elim listed.here [
         | inl here ↦
-            let slot : get_or places.slots (start_of places key + step) (0, 0) ≡ (tag_of key, place) =
-            subst (λ n. get_or places.slots (start_of places key + n) (0, 0) ≡ (tag_of key, place)) (sym is) (here.1 (0, 0)) in
+            let slot : get_or places.slots (start_of places key + step) (0, 0) ≡ (tag_of places.seed key, place) =
+            subst (λ n. get_or places.slots (start_of places key + n) (0, 0) ≡ (tag_of places.seed key, place)) (sym is) (here.1 (0, 0)) in
             let none : place ≡ 4294967295 = sym (ap (λ (s : ℕ × ℕ). s.1) slot) ∙ free (0, 0) in
             omega (arith, none, listed.small)
         | inr over ↦ omega (arith, over.0, is, near)
@@ -67,7 +67,7 @@ module _ (keys : List RouteKey) (places : Places) (key : RouteKey) where
   ]
 
   -- behind the last slot
-  pub ends_at_map : ((before : ℕ) → before < 8 → IsPassed keys places.slots key (start_of places key + before)) → lookup (is_at (key_cmp key)) places.overflow ≡ None → IsUnlisted keys places key
+  pub ends_at_map : ((before : ℕ) → before < 8 → IsPassed keys places key (start_of places key + before)) → lookup (is_at (key_cmp key)) places.overflow ≡ None → IsUnlisted keys places key
   ends_at_map passed none place at listed = elim (cases_lt listed.far 8) [
     | inl lt ↦ not_passed 8 place passed at listed (omega arith) lt
     | inr le ↦ elim listed.here [
@@ -76,7 +76,7 @@ module _ (keys : List RouteKey) (places : Places) (key : RouteKey) where
     ]
   ]
 
-  pub ends_at_other : (other : ℕ) → ((before : ℕ) → before < 8 → IsPassed keys places.slots key (start_of places key + before))
+  pub ends_at_other : (other : ℕ) → ((before : ℕ) → before < 8 → IsPassed keys places key (start_of places key + before))
       → lookup (is_at (key_cmp key)) places.overflow ≡ Some other → (IsPlace keys key other → ⊥)
       → IsUnlisted keys places key
   ends_at_other other passed some apart place at listed = elim (cases_lt listed.far 8) [
@@ -89,40 +89,40 @@ module _ (keys : List RouteKey) (places : Places) (key : RouteKey) where
 
 -- ---- one more place
 
-module _ (slots : List (ℕ × ℕ)) (overflow : List (RouteKey × ℕ)) (key : RouteKey) (place : ℕ) (room : 8 < length slots) (small : place < 4294967295) where
+module _ (seed : ℕ) (slots : List (ℕ × ℕ)) (overflow : List (RouteKey × ℕ)) (key : RouteKey) (place : ℕ) (room : 8 < length slots) (small : place < 4294967295) where
   abbrev old : Places
-  old = record { slots = slots; overflow = overflow }
+  old = record { seed = seed; slots = slots; overflow = overflow }
 
   module _ (step : ℕ) (at : ℕ) (is : at ≡ start_of old key + step) (near : step < 8) (inside : at < length slots)
       (passed : (before : ℕ) → before < step → IsTaken slots (start_of old key + before)) (free : HoldsAt (λ slot. slot.1 ≡ 4294967295) slots at) where
     abbrev slotted : Places
-    slotted = record { slots = set slots at (tag_of key, place); overflow = overflow }
+    slotted = record { seed = seed; slots = set slots at (tag_of seed key, place); overflow = overflow }
 
-    taken : (n : ℕ) → IsTaken slots n → IsTaken (set slots at (tag_of key, place)) n
+    taken : (n : ℕ) → IsTaken slots n → IsTaken (set slots at (tag_of seed key, place)) n
     taken n was d = elim (cases_eq n at) [
-      | inl same ↦ let here : get_or (set slots at (tag_of key, place)) n d ≡ (tag_of key, place) =
-          ap (λ m. get_or (set slots at (tag_of key, place)) m d) same ∙ get_or-set_same slots at (tag_of key, place) d inside in
+      | inl same ↦ let here : get_or (set slots at (tag_of seed key, place)) n d ≡ (tag_of seed key, place) =
+          ap (λ m. get_or (set slots at (tag_of seed key, place)) m d) same ∙ get_or-set_same slots at (tag_of seed key, place) d inside in
           omega (arith, ap (λ (s : ℕ × ℕ). s.1) here, small)
-      | inr apart ↦ let here = get_or-set_other slots at n (tag_of key, place) d apart in
+      | inr apart ↦ let here = get_or-set_other slots at n (tag_of seed key, place) d apart in
           omega (arith, ap (λ (s : ℕ × ℕ). s.1) here, was d)
     ]
 
     start : (q : RouteKey) → start_of slotted q ≡ start_of old q
-    start q = ap (λ n. tag_of q % (n - 8)) (length-set slots at (tag_of key, place))
+    start q = ap (λ n. tag_of seed q % (n - 8)) (length-set slots at (tag_of seed key, place))
 
     pub slot_listed : IsListed slotted key place
     slot_listed = record {
-      room = omega (arith, room, length-set slots at (tag_of key, place));
+      room = omega (arith, room, length-set slots at (tag_of seed key, place));
       small = small;
       far = step;
       near = omega (arith, near);
       passed = λ before lt. subst (λ n. IsTaken slotted.slots (n + before)) (sym (start key)) (taken _ (passed before lt));
-      here = inl (near, λ d. ap (λ n. get_or slotted.slots n d) (ap (λ n. n + step) (start key) ∙ sym is) ∙ get_or-set_same slots at (tag_of key, place) d inside);
+      here = inl (near, λ d. ap (λ n. get_or slotted.slots n d) (ap (λ n. n + step) (start key) ∙ sym is) ∙ get_or-set_same slots at (tag_of seed key, place) d inside);
     }
 
     pub slot_others : (other : RouteKey) (n : ℕ) → IsListed old other n → IsListed slotted other n
     slot_others other n listed = record {
-      room = omega (arith, room, length-set slots at (tag_of key, place));
+      room = omega (arith, room, length-set slots at (tag_of seed key, place));
       small = listed.small;
       far = listed.far;
       near = listed.near;
@@ -134,14 +134,14 @@ module _ (slots : List (ℕ × ℕ)) (overflow : List (RouteKey × ℕ)) (key : 
               let kept : start_of old other + listed.far ≡ at → ⊥ = λ same.
               let slot : (get_or slots at d).1 ≡ n = ap (λ m. (get_or slots m d).1) (sym same) ∙ ap (λ (s : ℕ × ℕ). s.1) (here.1 d) in
               omega (arith, slot, free d, listed.small) in
-              ap (λ m. get_or slotted.slots (m + listed.far) d) (start other) ∙ get_or-set_other slots at (start_of old other + listed.far) (tag_of key, place) d kept ∙ here.1 d,
+              ap (λ m. get_or slotted.slots (m + listed.far) d) (start other) ∙ get_or-set_other slots at (start_of old other + listed.far) (tag_of seed key, place) d kept ∙ here.1 d,
         )
         | inr over ↦ inr over
       ];
     }
 
   abbrev mapped : List (RouteKey × ℕ) → Places
-  mapped entries = record { slots = slots; overflow = entries }
+  mapped entries = record { seed = seed; slots = slots; overflow = entries }
 
   pub map_listed : (entries : List (RouteKey × ℕ)) → ((before : ℕ) → before < 8 → IsTaken slots (start_of old key + before))
       → entries ≡ insert_entry key_cmp overflow key place → IsListed (mapped entries) key place

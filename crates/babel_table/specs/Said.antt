@@ -1,7 +1,7 @@
 -- How rows of a family are kept: what was last said of each key, in the order in which the keys
 -- came, and where each is found. This project's own.
 use Rattle.std.specs.Prelude.{◌≡◌, ℕ, ◌<◌, ◌≤◌, ◌+◌, ◌-◌, ◌*◌, ◌/◌, ◌%◌, ◌^◌, ◌⊎◌, false, Option}
-use Rattle.std.specs.Prelude.{Some, None, List, [], ◌∷◌, length, take}
+use Rattle.std.specs.Prelude.{Some, None, List, [], ◌∷◌, bit_xor, length, take}
 use Rattle.std.specs.List.{AllByRecursion, HoldsAt, IsDistinct, list_any}
 use Rattle.std.specs.List.Sorted.{IsStrictlySortedBy}
 use Rattle.std.specs.Ordering.{eq_by_cmp}
@@ -39,28 +39,34 @@ pub record IsPlace (keys : List RouteKey) (key : RouteKey) (place : ℕ) : Type 
 
 -- ---- where keys are found that do not rise
 
--- slots, each with a tag and a place, and the places of keys that found no slot
+-- slots, each with a tag by the seed and a place, and the places of keys that found no slot
 pub record Places : Type 0 where
+  pub seed : ℕ
   pub slots : List (ℕ × ℕ)
   pub overflow : List (RouteKey × ℕ)
 
--- 64 bits, with more mixed in
-unfoldable pub mixed : ℕ → ℕ → ℕ
-mixed bits more = ((bits * 11400714819323198485) % 2 ^ 64 + more) % 2 ^ 64
+-- the halves of a product of 128 bits, as one number of 64
+abbrev pub halves_of : ℕ → ℕ
+halves_of product = bit_xor (product / 2 ^ 64) (product % 2 ^ 64)
+
+-- two numbers of 64 bits as one: each with a half of the seed, multiplied
+unfoldable pub mixed : ℕ → ℕ → ℕ → ℕ
+mixed seed one other =
+    halves_of (bit_xor (seed / 2 ^ 64) one * bit_xor (seed % 2 ^ 64) other % 2 ^ 128)
 
 -- the bits of an address, in 64 of them
-unfoldable pub folded : ℕ → ℕ
-folded bits = mixed (bits / 2 ^ 64) (bits % 2 ^ 64)
+unfoldable pub folded : ℕ → ℕ → ℕ
+folded seed bits = mixed seed (bits / 2 ^ 64) (bits % 2 ^ 64)
 
 -- 32 bits that each bit of a key may change
-unfoldable pub tag_of : RouteKey → ℕ
-tag_of key =
-    mixed (mixed (mixed (folded key.dst.address.bits) (folded key.src.address.bits))
-    (key.dst.len * 256 + key.src.len)) 0 / 2 ^ 32
+unfoldable pub tag_of : ℕ → RouteKey → ℕ
+tag_of seed key =
+    mixed seed ((folded seed key.dst.address.bits + (key.dst.len * 256 + key.src.len)) % 2 ^ 64)
+    (folded seed key.src.address.bits) / 2 ^ 32
 
 -- the slot at which a search for the key begins
 abbrev pub start_of : Places → RouteKey → ℕ
-start_of places key = tag_of key % (length places.slots - 8)
+start_of places key = tag_of places.seed key % (length places.slots - 8)
 
 -- the slot has a place
 abbrev pub IsTaken : List (ℕ × ℕ) → ℕ → Type 0
@@ -85,7 +91,8 @@ pub record IsListed (places : Places) (key : RouteKey) (place : ℕ) : Type 0 wh
   pub near : far ≤ 8
   pub passed : AreTaken places.slots (start_of places key) far
   pub here : ((far < 8)
-      × HoldsAt (λ slot. slot ≡ (tag_of key, place)) places.slots (start_of places key + far))
+      × HoldsAt (λ slot. slot ≡ (tag_of places.seed key, place)) places.slots
+      (start_of places key + far))
       ⊎ ((far ≡ 8) × (lookup (is_at (key_cmp key)) places.overflow ≡ Some place))
 
 -- no place of the key is listed

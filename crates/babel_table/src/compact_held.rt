@@ -1,4 +1,4 @@
-ghost use Rattle.std.specs.Prelude.{◌≡◌};
+ghost use Rattle.std.specs.Prelude.{◌≡◌, IsTrue};
 ghost use Rattle.babel_tlv.specs.Views.{seen};
 ghost use Rattle.babel_table.specs.Compact.{FitsFamily};
 
@@ -64,6 +64,16 @@ impl<W: Word> CompactHeld<W> {
             Some(ann) => Held::Route(ann),
             None => Held::Unreachable,
         }
+    }
+
+    /// Whether both are kept in the same octets, so that both hold the same.
+    pub fn is(&self, other: &CompactHeld<W>) -> bool
+        ensures { IsTrue result → self.now ≡ other.now }
+    {
+        self.metric == other.metric
+            && self.seqno == other.seqno
+            && self.next_hop.cmp(&other.next_hop).is_eq()
+            && self.router_id == other.router_id
     }
 
     /// Puts what the view sees in place of what is held.

@@ -168,19 +168,22 @@ impl<W: Word> CompactKey<W> {
             || (self.dst_len == other.dst_len && self.src_len > other.src_len)
     }
 
-    /// 32 bits, each of which any bit of the key may change.
-    pub fn tag(&self) -> u32
-        ensures { result ≡ said.tag_of self.now }
+    /// 32 bits, each of which any bit of the key may change, in a way that only the seed tells.
+    pub fn tag(&self, seed: u128) -> u32
+        ensures { result ≡ said.tag_of seed self.now }
     {
         let lens = u64::from(self.dst_len) * 256 + u64::from(self.src_len);
-        let bits = mixed(mixed(self.dst.fold(), self.src.fold()), lens);
-        (mixed(bits, 0) >> 32) as u32
+        let dst = self.dst.fold(seed).wrapping_add(lens);
+        (mixed(seed, dst, self.src.fold(seed)) >> 32) as u32
     }
 }
 
-/// 64 bits, with more mixed in.
-pub(crate) fn mixed(bits: u64, more: u64) -> u64
-    ensures { result ≡ said.mixed bits more }
+/// Two numbers as one: each with a half of the seed, multiplied.
+pub(crate) fn mixed(seed: u128, one: u64, other: u64) -> u64
+    ensures { result ≡ said.mixed seed one other }
 {
-    bits.wrapping_mul(0x9e37_79b9_7f4a_7c15).wrapping_add(more)
+    let high = (seed >> 64) as u64 ^ one;
+    let low = (seed % (1 << 64)) as u64 ^ other;
+    let product = u128::from(high).wrapping_mul(u128::from(low));
+    (product >> 64) as u64 ^ (product % (1 << 64)) as u64
 }

@@ -1,5 +1,6 @@
-ghost use Rattle.std.specs.Prelude.{◌≡◌, ◌<◌, ◌+◌, ◌^◌, ◌∷◌, ◌++◌, ◌↔◌, if◌then◌else◌, [], length};
-ghost use Rattle.std.specs.Prelude.{IfOk, OnOk, OnErr, MatchOption, is_some, IsTrue, None};
+ghost use Rattle.std.specs.Prelude.{◌≡◌, ◌<◌, ◌+◌, ◌^◌, ◌∷◌, ◌++◌, ◌↔◌, ◌⊎◌, if◌then◌else◌, []};
+ghost use Rattle.std.specs.Prelude.{IfErr, IfOk, IsTrue, MatchOption, MatchResult, None, OnErr};
+ghost use Rattle.std.specs.Prelude.{OnOk, Some, is_some, length, true};
 ghost use Rattle.std.specs.List.Sorted.{IsPermutation, IsStrictlySortedBy};
 ghost use Rattle.std.specs.BTreeMap.{insert_entry, is_at};
 ghost use Rattle.std.specs.Map.{keys_of, lookup, remove_entry};
@@ -18,7 +19,7 @@ use crate::places::Places;
 use crate::stored::Stored;
 use crate::word::Word;
 use babel_prefix::Addr;
-use babel_tlv::{Held, Key};
+use babel_tlv::{Fault, Held, Key};
 use std::alloc::{AllocError, Global};
 use std::marker::Model;
 
@@ -65,7 +66,7 @@ impl<W: Word> Model for FamilyRows<W> {
 
 impl<W: Word> FamilyRows<W> {
     /// Nothing for any key.
-    pub fn new(alloc: Global) -> FamilyRows<W>
+    pub fn new(alloc: Global, seed: u128) -> FamilyRows<W>
         ensures { result ≡ [] }
     {
         FamilyRows {
@@ -73,7 +74,7 @@ impl<W: Word> FamilyRows<W> {
             rows: Vec::new(alloc),
             next: 0,
             rising: 0,
-            places: Places::new(alloc),
+            places: Places::new(alloc, seed),
             count: 0,
         }
     }
@@ -87,20 +88,15 @@ impl<W: Word> FamilyRows<W> {
         self.count
     }
 
-    /// Whether there is something for the key.
-    pub fn has(&self, key: &Key) -> bool
-        requires { key.now.dst.address.family ≡ W.family }
-        ensures { result ≡ is_some (lookup (is_at (key_cmp key.now)) self.now) }
-    {
-        let key = CompactKey::of(key);
-        match find(&self.rows, self.next, self.rising, &self.places, &key) {
-            Some(place) => self.rows[place].1.is_some(),
-            None => false,
-        }
-    }
-
-    /// Keeps this for the key.
-    pub fn put(&mut self, key: &Key, held: Held, wipes: u64) -> Result<(), AllocError>
+    /// Keeps this for the key. Where there is nothing for it, the refusal is answered, if there is
+    /// one.
+    pub fn put(
+        &mut self,
+        key: &Key,
+        held: Held,
+        wipes: u64,
+        refusal: Option<Fault>,
+    ) -> Result<(), Fault>
         requires family { key.now.dst.address.family ≡ W.family }
         requires fits { FitsFamily W.family held }
         requires few { length self.old < 2 ^ 62 }
@@ -108,21 +104,33 @@ impl<W: Word> FamilyRows<W> {
             (self.new ≡ insert_entry key_cmp self.old key.now (kept held wipes)) }
         ensures len { OnOk result (length self.new ≡ length self.old
             + (if is_some (lookup (is_at (key_cmp key.now)) self.old) then 0 else 1)) }
+        ensures room { OnOk result ((refusal ≡ None)
+            ⊎ (is_some (lookup (is_at (key_cmp key.now)) self.old) ≡ true)) }
         ensures err { OnErr result (self.new ≡ self.old) }
+        ensures cause { IfErr result (λ fault. (fault ≡ Fault.Memory)
+            ⊎ ((refusal ≡ Some fault) × (lookup (is_at (key_cmp key.now)) self.old ≡ None))) }
     {
         let key = CompactKey::of(key);
         let held = CompactHeld::of(held);
         let stored = Stored { held, wipes };
         if let Some(place) = find(&self.rows, self.next, self.rising, &self.places, &key) {
             let was = self.rows[place].1.is_some();
+            if let Some(fault) = refusal {
+                if !was {
+                    return Err(fault);
+                }
+            }
             self.rows[place].1 = Some(stored);
             self.next = place + 1;
             self.count += usize::from(!was);
             return Ok(());
         }
+        if let Some(fault) = refusal {
+            return Err(fault);
+        }
         let place = self.rows.len();
         if self.rising == place && is_past(&self.rows, &key) {
-            self.rows.push((key, Some(stored)))?;
+            push(&mut self.rows, (key, Some(stored)))?;
             self.rising = self.rows.len();
         } else {
             push_placed(
@@ -284,6 +292,15 @@ fn is_past<W: Word>(rows: &[WordRow<W>], key: &CompactKey<W>) -> bool
     }
 }
 
+/// Adds a row.
+fn push<W: Word>(rows: &mut Vec<WordRow<W>>, row: WordRow<W>) -> Result<(), AllocError>
+    ensures items { MatchResult result (λ _. rows.new.items ≡ rows.old.items ++ row ∷ [])
+        (λ _. rows.new.items ≡ rows.old.items) }
+{
+    rows.push(row)?;
+    Ok(())
+}
+
 /// Adds a row, and lists its place.
 fn push_placed<W: Word>(
     alloc: Global,
@@ -306,7 +323,7 @@ fn push_placed<W: Word>(
     }
     places.make_room(alloc, rows, rising)?;
     places.add(&key, place as u32)?;
-    rows.push((key, Some(stored)))?;
+    push(rows, (key, Some(stored)))?;
     Ok(())
 }
 

@@ -111,8 +111,8 @@ impl Word for Halves {
         Addr::new(Family::V6, bits).unwrap()
     }
 
-    fn fold(self) -> u64 {
-        mixed(self.high, self.low)
+    fn fold(self, seed: u128) -> u64 {
+        mixed(seed, self.high, self.low)
     }
 
     fn agrees(self, other: Halves, len: u8) -> bool {

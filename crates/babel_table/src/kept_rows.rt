@@ -1,5 +1,5 @@
-ghost use Rattle.std.specs.Prelude.{◌≡◌, ◌<◌, ◌+◌, ◌^◌, if◌then◌else◌, [], length, is_some};
-ghost use Rattle.std.specs.Prelude.{IfOk, OnErr, OnOk};
+ghost use Rattle.std.specs.Prelude.{◌≡◌, ◌<◌, ◌+◌, ◌^◌, ◌⊎◌, if◌then◌else◌, [], length, is_some};
+ghost use Rattle.std.specs.Prelude.{IfErr, IfOk, None, OnErr, OnOk, Some, true};
 ghost use Rattle.std.specs.List.Sorted.{IsStrictlySortedBy};
 ghost use Rattle.std.specs.BTreeMap.{insert_entry, is_at};
 ghost use Rattle.std.specs.Map.{keys_of, lookup, remove_entry};
@@ -14,7 +14,7 @@ use crate::halves::Halves;
 use crate::nested_rows::NestedRows;
 use crate::sorted_rows::SortedRows;
 use babel_prefix::{Addr, Family};
-use babel_tlv::{Held, Key};
+use babel_tlv::{Fault, Held, Key};
 use std::alloc::{AllocError, Global};
 use std::marker::Model;
 
@@ -41,12 +41,12 @@ impl Model for KeptRows {
 
 impl KeptRows {
     /// Nothing for any key.
-    pub fn new(alloc: Global) -> KeptRows
+    pub fn new(alloc: Global, seed: u128) -> KeptRows
         ensures { result ≡ [] }
     {
         KeptRows {
-            v4: FamilyRows::new(alloc),
-            v6: FamilyRows::new(alloc),
+            v4: FamilyRows::new(alloc, seed),
+            v6: FamilyRows::new(alloc, seed),
         }
     }
 
@@ -58,29 +58,30 @@ impl KeptRows {
         self.v4.len() + self.v6.len()
     }
 
-    /// Whether there is something for the key.
-    pub fn has(&self, key: &Key) -> bool
-        ensures { result ≡ is_some (lookup (is_at (key_cmp key.now)) self.now) }
-    {
-        match key.dst().family() {
-            Family::V4 => self.v4.has(key),
-            Family::V6 => self.v6.has(key),
-        }
-    }
-
-    /// Keeps this for the key.
-    pub fn put(&mut self, key: &Key, held: Held, wipes: u64) -> Result<(), AllocError>
+    /// Keeps this for the key. Where there is nothing for it, the refusal is answered, if there is
+    /// one.
+    pub fn put(
+        &mut self,
+        key: &Key,
+        held: Held,
+        wipes: u64,
+        refusal: Option<Fault>,
+    ) -> Result<(), Fault>
         requires pair { IsPair (key.now, held) }
         requires few { length self.old < 2 ^ 62 }
         ensures ok { OnOk result
             (self.new ≡ insert_entry key_cmp self.old key.now (kept held wipes)) }
         ensures len { OnOk result (length self.new ≡ length self.old
             + (if is_some (lookup (is_at (key_cmp key.now)) self.old) then 0 else 1)) }
+        ensures room { OnOk result ((refusal ≡ None)
+            ⊎ (is_some (lookup (is_at (key_cmp key.now)) self.old) ≡ true)) }
         ensures err { OnErr result (self.new ≡ self.old) }
+        ensures cause { IfErr result (λ fault. (fault ≡ Fault.Memory)
+            ⊎ ((refusal ≡ Some fault) × (lookup (is_at (key_cmp key.now)) self.old ≡ None))) }
     {
         match key.dst().family() {
-            Family::V4 => self.v4.put(key, held, wipes),
-            Family::V6 => self.v6.put(key, held, wipes),
+            Family::V4 => self.v4.put(key, held, wipes, refusal),
+            Family::V6 => self.v6.put(key, held, wipes, refusal),
         }
     }
 

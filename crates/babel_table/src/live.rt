@@ -46,15 +46,15 @@ impl Model for LiveRows {
 }
 
 impl LiveRows {
-    /// No rows, of which there may be at most `entries`.
-    pub fn new(alloc: Global, mode: Mode, entries: u32) -> LiveRows
+    /// No rows, of which there may be at most `entries`. They are found by a hash of this seed.
+    pub fn new(alloc: Global, mode: Mode, entries: u32, seed: u128) -> LiveRows
         ensures { result ≡ record { mode = mode; entries = entries; wipes = 0; rows = [] } }
     {
         LiveRows {
             mode,
             entries,
             wipes: 0,
-            kept: KeptRows::new(alloc),
+            kept: KeptRows::new(alloc, seed),
         }
     }
 
@@ -65,13 +65,12 @@ impl LiveRows {
         ensures ok { OnOk result (self.new.rows ≡ insert_entry key_cmp self.old.rows key.now held) }
         ensures refused { IfErr result (IsNotHeld self.old at key.now held) }
     {
-        if self.kept.len() >= self.entries as usize && !self.kept.has(key) {
-            return Err(Fault::TooManyRoutes { at });
-        }
-        match self.kept.put(key, held, self.wipes) {
-            Ok(()) => Ok(()),
-            Err(_) => Err(Fault::Memory),
-        }
+        let refusal = if self.kept.len() < self.entries as usize {
+            None
+        } else {
+            Some(Fault::TooManyRoutes { at })
+        };
+        self.kept.put(key, held, self.wipes, refusal)
     }
 
     /// Holds nothing for the key.

@@ -26,9 +26,10 @@ type Slot = (u32, u32);
 
 /// The places of keys among rows that have them. A key's place is in one of a few slots, from the
 /// one that its tag names; where these are taken, it is in a map. So a search is short whatever
-/// keys a dump has.
+/// keys a dump has; and without the seed no keys can be chosen that come to the map.
 #[derive(Drop)]
 pub struct Places<W: Word> {
+    seed: u128,
     slots: Vec<Slot>,
     overflow: BTreeMap<CompactKey<W>, u32>,
 }
@@ -38,22 +39,32 @@ impl<W: Word> Model for Places<W> {
 
     ghost Value = { Listed };
 
-    ghost view = { λ p. record { slots = p.slots.items; overflow = p.overflow.entries } };
+    ghost view = { λ p. record {
+      seed = p.seed;
+      slots = p.slots.items;
+      overflow = p.overflow.entries;
+    } };
 }
 
 impl<W: Word> Places<W> {
     /// No places.
-    pub fn new(alloc: Global) -> Places<W>
-        ensures { result ≡ record { slots = []; overflow = [] } }
+    pub fn new(alloc: Global, seed: u128) -> Places<W>
+        ensures { result ≡ record { seed = seed; slots = []; overflow = [] } }
     {
         Places {
+            seed,
             slots: Vec::new(alloc),
             overflow: BTreeMap::new(alloc),
         }
     }
 
     /// Of the rows from the first on, with slots for four times as many.
-    fn of(alloc: Global, rows: &[WordRow<W>], first: usize) -> Result<Places<W>, AllocError>
+    fn of(
+        alloc: Global,
+        seed: u128,
+        rows: &[WordRow<W>],
+        first: usize,
+    ) -> Result<Places<W>, AllocError>
         requires distinct { AreDistinct (keys_of rows.now) }
         requires few { length rows.now < 4294967295 }
         requires inside { first ≤ length rows.now }
@@ -62,6 +73,7 @@ impl<W: Word> Places<W> {
     {
         let len = (rows.len() - first) * 4 + 64;
         let mut places = Places {
+            seed,
             slots: vec![in alloc; (0, NOWHERE); len]?,
             overflow: BTreeMap::new(alloc),
         };
@@ -89,7 +101,7 @@ impl<W: Word> Places<W> {
         if (count + WIDTH) * 2 <= self.slots.len() {
             return Ok(());
         }
-        *self = Places::of(alloc, rows, first)?;
+        *self = Places::of(alloc, self.seed, rows, first)?;
         Ok(())
     }
 
@@ -101,7 +113,7 @@ impl<W: Word> Places<W> {
         if self.slots.len() <= WIDTH {
             return None;
         }
-        let tag = key.tag();
+        let tag = key.tag(self.seed);
         let start = tag as usize % (self.slots.len() - WIDTH);
         for step in 0..WIDTH {
             let (other, place) = self.slots[start + step];
@@ -129,7 +141,7 @@ impl<W: Word> Places<W> {
         ensures others { (other : RouteKey) (at : ℕ) → is_at (key_cmp key.now) other ≡ false
             → IsListed self.old other at → IsListed self.new other at }
     {
-        let tag = key.tag();
+        let tag = key.tag(self.seed);
         let start = tag as usize % (self.slots.len() - WIDTH);
         if let Some(step) = free_slot(&self.slots, start) {
             self.slots[start + step] = (tag, place);
@@ -143,7 +155,7 @@ impl<W: Word> Places<W> {
 
     /// Lists no places.
     pub fn clear(&mut self)
-        ensures { self.new ≡ record { slots = []; overflow = [] } }
+        ensures { self.new ≡ record { seed = self.old.seed; slots = []; overflow = [] } }
     {
         self.slots.clear();
         self.overflow.clear();

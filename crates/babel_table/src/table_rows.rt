@@ -1,8 +1,10 @@
-ghost use Rattle.std.specs.Prelude.{◌≡◌, ◌∷◌, [], MatchOption, length};
+ghost use Rattle.std.specs.Prelude.{◌≡◌, ◌∷◌, ◌++◌, List, [], MatchOption, length};
+ghost use Rattle.babel_tlv.specs.Pair.{Pair};
 ghost use Rattle.babel_tlv.specs.declared.held.Held.{Held};
 
 use crate::compact_row::CompactRow;
 use crate::halves::Halves;
+use crate::word::Word;
 use babel_tlv::{Held, Key};
 
 /// The rows of a table in rising order, each once.
@@ -10,6 +12,28 @@ use babel_tlv::{Held, Key};
 pub struct TableRows<'a> {
     pub(crate) v4: &'a [CompactRow<u32>],
     pub(crate) v6: &'a [CompactRow<Halves>],
+}
+
+/// Both without the rows that both begin with and that are kept in the same octets.
+fn past_alike<'a, W: Word>(
+    rows: &'a [CompactRow<W>],
+    others: &'a [CompactRow<W>],
+) -> (&'a [CompactRow<W>], &'a [CompactRow<W>])
+    ensures { (alike : List Pair) × (rows.now ≡ alike ++ result.0.now)
+        × (others.now ≡ alike ++ result.1.now) }
+{
+    let (mut left, mut right) = (rows, others);
+    while let [row, rest @ ..] = left {
+        let [other, other_rest @ ..] = right else {
+            break;
+        };
+        if row.0 != other.0 || !row.1.is(&other.1) {
+            break;
+        }
+        left = rest;
+        right = other_rest;
+    }
+    (left, right)
 }
 
 impl<'a> TableRows<'a> {
@@ -20,6 +44,18 @@ impl<'a> TableRows<'a> {
         ensures { result ≡ length (rows_left self.now) }
     {
         self.v4.len() + self.v6.len()
+    }
+
+    /// Passes by the rows that both have next and that are kept in the same octets, up to the first
+    /// that is not.
+    pub fn pass_alike(&mut self, other: &mut TableRows<'a>)
+        ensures { (alike : List Pair) × (rows_left self.old ≡ alike ++ rows_left self.new)
+            × (rows_left other.old ≡ alike ++ rows_left other.new) }
+    {
+        (self.v4, other.v4) = past_alike(self.v4, other.v4);
+        if self.v4.is_empty() && other.v4.is_empty() {
+            (self.v6, other.v6) = past_alike(self.v6, other.v6);
+        }
     }
 
     /// The key of the next row, which is passed by with what it holds; `None` where no row is left.

@@ -7,6 +7,7 @@ ghost use Rattle.babel_prefix.specs.Block.{leading_bits};
 ghost use Rattle.babel_prefix.specs.Width.{width_of};
 ghost use Rattle.babel_table.specs.Said.{folded};
 
+use crate::compact_key::mixed;
 use babel_prefix::{Addr, Family};
 
 /// The bits of an address of one family, no wider than they have to be.
@@ -28,9 +29,9 @@ pub trait Word: Ord + Copy {
     fn addr(self) -> Addr
         ensures { result ≡ record { family = family; bits = number self } };
 
-    /// The bits, in 64 of them.
-    fn fold(self) -> u64
-        ensures { result ≡ folded (number self) };
+    /// The bits, mixed with the seed in 64 of them.
+    fn fold(self, seed: u128) -> u64
+        ensures { result ≡ folded seed (number self) };
 
     /// Whether the two agree in their first bits, so many of them.
     fn agrees(self, other: Self, len: u8) -> bool
@@ -61,8 +62,8 @@ impl Word for u32 {
         Addr::new(Family::V4, u128::from(self)).unwrap()
     }
 
-    fn fold(self) -> u64 {
-        u64::from(self)
+    fn fold(self, seed: u128) -> u64 {
+        mixed(seed, 0, u64::from(self))
     }
 
     fn agrees(self, other: u32, len: u8) -> bool {

@@ -9,8 +9,8 @@ use super::devices::ScriptedIn;
 use babel_canon::Body;
 use babel_capture::Place;
 use babel_dump::{
-    AddrPair, ByteOut, CaptureReading, DiffStyle, DumpFile, Format, InputFault, Job, Listed,
-    Reading, RunFault, run_job, status_of,
+    AddrPair, ByteOut, CaptureReading, DiffStyle, DumpFile, Filter, Format, InputFault, Job,
+    Listed, Reading, RunFault, Spelling, run_job, status_of,
 };
 use babel_library_tests::dumps::{NESTED_SOURCES, ONE_FAMILY, TWO_FAMILIES, V4, V6};
 use babel_table::Limits;
@@ -26,6 +26,9 @@ const OTHER: &str = "neither the known answer nor Memory";
 
 const ROWS: &str = "0.0.0.0/0 from 0.0.0.0/0 via 192.0.2.1 id 0200000000000001 seqno 1 metric 512\n\
      0.0.0.0/0 from 10.0.0.0/8 via 192.0.2.1 id 0200000000000001 seqno 1 metric 256\ntlvs 3\n";
+
+const SUMMARY: &str = "ipv4 routes 2 source-specific 1 unreachable 0\n\
+     ipv6 routes 0 source-specific 0 unreachable 0\nrouter-ids 1 next-hops 1\ntlvs 3\n";
 
 const ANSWER: &str = "via 192.0.2.1 id 0200000000000001 seqno 1 metric 256\n";
 
@@ -135,15 +138,26 @@ fn reading(sender: &str) -> Result<Reading, Fail> {
     Ok(Reading::of(Limits::usual(), Mode::Plain, address(sender)?))
 }
 
-#[test]
-fn refused_memory_of_show(rt: HostRuntime) -> Result<(), Fail> {
-    let job = Job::Show {
+/// The job of `show`, over a dump that V4 sent.
+fn show(summary: bool) -> Result<Job, Fail> {
+    Ok(Job::Show {
         reading: reading(V4)?,
-        format: Format::Text,
+        filter: Filter::every(),
+        summary,
+        format: Format::Text(Spelling::Long),
         file: DumpFile::StandardInput,
         quiet: false,
-    };
-    outcome(rt.alloc(), &job, NESTED_SOURCES, "", 0, ROWS)
+    })
+}
+
+#[test]
+fn refused_memory_of_show(rt: HostRuntime) -> Result<(), Fail> {
+    outcome(rt.alloc(), &show(false)?, NESTED_SOURCES, "", 0, ROWS)
+}
+
+#[test]
+fn refused_memory_of_summary(rt: HostRuntime) -> Result<(), Fail> {
+    outcome(rt.alloc(), &show(true)?, NESTED_SOURCES, "", 0, SUMMARY)
 }
 
 #[test]
@@ -152,11 +166,24 @@ fn refused_memory_of_lookup(rt: HostRuntime) -> Result<(), Fail> {
     let job = Job::Lookup {
         reading: reading(V4)?,
         pair: AddrPair { dst, src: dst },
-        format: Format::Text,
+        format: Format::Text(Spelling::Long),
         file: DumpFile::StandardInput,
         quiet: true,
     };
     outcome(rt.alloc(), &job, NESTED_SOURCES, "", 0, ANSWER)
+}
+
+#[test]
+fn refused_memory_of_any_source(rt: HostRuntime) -> Result<(), Fail> {
+    let job = Job::AnySource {
+        reading: reading(V4)?,
+        dst: address("10.1.2.3")?,
+        format: Format::Text(Spelling::Long),
+        file: DumpFile::StandardInput,
+        quiet: true,
+    };
+    let answer = "via 192.0.2.1 id 0200000000000001 seqno 1 metric 512\n";
+    outcome(rt.alloc(), &job, NESTED_SOURCES, "", 0, answer)
 }
 
 #[test]
@@ -189,8 +216,9 @@ fn pairs(sender: &str, count: bool) -> Result<Job, Fail> {
     Ok(Job::Pairs {
         reading: reading(sender)?,
         view: View::all(),
+        filter: Filter::every(),
         count,
-        format: Format::Text,
+        format: Format::Text(Spelling::Long),
         file: DumpFile::StandardInput,
         quiet: true,
     })
@@ -212,7 +240,7 @@ fn refused_memory_of_compare(rt: HostRuntime) -> Result<(), Fail> {
         reading: reading(V6)?,
         other_reading: reading(V6)?,
         view: View::all(),
-        format: Format::Text,
+        format: Format::Text(Spelling::Long),
         file: DumpFile::StandardInput,
         other: DumpFile::StandardInput,
         quiet: true,
@@ -227,7 +255,7 @@ fn differences(count: bool) -> Result<Job, Fail> {
         other_reading: reading(V6)?,
         view: View::all(),
         count,
-        format: Format::Text,
+        format: Format::Text(Spelling::Long),
         file: DumpFile::StandardInput,
         other: DumpFile::StandardInput,
         quiet: true,
@@ -252,8 +280,9 @@ fn refused_memory_of_route_rows(rt: HostRuntime) -> Result<(), Fail> {
     let job = Job::RouteRows {
         reading: reading(V6)?,
         view: View::all(),
+        filter: Filter::every(),
         count: false,
-        format: Format::Text,
+        format: Format::Text(Spelling::Long),
         file: DumpFile::StandardInput,
         quiet: true,
     };
@@ -267,7 +296,7 @@ fn refused_memory_of_route_differences(rt: HostRuntime) -> Result<(), Fail> {
         other_reading: reading(V6)?,
         view: View::all(),
         listed: Listed::All,
-        format: Format::Text,
+        format: Format::Text(Spelling::Long),
         file: DumpFile::StandardInput,
         other: DumpFile::StandardInput,
         quiet: true,
@@ -284,6 +313,7 @@ fn refused_memory_of_diff(rt: HostRuntime) -> Result<(), Fail> {
         style: DiffStyle {
             stat: true,
             coloured: false,
+            spelling: Spelling::Long,
         },
         file: DumpFile::StandardInput,
         other: DumpFile::StandardInput,
@@ -339,7 +369,7 @@ const READING: CaptureReading = CaptureReading {
 fn refused_memory_of_senders(rt: HostRuntime) -> Result<(), Fail> {
     let job = Job::Senders {
         reading: READING,
-        format: Format::Text,
+        format: Format::Text(Spelling::Long),
         file: DumpFile::StandardInput,
         quiet: true,
     };

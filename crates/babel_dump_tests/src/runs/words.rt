@@ -1,6 +1,8 @@
 //! The program's words: jobs, refusals and help.
 use super::{address, one_job, split};
-use babel_dump::{DiffStyle, DumpFile, Format, Job, Listed, Reading, Refusal, read_words};
+use babel_dump::{
+    DiffStyle, DumpFile, Format, Job, Listed, Reading, Refusal, Spelling, read_words,
+};
 use babel_prefix::Addr;
 use babel_table::Limits;
 use babel_tlv::Mode;
@@ -29,6 +31,14 @@ struct Wanted<'a> {
     other: Option<&'a str>,
 }
 
+const TEXT: Format = Format::Text(Spelling::Long);
+
+const JSON: Format = Format::Json(Spelling::Long);
+
+const SHORT_TEXT: Format = Format::Text(Spelling::Short);
+
+const SHORT_JSON: Format = Format::Json(Spelling::Short);
+
 /// What is to be shown of the dump on standard input that `::` sent.
 const SHOW: Wanted<'static> = Wanted {
     command: "show",
@@ -38,7 +48,7 @@ const SHOW: Wanted<'static> = Wanted {
     src: None,
     mode: Mode::Plain,
     strict: false,
-    format: Format::Text,
+    format: TEXT,
     hex: false,
     body: None,
     routes: false,
@@ -81,7 +91,7 @@ const COMPARE: Wanted<'static> = Wanted {
 
 /// Words, and the job that they ask for.
 #[rattlefmt::skip]
-static JOBS: [(&str, Wanted<'static>); 45] = [
+static JOBS: [(&str, Wanted<'static>); 57] = [
     (
         "lookup --from fe80::1 --to 10.1.2.3 --src=0.0.0.0 --hold x",
         Wanted {
@@ -113,14 +123,31 @@ static JOBS: [(&str, Wanted<'static>); 45] = [
     ("normalise --from :: --strict", Wanted { strict: true, ..NORMALISE }),
     ("pairs --from :: --strict", Wanted { strict: true, ..PAIRS }),
     ("compare --from :: --other-from :: --strict a b", Wanted { strict: true, ..COMPARE }),
-    ("show --from :: --json", Wanted { format: Format::Json, ..SHOW }),
-    ("lookup --from :: --to :: --src :: --json", Wanted { format: Format::Json, ..LOOKUP }),
-    ("pairs --from :: --json", Wanted { format: Format::Json, ..PAIRS }),
-    ("compare --from :: --other-from :: --json a b", Wanted { format: Format::Json, ..COMPARE }),
+    ("show --from :: --json", Wanted { format: JSON, ..SHOW }),
+    ("lookup --from :: --to :: --src :: --json", Wanted { format: JSON, ..LOOKUP }),
+    ("pairs --from :: --json", Wanted { format: JSON, ..PAIRS }),
+    ("compare --from :: --other-from :: --json a b", Wanted { format: JSON, ..COMPARE }),
+    ("lookup --from :: --to ::", Wanted { src: None, ..LOOKUP }),
+    ("lookup --to ::1 --json --from :: --strict d", Wanted {
+        to: Some("::1"), src: None, format: JSON, strict: true, file: Some("d"), ..LOOKUP
+    }),
     ("lookup --from :: --each p d", Wanted { file: Some("d"), other: Some("p"), ..LOOKUP }),
     ("lookup --from :: --each - --strict d", Wanted { strict: true, file: Some("d"), ..LOOKUP }),
     ("lookup --from :: --each p --json d",
-     Wanted { format: Format::Json, file: Some("d"), other: Some("p"), ..LOOKUP }),
+     Wanted { format: JSON, file: Some("d"), other: Some("p"), ..LOOKUP }),
+    ("show --from :: --short", Wanted { format: SHORT_TEXT, ..SHOW }),
+    ("show --short --from :: --json", Wanted { format: SHORT_JSON, ..SHOW }),
+    ("lookup --from :: --to :: --src :: --short", Wanted { format: SHORT_TEXT, ..LOOKUP }),
+    ("lookup --from :: --each p --short d",
+     Wanted { format: SHORT_TEXT, file: Some("d"), other: Some("p"), ..LOOKUP }),
+    ("pairs --from :: --short", Wanted { format: SHORT_TEXT, ..PAIRS }),
+    ("pairs --from :: --routes --json --short",
+     Wanted { routes: true, format: SHORT_JSON, ..PAIRS }),
+    ("compare --from :: --short a b", Wanted { format: SHORT_TEXT, ..COMPARE }),
+    ("compare --from :: --short --all a b", Wanted { all: true, format: SHORT_TEXT, ..COMPARE }),
+    ("compare --from :: --short --routes a b",
+     Wanted { routes: true, format: SHORT_TEXT, ..COMPARE }),
+    ("diff --from :: --short a b", Wanted { command: "diff", format: SHORT_TEXT, ..COMPARE }),
     ("normalise --from :: --hex", Wanted { hex: true, ..NORMALISE }),
     ("pairs --from :: --count", Wanted { count: true, ..PAIRS }),
     ("normalise --from :: --body 128", Wanted { body: Some(128), ..NORMALISE }),
@@ -134,7 +161,7 @@ static JOBS: [(&str, Wanted<'static>); 45] = [
     ("compare --count --from :: --other-from :: --all a b",
      Wanted { all: true, count: true, ..COMPARE }),
     ("compare --from ::1 --other-from :: --all --hold --json - b", Wanted {
-        all: true, from: "::1", mode: Mode::Hold, format: Format::Json, file: None, ..COMPARE
+        all: true, from: "::1", mode: Mode::Hold, format: JSON, file: None, ..COMPARE
     }),
     ("compare --from :: a b", COMPARE),
     ("normalise --from :: --routes --hex", Wanted { routes: true, hex: true, ..NORMALISE }),
@@ -204,7 +231,15 @@ fn words_of_styles(rt: HostRuntime) -> Result<(), Fail> {
         match read_words(rt.alloc(), &split(rt.alloc(), line)?, *is_terminal) {
             Ok(jobs) => match jobs.first() {
                 Some(Job::Diff { style, .. }) => {
-                    assert_eq!(rt; *style, DiffStyle { stat, coloured }, "of {line}");
+                    assert_eq!(rt;
+                        *style,
+                        DiffStyle {
+                            stat,
+                            coloured,
+                            spelling: Spelling::Long
+                        },
+                        "of {line}"
+                    );
                 }
                 _ => return Err(Fail::from("another job")),
             },
@@ -233,6 +268,16 @@ fn expect_job(rt: &impl Abort, line: &str, job: &Job, wanted: &Wanted<'_>) -> Re
             expect_address(rt, line, pair.src, wanted.src)?;
             expect_reading(rt, line, "lookup", reading, *format, wanted)
         }
+        Job::AnySource {
+            reading,
+            dst,
+            format,
+            ..
+        } => {
+            expect_address(rt, line, *dst, wanted.to)?;
+            assert_eq!(rt; wanted.src, None, "of {line}");
+            expect_reading(rt, line, "lookup", reading, *format, wanted)
+        }
         Job::Each {
             reading,
             format,
@@ -250,7 +295,7 @@ fn expect_job(rt: &impl Abort, line: &str, job: &Job, wanted: &Wanted<'_>) -> Re
         } => {
             assert_eq!(rt; Some(body.octets()), wanted.body, "of {line}");
             assert_eq!(rt; *hex, wanted.hex, "of {line}");
-            expect_reading(rt, line, "normalise", reading, Format::Text, wanted)
+            expect_reading(rt, line, "normalise", reading, TEXT, wanted)
         }
         Job::Key {
             reading,
@@ -258,7 +303,7 @@ fn expect_job(rt: &impl Abort, line: &str, job: &Job, wanted: &Wanted<'_>) -> Re
             ..
         } => {
             assert_eq!(rt; *routes, wanted.routes, "of {line}");
-            expect_reading(rt, line, "key", reading, Format::Text, wanted)
+            expect_reading(rt, line, "key", reading, TEXT, wanted)
         }
         Job::Pairs {
             reading,
@@ -302,7 +347,7 @@ fn expect_job(rt: &impl Abort, line: &str, job: &Job, wanted: &Wanted<'_>) -> Re
             assert!(rt; wanted.routes, "of {line}");
             assert_eq!(rt; Some(body.octets()), wanted.body, "of {line}");
             assert_eq!(rt; *hex, wanted.hex, "of {line}");
-            expect_reading(rt, line, "normalise", reading, Format::Text, wanted)
+            expect_reading(rt, line, "normalise", reading, TEXT, wanted)
         }
         Job::RouteRows {
             reading,
@@ -331,12 +376,20 @@ fn expect_job(rt: &impl Abort, line: &str, job: &Job, wanted: &Wanted<'_>) -> Re
         Job::Diff {
             reading,
             other_reading,
+            style,
             other,
             ..
         } => {
             expect_file(rt, line, other, wanted.other);
             expect_address(rt, line, other_reading.sender, wanted.other_from)?;
-            expect_reading(rt, line, "diff", reading, Format::Text, wanted)
+            expect_reading(
+                rt,
+                line,
+                "diff",
+                reading,
+                Format::Text(style.spelling),
+                wanted,
+            )
         }
         Job::Senders { .. } | Job::Extract { .. } => Err(Fail::from("a job over a capture")),
     }
@@ -435,9 +488,11 @@ static NO_JOBS: [(&str, &str); 17] = [
       hint: --interface takes the number of an interface, as 1, with its link and VLANs, as 1/3, \
       1:10 or 1/3:10.20\n"),
     ("lookup --from 192.0.2.1 --to 10.0.0.1 --src ::1 x",
-     "--to and --src are of different families\n"),
+     "--to and --src are of different families\n\
+      hint: 0.0.0.0 or :: will do for routes from any source\n"),
     ("lookup --from 192.0.2.1 --to ::1 --src 10.0.0.1 x",
-     "--to and --src are of different families\n"),
+     "--to and --src are of different families\n\
+      hint: 0.0.0.0 or :: will do for routes from any source\n"),
     ("compare --from :: --other-from :: - -", "both dumps are standard input\n"),
     ("key --from :: - a -", "two files are standard input\n"),
     ("lookup --from :: --each - -", "the dump and the pairs cannot both be standard input\n"),
@@ -459,12 +514,13 @@ const USAGE: &str = "Usage: babel-dump";
 const BODY: &str = "'--body <OCTETS>'";
 
 /// Words that are refused, and a part of the text.
-static REFUSED: [(&str, &str); 30] = [
+static REFUSED: [(&str, &str); 31] = [
     ("", USAGE),
+    ("", "\n  show  "),
     ("shows", USAGE),
     ("show x", USAGE),
     ("lookup x", USAGE),
-    ("lookup --from :: --to :: x", USAGE),
+    ("lookup --from :: --src :: x", USAGE),
     ("lookup --from :: --each p --to ::", USAGE),
     ("lookup --from :: --each p --src ::", USAGE),
     ("normalise x", USAGE),
@@ -577,10 +633,9 @@ const OF_ONE_DUMP: [&str; 6] = [
     "--from <ADDRESS>         The source address of the packets",
     "--hold                   Keep a retracted route as unreachable, so",
     "--quiet                  Suppress the notes on standard error",
-    "--max-routes <ROUTES>    How many routes, and how many canonical pairs or differences, there \
-     may be",
+    "--max-routes <ROUTES>    How many routes, and how many canonical pairs or\n",
     "--max-octets <OCTETS>    How many octets a dump may have",
-    "[FILE]  The dump, or the capture that has it; standard input if omitted or -",
+    "[FILE]  The dump, or the capture that has it; standard input if omitted or -\n",
 ];
 
 const OF_JSON: &str = "--json                   Print one JSON object per line";
@@ -599,36 +654,35 @@ const OF_LOOKUP: [&str; 6] = [
     OF_JSON,
     "--strict                 Reject a dump in which any TLV was ignored",
     "--to <ADDRESS>           The destination to look up",
-    "--src <ADDRESS>          The source to look up, of the destination's family",
+    "--src <ADDRESS>          The source to look up, of the destination's\n",
     "babel-dump lookup --from",
     "  1  an answer is none or unreachable",
 ];
 
 const OF_NORMALISE: [&str; 5] = [
     "--strict                 Reject a dump in which any TLV was ignored",
-    "--body <OCTETS>          How long the body of a packet may be, from 128 to 65535 octets \
-     [default: 1024]",
-    "--hex                    Write the octets as lower-case hexadecimal digits on one line",
-    "--routes                 Write the octets of the routes, not of the answers",
+    "--body <OCTETS>          How long the body of a packet may be, from 128 to",
+    "--hex                    Write the octets as lower-case hexadecimal digits\n",
+    "--routes                 Write the octets of the routes, not of the\n",
     "babel-dump normalise --from",
 ];
 
 const OF_PAIRS: [&str; 5] = [
     OF_JSON,
     "--strict                 Reject a dump in which any TLV was ignored",
-    "--count                  Print only how many rows and how many canonical pairs there are",
-    "--routes                 Print the routes, a line for each, in place of the pairs",
+    "--count                  Print only how many rows and how many canonical",
+    "--routes                 Print the routes, a line for each, in place of\n",
     "babel-dump pairs --from",
 ];
 
 const OF_COMPARE: [&str; 12] = [
     "--json                         Print one JSON object per line",
     "--strict                       Reject a dump in which any TLV was ignored",
-    "--from <ADDRESS>               The address that the packets of FILE were sent from",
-    "--other-from <ADDRESS>         The address that the packets of OTHER were sent from",
+    "--from <ADDRESS>               The address that the packets of FILE were\n",
+    "--other-from <ADDRESS>         The address that the packets of OTHER were\n",
     "--hold                         Keep a retracted route as unreachable, so",
-    "--all                          List every largest block of destinations and sources",
-    "--routes                       Compare the routes, not the answers",
+    "--all                          List every largest block of destinations\n",
+    "--routes                       Compare the routes, not the answers\n",
     "--count                        With --all or --routes: print only how many",
     "<FILE>   The first dump, or the capture that has it; - is standard input",
     "<OTHER>  The other dump, or the capture that has it; - is standard input",

@@ -1,20 +1,17 @@
-use Rattle.std.proofs.Common.{List, ap, arith}
-use Rattle.babel_tlv.specs.Pair.{Pair}
-use Rattle.babel_dump.specs.InFormat.{pairs_in}
-use Rattle.babel_dump.proofs.SliceLaws.{broke_on, front_at_err, pushed, took_more}
+use Rattle.babel_dump.proofs.KeptLines.{next_kept}
+use Rattle.babel_dump.proofs.SenderLines.{broke_at_line, took_line}
+use Rattle.babel_dump.proofs.SliceLaws.{front_at_err}
 use Rattle.babel_dump.proofs.slices.write_table.Goals as goal
 
-pub returns-in_err-make_room : goal.returns-in_err-make_room
-returns-in_err-make_room g c =
+pub returns-in_err-write_kept : goal.returns-in_err-write_kept
+returns-in_err-write_kept g c =
     front_at_err _ _ _ c.from_residual.result c.from_residual.ensures.0
-    (broke_on _ _ _ _ c.loop-key.buffer.items _ c.loop-key.invariant.took c.in_err-make_room.ensures.front)
+    (broke_at_line _ _ _ _ c.loop-key.buffer.items _ _ _ c.loop-key.invariant.took (next_kept c.args.format c.args.view c.args.filter.now _ _ _ c.in-Some.ensures.steps)
+    c.in_err-write_kept.ensures.front)
 
 pub loop-key-preserved : goal.loop-key-preserved
-loop-key-preserved g c =
-    let format = c.args.format in
-    let left = c.make_room.new.buffer.items in
-    let took = took_more _ _ _ _ c.loop-key.buffer.items left _ c.loop-key.invariant.took c.in_ok-make_room.ensures.front in
-    let next = ap (λ (rows : List Pair). pairs_in format c.args.view rows) c.in-Some.ensures.steps in record {
-      took = pushed _ _ left _ _ _ _ took c.push_line.ensures.text next;
-      room = omega (arith, c.push_line.ensures.room, c.in_ok-make_room.ensures.room);
-    }
+loop-key-preserved g c = record {
+  took = took_line _ _ _ _ c.loop-key.buffer.items _ _ _ _ c.loop-key.invariant.took (next_kept c.args.format c.args.view c.args.filter.now _ _ _ c.in-Some.ensures.steps)
+      c.in_ok-write_kept.ensures.front;
+  room = c.in_ok-write_kept.ensures.room;
+}

@@ -1,5 +1,6 @@
 -- What is held alike is passed over.
 use Rattle.std.proofs.Common.{ap, arith, length, sym, ◌∙◌}
+use Rattle.babel_canon.proofs.DifferingRows.{alike_passed}
 use Rattle.babel_canon.proofs.JoinedRows.{kept_first, kept_later}
 use Rattle.babel_canon.proofs.differing_routes.RouteDifferencesIterator.next.Goals as goal
 
@@ -13,3 +14,6 @@ returns-then-differ-clause-goes c =
 
 pub loop-key-preserved : goal.loop-key-preserved
 loop-key-preserved c = kept_later _ _ _ c.in-Some.ensures (sym c.differ.ensures ∙ c.if-differ.false) ∙ c.loop-key.invariant
+
+pub loop-key-init : goal.loop-key-init
+loop-key-init c = alike_passed _ _ _ _ c.pass_alike.ensures.0 c.pass_alike.ensures.1 c.pass_alike.ensures.2

@@ -6,4 +6,4 @@ use Rattle.babel_table.proofs.compact_key.CompactKey.tag.Goals as goal
 pub returns : goal.returns
 unfolding tag_of
 returns g c =
-    rw (c.mixed-2.ensures, c.mixed-bits.ensures, c.mixed.ensures, c.fold.ensures, c.fold-2.ensures, c.from.ensures, c.from-2.ensures, ← c.self.view_is) refl
+    rw (c.mixed.ensures, c.fold.ensures, c.fold-2.ensures, c.from.ensures, c.from-2.ensures, ← c.self.view_is) refl

@@ -1,12 +1,14 @@
 -- What is kept of the key stands in its row, or in a new one behind the others.
-use Rattle.std.proofs.Common.{◌≡◌, ◌<◌, ◌∙◌, None, length, ap, subst, arith}
+use Rattle.std.proofs.Common.{◌≡◌, ◌<◌, ◌∙◌, None, false, length, ap, subst, sym, refl, inl, inr, arith}
+use Rattle.std.specs.Option.{is_some}
 use Rattle.std.specs.Map.{keys_of}
 use Rattle.babel_table.specs.Live.{kept}
 use Rattle.babel_table.specs.Said.{IsPlace, AreAbove, AreIndexed}
 use Rattle.babel_table.proofs.SaidLaws.{found, key-read, on_err, said-length, one_more, byte_small, inside_of, counted-set, standing-set}
-use Rattle.babel_table.proofs.SaidLaws.{counted_again, counted-front, counted-behind, standing-pushed, whole-rising}
+use Rattle.babel_table.proofs.LiveLaws.{absent}
+use Rattle.babel_table.proofs.SaidLaws.{stands-here, stands-nowhere, counted_again, counted-front, counted-behind, standing-pushed, whole-rising}
 use Rattle.babel_table.proofs.family_rows.FamilyRows.put.Goals as goal
-use Rattle.babel_table.proofs.family_rows.FamilyRows.put.Goals.{then-self-place+then-is_past+in_ok-push, else-self-place+in_ok-push_placed}
+use Rattle.babel_table.proofs.family_rows.FamilyRows.put.Goals.{in-Some-refusal+else-not-was, in_default-refusal, then-self-place+then-is_past+in_ok-push, else-self-place+in_ok-push_placed}
 
 pub find-requires : goal.find-requires
 find-requires g c = rw c.deref.ensures.value c.self.invariant.indexed
@@ -42,6 +44,43 @@ returns-in-Some-clause-ok g c =
 
 pub returns-in-Some-clause-len : goal.returns-in-Some-clause-len
 returns-in-Some-clause-len g c = said-length c.args.key.now (kept c.args.held c.args.wipes) c.self.inside.rows.items c.args.self.now _ c.self.view_is (returns-in-Some-clause-ok g c)
+
+-- ---- a refusal, where the key has nothing
+
+pub returns-then-not-was-clause-cause : goal.returns-then-not-was-clause-cause
+returns-then-not-was-clause-cause g c =
+    let k = c.of-key.result in
+    let place : IsPlace (keys_of c.self.inside.rows.items) k c.in-Some.place = subst (λ ws. IsPlace (keys_of ws) k c.in-Some.place) c.deref.ensures.value c.in-Some.ensures in
+    let here = stands-here c.self.inside.count c.self.inside.rows.items c.self.inside.rising c.self.inside.places c.self.invariant k c.in-Some.place place c.index.result.now in
+    inr (
+      c.in-Some-refusal.is,
+      rw (← c.self.view_is, ← c.of-key.ensures)
+          (absent k _ false (sym c.if-not-was.true ∙ c.is_some-was.ensures ∙ ap (λ row. is_some row.1) c.index.ensures ∙ sym (ap is_some here)) refl),
+    )
+
+pub returns-in-Some-refusal-2-clause-cause : goal.returns-in-Some-refusal-2-clause-cause
+returns-in-Some-refusal-2-clause-cause g c =
+    let k = c.of-key.result in
+    let none : found k c.self.inside.rows.items ≡ None = subst (λ ws. found k ws ≡ None) c.deref.ensures.value c.in_default.ensures in
+    inr (
+      c.in-Some-refusal-2.is,
+      rw (← c.self.view_is, ← c.of-key.ensures)
+          (stands-nowhere c.self.inside.count c.self.inside.rows.items c.self.inside.rising c.self.inside.places c.self.invariant k none),
+    )
+
+pub returns-in-Some-clause-room : goal.returns-in-Some-clause-room
+returns-in-Some-clause-room g c =
+    let k = c.of-key.result in
+    let place : IsPlace (keys_of c.self.inside.rows.items) k c.in-Some.place = subst (λ ws. IsPlace (keys_of ws) k c.in-Some.place) c.deref.ensures.value c.in-Some.ensures in
+    let here = stands-here c.self.inside.count c.self.inside.rows.items c.self.inside.rising c.self.inside.places c.self.invariant k c.in-Some.place place c.index.result.now in
+    elim c.match-refusal.branch [
+      | in-Some-refusal+else-not-was w ↦
+          inr (rw (← c.self.view_is, ← c.of-key.ensures) (ap is_some here ∙ sym (ap (λ row. is_some row.1) c.index.ensures) ∙ sym c.is_some-was.ensures ∙ w.if-not-was.false))
+      | in_default-refusal w ↦ inl w.in_default-refusal.is
+    ]
+
+pub returns-clause-room : goal.returns-clause-room
+returns-clause-room g c = inl c.in_default-refusal-2.is
 
 -- ---- in a new row
 
@@ -84,7 +123,7 @@ invariant_of-self-2 g c =
           let above : AreAbove k c.self.inside.rows.items = subst (λ ws. AreAbove k ws) w.deref-then-self-place.ensures.value (w.is_past.ensures.0 w.if-is_past.true) in
           rw (w.self-inside-is, w.in_ok-push.ensures.items)
           (counted-front c.self.inside.count c.self.inside.rows.items c.self.inside.rising c.self.inside.places c.self.invariant k none _ w.len-self-inside.result
-          (w.len-self-inside.ensures ∙ w.push.new.self.ok.0 ∙ ap length w.in_ok-push.ensures.items) few (w.if-self-place.true ∙ c.len-place.ensures ∙ c.self.inside.rows.ok.0) above)
+          (w.len-self-inside.ensures ∙ w.push.new.rows.ok.0 ∙ ap length w.in_ok-push.ensures.items) few (w.if-self-place.true ∙ c.len-place.ensures ∙ c.self.inside.rows.ok.0) above)
       | else-self-place+in_ok-push_placed w ↦
           rw (w.self-inside-is, w.in_ok-push_placed.ensures.ok.0)
           (counted-behind c.self.inside.count c.self.inside.rows.items c.self.inside.rising c.self.inside.places c.self.invariant k none _ _ few

@@ -1,0 +1,9 @@
+use Rattle.babel_dump.proofs.TextLemmas.{appended}
+use Rattle.babel_dump.proofs.push_summary.push_summary_json.Goals as goal
+
+pub returns : goal.returns
+returns c =
+    let before = c.args.buffer.now.items in
+    let members = appended before _ _ _ _ c.push_text.ensures.text c.push_summary_members.ensures.text in
+    let more = appended before _ _ _ _ members c.push_more_members.ensures.text in
+    appended before _ _ _ _ (appended before _ _ _ _ more c.push_text-2.ensures.text) c.push_octet.ensures.text

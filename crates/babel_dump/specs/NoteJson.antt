@@ -1,0 +1,76 @@
+-- The objects of notes, which come after all others of the output as JSON (RFC 8259), with the
+-- members in the order that is shown here. These are this project's own.
+use Rattle.std.specs.Prelude.{ℕ, List, [], ◌++◌, codes}
+use Rattle.std.specs.List.{filter_map, join_by}
+use Rattle.std.specs.Option.{option_map}
+use Rattle.std.specs.Fmt.{decimal}
+use Rattle.babel_prefix.specs.Address.{Address}
+use Rattle.babel_capture.specs.Counts.{Counts as CaptureCounts}
+use Rattle.babel_capture.specs.Counts.{all_reasons as all_left_out, count_at as left_out_at}
+use Rattle.babel_capture.specs.Counts.{reason_place as left_out_place}
+use Rattle.babel_table.specs.Counts.{Counts}
+use Rattle.babel_dump.specs.JsonText.{counted_object, quoted, report_members}
+use Rattle.babel_dump.specs.LeftOut.{left_out_name}
+use Rattle.babel_dump.specs.RunText.{newline}
+use Rattle.babel_dump.specs.Spelling.{address_text}
+use Rattle.babel_dump.specs.declared.note.Note.{Note}
+use Rattle.babel_dump.specs.declared.note.Note.TheVariants as notes
+use Rattle.babel_dump.specs.declared.note.SideNote.{SideNote}
+use Rattle.babel_dump.specs.declared.run_fault.Side.{Side}
+use Rattle.babel_dump.specs.declared.run_fault.Side.TheVariants as sides
+use Rattle.babel_dump.specs.declared.spelling.Spelling.{Spelling}
+
+abbrev pub note_name : Note → List ℕ
+note_name (notes.Ignored note) = codes "ignored"
+note_name (notes.LeftOut note) = codes "left-out"
+note_name notes.Cooked = codes "cooked-1"
+note_name (notes.CaptureCut at) = codes "capture-cut"
+note_name (notes.TooShort frames) = codes "too-short"
+note_name notes.NoUpdates = codes "no-updates"
+note_name (notes.RoutesDiffer routes) = codes "routes-differ"
+note_name (notes.Source spelling source) = codes "source"
+
+-- `,"NAME":N`
+abbrev pub number_member : (name : List ℕ) → ℕ → List ℕ
+number_member name number = codes ",\"" ++ name ++ codes "\":" ++ decimal number
+
+-- `,"tlvs":N,"ignored":[..]`
+abbrev pub ignored_members : Counts → List ℕ
+ignored_members counts = codes "," ++ report_members counts
+
+-- `,"reasons":[..]`, with an object for each reason that occurred, and commas between: the first is
+-- the number of a packet
+abbrev pub left_out_members : CaptureCounts → List ℕ
+left_out_members counts =
+    codes ",\"reasons\":["
+    ++ join_by (λ value. value) (codes ",")
+    (filter_map (λ reason. option_map (counted_object (left_out_name reason))
+    (left_out_at counts.left_out (left_out_place reason))) all_left_out)
+    ++ codes "]"
+
+-- `,"source":"ADDRESS"`
+abbrev pub source_member : Spelling → Address → List ℕ
+source_member spelling source =
+    codes ",\"source\":" ++ quoted (address_text spelling source)
+
+-- what a note says beside its name
+abbrev pub note_members : Note → List ℕ
+note_members (notes.Ignored note) = ignored_members note.report
+note_members (notes.LeftOut note) = left_out_members note.report
+note_members (notes.CaptureCut at) = number_member (codes "at") at
+note_members (notes.TooShort frames) = number_member (codes "frames") frames
+note_members (notes.RoutesDiffer routes) = number_member (codes "routes") routes
+note_members (notes.Source spelling source) = source_member spelling source
+note_members notes.Cooked = []
+note_members notes.NoUpdates = []
+
+-- `,"other":true` where a note is about the other dump
+abbrev pub side_member : Side → List ℕ
+side_member sides.First = []
+side_member sides.Other = codes ",\"other\":true"
+
+-- `{"note":"NAME",..}`
+abbrev pub note_json : SideNote → List ℕ
+note_json told =
+    codes "{\"note\":\"" ++ note_name told.note ++ codes "\"" ++ note_members told.note
+    ++ side_member told.side ++ codes "}" ++ newline

@@ -1,0 +1,41 @@
+use crate::reason_text::{Counted, REASONS};
+use babel_table::Report;
+use std::fmt;
+
+/// How many TLVs of a dump were ignored, and why: what a note after the output says.
+#[derive(Clone, Copy)]
+pub struct IgnoredNote {
+    pub report: Report,
+    ignored: u64,
+}
+
+impl IgnoredNote {
+    /// The note about a dump with this report; `None` if no TLV was ignored.
+    pub fn of(report: Report) -> Option<IgnoredNote> {
+        let mut ignored: u64 = 0;
+        for reason in &REASONS {
+            if let Some((count, _first)) = report.ignored(*reason) {
+                ignored = ignored.saturating_add(count);
+            }
+        }
+        if ignored == 0 {
+            None
+        } else {
+            Some(IgnoredNote { report, ignored })
+        }
+    }
+}
+
+impl fmt::Display for IgnoredNote {
+    fn fmt<W: fmt::Write>(&self, f: &mut fmt::Formatter<W>) -> fmt::Result {
+        write!(f, "{} of {} TLVs ignored", self.ignored, self.report.tlvs())?;
+        let mut mark = ": ";
+        for reason in &REASONS {
+            if let Some((count, first)) = self.report.ignored(*reason) {
+                write!(f, "{mark}{}", Counted(*reason, count, first))?;
+                mark = ", ";
+            }
+        }
+        Ok(())
+    }
+}

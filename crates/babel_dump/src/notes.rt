@@ -1,0 +1,171 @@
+//! The notes of a run: one list, for standard error and, as JSON, for the output.
+ghost use Rattle.std.specs.Prelude.{◌-◌, ◌^◌, ◌<◌, ◌≤◌, vec_capacity};
+ghost use Rattle.std.specs.List.{flat_map};
+ghost use Rattle.babel_dump.specs.NoteJson.{note_json};
+ghost use Rattle.babel_dump.specs.Run.{output};
+ghost use Rattle.babel_dump.specs.Slices.{WroteText};
+
+use crate::byte_out::ByteOut;
+use crate::captured::CaptureNotes;
+use crate::ignored_note::IgnoredNote;
+use crate::job::Job;
+use crate::left_out::LeftOutNote;
+use crate::note::{Note, SideNote};
+use crate::outcome::{Outcome, Reports};
+use crate::push_note::push_note_json;
+use crate::run_fault::{RunFault, Side};
+use crate::write::{WriteFailed, write_all, write_text};
+use babel_table::Report;
+use std::alloc::{AllocError, Global};
+
+/// No job has more notes: five about each dump of a comparison, and one about both.
+const MOST: usize = 11;
+
+/// The JSON object of a note has no more octets, and the end of its line.
+const LONGEST: usize = 1_600;
+
+/// The notes of a run, in the order in which they are told. Their room is taken before the run, so
+/// that no memory can be wanting after its output.
+#[derive(Drop)]
+pub struct Notes {
+    list: Vec<SideNote>,
+    line: Vec<u8>,
+    ghost room: { 1600 ≤ vec_capacity line },
+}
+
+impl Notes {
+    /// No note, and room for as many as a run can have.
+    pub fn new(alloc: Global) -> Result<Notes, AllocError> {
+        let list = Vec::with_capacity(alloc, MOST)?;
+        let line = Vec::with_capacity(alloc, LONGEST)?;
+        Ok(Notes { list, line })
+    }
+
+    /// Those that are told, in their order.
+    pub fn list(&self) -> &[SideNote] {
+        &self.list
+    }
+
+    /// Adds what there is to know after a job's run, by its outcome and the captures that it read a
+    /// dump of: nothing if the job is quiet.
+    pub fn gather(
+        &mut self,
+        job: &Job,
+        outcome: &Outcome,
+        capture: Option<CaptureNotes>,
+        other_capture: Option<CaptureNotes>,
+    ) -> Result<(), AllocError> {
+        if job.is_quiet() {
+            return Ok(());
+        }
+        match outcome.reports {
+            Reports::Dump(report) => self.add_dump(job, Side::First, report, capture),
+            Reports::AnySource(report, source) => {
+                self.add_dump(job, Side::First, report, capture)?;
+                match source {
+                    Some(source) => {
+                        let spelling = job.format().spelling();
+                        self.add(Side::First, Note::Source(spelling, source))
+                    }
+                    None => Ok(()),
+                }
+            }
+            Reports::Dumps(report, other) => {
+                self.add_dump(job, Side::First, report, capture)?;
+                self.add_dump(job, Side::Other, other, other_capture)
+            }
+            Reports::Alike(report, other, routes) => {
+                self.add_dump(job, Side::First, report, capture)?;
+                self.add_dump(job, Side::Other, other, other_capture)?;
+                match routes {
+                    0 => Ok(()),
+                    _ => self.add(Side::First, Note::RoutesDiffer(routes as u64)),
+                }
+            }
+            Reports::Capture { report, cut } => {
+                self.add_capture(Side::First, CaptureNotes { report, cut })?;
+                match (job, report.short()) {
+                    (Job::Senders { .. }, 1..) => {
+                        self.add(Side::First, Note::TooShort(report.short()))
+                    }
+                    _ => Ok(()),
+                }
+            }
+        }
+    }
+
+    fn add(&mut self, side: Side, note: Note) -> Result<(), AllocError> {
+        self.list.push(SideNote { side, note })?;
+        Ok(())
+    }
+
+    /// Adds what was ignored of the dump on this side, what was left out of the capture that has
+    /// it, and that it has no Update.
+    fn add_dump(
+        &mut self,
+        job: &Job,
+        side: Side,
+        report: Report,
+        capture: Option<CaptureNotes>,
+    ) -> Result<(), AllocError> {
+        if !job.reports_ignored() {
+            if let Some(note) = IgnoredNote::of(report) {
+                self.add(side, Note::Ignored(note))?;
+            }
+        }
+        if let Some(capture) = capture {
+            self.add_capture(side, capture)?;
+        }
+        match report.updates() {
+            0 => self.add(side, Note::NoUpdates),
+            _ => Ok(()),
+        }
+    }
+
+    /// Adds what was left out of a capture, that frames named no interface, and where it is cut
+    /// short.
+    fn add_capture(&mut self, side: Side, capture: CaptureNotes) -> Result<(), AllocError> {
+        if let Some(note) = LeftOutNote::of(capture.report) {
+            self.add(side, Note::LeftOut(note))?;
+        }
+        if capture.report.cooked() > 0 {
+            self.add(side, Note::Cooked)?;
+        }
+        match capture.cut {
+            Some(at) => self.add(side, Note::CaptureCut(at)),
+            None => Ok(()),
+        }
+    }
+
+    /// Writes a JSON object for each note, and flushes.
+    pub fn write_json<W: ByteOut>(&mut self, writer: &mut W) -> Result<(), RunFault>
+        requires few_failures { (W.state writer.old).failures < 2 ^ 64 - 1 }
+        requires few_flushes { (W.state writer.old).flushes < 2 ^ 64 - 1 }
+        ensures { WroteText (output (W.state writer.old) (W.state writer.new))
+            (flat_map note_json self.old.list.items) result }
+    {
+        write_notes(writer, &self.list, &mut self.line)?;
+        Ok(())
+    }
+}
+
+/// Writes a JSON object for each of these notes, each by way of the line, and flushes.
+fn write_notes<W: ByteOut>(
+    writer: &mut W,
+    notes: &[SideNote],
+    line: &mut Vec<u8>,
+) -> Result<(), WriteFailed>
+    requires few_failures { (W.state writer.old).failures < 2 ^ 64 - 1 }
+    requires few_flushes { (W.state writer.old).flushes < 2 ^ 64 - 1 }
+    requires room { 1600 ≤ vec_capacity line.old }
+    ensures text { WroteText (output (W.state writer.old) (W.state writer.new))
+        (flat_map note_json notes.now) result }
+    ensures room { 1600 ≤ vec_capacity line.new }
+{
+    for note in notes {
+        line.clear();
+        push_note_json(line, *note);
+        write_all(writer, line)?;
+    }
+    write_text(writer, &[])
+}

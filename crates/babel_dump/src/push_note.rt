@@ -1,0 +1,140 @@
+//! Notes as JSON (RFC 8259), appended to a buffer that has room for them.
+ghost use Rattle.std.specs.Prelude.{◌≡◌, ◌+◌, ◌≤◌, ◌++◌, ◌*◌, length};
+ghost use Rattle.babel_dump.specs.NoteJson.{ignored_members, left_out_members, note_json};
+ghost use Rattle.babel_dump.specs.NoteJson.{note_members, note_name, number_member, side_member};
+ghost use Rattle.babel_dump.specs.NoteJson.{source_member};
+ghost use Rattle.babel_dump.specs.Slices.{HasRoom, TookRoom};
+ghost use Rattle.babel_dump.specs.TextParts.{comma_separated, left_out_objects};
+
+use crate::left_out::{REASONS, name as left_out_name};
+use crate::note::{Note, SideNote};
+use crate::push::{push_decimal, push_octet, push_text};
+use crate::push_addr::push_addr;
+use crate::push_report::{push_counted_object, push_report_members};
+use crate::run_fault::Side;
+use crate::spelling::Spelling;
+use babel_capture::{Reason, Report as CaptureReport};
+use babel_prefix::Addr;
+use babel_table::Report;
+
+/// Appends a note: an object.
+pub(crate) fn push_note_json(buffer: &mut Vec<u8>, told: SideNote)
+    requires { HasRoom buffer.old 1600 }
+    ensures text { buffer.new.items ≡ buffer.old.items ++ note_json told }
+    ensures room { TookRoom buffer.old buffer.new 1600 }
+{
+    push_text(buffer, r#"{"note":""#);
+    push_text(buffer, name(&told.note));
+    push_text(buffer, "\"");
+    push_members(buffer, &told.note);
+    push_text(buffer, side_member(told.side));
+    push_text(buffer, "}");
+    push_octet(buffer, b'\n');
+}
+
+/// The name of a note.
+fn name(note: &Note) -> &'static str
+    ensures text { result.now ≡ note_name note.now }
+    ensures short { length result.now ≤ 13 }
+{
+    match note {
+        Note::Ignored(_) => "ignored",
+        Note::LeftOut(_) => "left-out",
+        Note::Cooked => "cooked-1",
+        Note::CaptureCut(_) => "capture-cut",
+        Note::TooShort(_) => "too-short",
+        Note::NoUpdates => "no-updates",
+        Note::RoutesDiffer(_) => "routes-differ",
+        Note::Source(_, _) => "source",
+    }
+}
+
+/// The member of a note that is about the other dump.
+fn side_member(side: Side) -> &'static str
+    ensures text { result.now ≡ side_member side }
+    ensures short { length result.now ≤ 13 }
+{
+    match side {
+        Side::First => "",
+        Side::Other => r#","other":true"#,
+    }
+}
+
+/// Appends what a note says beside its name: the members of an object, each after a comma.
+fn push_members(buffer: &mut Vec<u8>, note: &Note)
+    requires { HasRoom buffer.old 1500 }
+    ensures text { buffer.new.items ≡ buffer.old.items ++ note_members note.now }
+    ensures room { TookRoom buffer.old buffer.new 1500 }
+{
+    match note {
+        Note::Ignored(note) => push_ignored(buffer, &note.report),
+        Note::LeftOut(note) => push_left_out(buffer, &note.report),
+        Note::CaptureCut(at) => push_member(buffer, "at", *at),
+        Note::TooShort(frames) => push_member(buffer, "frames", *frames),
+        Note::RoutesDiffer(routes) => push_member(buffer, "routes", *routes),
+        Note::Source(spelling, source) => push_source(buffer, *spelling, *source),
+        Note::Cooked | Note::NoUpdates => {}
+    }
+}
+
+/// Appends how many TLVs there are, and why TLVs were ignored: two members of an object.
+fn push_ignored(buffer: &mut Vec<u8>, report: &Report)
+    requires { HasRoom buffer.old 1500 }
+    ensures text { buffer.new.items ≡ buffer.old.items ++ ignored_members report.now }
+    ensures room { TookRoom buffer.old buffer.new 1500 }
+{
+    push_text(buffer, ",");
+    push_report_members(buffer, report);
+}
+
+/// Appends why datagrams were left out: a member of an object.
+fn push_left_out(buffer: &mut Vec<u8>, report: &CaptureReport)
+    requires { HasRoom buffer.old 1500 }
+    ensures text { buffer.new.items ≡ buffer.old.items ++ left_out_members report.now }
+    ensures room { TookRoom buffer.old buffer.new 1500 }
+{
+    push_text(buffer, r#","reasons":["#);
+    push_left_out_json(buffer, report, &REASONS);
+    push_text(buffer, "]");
+}
+
+/// Appends an object for each of these reasons for which a datagram was left out, with a comma
+/// between each two.
+fn push_left_out_json(buffer: &mut Vec<u8>, report: &CaptureReport, reasons: &[Reason])
+    requires { HasRoom buffer.old (90 * length reasons.now) }
+    ensures text { buffer.new.items
+        ≡ buffer.old.items ++ comma_separated (left_out_objects report.now reasons.now) }
+    ensures room { TookRoom buffer.old buffer.new (90 * length reasons.now) }
+{
+    let mut comma = "";
+    for reason in reasons {
+        if let Some((count, first)) = report.left_out(*reason) {
+            push_text(buffer, comma);
+            push_counted_object(buffer, left_out_name(*reason), count, first);
+            comma = ",";
+        }
+    }
+}
+
+/// Appends the source that an answer is for: a member of an object.
+fn push_source(buffer: &mut Vec<u8>, spelling: Spelling, source: Addr)
+    requires { HasRoom buffer.old 51 }
+    ensures text { buffer.new.items ≡ buffer.old.items ++ source_member spelling source }
+    ensures room { TookRoom buffer.old buffer.new 51 }
+{
+    push_text(buffer, r#","source":""#);
+    push_addr(buffer, spelling, source);
+    push_text(buffer, "\"");
+}
+
+/// Appends a number of this name: a member of an object.
+fn push_member(buffer: &mut Vec<u8>, name: &str, number: u64)
+    requires { HasRoom buffer.old (length name.now + 24) }
+    ensures text { buffer.new.items ≡ buffer.old.items ++ number_member name.now number }
+    ensures room { TookRoom buffer.old buffer.new (length name.now + 24) }
+{
+    push_text(buffer, ",\"");
+    push_text(buffer, name);
+    push_text(buffer, "\":");
+    push_decimal(buffer, number);
+}
