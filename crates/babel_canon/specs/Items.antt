@@ -10,12 +10,12 @@ use Rattle.babel_tlv.specs.SubTlv.{is_source, is_bad_source}
 abbrev pub are_all_of : List ℕ → List TlvAt → Bool
 are_all_of octets items = length (flat_map tlv_octets items) == length octets
 
--- RFC 8966, 4.4: whether a sub-TLV may be passed over: its type is not mandatory, so below 128
+-- RFC 8966, 4.4: whether a sub-TLV may be skipped: its type is not mandatory, so below 128
 abbrev pub is_optional : TlvAt → Bool
 is_optional item = nat_lt item.kind 128
 
 -- RFC 8966, 4.4; RFC 9079, 7.1: whether an Update of a family may have these sub-TLVs: each may be
--- passed over or is a Source Prefix that is not faulty, and at most one is a Source Prefix
+-- skipped or is a Source Prefix that is not faulty, and at most one is a Source Prefix
 abbrev pub fit_update : Family → List TlvAt → Bool
 fit_update family items =
     list_all (λ item. is_optional item

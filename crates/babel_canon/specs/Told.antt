@@ -28,7 +28,7 @@ formed_in context tlv =
     option_or (update_prefix V4 context.default_v4 tlv) (update_prefix V6 context.default_v6 tlv)
 
 -- RFC 8966, 4.6.9; RFC 9079, 5.2: an Update of encoding 0 (a wildcard) retracts all routes, if its
--- metric is 65535, it has no prefix, and all of its sub-TLVs may be passed over
+-- metric is 65535, it has no prefix, and all of its sub-TLVs may be skipped
 abbrev pub wildcard_tells : List ℕ → Event
 wildcard_tells body =
     let octets = drop 10 body in

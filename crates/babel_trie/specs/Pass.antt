@@ -52,12 +52,12 @@ module _ {V : Type 0} where
       ((d : ℕ) → now.start ≤ d → d < next.start → IsReachedAt w d rows nodes now.sources)
       × (next.sources.made ≤ now.sources.made) × AreLaid w rows nodes next ahead
 
-  -- the destination of each row starts there or behind
+  -- the destination of each row starts there or later
   abbrev pub StartRowsFrom : ℕ → List (Entry V) → Type 0
   StartRowsFrom at left = (row : Entry V) → Listed left row → at ≤ (block_of row.0).start
 
   -- a change come to and those ahead of it are the answers of the rows that are gone: the rows that
-  -- are left start there or behind, and none of their blocks has the start of a change ahead inside
+  -- are left start there or later, and none of their blocks has the start of a change ahead inside
   pub record IsUnderWay (w : ℕ) (rows : List (Entry V)) (nodes : List (Node (Option V)))
       (now : Change (Reached V)) (ahead : List (Change (Reached V)))
       (left : List (Entry V)) : Type 0 where

@@ -26,11 +26,11 @@ module _ {F : Type 0} where
   abbrev pub StartBelow : ℕ → List (Change F) → Type 0
   StartBelow at list = (x : Change F) → Listed list x → x.start < at
 
-  -- each starts behind the address
+  -- each starts after the address
   abbrev pub StartBehind : ℕ → List (Change F) → Type 0
   StartBehind at list = (x : Change F) → Listed list x → at < x.start
 
-  -- each starts there or behind
+  -- each starts there or later
   abbrev pub StartFrom : ℕ → List (Change F) → Type 0
   StartFrom at list = (x : Change F) → Listed list x → at ≤ x.start
 

@@ -12,7 +12,7 @@ use crate::runs::Change;
 use crate::table::{Sources, Table};
 use babel_prefix::{Addr, Family};
 
-/// The changes behind an address, and what is said there.
+/// The changes after an address, and what is said there.
 pub fn behind<V: Copy>(
     list: &[Change<Sources<V>>],
     at: u128,

@@ -150,7 +150,7 @@ impl<V: LawfulOrd> Comparison<V> {
     }
 
     /// The changes of what two lists of rows in order answer differently, or `None` as soon as
-    /// these are known to have more boxes than so many. Both are passed over side by side.
+    /// these are known to have more boxes than so many. Both are walked side by side.
     pub fn runs<L: Rows<V>, R: Rows<V>>(
         &mut self,
         alloc: Global,

@@ -17,7 +17,7 @@ fn are_one<V: LawfulOrd>(row: &Row<V>, other: &Row<V>) -> bool
 }
 
 /// Where the destination starts of the first row, by its start, that does not stand in both lists
-/// behind the same rows; `None` if the lists are one.
+/// after the same rows; `None` if the lists are one.
 pub fn first_unshared<V: LawfulOrd, L: Rows<V>, R: Rows<V>>(left: L, right: R) -> Option<u128>
     requires left_order { InOrder RowOrder (L.rows left) }
     requires right_order { InOrder RowOrder (R.rows right) }
@@ -39,7 +39,7 @@ pub fn first_unshared<V: LawfulOrd, L: Rows<V>, R: Rows<V>>(left: L, right: R) -
     nearer_start(first_start(rest.split()), first_start(other_rest.split()))
 }
 
-/// Whether the destination of a row, among addresses of this width, reaches this one or one behind.
+/// Whether the destination of a row, among addresses of this width, reaches this one or a later one.
 fn reaches<V>(row: &Row<V>, width: u8, at: u128) -> bool
     ensures { result ≡ reaches width at row.now }
 {
@@ -47,7 +47,7 @@ fn reaches<V>(row: &Row<V>, width: u8, at: u128) -> bool
     bits >= 128 || at >> bits <= row.0.addr().bits() >> bits
 }
 
-/// The rows whose destinations, among addresses of this width, reach this one or one behind.
+/// The rows whose destinations, among addresses of this width, reach this one or a later one.
 #[derive(Clone, Copy)]
 pub struct Reaching<R> {
     pub rows: R,

@@ -66,7 +66,7 @@ pub fn reach_both<V: LawfulOrd, L: Rows<V>, R: Rows<V>>(
 }
 
 /// The first destination that two lists of rows in order answer differently, and for it the first
-/// source. Both are passed over side by side, up to there.
+/// source. Both are walked side by side, up to there.
 fn first_pair_passed<V: LawfulOrd, L: Rows<V>, R: Rows<V>>(
     alloc: Global,
     width: u8,
@@ -98,7 +98,7 @@ fn first_pair_passed<V: LawfulOrd, L: Rows<V>, R: Rows<V>>(
     }
 }
 
-/// The same, where what both lists begin with is passed over but for the rows that reach behind it.
+/// The same, where what both lists begin with is skipped but for the rows that reach past it.
 fn first_pair<V: LawfulOrd, L: Rows<V>, R: Rows<V>>(
     alloc: Global,
     width: u8,
@@ -131,7 +131,7 @@ fn first_pair<V: LawfulOrd, L: Rows<V>, R: Rows<V>>(
 
 /// The least pair of a destination and a source, by destination, then source, that two lists of
 /// rows answer differently; `None` if there is none. All prefixes are of the family, and no two
-/// rows of a list have the same two. `Err` for want of memory.
+/// rows of a list have the same two. `Err` where memory runs out.
 ///
 /// The tries of sources of both lists stand in one table of nodes, in which equal tries have one
 /// number: the lists are gone through side by side up to the first destination for which they have

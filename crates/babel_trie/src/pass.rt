@@ -49,7 +49,7 @@ fn ends_with<F: LawfulOrd>(list: &[Change<F>], sources: F) -> bool
     are_same(last.sources, sources)
 }
 
-/// Says what is answered from an address on, behind all that was said.
+/// Says what is answered from an address on, after all that was said.
 pub fn say<F: LawfulOrd>(out: &mut Vec<Change<F>>, change: Change<F>) -> Result<(), AllocError>
     requires runs { AreRuns out.old.items }
     requires below { StartBelow change.start out.old.items }
@@ -64,7 +64,7 @@ pub fn say<F: LawfulOrd>(out: &mut Vec<Change<F>>, change: Change<F>) -> Result<
     Ok(())
 }
 
-/// Copies the rows of the destination of the first row, and answers the rows behind them, split.
+/// Copies the rows of the destination of the first row, and answers the rows after them, split.
 /// Each row is asked for once.
 fn first_destination<V: Copy, R: Rows<V>>(
     first: Row<V>,
@@ -91,14 +91,14 @@ fn first_destination<V: Copy, R: Rows<V>>(
 }
 
 /// What a pass comes to: a trie of sources, and how many nodes at the front of the table are enough
-/// for it and for each that comes again behind a block which is open there.
+/// for it and for each that comes again after a block which is open there.
 #[derive(Clone, Copy)]
 pub struct Reached<V> {
     trie: Sources<Option<V>>,
     made: usize,
 }
 
-/// A pass over rows in order: the change come to, the changes back behind the blocks that are open,
+/// A pass over rows in order: the change come to, the changes back after the blocks that are open,
 /// of which the last comes next, and the rows of which no block was come to.
 #[derive(Drop)]
 pub struct Pass<V, R> {
@@ -225,7 +225,7 @@ impl<V: LawfulOrd, R: Rows<V>> Pass<V, R> {
         }
     }
 
-    /// Comes to the destination of the first of the rows that are left; behind its block, if that
+    /// Comes to the destination of the first of the rows that are left; after its block, if that
     /// does not end with the last address, come the sources of now again.
     fn enter(
         &mut self,
