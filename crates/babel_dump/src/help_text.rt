@@ -4,8 +4,8 @@ use std::alloc::{AllocError, Global};
 /// No line of a help text is longer, where it has a blank to break at.
 const COLUMNS: usize = 80;
 
-/// How tips of `clap` begin that are of no use here: no file is called as an option, and `--strict`,
-/// which `show` has not, is no `--short`.
+/// How tips of `clap` begin that are of no use here: no file is called as an option, and
+/// `--strict`, which `show` has not, is no `--short`.
 const MISLEADING: [&str; 2] = [
     "  tip: to pass '",
     "  tip: a similar argument exists: '--short'",

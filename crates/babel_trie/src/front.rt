@@ -39,7 +39,8 @@ pub fn first_unshared<V: LawfulOrd, L: Rows<V>, R: Rows<V>>(left: L, right: R) -
     nearer_start(first_start(rest.split()), first_start(other_rest.split()))
 }
 
-/// Whether the destination of a row, among addresses of this width, reaches this one or a later one.
+/// Whether the destination of a row, among addresses of this width, reaches this one or a later
+/// one.
 fn reaches<V>(row: &Row<V>, width: u8, at: u128) -> bool
     ensures { result ≡ reaches width at row.now }
 {
