@@ -13,9 +13,9 @@ use Rattle.babel_table.specs.TableRows.{AreRows}
 abbrev pub answers_of : Family → List Pair → Answers Held
 answers_of family rows = answers_in family (entries_of rows)
 
--- The boxes of the answers of rows: of each family the longest destination blocks on which all
--- answers are the same, and for each the longest source blocks on which the answer is one, with
--- that answer; IPv4 first, then by destination, then by source.
+-- The boxes of the answers of rows: of each family the largest destination blocks on which all
+-- answers are the same, and for each the largest source blocks that have one answer, with that
+-- answer; IPv4 first, then by destination, then by source.
 pub record AreBoxes (rows boxes : List Pair) : Type 0 where
   pub are_rows : AreRows boxes
   pub exact : (family : Family)

@@ -35,7 +35,7 @@ pub record Normalises (see : List Pair → List Pair) (limits : Bounds) (mode : 
   pub few : length boxes ≤ limits.entries
   pub text : IsCanonicalText body boxes octets
 
--- the dump's own fault; or too many pairs of what is seen of it, where it has none; or want of
+-- the dump's own fault; or too many pairs of what is seen of it, where it has none; or out of
 -- memory
 abbrev pub NormaliseFault : (see : List Pair → List Pair) → Bounds → Mode → Sent → Fault → Type 0
 NormaliseFault see limits mode one fault =

@@ -18,7 +18,7 @@ lines_of text = slice_split (λ octet. octet == 10) text
 abbrev pub words_of : List ℕ → List (List ℕ)
 words_of line = filter (λ word. nat_lt 0 (length word)) (slice_split is_ascii_whitespace line)
 
--- a line is passed over that has no words, or whose first begins with `#`
+-- a line is skipped that has no words, or whose first begins with `#`
 abbrev pub is_passed_over : List (List ℕ) → Bool
 is_passed_over [] = true
 is_passed_over (word ∷ rest) = slice_index word 0 == 35
@@ -39,15 +39,15 @@ AsksBy words (asks.Pair pair) = (is_passed_over words ≡ false) × SaysPair wor
 AsksBy words asks.Wrong =
     (is_passed_over words ≡ false) × ((pair : AddrPair) → SaysPair words pair → ⊥)
 
--- the words of each line that is not passed over
+-- the words of each line that is not skipped
 abbrev pub asking : List (List ℕ) → List (List (List ℕ))
 asking lines = filter (λ words. not (is_passed_over words)) (map words_of lines)
 
--- lines ask for these pairs: each that is not passed over says one, in this order
+-- lines ask for these pairs: each that is not skipped says one, in this order
 abbrev pub AskFor : List (List ℕ) → List AddrPair → Type 0
 AskFor lines pairs = AllZip SaysPair (asking lines) pairs
 
--- of the lines that are not passed over this is the first that says no pair, counted from 1
+-- of the lines that are not skipped this is the first that says no pair, counted from 1
 pub record IsFirstWrong (lines : List (List ℕ)) (at : ℕ) : Type 0 where
   pub before : List (List ℕ)
   pub line : List ℕ

@@ -39,15 +39,15 @@ pub record GaveWrong (reader : Input) (line : ℕ) : Type 0 where
   pub gave : GaveText reader text
   pub wrong : IsFirstWrong (lines_of text) line
 
--- why there is no text, by what the reader gave; out of memory has no cause that a contract can
--- see
+-- why the text was not read, by what the reader gave; out of memory has no cause that a contract
+-- can see
 abbrev pub RefusesText : Input → RunFault → Type 0
 RefusesText reader (run_faults.Pairs pairs_faults.TooLong) = GaveTooMany reader
 RefusesText reader (run_faults.Pairs pairs_faults.Read) = reader.old.failures < reader.new.failures
 RefusesText reader (run_faults.Pairs fault) = ⊥
 RefusesText reader fault = IsOfMemory fault
 
--- why there are no pairs: a line of the text is wrong, or there is no text
+-- why there are no pairs: a line of the text is wrong, or the text was not read
 abbrev pub RefusesPairs : Input → RunFault → Type 0
 RefusesPairs reader (run_faults.Pairs (pairs_faults.NotAPair line)) = GaveWrong reader line
 RefusesPairs reader fault = RefusesText reader fault

@@ -77,7 +77,7 @@ pub enum Hint {
     /// The sender is on several interfaces. This option names one.
     #[error("hint: choose one with {0}")]
     Interface(&'static str),
-    /// A line of `--each` is no pair of addresses.
+    /// A line of `--each` is not a pair of addresses.
     #[error("hint: a line has a destination and a source of one family, with blanks between them")]
     NotAPair,
     /// The fault of a dump in a capture tells where a TLV is in the dump.

@@ -25,7 +25,7 @@ const MOST: usize = 11;
 const LONGEST: usize = 1_600;
 
 /// The notes of a run, in the order in which they are told. Their room is taken before the run, so
-/// that no memory can be wanting after its output.
+/// that memory cannot run out after its output.
 #[derive(Drop)]
 pub struct Notes {
     list: Vec<SideNote>,

@@ -16,7 +16,7 @@ use std::alloc::{AllocError, Global};
 
 /// What two lists of rows answer differently: the boxes of the two answers, where they differ, and
 /// their number. All prefixes are of the family, and no two rows of a list have the same two. `Err`
-/// if memory is wanting.
+/// if memory runs out.
 ///
 /// The lists are gone through side by side. The tries of sources of both stand in one table of
 /// nodes, in which equal tries have one number, so only what differs is gone into; nodes of blocks

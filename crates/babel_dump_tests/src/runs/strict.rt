@@ -1,5 +1,5 @@
-//! Dumps that are refused for TLVs that are ignored, for datagrams that were left out, and for want
-//! of Updates.
+//! Dumps that are refused for TLVs that are ignored, for datagrams that were left out, or since
+//! they have no Update.
 use super::devices::{ScriptedIn, ScriptedOut};
 use super::{Case, ONE_BY_ONE, expect_run, job};
 use babel_capture::Reason as LeftOutReason;
