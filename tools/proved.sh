@@ -10,6 +10,8 @@ top=$(CDPATH= cd -- "$(dirname -- "$0")/.." && pwd)
 crate=$top/crates/babel_dump_program
 program=$top/build/babel-dump
 log=$top/build/build.log
+# How long a build takes, which tools/unproved.py reads here.
+takes="an hour to an hour and a half"
 
 # Whether the program is there, and no older than what it is made and proved from, without the
 # crates of tests.
@@ -56,7 +58,7 @@ say() {
 build() {
     command -v rt >/dev/null 2>&1 ||
         fail 127 "cannot build: there is no command rt on the PATH (the Rattle kit)"
-    echo "babel-dump: building (once; it takes an hour to an hour and a half)" >&2
+    echo "babel-dump: building (once; it takes $takes)" >&2
     begun=$(date +%s)
     : >"$log"
     : >"$log.begun"

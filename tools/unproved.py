@@ -129,6 +129,11 @@ def tried(words, data, stdin, room):
             raise
 
 
+def build_time():
+    """How long a build of the proved program takes, in words."""
+    return re.search(r'(?m)^takes="(.*)"$', (TOP / "tools/proved.sh").read_text())[1]
+
+
 def answer(words):
     """The program's status, after what it writes."""
     try:
@@ -167,8 +172,8 @@ def main(words):
     state = "older than its sources" if PROGRAM.exists() else "not built yet"
     tell(
         f"babel-dump: the proved program is {state}; `rt try` runs the code before any proof, each"
-        " time in one to three minutes; ./install or ./check makes the proved one, once, in an"
-        " hour to an hour and a half\n".encode()
+        " time in one to three minutes; ./install or ./check makes the proved one, once, in"
+        f" {build_time()}\n".encode()
     )
     try:
         return answer(words)
