@@ -22,7 +22,7 @@ TOP = pathlib.Path(__file__).resolve().parent.parent
 CRATE = TOP / "crates/babel_dump_program"
 PROGRAM = TOP / "build/babel-dump"
 
-# The program's statuses where a device failed, and where nobody reads what it writes; no answer.
+# The program's statuses where a device failed, and where the pipe was closed; no answer.
 FAILED, CLOSED_PIPE, NO_ANSWER = 4, 141, 126
 
 # The options that no word follows.
