@@ -39,10 +39,10 @@ macro_rules! after_help {
 }
 
 const AFTER_HELP: &str = after_help!(
-    "IPv4 routes with an IPv6 next hop (address encoding 4, AE 4 for short, RFC 9229) are not \
-     read. babeld sends them on links without IPv4 addresses. They and their retractions are \
-     ignored and counted as unknown-encoding, so that an answer for IPv4 can be missing or \
-     stale.\n",
+    "IPv4 routes with an IPv6 next hop (address encoding 4, AE 4 for short, RFC 9229) are read \
+     with --v4-via-v6 alone. babeld sends them on links without IPv4 addresses. Without the \
+     option they and their retractions are ignored and counted as unknown-encoding, so that an \
+     answer for IPv4 can be missing or stale.\n",
     examples:
     "senders x.pcap",
     "show --from fe80::1 x.pcap",

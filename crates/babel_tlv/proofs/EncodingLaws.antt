@@ -31,15 +31,6 @@ named_read via_v6 encoding n is = (and_true (n == number_of encoding) (is_read v
 pub not_named : (via_v6 : Bool) (encoding : PrefixEncoding) (n : ℕ) → n ≢ number_of encoding → is_named via_v6 encoding n ≡ false
 not_named via_v6 encoding n other = let differs : (n == number_of encoding) ≡ false = grind (arith, nat_tests) in rw differs refl
 
-not_both : (via_v6 b : Bool) → (via_v6 ≡ true → b ≡ false) → (b && via_v6) ≡ false
-not_both true b none = rw (none refl) refl
-not_both false true none = refl
-not_both false false none = refl
-
--- nor encoding 4 where that is not read
-pub not_named_4 : (via_v6 : Bool) (n : ℕ) → (via_v6 ≡ true → n ≢ 4) → is_named via_v6 Ipv4ViaIpv6 n ≡ false
-not_named_4 via_v6 n other = not_both via_v6 (n == 4) (λ read. let differs : n ≢ 4 = other read in grind (arith, nat_tests))
-
 -- ---- families
 
 -- a route's next hop is of the family that its encoding asks for
@@ -47,11 +38,6 @@ pub hop_for : (via_v6 : Bool) (encoding : PrefixEncoding) → is_read via_v6 enc
 hop_for via_v6 Ipv4 read = inl refl
 hop_for via_v6 Ipv6 read = inl refl
 hop_for via_v6 Ipv4ViaIpv6 read = inr (read, refl, refl)
-
--- what is read without encoding 4 is read with it
-pub hop_for-more : (via_v6 : Bool) (family hop : Family) → IsHopFor via_v6 family hop → IsHopFor true family hop
-hop_for-more via_v6 family hop (inl same) = inl same
-hop_for-more via_v6 family hop (inr (read, v4, v6)) = inr (refl, v4, v6)
 
 -- ---- the encoding of a pair
 

@@ -27,10 +27,10 @@ hop_read body number hop long is some known whole given =
     )
 
 pub returns-in-Prefix-Ipv4 : goal.returns-in-Prefix-Ipv4
-returns-in-Prefix-Ipv4 c = hop_read c.args.body.now 1 c.address.result c.in-len2-up.len_at_least (named_number false Ipv4 _ c.in-Prefix-Ipv4.ensures) (omega arith) (omega arith) c.if-octets-ge4.true c.address.ensures
+returns-in-Prefix-Ipv4 c = hop_read c.args.body.now 1 c.address.result c.in-len2-up.len_at_least (named_number _ Ipv4 _ c.in-Prefix-Ipv4.ensures) (omega arith) (omega arith) c.if-octets-ge4.true c.address.ensures
 
 pub returns-in-Prefix-Ipv6 : goal.returns-in-Prefix-Ipv6
-returns-in-Prefix-Ipv6 c = hop_read c.args.body.now 2 c.address-in-Prefix-Ipv6.result c.in-len2-up.len_at_least (named_number false Ipv6 _ c.in-Prefix-Ipv6.ensures) (omega arith) (omega arith) c.if-octets-ge16.true c.address-in-Prefix-Ipv6.ensures
+returns-in-Prefix-Ipv6 c = hop_read c.args.body.now 2 c.address-in-Prefix-Ipv6.result c.in-len2-up.len_at_least (named_number _ Ipv6 _ c.in-Prefix-Ipv6.ensures) (omega arith) (omega arith) c.if-octets-ge16.true c.address-in-Prefix-Ipv6.ensures
 
 pub returns-in-LinkLocal : goal.returns-in-LinkLocal
 returns-in-LinkLocal c =

@@ -1,8 +1,7 @@
 -- The state that the flags set is what the Update gives; without a prefix it gives nothing.
-use Rattle.std.proofs.Common.{◌≡◌, ◌∙◌, Ok, Option, Result, Err, sym, ap}
+use Rattle.std.proofs.Common.{◌∙◌, Option, sym, ap}
 use Rattle.babel_prefix.specs.declared.family.Family.{Family}
 use Rattle.babel_prefix.specs.Address.{Address}
-use Rattle.babel_tlv.specs.Context.{default_in}
 use Rattle.babel_tlv.specs.Encodings.{prefix_family}
 use Rattle.babel_tlv.specs.Forming.{formed}
 use Rattle.babel_tlv.proofs.Advance.{updated-no_prefix, updated-flags}
