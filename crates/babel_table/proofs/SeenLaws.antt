@@ -24,8 +24,8 @@ kept_or P true x s is stated = is
 kept_or P false x s is stated = stated
 
 -- what a view sees can be kept where what it puts for a next hop can be
-pub keeps_seen : {Fits : Address → Type 0} (view : View) (family : Family) (held : Held) → Fits (no_address family) → CanKeep Fits held → CanKeep Fits (seen view family held)
-keeps_seen {Fits} view family (helds.Route ann) none fits =
+pub keeps_seen : (Fits : Address → Type 0) (view : View) (family : Family) (held : Held) → Fits (no_address family) → CanKeep Fits held → CanKeep Fits (seen view family held)
+keeps_seen Fits view family (helds.Route ann) none fits =
     let is : IsAnnouncement (seen_announcement view ann.next_hop.family ann) = (seen_fits view (key_in ann.next_hop.family 0 0 0 0) (helds.Route ann) (fits.0, inl refl)).0 in (
       record {
         eight = is.eight;
@@ -38,7 +38,7 @@ keeps_seen {Fits} view family (helds.Route ann) none fits =
       },
       kept_or Fits view.next_hop ann.next_hop (no_address family) fits.1 none,
     )
-keeps_seen view family helds.Unreachable none fits = tt
+keeps_seen Fits view family helds.Unreachable none fits = tt
 
 pub seen_keys : (view : View) (rows : List Pair) → keys_of (seen_rows view rows) ≡ keys_of rows
 seen_keys view [] = refl
