@@ -34,8 +34,8 @@ const MOST_ROWS: usize = u32::MAX as usize;
 pub(crate) type WordRow<W, H> = (CompactKey<W>, Option<Stored<H>>);
 
 /// What is kept for the keys of the family whose addresses are kept in these words, with next hops
-/// kept so. A router repeats its routes in one order, whichever it is, so the row after the one found last is tried
-/// before any search; and what came last may be retracted at once.
+/// kept so. A router repeats its routes in one order, whichever it is, so the row after the one
+/// found last is tried before any search; and what came last may be retracted at once.
 #[derive(Drop)]
 pub struct FamilyRows<W: Word, H: Hop> {
     alloc: Global,

@@ -33,7 +33,7 @@ impl Stream {
         ensures took { OnOk result (TakesOctets self.old octets.now self.new self.new.pending) }
         ensures stops { IfErr result (StopsInOctets self.old octets.now) }
     {
-        let used = self.so_far.take_packets(self.start, octets, self.at)?;
+        let used = self.so_far.take_packets(&self.start, octets, self.at)?;
         self.at += used as u64;
         self.pending.add(&octets[used..]);
         Ok(())
@@ -57,7 +57,7 @@ impl Stream {
         let rest = self.pending.fill(octets);
         let used = self
             .so_far
-            .take_packets(self.start, self.pending.octets(), self.at)?;
+            .take_packets(&self.start, self.pending.octets(), self.at)?;
         if used == 0 {
             return Ok(rest);
         }

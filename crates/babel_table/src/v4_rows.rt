@@ -112,20 +112,10 @@ impl V4Rows {
                 return Err(fault);
             }
         }
-        self.widen()?;
-        self.wide.put(key, held, wipes, refusal)
-    }
-
-    /// Keeps the same so that any next hop can be kept.
-    fn widen(&mut self) -> Result<(), AllocError>
-        requires { self.old.is_wide ≡ false }
-        ensures same { self.new ≡ self.old }
-        ensures wide { OnOk result (self.new.is_wide ≡ true) }
-    {
         self.wide = self.narrow.widened(self.seed)?;
         self.narrow = FamilyRows::new(self.alloc, self.seed);
         self.is_wide = true;
-        Ok(())
+        self.wide.put(key, held, wipes, refusal)
     }
 
     /// Keeps nothing for the key.
