@@ -6,7 +6,8 @@ from the definitions.
 
 Each table has a few routes of both families, with and without source prefixes, some retracted, in
 any order; half of them have prefixes within the first four bits alone, the others prefixes of any
-length that share long beginnings. `pairs`, with and without `--count` and `--hold`, `lookup`, and
+length that share long beginnings; half of them have IPv4 routes with IPv6 next hops too, and are
+read with `--v4-via-v6`. `pairs`, with and without `--count` and `--hold`, `lookup`, and
 `compare` with another table, which mostly differs in a few Updates, must write what the definitions
 say and end with the status of that; and, unless it is the plain program, `pairs` and `compare` with
 `--ignore metric`. With `--all` so must `compare --all`, with and without `--count`, `--json`,
@@ -28,13 +29,14 @@ from loads import INFINITY, NEXT_HOP, ROUTER_ID, WIDTH, WILDCARD
 
 FROM = ["--from", "192.0.2.1"]
 ANY = (0, 0)
-VIA = {4: "192.0.2.1", 6: "fe80:0:0:0:0:0:0:1"}
+# The next hop in each address encoding.
+VIA = {1: "192.0.2.1", 2: "fe80:0:0:0:0:0:0:1", 4: "fe80:0:0:0:0:0:0:1"}
 # What the program, and not the plain one, says of dumps that are made of no Updates.
 NO_UPDATES = {"note: no Updates", "note: other: no Updates"}
 
 
-# ---- random Updates: (family, destination, source, metric), or None for a retraction of all; a
-# prefix is (bits, length)
+# ---- random Updates: (family, destination, source, metric, encoding), or None for a retraction of
+# all; a prefix is (bits, length)
 
 
 def short_prefix(rng, width):
@@ -57,7 +59,7 @@ def sibling(prefix, width):
     return (bits ^ 1 << width - length, length) if length else prefix
 
 
-def random_updates(rng):
+def random_updates(rng, via_v6):
     """Few sources and few values, so that functions of the source repeat."""
     updates = []
     for family, width in WIDTH.items():
@@ -71,7 +73,8 @@ def random_updates(rng):
             sources += [source, sibling(source, width)]
         for _ in range(rng.randrange(7 if prefix()[1] > 4 else 16)):
             metric = rng.choice((256, 256, 256, 257, 257, INFINITY))
-            updates.append((family, prefix(), rng.choice(sources), metric))
+            encoding = 2 if family == 6 else rng.choice((1, 4)) if via_v6 else 1
+            updates.append((family, prefix(), rng.choice(sources), metric, encoding))
     rng.shuffle(updates)
     if rng.randrange(8) == 0:
         updates.insert(rng.randrange(len(updates) + 1), None)
@@ -86,7 +89,7 @@ def changed(rng, updates):
         updates.pop(rng.randrange(len(updates)))
     place = rng.randrange(len(updates)) if updates else None
     if place is not None and updates[place] is not None and rng.randrange(2):
-        updates[place] = (*updates[place][:3], 259)
+        updates[place] = (*updates[place][:3], 259, updates[place][4])
     return updates
 
 
@@ -101,10 +104,10 @@ def dump_of(updates):
         if update is None:
             body += WILDCARD
             continue
-        family, dst, src, metric = update
+        family, dst, src, metric, encoding = update
         source = field(family, src)
         sub = bytes((128, 1 + len(source), src[1])) + source if src[1] else b""
-        fixed = struct.pack(">BBBBHHH", 1 if family == 4 else 2, 0, dst[1], 0, 1_600, 1, metric)
+        fixed = struct.pack(">BBBBHHH", encoding, 0, dst[1], 0, 1_600, 1, metric)
         tlv = fixed + field(family, dst) + sub
         body += bytes((8, len(tlv))) + tlv
     return struct.pack(">BBH", 42, 2, len(body)) + body
@@ -119,13 +122,13 @@ def table_of(updates, hold):
     for place, update in enumerate(updates):
         if update is None:
             continue
-        family, dst, src, metric = update
+        family, dst, src, metric, encoding = update
         later = updates[place + 1 :]
         if any(other is not None and other[:3] == update[:3] for other in later):
             continue
         reachable = metric != INFINITY and None not in later
         if reachable or hold:
-            table[family, dst, src] = metric if reachable else "unreachable"
+            table[family, dst, src] = (encoding, metric) if reachable else "unreachable"
     return table
 
 
@@ -191,7 +194,8 @@ def canonical_pairs(table):
 
 
 def without_metrics(table):
-    return {key: value if value == "unreachable" else "-" for key, value in table.items()}
+    ignored = lambda value: value if value == "unreachable" else (value[0], "-")
+    return {key: ignored(value) for key, value in table.items()}
 
 
 def differences(left, right):
@@ -228,31 +232,34 @@ def text_of_prefix(family, prefix):
     return f"{text_of_address(family, prefix[0])}/{prefix[1]}"
 
 
-def text_of(family, value):
+def text_of(value):
     if value is None or value == "unreachable":
         return value or "none"
-    return f"via {VIA[family]} id {ROUTER_ID[4:].hex()} seqno 1 metric {value}"
+    encoding, metric = value
+    return f"via {VIA[encoding]} id {ROUTER_ID[4:].hex()} seqno 1 metric {metric}"
 
 
-def json_of(family, value):
+def json_of(value):
     if value is None or value == "unreachable":
         return value
-    metric = None if value == "-" else value
-    return {"next_hop": VIA[family], "router_id": ROUTER_ID[4:].hex(), "seqno": 1, "metric": metric}
+    encoding, metric = value
+    metric = None if metric == "-" else metric
+    via = VIA[encoding]
+    return {"next_hop": via, "router_id": ROUTER_ID[4:].hex(), "seqno": 1, "metric": metric}
 
 
 def text_of_pairs(table):
     return [
-        f"{text_of_prefix(family, dst)} from {text_of_prefix(family, src)} {text_of(family, value)}"
+        f"{text_of_prefix(family, dst)} from {text_of_prefix(family, src)} {text_of(value)}"
         for family, dst, src, value in canonical_pairs(table)
     ]
 
 
-def three_lines(family, dst, src, left, right):
+def three_lines(dst, src, left, right):
     return [
         f"differ {dst} from {src}",
-        f"left {text_of(family, left)}",
-        f"right {text_of(family, right)}",
+        f"left {text_of(left)}",
+        f"right {text_of(right)}",
     ]
 
 
@@ -260,14 +267,12 @@ def text_of_difference(found):
     if found is None:
         return ["same"]
     family, dst, src, left, right = found
-    return three_lines(
-        family, text_of_address(family, dst), text_of_address(family, src), left, right
-    )
+    return three_lines(text_of_address(family, dst), text_of_address(family, src), left, right)
 
 
 def text_of_differences(found):
     lines = [
-        three_lines(family, text_of_prefix(family, dst), text_of_prefix(family, src), *answers)
+        three_lines(text_of_prefix(family, dst), text_of_prefix(family, src), *answers)
         for family, dst, src, answers in found
     ]
     return sum(lines, []) or ["same"]
@@ -279,8 +284,8 @@ def json_of_differences(found):
             "same": False,
             "destination": text_of_prefix(family, dst),
             "source": text_of_prefix(family, src),
-            "left": json_of(family, left),
-            "right": json_of(family, right),
+            "left": json_of(left),
+            "right": json_of(right),
         }
         for family, dst, src, (left, right) in found
     ]
@@ -304,7 +309,7 @@ def lookup_run(rng, table, words, dump):
     asked = ["--to", text_of_address(family, dst), "--src", text_of_address(family, src)]
     found = answer(table, family, dst, src)
     status = 1 if found in (None, "unreachable") else 0
-    yield ["lookup", *words, *asked, dump], [text_of(family, found)], status, ""
+    yield ["lookup", *words, *asked, dump], [text_of(found)], status, ""
 
 
 def note_of_routes(left, right):
@@ -334,9 +339,9 @@ def compare_runs(left, right, words, dumps, every):
         yield ["compare", "--all", "--count", "--json", *words], count + as_json, *end
 
 
-def expected_runs(rng, updates, others, dumps, options):
+def expected_runs(rng, updates, others, dumps, read, options):
     for hold in ([], ["--hold"]):
-        words = [*hold, *FROM]
+        words = [*hold, *read, *FROM]
         left, right = (table_of(each, bool(hold)) for each in (updates, others))
         yield from pair_runs(left, words, dumps[0])
         yield from lookup_run(rng, left, words, dumps[0])
@@ -367,11 +372,13 @@ def main():
     with tempfile.TemporaryDirectory() as folder:
         dumps = [pathlib.Path(folder) / name for name in ("one.dump", "other.dump")]
         for turn in range(options.tables):
-            updates = random_updates(rng)
-            others = changed(rng, updates) if rng.randrange(8) else random_updates(rng)
+            read = ["--v4-via-v6"] if rng.randrange(2) else []
+            updates = random_updates(rng, read)
+            others = changed(rng, updates) if rng.randrange(8) else random_updates(rng, read)
             for dump, sent in zip(dumps, (updates, others)):
                 dump.write_bytes(dump_of(sent))
-            for words, lines, status, note in expected_runs(rng, updates, others, dumps, options):
+            runs_of_table = expected_runs(rng, updates, others, dumps, read, options)
+            for words, lines, status, note in runs_of_table:
                 run = subprocess.run([program, *words], capture_output=True, text=True)
                 runs += 1
                 most = max(most, len(lines))

@@ -17,17 +17,22 @@ use Rattle.babel_tlv.specs.declared.event.Event.TheVariants as events
 use Rattle.babel_tlv.specs.declared.held.Held.{Held}
 use Rattle.babel_tlv.specs.declared.held.Held.TheVariants as helds
 use Rattle.babel_tlv.specs.declared.mode.Mode.{Mode}
+use Rattle.babel_tlv.specs.declared.prefix_encoding.PrefixEncoding.{PrefixEncoding}
+use Rattle.babel_tlv.specs.declared.prefix_encoding.PrefixEncoding.TheVariants.{Ipv4, Ipv6}
+use Rattle.babel_tlv.specs.declared.prefix_encoding.PrefixEncoding.TheVariants.{Ipv4ViaIpv6}
+use Rattle.babel_tlv.specs.declared.start.Start.{Start}
+use Rattle.babel_tlv.specs.Encodings.{is_named, prefix_family}
 use Rattle.babel_tlv.specs.Framing.{TlvAt}
 use Rattle.babel_tlv.specs.Framing.{tlvs_of}
-use Rattle.babel_tlv.specs.Forming.{encoding, field_len, formed, update_encoding, update_metric}
+use Rattle.babel_tlv.specs.Forming.{field_len, formed, update_encoding, update_metric}
 use Rattle.babel_tlv.specs.Context.{Context, context_after, next_hop_in_context, update_prefix}
 use Rattle.babel_tlv.specs.Updating.{updated}
 use Rattle.babel_tlv.specs.Says.{current_router_id}
 use Rattle.babel_tlv.specs.Route.{RouteKey, Announcement, is_reserved}
 use Rattle.babel_tlv.specs.SubTlv.{is_source, source_prefix, source_of}
 use Rattle.babel_canon.specs.Items.{are_all_of, fit_update}
-use Rattle.babel_canon.specs.Told.{is_update, formed_in, wildcard_tells, route_tells, update_tells}
-use Rattle.babel_canon.specs.Told.{tells, told_by}
+use Rattle.babel_canon.specs.Told.{is_update, formed_in, hop_family_of, wildcard_tells}
+use Rattle.babel_canon.specs.Told.{route_tells, update_tells, tells, told_by}
 use Rattle.babel_canon.specs.Dumps.{told}
 use Rattle.babel_canon.specs.DumpAnswers.{same_key, retracted, held_after, held_for}
 use Rattle.babel_canon.proofs.HeldFor.{same_key-decides}
@@ -52,12 +57,14 @@ prefix_at-clean : (len : ℕ) (a : Address) → IsClean (prefix_at len a)
 prefix_at-clean len a = mul-mod_left (leading_bits (width_of a.family) len a.bits)
     (2 ^ (width_of a.family - len))
 
-formed-clean : (family : Family) (default : Option Address) (tlv : TlvAt)
-    → IfSome (update_prefix family default tlv) IsClean
-formed-clean family default tlv =
-    by (eqb tlv.kind 8 && leb 10 (length tlv.body) && eqb (update_encoding tlv.body)
-    (encoding family)) (result_ok (formed family default tlv.body))
-    (formed-holds IsClean family default tlv.body (λ len octets. prefix_at-clean len _))
+formed-clean : (via_v6 : Bool) (encoding : PrefixEncoding) (default : Option Address) (tlv : TlvAt)
+    → IfSome (update_prefix via_v6 encoding default tlv) IsClean
+formed-clean via_v6 encoding default tlv =
+    by (eqb tlv.kind 8 && leb 10 (length tlv.body)
+    && is_named via_v6 encoding (update_encoding tlv.body))
+    (result_ok (formed (prefix_family encoding) default tlv.body))
+    (formed-holds IsClean (prefix_family encoding) default tlv.body
+    (λ len octets. prefix_at-clean len _))
   where
     by : (b : Bool) (p : Option AddressPrefix) → IfSome p IsClean → IfSome (cond b p None) IsClean
     by true p clean = clean
@@ -65,8 +72,12 @@ formed-clean family default tlv =
 
 formed_in-clean : (context : Context) (tlv : TlvAt) → IfSome (formed_in context tlv) IsClean
 formed_in-clean context tlv =
-    by (update_prefix V4 context.default_v4 tlv) (update_prefix V6 context.default_v6 tlv)
-    (formed-clean V4 context.default_v4 tlv) (formed-clean V6 context.default_v6 tlv)
+    let via_v6 = context.via_v6 in
+    by (update_prefix via_v6 Ipv4 context.default_v4 tlv) _
+    (formed-clean via_v6 Ipv4 context.default_v4 tlv)
+    (by (update_prefix via_v6 Ipv6 context.default_v6 tlv) _
+    (formed-clean via_v6 Ipv6 context.default_v6 tlv)
+    (formed-clean via_v6 Ipv4ViaIpv6 context.default_v4_via_v6 tlv))
   where
     by : (p q : Option AddressPrefix) → IfSome p IsClean → IfSome q IsClean
         → IfSome (option_or p q) IsClean
@@ -108,7 +119,7 @@ update-clean context body (Some prefix) clean =
     let key : RouteKey = record { dst = prefix; src = source_of family items } in
     let are : AreClean key = (clean, source-clean family items) in
     let id = current_router_id context body prefix in
-    let hop = next_hop_in_context family context in
+    let hop = next_hop_in_context (hop_family_of body prefix) context in
     by (not (are_all_of octets items && fit_update family items))
     (eqb (update_metric body) 65535) key are (route_tells key body id hop)
     (route-clean key body id hop are)
@@ -147,12 +158,12 @@ both_clean : (front back : List Event) → AllByRecursion IsOfClean front
 both_clean [] back of of_back = of_back
 both_clean (event ∷ front) back of of_back = (of.0, both_clean front back of.1 of_back)
 
-told-clean : (sender : Address) (packets : List (List TlvAt))
-    → AllByRecursion IsOfClean (told sender packets)
-told-clean sender [] = tt
-told-clean sender (tlvs ∷ packets) =
-    both_clean (told_by (context_after sender []) tlvs) (told sender packets)
-    (told_by-clean (context_after sender []) tlvs) (told-clean sender packets)
+told-clean : (start : Start) (packets : List (List TlvAt))
+    → AllByRecursion IsOfClean (told start packets)
+told-clean start [] = tt
+told-clean start (tlvs ∷ packets) =
+    both_clean (told_by (context_after start []) tlvs) (told start packets)
+    (told_by-clean (context_after start []) tlvs) (told-clean start packets)
 
 -- ---- what is held
 
@@ -192,7 +203,7 @@ fold-clean mode key old (event ∷ later) of before = fold-clean mode key
     (held_after mode key old event) later of.1 (after-clean mode key old event of.0 before)
 
 -- a key for which a dump leaves something is clean
-pub held-clean : (mode : Mode) (sender : Address) (packets : List (List TlvAt)) (key : RouteKey)
-    (held : Held) → held_for mode (told sender packets) key ≡ Some held → AreClean key
-held-clean mode sender packets key held is = subst (IsCleanIfHeld key) is
-    (fold-clean mode key None (told sender packets) (told-clean sender packets) tt)
+pub held-clean : (mode : Mode) (start : Start) (packets : List (List TlvAt)) (key : RouteKey)
+    (held : Held) → held_for mode (told start packets) key ≡ Some held → AreClean key
+held-clean mode start packets key held is = subst (IsCleanIfHeld key) is
+    (fold-clean mode key None (told start packets) (told-clean start packets) tt)

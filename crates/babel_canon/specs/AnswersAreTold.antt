@@ -20,7 +20,7 @@ TableAnswers =
     (limits : Bounds) (mode : Mode) (one : Sent) (table : Routes)
     → IsTableOf limits mode one.sender one.dump table
     → (d s : Address) → IsAddress d → IsAddress s → d.family ≡ s.family → (answer : Option Held)
-    → DumpAnswers mode one d s answer ↔ (answer_for (entries_of table.rows) d s ≡ answer)
+    → DumpAnswers limits.via_v6 mode one d s answer ↔ (answer_for (entries_of table.rows) d s ≡ answer)
 
 -- a dump with a table has one answer for two addresses
 abbrev pub AnswerIsOne : Type 0
@@ -28,8 +28,8 @@ AnswerIsOne =
     (limits : Bounds) (mode : Mode) (one : Sent) (table : Routes)
     → IsTableOf limits mode one.sender one.dump table
     → (d s : Address) → IsAddress d → IsAddress s → d.family ≡ s.family
-    → (answer other : Option Held) → DumpAnswers mode one d s answer
-    → DumpAnswers mode one d s other → answer ≡ other
+    → (answer other : Option Held) → DumpAnswers limits.via_v6 mode one d s answer
+    → DumpAnswers limits.via_v6 mode one d s other → answer ≡ other
 
 -- canonical octets tell what dumps answer
 abbrev pub AnswersAreTold : Type 0
@@ -37,4 +37,4 @@ AnswersAreTold =
     (limits : Bounds) (mode : Mode) (body : ℕ) → AreBounds limits → IsBodySize body
     → (one : Sent) (octets : List ℕ) → Normalises as_they_are limits mode body one octets
     → AnswersTell (Normalises as_they_are limits mode body)
-    (NormaliseFault as_they_are limits mode) mode one octets
+    (NormaliseFault as_they_are limits mode) limits.via_v6 mode one octets

@@ -52,7 +52,7 @@ gave_normal headline under all are_told reader view body table seen report octet
     let told = under view reading.limits reading.mode body bounds size it octets normal in
     let plain_of : view ≡ keeps_all → Normalises as_they_are reading.limits reading.mode body it octets =
     λ keeps. (all reading.limits reading.mode body it octets).0 (subst (λ (v : View). Normalises (seen_rows v) reading.limits reading.mode body it octets) keeps normal) in
-    let plain_told_of : view ≡ keeps_all → AnswersTell (Normalises as_they_are reading.limits reading.mode body) (NormaliseFault as_they_are reading.limits reading.mode) reading.mode it octets =
+    let plain_told_of : view ≡ keeps_all → AnswersTell (Normalises as_they_are reading.limits reading.mode body) (NormaliseFault as_they_are reading.limits reading.mode) reading.limits.via_v6 reading.mode it octets =
     λ keeps. are_told reading.limits reading.mode body bounds size it octets (plain_of keeps) in
     let whole : view ≡ keeps_all → IsNormal AnswerTheSame as_they_are reading.limits reading.mode body it octets = λ keeps.
     let plain = plain_of keeps in

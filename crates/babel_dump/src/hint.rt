@@ -37,7 +37,7 @@ pub enum Hint {
     Trailer,
     /// A TLV has an address encoding that is not read.
     #[error("hint: unknown-encoding usually means IPv4 routes with IPv6 next hops (AE 4, \
-             RFC 9229), which are not read: IPv4 answers can be missing or stale")]
+             RFC 9229), which --v4-via-v6 reads: IPv4 answers can be missing or stale")]
     UnknownEncoding,
     /// A route has no next hop. This option names the sender.
     #[error("hint: no-next-hop: {0} names a sender of the other family, and these routes carry \
@@ -105,9 +105,10 @@ impl Hint {
         }
     }
 
-    /// What to know about TLVs that were ignored for this reason, in the dump on this side.
-    pub fn of_reason(reason: Reason, side: Side) -> Option<Hint> {
+    /// What to know about TLVs that a job ignored for this reason, in the dump on this side.
+    pub fn of_reason(job: &Job, reason: Reason, side: Side) -> Option<Hint> {
         match reason {
+            Reason::UnknownEncoding if job.limits()?.via_v6() => None,
             Reason::UnknownEncoding => Some(Hint::UnknownEncoding),
             Reason::NoNextHop => Some(Hint::NoNextHop(side.option())),
             _ => None,
@@ -134,7 +135,7 @@ impl Hint {
     fn of_input(job: &Job, side: Side, fault: &InputFault, begins: &[u8]) -> Option<Hint> {
         match fault {
             InputFault::Dump(fault) => Hint::of_dump(job, *fault, begins),
-            InputFault::Ignored(tlv) => Hint::of_reason(tlv.reason, side),
+            InputFault::Ignored(tlv) => Hint::of_reason(job, tlv.reason, side),
             InputFault::Capture(fault) => Hint::of_capture(job, fault, begins),
             InputFault::SeveralInterfaces(_) => Some(Hint::Interface(side.place_option())),
             InputFault::NoPackets(_) => Some(Hint::Senders),

@@ -1,0 +1,30 @@
+-- What is not retracted is copied, and sorted by its keys.
+use Rattle.std.proofs.Common.{◌≡◌, ◌∙◌, ap, subst, sym}
+use Rattle.std.specs.List.{filter}
+use Rattle.std.specs.Map.{keys_of}
+use Rattle.babel_table.specs.Said.{standing, AreDistinct}
+use Rattle.babel_table.proofs.ListLaws.{whole-said, said-next, skipped-next}
+use Rattle.babel_table.proofs.SaidLaws.{is_said, distinct-filter, standing-filter, standing-permuted, counted-sorted}
+use Rattle.babel_table.proofs.family_rows.FamilyRows.widened.Goals as goal
+
+pub sort-requires : goal.sort-requires
+sort-requires g c =
+    let all = c.self.inside.rows.items in
+    rw (whole-said all _ c.loop-key.key-index c.loop-key.invariant c.loop-key-test.false) (distinct-filter all c.self.invariant.indexed.distinct)
+
+pub invariant_of-result : goal.invariant_of-result
+invariant_of-result g c =
+    let all = c.self.inside.rows.items in
+    let left = whole-said all _ c.loop-key.key-index c.loop-key.invariant c.loop-key-test.false in
+    let distinct = subst (λ ws. AreDistinct (keys_of ws)) (sym left) (distinct-filter all c.self.invariant.indexed.distinct) in
+    let same = standing-permuted c.sort.new.rows.items _ c.sort.ensures.same distinct in
+    rw (c.len-rising.ensures ∙ c.sort.new.rows.ok.0)
+    (counted-sorted c.self.inside.count all c.sort.new.rows.items c.self.inside.rising c.self.inside.places _ c.self.invariant c.sort.ensures.rising (same ∙ ap standing left))
+
+pub returns : goal.returns
+returns g c =
+    let all = c.self.inside.rows.items in
+    let left = whole-said all _ c.loop-key.key-index c.loop-key.invariant c.loop-key-test.false in
+    let distinct = subst (λ ws. AreDistinct (keys_of ws)) (sym left) (distinct-filter all c.self.invariant.indexed.distinct) in
+    let same = standing-permuted c.sort.new.rows.items _ c.sort.ensures.same distinct in
+    same ∙ ap standing left ∙ standing-filter all c.self.invariant.indexed.distinct ∙ c.self.view_is
