@@ -16,10 +16,8 @@ use Rattle.babel_prefix.proofs.Insertion.{equal_of, is_at-sym, lookup-insert}
 use Rattle.babel_prefix.proofs.OrderLaws.{address_equality, then_parts}
 use Rattle.babel_tlv.specs.Framing.{framed}
 use Rattle.babel_capture.specs.declared.dumps.LackAt.{LackAt}
-use Rattle.babel_capture.specs.declared.lack.Lack.{Lack}
 use Rattle.babel_capture.specs.declared.place.Place.{Place}
 use Rattle.babel_capture.specs.declared.place.Vlans.{Vlans}
-use Rattle.babel_capture.specs.declared.reason.Reason.{Reason}
 use Rattle.babel_capture.specs.declared.tallies.Origin.{Origin}
 use Rattle.babel_capture.specs.declared.wanted.Wanted.{Wanted}
 use Rattle.babel_capture.specs.declared.wanted.Wanted.TheVariants as wanteds

@@ -46,7 +46,8 @@ dump-push (wanteds.Sender sender place) made dump one is =
 dumps-push : (wanted : Wanted) (made : List Made) (one : Made) → dumps_of wanted (made ++ one ∷ []) ≡ dumps_with wanted (dumps_of wanted made) one.number one.what
 dumps-push wanted made one = from [] made
   where
-    from : (dumps : Dumps) (made : List Made) → fold (λ (d : Dumps) (m : Made). dumps_with wanted d m.number m.what) dumps (made ++ one ∷ []) ≡ dumps_with wanted (fold (λ (d : Dumps) (m : Made). dumps_with wanted d m.number m.what) dumps made) one.number one.what
+    from : (dumps : Dumps) (made : List Made) → fold (λ (d : Dumps) (m : Made). dumps_with wanted d m.number m.what) dumps (made ++ one ∷ [])
+        ≡ dumps_with wanted (fold (λ (d : Dumps) (m : Made). dumps_with wanted d m.number m.what) dumps made) one.number one.what
     from dumps [] = refl
     from dumps (first ∷ made) = from (dumps_with wanted dumps first.number first.what) made
 
@@ -126,17 +127,21 @@ module _ (before : List Sighting) (next : Sighting) (old new : Gathering) (findi
 
   pub passed-push : finding ≡ passed → new.wanted ≡ old.wanted → new.dump ≡ old.dump → new.dumps ≡ old.dumps → new.report ≡ counted_with old.report None → new.senders ≡ old.senders → Goes
   passed-push is same dump dumps report senders gathered number finds =
-      gathered-push before next old new passed same (dump ∙ dump-stays old.wanted old.dump) (dumps ∙ dumps-stay old.wanted old.dumps next.number passed refl) report senders (few_kept before old new senders gathered) tt gathered number
+      gathered-push before next old new passed same (dump ∙ dump-stays old.wanted old.dump) (dumps ∙ dumps-stay old.wanted old.dumps next.number passed refl) report senders
+      (few_kept before old new senders gathered) tt gathered number
       (subst (Finds old.wanted next.what) is finds)
 
   pub short-push : finding ≡ untold → new.wanted ≡ old.wanted → new.dump ≡ old.dump → new.dumps ≡ old.dumps → new.report ≡ short_counted old.report → new.senders ≡ old.senders → Goes
   short-push is same dump dumps report senders gathered number finds =
-      gathered-push before next old new untold same (dump ∙ dump-stays old.wanted old.dump) (dumps ∙ dumps-stay old.wanted old.dumps next.number untold refl) report senders (few_kept before old new senders gathered) tt gathered number
+      gathered-push before next old new untold same (dump ∙ dump-stays old.wanted old.dump) (dumps ∙ dumps-stay old.wanted old.dumps next.number untold refl) report senders
+      (few_kept before old new senders gathered) tt gathered number
       (subst (Finds old.wanted next.what) is finds)
 
-  pub left-push : (reason : Reason) → finding ≡ left reason → new.wanted ≡ old.wanted → new.dump ≡ old.dump → new.dumps ≡ old.dumps → new.report ≡ counted_with old.report (Some reason) → new.senders ≡ old.senders → Goes
+  pub left-push : (reason : Reason) → finding ≡ left reason → new.wanted ≡ old.wanted → new.dump ≡ old.dump → new.dumps ≡ old.dumps → new.report ≡ counted_with old.report (Some reason)
+      → new.senders ≡ old.senders → Goes
   left-push reason is same dump dumps report senders gathered number finds =
-      gathered-push before next old new (left reason) same (dump ∙ dump-stays old.wanted old.dump) (dumps ∙ dumps-stay old.wanted old.dumps next.number (left reason) refl) report senders (few_kept before old new senders gathered) tt gathered number
+      gathered-push before next old new (left reason) same (dump ∙ dump-stays old.wanted old.dump) (dumps ∙ dumps-stay old.wanted old.dumps next.number (left reason) refl) report senders
+      (few_kept before old new senders gathered) tt gathered number
       (subst (Finds old.wanted next.what) is finds)
 
   pub found-push : (place : Place) (sender : Address) (packet : List ℕ) → finding ≡ found place sender packet → new.wanted ≡ old.wanted → new.dump ≡ dump_with old.wanted old.dump packet
@@ -166,7 +171,8 @@ payload_lacks_none place there sender from payload which (inr (inl (short, is)))
 payload_lacks_none place there sender from payload which (inr (inr (inl (long, magic, is)))) = cc
 payload_lacks_none place there sender from payload which (inr (inr (inr (long, magic, version, is)))) = cc
 
-carried_each : (wanted : Wanted) (place there : Place) (sender from : Address) (carried : Carried) (which : Lack) → CarriedIs wanted place sender carried (lacked there from which) → wanted ≡ wanteds.Each
+carried_each : (wanted : Wanted) (place there : Place) (sender from : Address) (carried : Carried) (which : Lack) → CarriedIs wanted place sender carried (lacked there from which)
+    → wanted ≡ wanteds.Each
 carried_each wanted place there sender from other_port which is = absurd cc
 carried_each wanted place there sender from not_link_local which is = absurd cc
 carried_each wanted place there sender from (lacking lack) which is = lacked_each wanted place there sender from lack which is

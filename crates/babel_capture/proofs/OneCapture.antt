@@ -1,6 +1,6 @@
 -- Octets are one capture, whose packets give one dump, one report and one list of senders.
-use Rattle.std.proofs.Common.{◌≡◌, ◌≢◌, ℕ, ◌+◌, ◌*◌, ◌/◌, ◌%◌, ◌<◌, List, Option, [], ◌∷◌, ◌++◌, length, take, drop, refl, sym, ap, subst, ◌∙◌, append_assoc, inl, inr, arith, length-append, slice_index}
-use Rattle.std.specs.Prelude.{◌⊎◌, Some, None, Result, Ok, Err}
+use Rattle.std.proofs.Common.{◌≡◌, ◌≢◌, ℕ, ◌+◌, ◌*◌, ◌/◌, ◌%◌, ◌<◌, List, [], ◌∷◌, ◌++◌, length, take, drop, refl, sym, ap, subst, ◌∙◌, append_assoc, inl, inr, arith, length-append, slice_index}
+use Rattle.std.specs.Prelude.{◌⊎◌, Option, Some, None, Result, Ok, Err}
 use Rattle.std.specs.Result.{IsOkAnd}
 use Rattle.std.proofs.lemmas.List.{append-nil, drop_at, take-append-le, take_at}
 use Rattle.babel_prefix.specs.Address.{Address}

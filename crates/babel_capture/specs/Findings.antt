@@ -17,8 +17,8 @@ use Rattle.babel_capture.specs.Sight.{Sight, Carried, other, too_short, datagram
 use Rattle.babel_capture.specs.Sight.{other_port, not_link_local, lacking, carries}
 
 -- nothing; a frame that is too short to tell; a datagram left out, for a reason; one that is
--- refused, for what it lacks; one that the dump of its sender at its place lacks; or a Babel packet,
--- of a sender at a place
+-- refused, for what it lacks; one that the dump of its sender at its place lacks; or a Babel
+-- packet, of a sender at a place
 pub data Found : Type 0 where
   passed : Found
   untold : Found
@@ -57,8 +57,8 @@ PayloadIs place sender payload what =
     ⊎ (HasHeader payload × (slice_index payload 0 ≡ 42) × (slice_index payload 1 ≢ 2)
     × (what ≡ left reasons.BadVersion))
 
--- A datagram that lacks something is left out where no dump is wanted. It refuses the capture where
--- one is; where that of each sender is, it refuses that of its own.
+-- A datagram that lacks something is left out where no dump is wanted, and refuses the capture
+-- where one is; where those of all senders are, the dump of its own lacks it.
 abbrev pub LackIs : Wanted → Place → Address → Lack → Found → Type 0
 LackIs wanteds.Everyone place sender lack what = what ≡ left (lack_reason lack)
 LackIs wanteds.Each place sender lack what = what ≡ lacked place sender lack

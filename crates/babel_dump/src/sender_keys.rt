@@ -103,11 +103,7 @@ impl SenderKeys {
     {
         let mut origins = gathered.origins(alloc)?;
         let place = self.place;
-        origins.retain(
-            |origin|
-                ensures { result ≡ is_asked place origin.now }
-            { is_asked(place, origin) },
-        );
+        origins.retain(|origin| is_asked(place, origin));
         Ok(origins)
     }
 

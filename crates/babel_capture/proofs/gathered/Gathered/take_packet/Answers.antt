@@ -8,7 +8,8 @@ use Rattle.babel_capture.specs.Findings.{Finds, finding_of, found, lacked}
 use Rattle.babel_capture.specs.Dumps.{dumps_by, dumps_with}
 use Rattle.babel_capture.specs.Gathering.{Gathering, dump_with, with_taken}
 use Rattle.babel_capture.specs.Tallies.{tallied}
-use Rattle.babel_capture.proofs.GatherLaws.{dump-after, each_wanted, if-err-all, lacked-push, on-ok-all, found-added, on-ok, on-ok4, finds-at, passed-push, short-push, left-push, found-needs, found-push, lack-refused, too-many-refused}
+use Rattle.babel_capture.proofs.GatherLaws.{dump-after, each_wanted, finds-at, found-added, found-needs, found-push, if-err-all, on-ok, on-ok-all, on-ok4}
+use Rattle.babel_capture.proofs.GatherLaws.{lack-refused, lacked-push, left-push, passed-push, short-push, too-many-refused}
 use Rattle.babel_capture.proofs.MemoryLaws.{lack-other}
 use Rattle.babel_capture.proofs.gathered.Gathered.take_packet.Goals as goal
 
@@ -33,7 +34,8 @@ returns-in-Short-clause-ok c taken before gathered =
 pub returns-in-Left-clause-ok : goal.returns-in-Left-clause-ok
 returns-in-Left-clause-ok c taken before gathered =
     let wanted = ap (λ (g : Gathering). g.wanted) c.self.view_is in
-    left-push before (sighting_of (c.args.self.now.report.packets + 1) c.args.at (captured_of c.args.packet.now)) (with_taken taken c.args.self.now) _ _ c.in-Left.reason (ap finding_of c.in-Left.is) wanted
+    left-push before (sighting_of (c.args.self.now.report.packets + 1) c.args.at (captured_of c.args.packet.now)) (with_taken taken c.args.self.now) _ _ c.in-Left.reason (ap finding_of c.in-Left.is)
+    wanted
     (ap (λ (g : Gathering). taken ++ g.dump) c.self.view_is) (ap (λ (g : Gathering). g.dumps) c.self.view_is)
     (c.count-in-Left.ensures ∙ ap (λ (g : Gathering). counted_with g.report (Some c.in-Left.reason)) c.self.view_is)
     (ap (λ (g : Gathering). g.senders) c.self.view_is)
@@ -49,10 +51,12 @@ pub returns-in-Packet-clause-ok : goal.returns-in-Packet-clause-ok
 returns-in-Packet-clause-ok c =
     let wanted = ap (λ (g : Gathering). g.wanted) c.self.view_is in
     on-ok4 c.add.result (λ dump dumps senders few taken before gathered.
-    found-push before (sighting_of (c.args.self.now.report.packets + 1) c.args.at (captured_of c.args.packet.now)) (with_taken taken c.args.self.now) (with_taken taken c.add.new.self) _ c.in-Packet.place c.in-Packet.sender c.in-Packet.packet.now (ap finding_of c.in-Packet.is)
+    found-push before (sighting_of (c.args.self.now.report.packets + 1) c.args.at (captured_of c.args.packet.now)) (with_taken taken c.args.self.now) (with_taken taken c.add.new.self) _
+    c.in-Packet.place c.in-Packet.sender c.in-Packet.packet.now (ap finding_of c.in-Packet.is)
     (c.add.ensures.wanted ∙ wanted)
     (ap (λ d. taken ++ d) (dump ∙ ap (λ (g : Gathering). dump_with g.wanted g.dump c.in-Packet.packet.now) c.self.view_is) ∙ dump-after c.args.self.now.wanted taken _ _)
-    (dumps ∙ ap (λ (n : ℕ). dumps_with c.self.inside.wanted c.self.inside.dumps n (found c.in-Packet.place c.in-Packet.sender c.in-Packet.packet.now)) (ap (λ (r : Counts). r.packets) c.count_packet.ensures)
+    (dumps ∙ ap (λ (n : ℕ). dumps_with c.self.inside.wanted c.self.inside.dumps n (found c.in-Packet.place c.in-Packet.sender c.in-Packet.packet.now))
+    (ap (λ (r : Counts). r.packets) c.count_packet.ensures)
     ∙ ap (λ (g : Gathering). dumps_with g.wanted g.dumps (g.report.packets + 1) (found c.in-Packet.place c.in-Packet.sender c.in-Packet.packet.now)) c.self.view_is)
     (c.add.ensures.report ∙ c.count_packet.ensures ∙ ap (λ (g : Gathering). packet_counted g.report c.args.packet.now.link) c.self.view_is)
     (senders ∙ ap (λ (g : Gathering). tallied g.senders (record { place = c.in-Packet.place; sender = c.in-Packet.sender }) c.in-Packet.packet.now) c.self.view_is)
