@@ -11,7 +11,7 @@ use Rattle.babel_table.specs.TableOf.{IsTableOf}
 use Rattle.babel_canon.specs.Sent.{Sent}
 use Rattle.babel_canon.specs.Normalises.{Normalises, NormaliseFault, as_they_are}
 use Rattle.babel_canon.specs.Sizes.{IsBodySize}
-use Rattle.babel_canon.specs.DumpAnswers.{DumpAnswers}
+use Rattle.babel_canon.specs.DumpAnswers.{DumpAnswers, IsSettled}
 use Rattle.babel_canon.specs.AnswersTell.{AnswersTell}
 
 -- what a dump with a table answers is what the table answers
@@ -30,6 +30,15 @@ AnswerIsOne =
     → (d s : Address) → IsAddress d → IsAddress s → d.family ≡ s.family
     → (answer other : Option Held) → DumpAnswers mode one d s answer
     → DumpAnswers mode one d s other → answer ≡ other
+
+-- a settled dump has an answer for two addresses, and has but one
+abbrev pub SettledIsOne : Type 0
+SettledIsOne =
+    (mode : Mode) (one : Sent) → IsSettled mode one
+    → (d s : Address) → IsAddress d → IsAddress s → d.family ≡ s.family
+    → ((answer : Option Held) × DumpAnswers mode one d s answer)
+    × ((answer other : Option Held) → DumpAnswers mode one d s answer
+    → DumpAnswers mode one d s other → answer ≡ other)
 
 -- canonical octets tell what dumps answer
 abbrev pub AnswersAreTold : Type 0
