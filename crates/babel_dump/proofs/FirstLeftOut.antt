@@ -15,7 +15,7 @@ use Rattle.babel_capture.specs.Counts.{Counts, Made, all_reasons, count_at, coun
 use Rattle.babel_capture.specs.Findings.{Found, passed, untold, left, refused, found}
 use Rattle.babel_capture.specs.Gathering.{AreMade, Gathering}
 use Rattle.babel_dump.specs.CaptureGiven.{IsReadSo}
-use Rattle.babel_dump.specs.FirstLeftOut.{IsFirst, NoneIsLeftOut, RefusedIsFirst, made_of}
+use Rattle.babel_dump.specs.FirstLeftOut.{IsFirstLeftOut, NoneIsLeftOut, RefusedIsFirst, made_of}
 use Rattle.babel_dump.specs.LeftOut.{LeavesNoneOut, first_among, first_counted, left_out_for, sooner}
 use Rattle.babel_dump.specs.declared.left_out.LeftOutDatagram.{LeftOutDatagram}
 use Rattle.babel_dump.proofs.LeftOutLaws.{none_among}
@@ -235,10 +235,10 @@ none_is_left_out made none one reason c is = never made (Listed-from_Contains ma
         step again false was (inr u) e = again u e
 
 -- what is the least of the counts is the first of the packets
-first_of : (made : List Made) (datagram : LeftOutDatagram) → RisesFrom 0 made → IsLeast (counts_of made) all_reasons datagram → IsFirst made datagram
+first_of : (made : List Made) (datagram : LeftOutDatagram) → RisesFrom 0 made → IsLeast (counts_of made) all_reasons datagram → IsFirstLeftOut made datagram
 first_of made datagram rises least = by (find (tests_for least.reason) made) refl (sym (datagram_of made least.reason) ∙ least.is)
   where
-    by : (one : Option Made) → find (tests_for least.reason) made ≡ one → option_map (λ (x : Made). record { packet = x.number; reason = least.reason }) one ≡ Some datagram → IsFirst made datagram
+    by : (one : Option Made) → find (tests_for least.reason) made ≡ one → option_map (λ (x : Made). record { packet = x.number; reason = least.reason }) one ≡ Some datagram → IsFirstLeftOut made datagram
     by None is e = absurd cc
     by (Some one) is e =
         let in_made = find-Some (tests_for least.reason) made one is in

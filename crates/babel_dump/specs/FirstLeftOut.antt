@@ -18,7 +18,7 @@ made_of true limit octets gathering cut read = read.is_read.gathered.made
 
 -- of these packets the one with the datagram's number was left out for its reason, and none with a
 -- lower number was left out
-pub record IsFirst (made : List Made) (datagram : LeftOutDatagram) : Type 0 where
+pub record IsFirstLeftOut (made : List Made) (datagram : LeftOutDatagram) : Type 0 where
   pub one : Made
   pub listed : Contains made one
   pub number : one.number ≡ datagram.packet
@@ -37,6 +37,6 @@ NoneIsLeftOut =
 abbrev pub RefusedIsFirst : Type 0
 RefusedIsFirst =
     (reader : CaptureInput) (datagram : LeftOutDatagram) (gave : GaveLeftOut reader datagram)
-    → IsFirst
+    → IsFirstLeftOut
     (made_of reader.reading.accept_cut reader.reading.limit gave.given.octets gave.gathering
     gave.cut gave.given.is_read) datagram
