@@ -1,6 +1,6 @@
 -- The datagram that a report names as the first left out is the first of the packets.
-use Rattle.std.proofs.Common.{◌≡◌, ◌≢◌, ◌⊎◌, inl, inr, ℕ, suc, zero, ◌+◌, ◌<◌, ◌≤◌, Bool, true, false, cond, nat_lt, if◌then◌else◌, List, [], ◌∷◌, ◌++◌}
-use Rattle.std.proofs.Common.{length, map, Option, None, Some, refl, sym, ap, subst, ◌∙◌, arith, eqb-true, eq-eqb, Contains}
+use Rattle.std.proofs.Common.{◌≡◌, ◌≢◌, inl, inr, ℕ, suc, zero, ◌+◌, ◌<◌, ◌≤◌, Bool, true, false, cond, nat_lt, if◌then◌else◌, List, [], ◌∷◌, ◌++◌}
+use Rattle.std.proofs.Common.{length, map, Option, None, Some, refl, sym, ap, subst, ◌∙◌, arith, eqb-true, eq-eqb}
 use Rattle.std.specs.Prelude.{count_by, slice_get, find}
 use Rattle.std.specs.List.{AllByRecursion}
 use Rattle.std.specs.Option.{option_map}
@@ -16,7 +16,7 @@ use Rattle.babel_capture.specs.Findings.{Found, passed, untold, left, refused, f
 use Rattle.babel_capture.specs.Gathering.{AreMade, Gathering}
 use Rattle.babel_dump.specs.CaptureGiven.{IsReadSo}
 use Rattle.babel_dump.specs.FirstLeftOut.{IsFirstLeftOut, NoneIsLeftOut, RefusedIsFirst, made_of}
-use Rattle.babel_dump.specs.LeftOut.{LeavesNoneOut, first_among, first_counted, left_out_for, sooner}
+use Rattle.babel_dump.specs.LeftOut.{first_among, first_counted, left_out_for, sooner}
 use Rattle.babel_dump.specs.declared.left_out.LeftOutDatagram.{LeftOutDatagram}
 use Rattle.babel_dump.proofs.LeftOutLaws.{none_among}
 
@@ -191,10 +191,7 @@ rises_in wanted count (block ∷ blocks) made are = by (λ n m a. rises_in wante
   where
     by : ((n : ℕ) (m : List Made) → AreMade wanted (sightings_behind n blocks) m → RisesFrom n m) → (content : Content)
         → AreMade wanted (sightings_in (count + 1) block.at content ++ sightings_behind (count + length (sightings_in (count + 1) block.at content)) blocks) made → RisesFrom count made
-    by again (file order interface) are = none_here again are
-      where
-        none_here : ((n : ℕ) (m : List Made) → AreMade wanted (sightings_behind n blocks) m → RisesFrom n m) → AreMade wanted (sightings_behind (count + 0) blocks) made → RisesFrom count made
-        none_here again are = subst (λ (n : ℕ). RisesFrom n made) (omega arith) (again (count + 0) made are)
+    by again (file order interface) are = subst (λ (n : ℕ). RisesFrom n made) (omega arith) (again (count + 0) made are)
     by again (section order) are = subst (λ (n : ℕ). RisesFrom n made) (omega arith) (again (count + 0) made are)
     by again (describes interface name) are = subst (λ (n : ℕ). RisesFrom n made) (omega arith) (again (count + 0) made are)
     by again nothing are = subst (λ (n : ℕ). RisesFrom n made) (omega arith) (again (count + 0) made are)
@@ -214,10 +211,14 @@ counted_in true limit octets gathering cut read = read.is_read.gathered.report
 
 -- ---- the laws
 
+-- how many, and the number of the first
+abbrev place_of : ℕ → Made → ℕ × ℕ
+place_of n one = (n, one.number)
+
 pub none_is_left_out : NoneIsLeftOut
 none_is_left_out made none one reason c is = never made (Listed-from_Contains made one c) nothing
   where
-    nothing_found : (found : Option Made) → option_map (λ (x : Made). (count_by (tests_for reason) made, x.number)) found ≡ None → found ≡ None
+    nothing_found : (found : Option Made) → option_map (place_of (count_by (tests_for reason) made)) found ≡ None → found ≡ None
     nothing_found None e = refl
     nothing_found (Some x) e = absurd cc
 
