@@ -7,7 +7,7 @@ from checks import TOP
 from promises import CALL, OWNER
 
 USE = re.compile(r"ghost use Rattle\.(babel_\w+)\.specs\.(\w+)\.\{([^}]*)\}")
-EXPORT = re.compile(r"pub use ([\w:]+)::\{?([\w, ]+)\}?;")
+EXPORT = re.compile(r"pub use ([\w:]+)::\{?([\w,\s]+)\}?;")
 # A contract ends where the body begins, or at the semicolon of a trait's function.
 END = re.compile(r" *\{\}?|.*;")
 WORD = re.compile(r"[^\s(){}\[\],.;&]+")
