@@ -9,7 +9,7 @@ use Rattle.babel_table.specs.TableOf.{IsTableOf}
 use Rattle.babel_canon.specs.Answers.{AnswerTheSame}
 use Rattle.babel_canon.specs.Sent.{Sent, sent}
 use Rattle.babel_canon.specs.DumpAnswers.{DumpAnswers, IsSettled, AnswerAlike}
-use Rattle.babel_canon.specs.AnswersAreTold.{AnswersAreTold}
+use Rattle.babel_canon.specs.AnswersAreTold.{AnswersAreTold, SettledIsOne}
 use Rattle.babel_canon.proofs.Headline.{forms_tell, headline}
 use Rattle.babel_canon.proofs.TableAnswers.{table_answers}
 
@@ -38,6 +38,11 @@ settled limits mode one table is_table d s d_in s_in one_family =
     let is : (a : Option Held) → DumpAnswers limits.via_v6 mode one d s a ↔ (answer ≡ a) =
     table_answers limits mode one table is_table d s d_in s_in one_family in
     (answer, (is answer).1 refl, (λ other too. sym ((is other).0 too)))
+
+pub settled_is_one : SettledIsOne
+settled_is_one via_v6 mode one is_settled d s d_in s_in one_family =
+    let is = is_settled d s d_in s_in one_family in
+    ((is.0, is.1), (λ answer other has too. is.2 answer has ∙ sym (is.2 other too)))
 
 pub answers_are_told : AnswersAreTold
 answers_are_told limits mode body bounds size one octets normal =

@@ -10,8 +10,10 @@ use Rattle.babel_capture.specs.declared.place.Place.{Place}
 use Rattle.babel_capture.specs.declared.tallies.Origin.{Origin}
 use Rattle.babel_tlv.specs.declared.view.View.{View}
 use Rattle.babel_table.specs.Rows.{Routes}
+use Rattle.babel_capture.specs.declared.wanted.Wanted.TheVariants as wanteds
+use Rattle.babel_dump.specs.CaptureGiven.{CaptureInput, capture_from}
 use Rattle.babel_dump.specs.Command.{WritesKey}
-use Rattle.babel_dump.specs.Device.{fresh}
+use Rattle.babel_dump.specs.Device.{InputState, fresh}
 use Rattle.babel_dump.specs.DiffText.{place_text}
 use Rattle.babel_dump.specs.Drained.{capture_limit}
 use Rattle.babel_dump.specs.Files.{name_of}
@@ -34,6 +36,10 @@ capture_read_by keys = record {
   accept_cut = keys.accept_cut;
   strict = keys.strict;
 }
+
+-- what a reader gave of a capture of which the dump of each sender is wanted
+abbrev pub each_from : SenderKeys → (old new : InputState) → CaptureInput
+each_from keys old new = capture_from old new (capture_read_by keys) wanteds.Each
 
 abbrev pub read_by : SenderKeys → Origin → Reading
 read_by keys origin = record {

@@ -2,14 +2,13 @@
 ghost use Rattle.std.specs.Prelude.{◌≡◌, ◌+◌, ◌-◌, ◌^◌, ◌<◌, ◌≤◌, IfErr, IfNone, IfOk, IfSome};
 ghost use Rattle.std.specs.Prelude.{filter};
 ghost use Rattle.std.specs.Map.{keys_of};
-ghost use Rattle.babel_capture.specs.declared.wanted.Wanted.TheVariants as wanteds;
-ghost use Rattle.babel_dump.specs.CaptureGiven.{GaveSound, capture_from};
+ghost use Rattle.babel_dump.specs.CaptureGiven.{GaveSound};
 ghost use Rattle.babel_dump.specs.CaptureRun.{CaptureCause, IsNoFault, capture_calls};
 ghost use Rattle.babel_dump.specs.Device.{HasRoomToCount};
-ghost use Rattle.babel_dump.specs.Parts.{Gathered as GatheredFrom};
-ghost use Rattle.babel_dump.specs.Run.{output};
+ghost use Rattle.babel_dump.specs.Run.{Called, output};
 ghost use Rattle.babel_dump.specs.SenderKeys.{IsKeyOfDump, IsSenderKey, NoKeyOfDump, NoSenderKey};
-ghost use Rattle.babel_dump.specs.SenderKeys.{capture_read_by, is_asked, read_by, sender_name};
+ghost use Rattle.babel_dump.specs.SenderKeys.{capture_read_by, each_from, is_asked, read_by};
+ghost use Rattle.babel_dump.specs.SenderKeys.{sender_name};
 ghost use Rattle.babel_dump.specs.Slices.{WroteText};
 
 use crate::byte_in::{ByteIn, FromReader};
@@ -88,10 +87,12 @@ impl SenderKeys {
         reader: &mut R,
     ) -> Result<CaptureRead, InputFault>
         requires { HasRoomToCount (R.state reader.old) }
-        ensures { let input = capture_from (R.state reader.old) (R.state reader.new)
-            (capture_read_by self.now) wanteds.Each in
-            GatheredFrom (capture_calls input) (CaptureCause input IsNoFault)
-            (λ read. GaveSound input read.gathered read.cut) result }
+        ensures ok { IfOk result (λ read. GaveSound
+            (each_from self.now (R.state reader.old) (R.state reader.new)) read.gathered read.cut) }
+        ensures cause { IfErr result (CaptureCause
+            (each_from self.now (R.state reader.old) (R.state reader.new)) IsNoFault) }
+        ensures called { Called (capture_calls
+            (each_from self.now (R.state reader.old) (R.state reader.new))) result }
     {
         read_capture(alloc, self.capture_reading(), Wanted::Each, reader)
     }
