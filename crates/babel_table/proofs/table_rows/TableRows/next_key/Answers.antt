@@ -40,7 +40,8 @@ returns-in-len1-up-v4_any_hop c =
     let v6 : List Pair = c.args.self.now.v6.now in
     let row : Pair = c.index-key-0-2.result in (
       (get_or any 0 row).1,
-      passed v4 any v6 _ _ (none_left v4 c.in_default.len_below) (first_and_rest any row c.key-in-len1-up-v4_any_hop.result c.in-len1-up-v4_any_hop.len_at_least c.key-in-len1-up-v4_any_hop.ensures.value),
+      passed v4 any v6 _ _ (none_left v4 c.in_default.len_below)
+          (first_and_rest any row c.key-in-len1-up-v4_any_hop.result c.in-len1-up-v4_any_hop.len_at_least c.key-in-len1-up-v4_any_hop.ensures.value),
     )
 
 pub returns : goal.returns
