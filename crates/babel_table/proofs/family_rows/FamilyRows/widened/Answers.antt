@@ -10,12 +10,15 @@ use Rattle.babel_table.proofs.family_rows.FamilyRows.widened.Goals as goal
 pub sort-requires : goal.sort-requires
 sort-requires g c =
     let all = c.self.inside.rows.items in
-    rw (whole-said all _ c.loop-key.key-index c.loop-key.invariant c.loop-key-test.false) (distinct-filter all c.self.invariant.indexed.distinct)
+    let left = subst (λ ws. c.loop-key.rows.items ≡ filter is_said ws) c.deref-key-items.ensures.value
+    (whole-said c.deref-key-items.result.now c.loop-key.rows.items c.loop-key.key-index c.loop-key.invariant c.loop-key-test.false) in
+    rw left (distinct-filter all c.self.invariant.indexed.distinct)
 
 pub invariant_of-result : goal.invariant_of-result
 invariant_of-result g c =
     let all = c.self.inside.rows.items in
-    let left = whole-said all _ c.loop-key.key-index c.loop-key.invariant c.loop-key-test.false in
+    let left = subst (λ ws. c.loop-key.rows.items ≡ filter is_said ws) c.deref-key-items.ensures.value
+    (whole-said c.deref-key-items.result.now c.loop-key.rows.items c.loop-key.key-index c.loop-key.invariant c.loop-key-test.false) in
     let distinct = subst (λ ws. AreDistinct (keys_of ws)) (sym left) (distinct-filter all c.self.invariant.indexed.distinct) in
     let same = standing-permuted c.sort.new.rows.items _ c.sort.ensures.same distinct in
     rw (c.len-rising.ensures ∙ c.sort.new.rows.ok.0)
@@ -24,7 +27,8 @@ invariant_of-result g c =
 pub returns : goal.returns
 returns g c =
     let all = c.self.inside.rows.items in
-    let left = whole-said all _ c.loop-key.key-index c.loop-key.invariant c.loop-key-test.false in
+    let left = subst (λ ws. c.loop-key.rows.items ≡ filter is_said ws) c.deref-key-items.ensures.value
+    (whole-said c.deref-key-items.result.now c.loop-key.rows.items c.loop-key.key-index c.loop-key.invariant c.loop-key-test.false) in
     let distinct = subst (λ ws. AreDistinct (keys_of ws)) (sym left) (distinct-filter all c.self.invariant.indexed.distinct) in
     let same = standing-permuted c.sort.new.rows.items _ c.sort.ensures.same distinct in
     same ∙ ap standing left ∙ standing-filter all c.self.invariant.indexed.distinct ∙ c.self.view_is
