@@ -5,7 +5,21 @@ use Rattle.std.specs.Map.{keys_of}
 use Rattle.babel_table.specs.Said.{standing, AreDistinct}
 use Rattle.babel_table.proofs.ListLaws.{whole-said, said-next, skipped-next}
 use Rattle.babel_table.proofs.SaidLaws.{is_said, distinct-filter, standing-filter, standing-permuted, counted-sorted}
+use Rattle.babel_table.proofs.family_rows.FamilyRows.widened.Goals.{in-Some+in_ok-push, in_default}
 use Rattle.babel_table.proofs.family_rows.FamilyRows.widened.Goals as goal
+
+pub loop-key-preserved : goal.loop-key-preserved
+loop-key-preserved g c =
+    let items = c.deref-key-items.result.now in
+    let rows = c.loop-key.rows.items in
+    let word = c.loop-key-item.result in
+    elim c.match-said.branch [
+      | in-Some+in_ok-push w ↦
+          rw (w.rows-is, w.in_ok-push.ensures.items, w.copied.ensures, w.widened.ensures)
+          (said-next items rows c.loop-key.key-index c.loop-key.invariant word c.loop-key-test.true c.loop-key-item.is w.in-Some.stored w.in-Some.is)
+      | in_default w ↦
+          rw w.rows-is (skipped-next items rows c.loop-key.key-index c.loop-key.invariant word c.loop-key-test.true c.loop-key-item.is w.in_default.is)
+    ]
 
 pub sort-requires : goal.sort-requires
 sort-requires g c =
