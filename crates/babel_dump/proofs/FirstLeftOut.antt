@@ -12,7 +12,7 @@ use Rattle.babel_capture.specs.declared.wanted.Wanted.{Wanted}
 use Rattle.babel_capture.specs.Blocks.{BlockAt, sightings_behind, sightings_in}
 use Rattle.babel_capture.specs.Contents.{Content, file, section, describes, holds, nothing}
 use Rattle.babel_capture.specs.Counts.{Counts, Made, all_reasons, count_at, counts_of, is_left_for, left_for, reason_place}
-use Rattle.babel_capture.specs.Findings.{Found, passed, untold, left, refused, found}
+use Rattle.babel_capture.specs.Findings.{Found, passed, untold, left, refused, lacked, found}
 use Rattle.babel_capture.specs.Gathering.{AreMade, Gathering}
 use Rattle.babel_dump.specs.CaptureGiven.{IsReadSo}
 use Rattle.babel_dump.specs.FirstLeftOut.{IsFirstLeftOut, NoneIsLeftOut, RefusedIsFirst, made_of}
@@ -77,6 +77,7 @@ for_is reason (left other) is = ap left (one_place reason other (eqb-true (reaso
 for_is reason passed is = absurd cc
 for_is reason untold is = absurd cc
 for_is reason (refused lack) is = absurd cc
+for_is reason (lacked place sender lack) is = absurd cc
 for_is reason (found place sender packet) is = absurd cc
 
 -- the numbers of packets rise from one after this
