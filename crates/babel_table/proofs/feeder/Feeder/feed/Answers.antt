@@ -1,5 +1,6 @@
 -- A fault stays; without one, the stream takes the octets or stops within them.
 use Rattle.std.proofs.Common.{◌≡◌, Bool, ◌≢◌, ◌++◌, ℕ, List, Some, arith, refl, sym, ap, subst, ◌∙◌}
+use Rattle.babel_prefix.specs.Address.{Address}
 use Rattle.babel_tlv.specs.declared.fault.Fault.TheVariants as faults
 use Rattle.babel_tlv.specs.declared.start.Start.{Start}
 use Rattle.babel_table.specs.Bounds.{start_of}
@@ -10,9 +11,12 @@ use Rattle.babel_table.specs.contracts.feeder.Feeder.{the_view}
 use Rattle.babel_table.proofs.FeedLaws.{stays-read, stays-failed, failed-fault, failed-memory, taken-next, taken-read, failed-next, stops-failed, stops-within, may_go_on-next}
 use Rattle.babel_table.proofs.feeder.Feeder.feed.Goals as goal
 
+abbrev begun : Address → Bool → Start
+begun sender via_v6 = record { sender = sender; via_v6 = via_v6 }
+
 -- the packets begin with what the limits and the sender give
 started : (f : Feeder) → f.stream.start.via_v6 ≡ f.limits.via_v6 → f.stream.start ≡ start_of f.limits f.stream.start.sender
-started f is = ap (λ (b : Bool). record { sender = f.stream.start.sender; via_v6 = b }) is
+started f is = ap (begun f.stream.start.sender) is
 
 pub returns-in-Some-clause-fed : goal.returns-in-Some-clause-fed
 returns-in-Some-clause-fed c =
