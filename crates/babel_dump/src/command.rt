@@ -81,9 +81,12 @@ const AFTER_KEY: &str = after_help!(
     refused: "a dump or a capture";
     "Each line is the key, two blanks and the file, as sha256sum writes it. Keys of one --ignore \
      and one --hold are equal exactly if the answers are, or, with --routes, the routes. The \
-     status is the greatest of all files.\n",
+     status is the greatest of all files. Without --from each sender in a capture has a line, with \
+     its address and its place after the file; --interface keeps those at one place, and \
+     --max-routes counts the routes of all.\n",
     examples:
     "key --from fe80::1 before.pcap now.pcap",
+    "key --quiet x.pcap",
     "key --routes --ignore seqno --from fe80::1 x.pcap";
     "0  done"
 );
@@ -244,7 +247,13 @@ fn key<'a>(alloc: Global) -> Result<Command<'a>, AllocError> {
         .value_name("FILE")
         .action(ArgAction::Append)
         .help("The dumps, or the captures that have them; standard input if omitted or -");
-    with_reading(alloc, command)?
+    let from = address(
+        alloc,
+        "from",
+        "The source address of the packets; if omitted, each sender in a capture has a key",
+    );
+    let command = command.arg(from.required(false))?.arg(interface(alloc))?;
+    with_settings(alloc, command)?
         .arg(strict(alloc))?
         .arg(ignore(alloc))?
         .arg(routes(alloc, "Make the keys of the routes, not of the answers"))?

@@ -1,7 +1,7 @@
 //! The program's words: jobs, refusals and help.
 use super::{address, one_job, split};
 use babel_dump::{
-    DiffStyle, DumpFile, Format, Job, Listed, Reading, Refusal, Spelling, read_words,
+    Asked, DiffStyle, DumpFile, Format, Job, Listed, Reading, Refusal, Spelling, read_words,
 };
 use babel_prefix::Addr;
 use babel_table::Limits;
@@ -195,7 +195,7 @@ fn words_of_jobs(rt: HostRuntime) -> Result<(), Fail> {
 #[test]
 fn words_of_a_job_for_each_file(rt: HostRuntime) -> Result<(), Fail> {
     let words = ["key", "a", "--from", "::", "-", "b"];
-    let Ok(jobs) = read_words(rt.alloc(), &words, false) else {
+    let Ok(Asked::Jobs(jobs)) = read_words(rt.alloc(), &words, false) else {
         return Err(Fail::from("no jobs"));
     };
     assert_eq!(rt; jobs.len(), 3);
@@ -229,7 +229,7 @@ fn words_of_styles(rt: HostRuntime) -> Result<(), Fail> {
     for (line, is_terminal, stat, coloured) in &STYLES {
         let (stat, coloured) = (*stat, *coloured);
         match read_words(rt.alloc(), &split(rt.alloc(), line)?, *is_terminal) {
-            Ok(jobs) => match jobs.first() {
+            Ok(Asked::Jobs(jobs)) => match jobs.first() {
                 Some(Job::Diff { style, .. }) => {
                     assert_eq!(rt;
                         *style,
@@ -243,7 +243,7 @@ fn words_of_styles(rt: HostRuntime) -> Result<(), Fail> {
                 }
                 _ => return Err(Fail::from("another job")),
             },
-            Err(_refusal) => return Err(Fail::from("no job")),
+            Ok(Asked::SenderKeys(_)) | Err(_) => return Err(Fail::from("no job")),
         }
     }
     Ok(())
