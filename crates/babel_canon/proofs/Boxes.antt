@@ -182,7 +182,8 @@ box_held rows boxes are box member =
     let is_answer = is_box.answered row.dst.start row.src.start is_box.dst_is_prefix.start_in_range is_box.src_is_prefix.start_in_range refl refl in
     let top = top-from_answer (width_of family) (rows_in family (entries_of rows)) row.dst.start row.src.start box.1 is_answer in
     let from = pair_of_row family rows top.0 (Contains-from_Listed (rows_in family (entries_of rows)) top.0 top.1.listed) in
-    record { pair = from.pair; member = from.member; family = from.of_family.0; fits_too = ap (λ (r : Row Held). r.value) from.is_row ∙ top.2 }
+    let value : from.pair.1 ≡ top.0.value = ap (λ (r : Row Held). r.value) from.is_row in
+    record { pair = from.pair; member = from.member; family = from.of_family.0; fits_too = value ∙ top.2 }
 
 -- boxes of what answers the same
 pub boxes_too : (rows others boxes : List Pair) → AnswerTheSame rows others → AreBoxes rows boxes → AreBoxes others boxes

@@ -17,15 +17,11 @@ use Rattle.babel_tlv.specs.declared.event.Event.TheVariants as events
 use Rattle.babel_tlv.specs.declared.held.Held.{Held}
 use Rattle.babel_tlv.specs.declared.held.Held.TheVariants as helds
 use Rattle.babel_tlv.specs.declared.mode.Mode.{Mode}
-use Rattle.babel_tlv.specs.declared.prefix_encoding.PrefixEncoding.{PrefixEncoding}
-use Rattle.babel_tlv.specs.declared.prefix_encoding.PrefixEncoding.TheVariants.{Ipv4, Ipv6}
-use Rattle.babel_tlv.specs.declared.prefix_encoding.PrefixEncoding.TheVariants.{Ipv4ViaIpv6}
 use Rattle.babel_tlv.specs.declared.start.Start.{Start}
-use Rattle.babel_tlv.specs.Encodings.{is_named, prefix_family}
 use Rattle.babel_tlv.specs.Framing.{TlvAt}
 use Rattle.babel_tlv.specs.Framing.{tlvs_of}
 use Rattle.babel_tlv.specs.Forming.{field_len, formed, update_encoding, update_metric}
-use Rattle.babel_tlv.specs.Context.{Context, context_after, next_hop_in_context, update_prefix}
+use Rattle.babel_tlv.specs.Context.{Context, context_after, next_hop_in_context}
 use Rattle.babel_tlv.specs.Updating.{updated}
 use Rattle.babel_tlv.specs.Says.{current_router_id}
 use Rattle.babel_tlv.specs.Route.{RouteKey, Announcement, is_reserved}
@@ -57,32 +53,35 @@ prefix_at-clean : (len : ℕ) (a : Address) → IsClean (prefix_at len a)
 prefix_at-clean len a = mul-mod_left (leading_bits (width_of a.family) len a.bits)
     (2 ^ (width_of a.family - len))
 
-formed-clean : (via_v6 : Bool) (encoding : PrefixEncoding) (default : Option Address) (tlv : TlvAt)
-    → IfSome (update_prefix via_v6 encoding default tlv) IsClean
-formed-clean via_v6 encoding default tlv =
-    by (eqb tlv.kind 8 && leb 10 (length tlv.body)
-    && is_named via_v6 encoding (update_encoding tlv.body))
-    (result_ok (formed (prefix_family encoding) default tlv.body))
-    (formed-holds IsClean (prefix_family encoding) default tlv.body
-    (λ len octets. prefix_at-clean len _))
-  where
-    by : (b : Bool) (p : Option AddressPrefix) → IfSome p IsClean → IfSome (cond b p None) IsClean
-    by true p clean = clean
-    by false p clean = tt
+formed-clean : (family : Family) (default : Option Address) (body : List ℕ)
+    → IfSome (result_ok (formed family default body)) IsClean
+formed-clean family default body =
+    formed-holds IsClean family default body (λ len octets. prefix_at-clean len _)
+
+if-clean : (b : Bool) (p : Option AddressPrefix) → IfSome p IsClean → IfSome (cond b p None) IsClean
+if-clean true p clean = clean
+if-clean false p clean = tt
+
+or-clean : (b : Bool) (p q : Option AddressPrefix) → IfSome p IsClean → IfSome q IsClean
+    → IfSome (option_or (cond b p None) q) IsClean
+or-clean true None q p_clean q_clean = q_clean
+or-clean true (Some prefix) q p_clean q_clean = p_clean
+or-clean false p q p_clean q_clean = q_clean
 
 formed_in-clean : (context : Context) (tlv : TlvAt) → IfSome (formed_in context tlv) IsClean
 formed_in-clean context tlv =
-    let via_v6 = context.via_v6 in
-    by (update_prefix via_v6 Ipv4 context.default_v4 tlv) _
-    (formed-clean via_v6 Ipv4 context.default_v4 tlv)
-    (by (update_prefix via_v6 Ipv6 context.default_v6 tlv) _
-    (formed-clean via_v6 Ipv6 context.default_v6 tlv)
-    (formed-clean via_v6 Ipv4ViaIpv6 context.default_v4_via_v6 tlv))
-  where
-    by : (p q : Option AddressPrefix) → IfSome p IsClean → IfSome q IsClean
-        → IfSome (option_or p q) IsClean
-    by None q p_clean q_clean = q_clean
-    by (Some prefix) q p_clean q_clean = p_clean
+    let body = tlv.body in
+    let update = eqb tlv.kind 8 && leb 10 (length body) in
+    let one = update && (eqb (update_encoding body) 1 && true) in
+    let two = update && (eqb (update_encoding body) 2 && true) in
+    let four = update && (eqb (update_encoding body) 4 && context.via_v6) in
+    let p = result_ok (formed V4 context.default_v4 body) in
+    let q = result_ok (formed V6 context.default_v6 body) in
+    let r = result_ok (formed V4 context.default_v4_via_v6 body) in
+    or-clean one p (option_or (cond two q None) (cond four r None))
+    (formed-clean V4 context.default_v4 body)
+    (or-clean two q (cond four r None) (formed-clean V6 context.default_v6 body)
+    (if-clean four r (formed-clean V4 context.default_v4_via_v6 body)))
 
 whole-clean : (family : Family) → IsClean (whole_family family)
 whole-clean V4 = refl

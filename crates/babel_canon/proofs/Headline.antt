@@ -107,7 +107,7 @@ told_one start octets ps qs one other =
     (sym one.fine ∙ ap (λ (packets : List (List TlvAt)). map what_of (sayings start packets)) packets_are ∙ other.fine) in
     events_tell ps qs (sym one.news ∙ ap spoken said_are ∙ other.news)
 
-any_start : Start
+abbrev any_start : Start
 any_start = record { sender = record { family = V4; bits = 0 }; via_v6 = true }
 
 pub back : (mode : Mode) (body : ℕ) (pairs : List Pair) (octets : List ℕ) (start : Start) → IsBodySize body → AreRows pairs → HopsFit start.via_v6 pairs → AreReadableIn mode pairs

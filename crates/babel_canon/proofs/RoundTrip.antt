@@ -26,7 +26,8 @@ table_news : (limits : Bounds) (mode : Mode) (sender : Address) (octets : List �
 table_news limits mode sender octets pairs table tells is_table =
     let packets_are : tells.packets ≡ is_table.packets = framed_one octets tells.packets is_table.packets tells.reads is_table.reads in
     let said = AreFine-said mode limits.entries [] (sayings (start_of limits sender) is_table.packets) is_table.said is_table.fine in
-    let told_is : said.told ≡ tells.said = oks_one said.told tells.said (sym said.whats ∙ ap (λ (ps : List (List TlvAt)). map what_of (sayings (start_of limits sender) ps)) (sym packets_are) ∙ tells.fine) in
+    let told_is : said.told ≡ tells.said = oks_one said.told tells.said
+    (sym said.whats ∙ ap (λ (ps : List (List TlvAt)). map what_of (sayings (start_of limits sender) ps)) (sym packets_are) ∙ tells.fine) in
     ap spoken (said.parts ∙ told_is) ∙ tells.news
 
 table_rows : (limits : Bounds) (mode : Mode) (sender : Address) (octets : List ℕ) (pairs : List Pair) (table : Routes) → TellsPairs (start_of limits sender) octets pairs → HaveDistinctKeys pairs

@@ -16,23 +16,22 @@ use Rattle.babel_tlv.specs.declared.event.Event.{Event}
 use Rattle.babel_tlv.specs.declared.event.Event.TheVariants as events
 use Rattle.babel_tlv.specs.declared.fault.Fault.{Fault}
 use Rattle.babel_tlv.specs.declared.fault.Fault.TheVariants as faults
+use Rattle.babel_tlv.specs.declared.held.Held.{Held}
+use Rattle.babel_tlv.specs.declared.held.Held.TheVariants as helds
 use Rattle.babel_tlv.specs.declared.reason.Reason.{Reason}
 use Rattle.babel_tlv.specs.declared.reason.Reason.TheVariants as reasons
-use Rattle.babel_tlv.specs.declared.place.Place.TheVariants as places
-use Rattle.babel_tlv.specs.declared.prefix_encoding.PrefixEncoding.{PrefixEncoding}
-use Rattle.babel_tlv.specs.declared.prefix_encoding.PrefixEncoding.TheVariants.{Ipv4, Ipv6}
-use Rattle.babel_tlv.specs.declared.prefix_encoding.PrefixEncoding.TheVariants.{Ipv4ViaIpv6}
 use Rattle.babel_tlv.specs.declared.start.Start.{Start}
-use Rattle.babel_tlv.specs.Encodings.{hop_family, number_of, prefix_family}
+use Rattle.babel_tlv.specs.Encodings.{hop_family, prefix_family}
 use Rattle.babel_tlv.specs.Framing.{TlvAt, tlvs_of}
+use Rattle.babel_tlv.specs.Group.{encoding_for}
 use Rattle.babel_tlv.specs.Forming.{update_encoding, update_metric, prefix_len, omitted, field_len}
 use Rattle.babel_tlv.specs.Forming.{formed, next_hop_in, prefix_from, sets_router_id}
 use Rattle.babel_tlv.specs.Route.{RouteKey, Announcement, is_reserved}
-use Rattle.babel_tlv.specs.SubTlv.{source_of, sub_reason}
+use Rattle.babel_tlv.specs.SubTlv.{source_of}
 use Rattle.babel_tlv.specs.Context.{Context, context_after, next_hop_in_context}
 use Rattle.babel_tlv.specs.Says.{said, sayings, sayings_behind, unless_ignored, router_id_event}
 use Rattle.babel_tlv.specs.Says.{hop_event, wildcard_event, announce_event, current_router_id}
-use Rattle.babel_tlv.specs.Says.{prefix_event, update_said}
+use Rattle.babel_tlv.specs.Says.{key_event, prefix_event, update_said}
 use Rattle.babel_tlv.specs.Updating.{updated}
 use Rattle.babel_tlv.proofs.Telling.{says_in, what_of, sayings_behind-says_in}
 use Rattle.babel_canon.specs.Items.{are_all_of, is_optional, fit_update}
@@ -122,49 +121,53 @@ prefix_by false infinite (Some reason) key route announced event e same is = ref
 prefix_by true infinite (Some reason) key route announced event e same is = absurd cc
 prefix_by false infinite None key route announced event e same is = absurd cc
 
--- the next hop's family by the number of the encoding is the encoding's
-hop_family-is : (encoding : PrefixEncoding) (body : List ℕ) (prefix : AddressPrefix)
-    → update_encoding body ≡ number_of encoding → prefix.address.family ≡ prefix_family encoding
-    → hop_family_of body prefix ≡ hop_family encoding
-hop_family-is Ipv4 body prefix number of = rw number of
-hop_family-is Ipv6 body prefix number of = rw number of
-hop_family-is Ipv4ViaIpv6 body prefix number of = rw number refl
+-- the next hop is of the prefix's family, but in encoding 4 of IPv6
+hop_family-same : (body : List ℕ) (prefix : AddressPrefix) (n : ℕ) → update_encoding body ≡ n
+    → eqb n 4 ≡ false → hop_family_of body prefix ≡ prefix.address.family
+hop_family-same body prefix n is other = rw (is, other) refl
+
+hop_family-via : (body : List ℕ) (prefix : AddressPrefix) → update_encoding body ≡ 4
+    → hop_family_of body prefix ≡ V6
+hop_family-via body prefix is = rw is refl
 
 module _ (context : Context) where
-  -- what an Update says by a prefix of a family, with a next hop of a family
-  abbrev said_in : Family → Family → List ℕ → AddressPrefix → Event
-  said_in family hop body prefix =
+  -- what an Update tells by a prefix of a family, with a next hop of a family
+  abbrev tells_in : Family → Family → List ℕ → AddressPrefix → Event
+  tells_in family hop body prefix =
       let octets = drop (10 + field_len body) body in
-      let key : RouteKey = record { dst = prefix; src = source_of family (tlvs_of 0 octets) } in
-      unless_ignored (sub_reason (places.InUpdate family) octets)
+      let items = tlvs_of 0 octets in
+      let key : RouteKey = record { dst = prefix; src = source_of family items } in
+      cond (not (are_all_of octets items && fit_update family items)) events.Nothing
       (cond (eqb (update_metric body) 65535) (events.Retract key)
-      (announce_event key body (current_router_id context body prefix)
+      (route_tells key body (current_router_id context body prefix)
       (next_hop_in_context hop context)))
 
-  update-quiet : (body : List ℕ) (prefix : AddressPrefix) → update_tells context body (Some prefix)
-      ≡ quiet (said_in prefix.address.family (hop_family_of body prefix) body prefix)
-  update-quiet body prefix =
-      let family = prefix.address.family in
+  update-quiet : (encoding : _) (body : List ℕ) (prefix : AddressPrefix)
+      → tells_in (prefix_family encoding) (hop_family encoding) body prefix
+      ≡ quiet (prefix_event encoding context body (Ok prefix))
+  update-quiet encoding body prefix =
+      let family = prefix_family encoding in
       let octets = drop (10 + field_len body) body in
       let items = tlvs_of 0 octets in
       let id = current_router_id context body prefix in
-      let hop = next_hop_in_context (hop_family_of body prefix) context in
+      let hop = next_hop_in_context (hop_family encoding) context in
       let key : RouteKey = record { dst = prefix; src = source_of family items } in
       prefix_by (are_all_of octets items && fit_update family items)
       (eqb (update_metric body) 65535) _ key (route_tells key body id hop)
-      (announce_event key body id hop) _
+      (announce_event key body id hop) (key_event encoding context body prefix key)
       (search sub-update) (route-quiet key body id hop) refl
 
   -- what is formed tells what it says; what forms nothing tells nothing
-  prefix-quiet : (encoding : PrefixEncoding) (body : List ℕ) (is : Result AddressPrefix Reason)
-      → update_encoding body ≡ number_of encoding
+  prefix-quiet : (encoding : _) (body : List ℕ) (is : Result AddressPrefix Reason)
+      → ((prefix : AddressPrefix) → prefix.address.family ≡ prefix_family encoding
+      → hop_family_of body prefix ≡ hop_family encoding)
       → IfSome (result_ok is) (λ prefix. prefix.address.family ≡ prefix_family encoding)
       → update_tells context body (result_ok is) ≡ quiet (prefix_event encoding context body is)
-  prefix-quiet encoding body (Err reason) number of = refl
-  prefix-quiet encoding body (Ok prefix) number of = update-quiet body prefix
-      ∙ ap (λ (f : Family). quiet (said_in f (hop_family_of body prefix) body prefix)) of
-      ∙ ap (λ (f : Family). quiet (said_in (prefix_family encoding) f body prefix))
-      (hop_family-is encoding body prefix number of)
+  prefix-quiet encoding body (Err reason) hop of = refl
+  prefix-quiet encoding body (Ok prefix) hop of =
+      ap (λ (f : Family). tells_in f (hop_family_of body prefix) body prefix) of
+      ∙ ap (λ (f : Family). tells_in (prefix_family encoding) f body prefix) (hop prefix of)
+      ∙ update-quiet encoding body prefix
 
 -- what holds of each prefix of a family, whatever its octets, holds of one that is formed
 pub formed-holds : (Holds : AddressPrefix → Type 0) (family : Family) (default : Option Address)
@@ -184,6 +187,11 @@ formed-holds Holds family default body each =
     by false false false true prefix holds = tt
     by false false false false prefix holds = holds
 
+formed-family : (family : Family) (default : Option Address) (body : List ℕ)
+    → IfSome (result_ok (formed family default body)) (λ p. p.address.family ≡ family)
+formed-family family default body =
+    formed-holds (λ p. p.address.family ≡ family) family default body (λ len octets. refl)
+
 -- ---- any TLV
 
 or_none : (p : Option AddressPrefix) → option_or p None ≡ p
@@ -201,19 +209,25 @@ encoding_by : (n : ℕ) (via : Bool) (wild : Event) (told : Option AddressPrefix
     (option_or (cond (eqb n 2 && true) q None) (cond (eqb n 4 && via) r None))))
     ≡ quiet_of (cond (eqb n 0) (Ok wild_said) (cond (eqb n 1 && true) (Ok one_said)
     (cond (eqb n 2 && true) (Ok two_said) (cond (eqb n 4 && via) (Ok four_said) refused))))
-encoding_by zero via wild told p q r refused wild_said one two four none no w o t f = w
-encoding_by (suc zero) via wild told p q r refused wild_said one two four none no w o t f =
+encoding_by zero via wild told p q r refused wild_said one two four none unread w o t f = w
+encoding_by (suc zero) via wild told p q r refused wild_said one two four none unread w o t f =
     ap told (or_none p) ∙ o refl
-encoding_by (suc (suc zero)) via wild told p q r refused wild_said one two four none no w o t f =
+encoding_by (suc (suc zero)) via wild told p q r refused wild_said one two four none unread w o t f =
     ap told (or_none q) ∙ t refl
-encoding_by (suc (suc (suc zero))) via wild told p q r refused wild_said one two four none no w o t
-    f = none ∙ sym no
-encoding_by (suc (suc (suc (suc zero)))) true wild told p q r refused wild_said one two four none no
+encoding_by (suc (suc (suc zero))) via wild told p q r refused wild_said one two four none unread w o t
+    f = none ∙ sym unread
+encoding_by (suc (suc (suc (suc zero)))) true wild told p q r refused wild_said one two four none unread
     w o t f = f refl
 encoding_by (suc (suc (suc (suc zero)))) false wild told p q r refused wild_said one two four none
-    no w o t f = none ∙ sym no
+    unread w o t f = none ∙ sym unread
 encoding_by (suc (suc (suc (suc (suc n))))) via wild told p q r refused wild_said one two four none
-    no w o t f = none ∙ sym no
+    unread w o t f =
+    let k : ℕ = suc (suc (suc (suc (suc n)))) in
+    let zero_not : eqb k 0 ≡ false = grind (arith, nat_tests) in
+    let one_not : eqb k 1 ≡ false = grind (arith, nat_tests) in
+    let two_not : eqb k 2 ≡ false = grind (arith, nat_tests) in
+    let four_not : eqb k 4 ≡ false = grind (arith, nat_tests) in
+    rw (zero_not, one_not, two_not, four_not) (none ∙ sym unread)
 
 unread-quiet : (sets : Bool) (at : ℕ) → quiet_of (cond sets (Err (faults.EncodingSetsRouterId at))
     (Ok (events.Ignored reasons.UnknownEncoding))) ≡ events.Nothing
@@ -246,6 +260,15 @@ other_by true hop id_says hop_says update i h = sym i
 other_by false true id_says hop_says update i h = sym h
 other_by false false id_says hop_says update i h = refl
 
+-- a route with a next hop of IPv6, which of IPv4 is of encoding 4
+abbrev via_v6_route : Held
+via_v6_route = helds.Route (record {
+  router_id = [];
+  seqno = 0;
+  metric = 0;
+  next_hop = record { family = V6; bits = 0 };
+})
+
 abbrev tlv_at : ℕ → ℕ → List ℕ → TlvAt
 tlv_at at kind body = record { at = at; kind = kind; body = body }
 
@@ -267,15 +290,15 @@ module _ (context : Context) where
           (update_tells context body) (result_ok four) (result_ok six) (result_ok four_via_six) _
           (wildcard_event body) _ _ _
           refl (unread-quiet (sets_router_id body) at) (wildcard-quiet body)
-          (λ number. prefix-quiet context Ipv4 body four number (of V4 context.default_v4 body))
-          (λ number. prefix-quiet context Ipv6 body six number (of V6 context.default_v6 body))
-          (λ number. prefix-quiet context Ipv4ViaIpv6 body four_via_six number
-          (of V4 context.default_v4_via_v6 body)))
-
-      of : (family : Family) (default : Option Address) (body : List ℕ)
-          → IfSome (result_ok (formed family default body)) (λ p. p.address.family ≡ family)
-      of family default body =
-          formed-holds (λ p. p.address.family ≡ family) family default body (λ len octets. refl)
+          (λ number. prefix-quiet context (encoding_for V4 helds.Unreachable) body four
+          (λ prefix is. hop_family-same body prefix 1 number refl ∙ is)
+          (formed-family V4 context.default_v4 body))
+          (λ number. prefix-quiet context (encoding_for V6 helds.Unreachable) body six
+          (λ prefix is. hop_family-same body prefix 2 number refl ∙ is)
+          (formed-family V6 context.default_v6 body))
+          (λ number. prefix-quiet context (encoding_for V4 via_v6_route) body four_via_six
+          (λ prefix is. hop_family-via body prefix number)
+          (formed-family V4 context.default_v4_via_v6 body)))
 
   -- what a TLV tells is what it says, without the reasons
   pub tells-said : (tlv : TlvAt) → tells context tlv ≡ quiet_of (said context tlv)

@@ -22,9 +22,8 @@ use Rattle.babel_tlv.proofs.GroupTold.{HopsFit}
 use Rattle.babel_tlv.proofs.ViewLaws.{seen_hop_fits, seen_tells_apart, seen_twice_is_seen}
 use Rattle.babel_table.specs.Bounds.{Bounds, AreBounds}
 use Rattle.babel_table.specs.Rows.{entries_of}
-use Rattle.babel_table.specs.TableRows.{AreRows}
 use Rattle.babel_table.specs.Seen.{seen_row, seen_rows}
-use Rattle.babel_table.proofs.SeenLaws.{all_rows, seen_are_rows}
+use Rattle.babel_table.proofs.SeenLaws.{all_rows}
 use Rattle.babel_table.proofs.HopLaws.{hops_fit}
 use Rattle.babel_canon.specs.Boxes.{AreBoxes}
 use Rattle.babel_canon.specs.Answers.{AnswerTheSame}

@@ -20,7 +20,8 @@ TableAnswers =
     (limits : Bounds) (mode : Mode) (one : Sent) (table : Routes)
     → IsTableOf limits mode one.sender one.dump table
     → (d s : Address) → IsAddress d → IsAddress s → d.family ≡ s.family → (answer : Option Held)
-    → DumpAnswers limits.via_v6 mode one d s answer ↔ (answer_for (entries_of table.rows) d s ≡ answer)
+    → DumpAnswers limits.via_v6 mode one d s answer
+    ↔ (answer_for (entries_of table.rows) d s ≡ answer)
 
 -- a dump with a table has one answer for two addresses
 abbrev pub AnswerIsOne : Type 0

@@ -57,7 +57,8 @@ pub record ReadsBack (mode : Mode) (start : Start) (octets : List ℕ)
       → HasNoFault limits mode start.sender octets
   pub short : length octets ≤ 83 * length pairs
   pub table : (limits : Bounds) (table : Routes) → limits.via_v6 ≡ start.via_v6
-      → IsTableOf limits mode start.sender octets table → (pair : Pair) → Contains table.rows pair ↔ Contains pairs pair
+      → IsTableOf limits mode start.sender octets table → (pair : Pair)
+      → Contains table.rows pair ↔ Contains pairs pair
 
 -- the canonical text of pairs with distinct keys, with any sender, is read back as the pairs, where
 -- encoding 4 is read if some pair needs it

@@ -1,6 +1,6 @@
 -- What `extract` writes has no fault of framing but a TLV past the end of its packet.
 use Rattle.std.proofs.Common.{◌≡◌, ◌≢◌, ℕ, Bool, true, false, List, [], ◌∷◌, ◌++◌, length, take, drop, refl, sym, ap, subst, ◌∙◌, append_assoc, inl, inr, cond, nat_lt, ◌==◌}
-use Rattle.std.specs.Prelude.{Option, Result, Ok, Err, IfErr}
+use Rattle.std.specs.Prelude.{Option, Result, Ok, Err, IfErr, ◌&&◌}
 use Rattle.std.specs.List.{AllByRecursion, flat_map}
 use Rattle.std.proofs.lemmas.List.{append_cancel_left, take-append-drop}
 use Rattle.babel_prefix.specs.Address.{Address}
@@ -8,10 +8,8 @@ use Rattle.babel_tlv.specs.declared.event.Event.{Event}
 use Rattle.babel_tlv.specs.declared.fault.Fault.{Fault}
 use Rattle.babel_tlv.specs.declared.fault.Fault.TheVariants as faults
 use Rattle.babel_tlv.specs.declared.mode.Mode.{Mode}
-use Rattle.babel_tlv.specs.declared.prefix_encoding.PrefixEncoding.TheVariants.{Ipv4, Ipv4ViaIpv6, Ipv6}
 use Rattle.babel_tlv.specs.declared.start.Start.{Start}
 use Rattle.babel_tlv.specs.Context.{Context}
-use Rattle.babel_tlv.specs.Encodings.{is_named}
 use Rattle.babel_tlv.specs.Forming.{sets_router_id, update_encoding}
 use Rattle.babel_tlv.specs.FrameFaults.{PacketFault}
 use Rattle.babel_tlv.specs.Framing.{TlvAt, packet_octets}
@@ -43,11 +41,9 @@ event_none = record { none = tt }
 
 update_none : (context : Context) (tlv : TlvAt) → NoFraming (update_said context tlv)
 update_none context tlv =
-    either_none (nat_lt (length tlv.body) 10) event_none
-    (either_none (update_encoding tlv.body == 0) event_none
-    (either_none (is_named context.via_v6 Ipv4 (update_encoding tlv.body)) event_none
-    (either_none (is_named context.via_v6 Ipv6 (update_encoding tlv.body)) event_none
-    (either_none (is_named context.via_v6 Ipv4ViaIpv6 (update_encoding tlv.body)) event_none
+    let encoding : ℕ = update_encoding tlv.body in
+    either_none (nat_lt (length tlv.body) 10) event_none (either_none (encoding == 0) event_none
+    (either_none (encoding == 1 && true) event_none (either_none (encoding == 2 && true) event_none (either_none (encoding == 4 && context.via_v6) event_none
     (either_none (sets_router_id tlv.body) (record { none = λ framing. framing }) event_none)))))
 
 said_none : (context : Context) (tlv : TlvAt) → NoFraming (said context tlv)

@@ -73,15 +73,15 @@ pub const FAULTY_SUB_TLVS: &str =
 /// A route in address encoding 4.
 pub const OTHER_ENCODING: &str = "2a02000d 080b040008000640000101000a";
 
-/// From fe80::1, in address encoding 4: 10.1.0.0/24 and 10.1.2.0/24, whose first octets are those of
-/// the route before; an Update of encoding 1 that has no default prefix; a retraction of 10.0.0.0/8;
-/// and a Next Hop of encoding 4.
+/// From fe80::1, in address encoding 4: 10.1.0.0/24 and 10.1.2.0/24, whose first octets are those
+/// of the route before; an Update of encoding 1 that has no default prefix; a retraction of
+/// 10.0.0.0/8; and a Next Hop of encoding 4.
 pub const VIA_V6: &str = "2a02004a 060a0000 0200000000000001 080d04801800064000010100 0a0100 \
      080b04001802064000010200 02 080b01001802064000010200 02 080b0400080006400000ffff 0a \
      07060400 c0000209";
 
-/// From fe80::1: 10.0.0.0/8, 20.0.0.0/8 and 30.0.0.0/8 in encodings 1, 4 and 1, by 192.0.2.1 and the
-/// sender; 10.0.0.0/8 again in encoding 4, with metric 512; and retractions of 20.0.0.0/8 in
+/// From fe80::1: 10.0.0.0/8, 20.0.0.0/8 and 30.0.0.0/8 in encodings 1, 4 and 1, by 192.0.2.1 and
+/// the sender; 10.0.0.0/8 again in encoding 4, with metric 512; and retractions of 20.0.0.0/8 in
 /// encoding 1 and of 30.0.0.0/8 in encoding 4.
 pub const EITHER_ENCODING: &str =
     "2a020062 060a0000 0200000000000001 07060100 c0000201 080b010008000640000101000a \

@@ -50,8 +50,8 @@ take-within bytes front more fits =
 
 module _ (limits : Bounds) (mode : Mode) (sender : Address) where
   -- a fault of octets within the limit stays that of the dump
-  pub dump_fault : (front more : List ℕ) (fault : Fault) → length front ≤ limits.bytes → ¬ IsTruncated fault → ((more : List ℕ) → StreamFault mode limits.entries (start_of limits sender) (front ++ more) fault)
-      → DumpFault limits mode sender (front ++ more) fault
+  pub dump_fault : (front more : List ℕ) (fault : Fault) → length front ≤ limits.bytes → ¬ IsTruncated fault
+      → ((more : List ℕ) → StreamFault mode limits.entries (start_of limits sender) (front ++ more) fault) → DumpFault limits mode sender (front ++ more) fault
   dump_fault front more fault fits whole stream = by (length (front ++ more) - limits.bytes) refl
     where
       by : (past : ℕ) → length (front ++ more) - limits.bytes ≡ past → DumpFault limits mode sender (front ++ more) fault
@@ -59,7 +59,8 @@ module _ (limits : Bounds) (mode : Mode) (sender : Address) where
       by (suc n) is =
           inr (inl (
             omega (arith, is),
-            subst (λ (t : List ℕ). StreamFault mode limits.entries (start_of limits sender) t fault) (sym (take-within limits.bytes front more fits)) (stream (take (limits.bytes - length front) more)),
+            subst (λ (t : List ℕ). StreamFault mode limits.entries (start_of limits sender) t fault) (sym (take-within limits.bytes front more fits))
+                (stream (take (limits.bytes - length front) more)),
             whole,
           ))
 

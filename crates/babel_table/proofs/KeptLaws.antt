@@ -15,15 +15,13 @@ use Rattle.babel_prefix.specs.declared.family.Family.TheVariants.{V4, V6}
 use Rattle.babel_tlv.specs.Route.{RouteKey}
 use Rattle.babel_tlv.specs.Keys.{key_cmp}
 use Rattle.babel_prefix.specs.Address.{Address}
-use Rattle.babel_prefix.specs.Width.{same_family}
 use Rattle.babel_tlv.specs.declared.held.Held.{Held}
-use Rattle.babel_tlv.specs.declared.held.Held.TheVariants as helds
 use Rattle.babel_tlv.specs.Pair.{Pair}
-use Rattle.babel_tlv.specs.Pairs.{FitsKey, IsPair}
+use Rattle.babel_tlv.specs.Pairs.{IsPair}
 use Rattle.babel_table.specs.BestMatch.{ContainsBoth, HasBestMatch, HasNoMatch}
 use Rattle.babel_table.specs.Live.{Kept, current, live_rows}
 use Rattle.babel_table.specs.TableRows.{AreRows}
-use Rattle.babel_table.specs.Compact.{AreOf, CanKeep, is_via_v6}
+use Rattle.babel_table.specs.Compact.{AreOf}
 
 abbrev IsOf : Family → RouteKey → Type 0
 IsOf family key = key.dst.address.family ≡ family
@@ -215,24 +213,3 @@ match-v6 (Some held) a b d s are of best = record {
   matching = best.matching;
   best = λ row c both. elim (Contains-append_cases a b row c) [ inl left ↦ absurd (not_of V4 V6 a row d s (λ e. absurd cc) are of left both) | inr right ↦ best.best row right both ];
 }
-
--- ---- the next hops that can be kept
-
--- of an IPv6 key: of IPv6 alone
-pub keeps-v6 : (key : RouteKey) (held : Held) → IsOf V6 key → FitsKey key held → CanKeep (λ a. a.family ≡ V6) held
-keeps-v6 key (helds.Route ann) is (fits, inl same) = (fits, same ∙ is)
-keeps-v6 key (helds.Route ann) is (fits, inr (via, v4, v6)) = (fits, v6)
-keeps-v6 key helds.Unreachable is fits = tt
-
--- of an IPv4 key: of IPv4 alone, if none is of IPv6
-pub keeps-v4 : (key : RouteKey) (held : Held) → IsOf V4 key → is_via_v6 held ≡ false → FitsKey key held → CanKeep (λ a. a.family ≡ V4) held
-keeps-v4 key (helds.Route ann) is not_via (fits, inl same) = (fits, same ∙ is)
-keeps-v4 key (helds.Route ann) is not_via (fits, inr (via, v4, v6)) =
-    let is_via : same_family ann.next_hop.family V6 ≡ true = ap (λ (f : Family). same_family f V6) v6 in
-    absurd cc
-keeps-v4 key helds.Unreachable is not_via fits = tt
-
--- of any key: any
-pub keeps-any : (key : RouteKey) (held : Held) → FitsKey key held → CanKeep (λ _. Unit {0}) held
-keeps-any key (helds.Route ann) fits = (fits.0, tt)
-keeps-any key helds.Unreachable fits = tt

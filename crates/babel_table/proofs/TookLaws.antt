@@ -1,6 +1,6 @@
 -- TLVs of a packet, taken one by one.
 use Rattle.std.proofs.Common.{◌≡◌, ℕ, zero, suc, ◌+◌, ◌≤◌, ltb, Bool, true, false, cond, take, List, [], ◌∷◌, ◌++◌, length, refl, sym, ap, subst, ◌∙◌, append_assoc, inl, inr, arith}
-use Rattle.std.specs.Prelude.{Result, Ok, Err, IfErr, OnOk, ◌==◌, nat_lt}
+use Rattle.std.specs.Prelude.{Result, Ok, Err, IfErr, OnOk, ◌==◌, ◌&&◌, nat_lt}
 use Rattle.std.specs.List.{Contains}
 use Rattle.std.proofs.lemmas.List.{append-nil}
 use Rattle.std.proofs.lemmas.List.Elements.{Contains-append_right}
@@ -8,9 +8,6 @@ use Rattle.babel_tlv.specs.declared.start.Start.{Start}
 use Rattle.babel_tlv.specs.declared.event.Event.{Event}
 use Rattle.babel_tlv.specs.declared.fault.Fault.{Fault}
 use Rattle.babel_tlv.specs.declared.mode.Mode.{Mode}
-use Rattle.babel_tlv.specs.declared.prefix_encoding.PrefixEncoding.{PrefixEncoding}
-use Rattle.babel_tlv.specs.declared.prefix_encoding.PrefixEncoding.TheVariants.{Ipv4, Ipv6, Ipv4ViaIpv6}
-use Rattle.babel_tlv.specs.Encodings.{is_named}
 use Rattle.babel_tlv.specs.Framing.{TlvAt, tlvs_past, tlvs_of}
 use Rattle.babel_tlv.specs.Forming.{update_encoding, sets_router_id}
 use Rattle.babel_tlv.specs.Context.{Context, context_after}
@@ -32,9 +29,9 @@ event_lasts = record { lasts = tt }
 
 update_lasts : (context : Context) (tlv : TlvAt) → Lasts (update_said context tlv)
 update_lasts context tlv =
-    let is_in : PrefixEncoding → Bool = λ encoding. is_named context.via_v6 encoding (update_encoding tlv.body) in
-    either_lasts (nat_lt (length tlv.body) 10) event_lasts (either_lasts (update_encoding tlv.body == 0) event_lasts
-    (either_lasts (is_in Ipv4) event_lasts (either_lasts (is_in Ipv6) event_lasts (either_lasts (is_in Ipv4ViaIpv6) event_lasts
+    let encoding : ℕ = update_encoding tlv.body in
+    either_lasts (nat_lt (length tlv.body) 10) event_lasts (either_lasts (encoding == 0) event_lasts
+    (either_lasts (encoding == 1 && true) event_lasts (either_lasts (encoding == 2 && true) event_lasts (either_lasts (encoding == 4 && context.via_v6) event_lasts
     (either_lasts (sets_router_id tlv.body) (record { lasts = tt }) event_lasts)))))
 
 pub said_lasts : (context : Context) (tlv : TlvAt) → Lasts (said context tlv)

@@ -21,7 +21,8 @@ use Rattle.babel_tlv.specs.declared.prefix_encoding.PrefixEncoding.TheVariants.{
 use Rattle.babel_tlv.specs.Encodings.{hop_family, is_read, number_of}
 use Rattle.babel_tlv.specs.Context.{Context, default_in, next_hop_in_context}
 use Rattle.babel_tlv.specs.Says.{key_event}
-use Rattle.babel_tlv.specs.Group.{encoding_for, pair_encoding, is_id, is_hop, router_id_tlv, next_hop_tlv, held_seqno, held_metric, update_tlv, shared_octets, prefix_octets, source_sub, group, groups_behind}
+use Rattle.babel_tlv.specs.Group.{encoding_for, pair_encoding, is_id, is_hop, router_id_tlv, next_hop_tlv, held_seqno, held_metric, update_tlv}
+use Rattle.babel_tlv.specs.Group.{shared_octets, prefix_octets, source_sub, group, groups_behind}
 use Rattle.babel_tlv.specs.Writing.{route_in, Written, written_after, hop_in, dst_in, group_in}
 use Rattle.babel_tlv.specs.Writing.{with_held, with_dst}
 use Rattle.babel_tlv.specs.News.{spoken, held_event, pair_event}

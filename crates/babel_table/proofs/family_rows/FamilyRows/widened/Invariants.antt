@@ -5,4 +5,4 @@ use Rattle.babel_table.proofs.SaidLaws.{is_said}
 use Rattle.babel_table.proofs.family_rows.FamilyRows.widened.Given as goal
 
 abbrev pub invariant-loop-key : goal.invariant-loop-key
-invariant-loop-key g l = l.rows.items ≡ filter is_said (take l.key-index l.self.rows.items)
+invariant-loop-key g l = l.rows.items ≡ filter is_said (take l.key-index l.key-items)

@@ -33,7 +33,8 @@ pub returns-in-Ok-clause-fed : goal.returns-in-Ok-clause-fed
 returns-in-Ok-clause-fed c =
     let old = the_view c.self.inside in
     let new = the_view (record { alloc = c.self.inside.alloc; limits = c.self.inside.limits; stream = c.take_within.new.self; fault = c.self.inside.fault }) in
-    let took = subst (λ (s : Start). TookPackets old.mode old.limits.entries s old.at (old.pending ++ c.args.piece.now) old.table new.table new.pending new.at) (started c.self.inside c.self.invariant.1)
+    let took = subst (λ (s : Start). TookPackets old.mode old.limits.entries s old.at (old.pending ++ c.args.piece.now) old.table new.table new.pending new.at)
+    (started c.self.inside c.self.invariant.1)
     (subst (λ (n : ℕ). TookPackets old.mode n c.self.inside.stream.start old.at (old.pending ++ c.args.piece.now) old.table new.table new.pending new.at) c.self.invariant.0 c.in-Ok.ensures.took) in
     subst (λ (p : Progress). (fed : List ℕ) → HasRead p fed → HasRead new (fed ++ c.args.piece.now)) c.self.view_is
     (λ fed read. taken-read new (fed ++ c.args.piece.now) c.in_default.is
@@ -44,7 +45,8 @@ pub returns-in-Ok-clause-ok : goal.returns-in-Ok-clause-ok
 returns-in-Ok-clause-ok c =
     let old = the_view c.self.inside in
     let new = the_view (record { alloc = c.self.inside.alloc; limits = c.self.inside.limits; stream = c.take_within.new.self; fault = c.self.inside.fault }) in
-    let took = subst (λ (s : Start). TookPackets old.mode old.limits.entries s old.at (old.pending ++ c.args.piece.now) old.table new.table new.pending new.at) (started c.self.inside c.self.invariant.1)
+    let took = subst (λ (s : Start). TookPackets old.mode old.limits.entries s old.at (old.pending ++ c.args.piece.now) old.table new.table new.pending new.at)
+    (started c.self.inside c.self.invariant.1)
     (subst (λ (n : ℕ). TookPackets old.mode n c.self.inside.stream.start old.at (old.pending ++ c.args.piece.now) old.table new.table new.pending new.at) c.self.invariant.0 c.in-Ok.ensures.took) in (
       ap (λ (p : Progress). p.fault) (sym c.self.view_is) ∙ c.in_default.is,
       c.in_default.is,

@@ -29,8 +29,8 @@ returns-in-Err-clause-fails c =
     let read = c.in-Some.ensures.read c.args.at c.args.body.now c.loop-tlv.invariant.read in
     inr (
       c.in_ok-check_rest.ensures.whole c.args.at c.args.body.now read,
-      body-failed c.args.self.now.rows.mode c.loop-tlv.self.rows.mode c.args.self.now.rows.entries c.loop-tlv.self.rows.entries c.loop-tlv.invariant.mode c.loop-tlv.invariant.entries c.args.start.now _ _
-          (routes c.loop-tlv.self.rows.rows c.loop-tlv.self.report) c.loop-tlv.state (tlv_value c.in-Some.tlv) (tlvs_left c.loop-tlv.tlvs)
+      body-failed c.args.self.now.rows.mode c.loop-tlv.self.rows.mode c.args.self.now.rows.entries c.loop-tlv.self.rows.entries c.loop-tlv.invariant.mode
+          c.loop-tlv.invariant.entries c.args.start.now _ _ (routes c.loop-tlv.self.rows.rows c.loop-tlv.self.report) c.loop-tlv.state (tlv_value c.in-Some.tlv) (tlvs_left c.loop-tlv.tlvs)
           (tlvs_left c.advance.new.self) c.in-Some.ensures.next c.in-Err.fault c.loop-tlv.invariant.some
           (c.in-Err.ensures.fails c.args.start.now _ _ _),
     )
