@@ -69,7 +69,7 @@ pub(crate) fn make_key<R: ByteIn>(
         Gathered (calls_of dump) (InputCause dump (IsFaultOfOctets routes dump view))
         (MakesKey dump view routes name.now) result }
 {
-    let table = read_table(alloc, reading, reader)?;
+    let table = read_table(alloc, Reading { ..reading }, reader)?;
     let (report, rows) = (*table.report(), table.rows().len());
     let octets = usual_octets(alloc, reading, view, routes, table)?;
     let line = key_line(alloc, &octets, name)?;

@@ -111,7 +111,7 @@ pub(crate) fn read_octets<R: ByteIn>(
         Gathered (calls_of input) (OfFirst (InputCause input (IsFaultOfForm input view)))
         (λ read. GaveNormal input view body read.0 read.1.items) result }
 {
-    let table = read_table(alloc, reading, reader)?;
+    let table = read_table(alloc, Reading { ..reading }, reader)?;
     let report = *table.report();
     let octets = normal_octets(alloc, reading, view, body, table)?;
     Ok((report, octets))

@@ -62,7 +62,7 @@ pub(crate) fn read_route_octets<R: ByteIn>(
         Gathered (calls_of dump) (OfFirst (InputCause dump (IsFaultOfGiven dump)))
         (λ read. GaveRoutes dump view body read.0 read.1.items) result }
 {
-    let table = read_table(alloc, reading, reader)?;
+    let table = read_table(alloc, Reading { ..reading }, reader)?;
     let report = *table.report();
     let octets = octets_of_routes(alloc, reading, view, body, table)?;
     Ok((report, octets))

@@ -144,7 +144,7 @@ impl SenderKeys {
         ensures ok { IfOk result (IsKeyOfDump self.now origin dump.now) }
         ensures err { IfErr result (NoKeyOfDump self.now origin dump.now) }
     {
-        let name = sender_name(alloc, self.file.name(), origin)?;
+        let name = sender_name(alloc, self.file.name(), Origin { ..origin })?;
         let mut reader = Seeded::new(FromReader::new(dump), seed);
         make_key(
             alloc,
