@@ -1,5 +1,5 @@
 -- Each route of a table has a next hop that fits its key, as what was said of it does.
-use Rattle.std.proofs.Common.{◌≡◌, ℕ, zero, suc, Bool, List, [], ◌∷◌, ◌++◌, refl, sym, subst, arith}
+use Rattle.std.proofs.Common.{ℕ, suc, Bool, List, [], ◌∷◌, ◌++◌, refl, sym, subst, arith}
 use Rattle.std.specs.Prelude.{Result, IfOk}
 use Rattle.std.specs.List.{AllByRecursion, Contains}
 use Rattle.babel_tlv.specs.declared.event.Event.{Event}

@@ -15,7 +15,7 @@ loop-tlv-init c = record {
   room = (let le : length (tlvs_left c.new-tlvs.result) ≤ length c.args.body.now = rw c.new-tlvs.ensures.left (length-tlvs_of c.args.at c.args.body.now) in omega arith);
   read = c.new-tlvs.ensures.start;
   some = took-start c.args.self.now.rows.mode c.args.self.now.rows.entries c.args.start.now (routes c.args.self.now.rows.rows c.args.self.now.report)
-      (tlvs_of c.args.at c.args.body.now) c.new-state.result _ c.new-state.ensures c.new-tlvs.ensures.left;
+      (tlvs_of c.args.at c.args.body.now) c.at-state.result _ c.at-state.ensures c.new-tlvs.ensures.left;
 }
 
 pub returns-in_err-check_rest-clause-fails : goal.returns-in_err-check_rest-clause-fails
