@@ -120,7 +120,11 @@ impl Hint {
     /// What to know about TLVs of an encoding that is not read: the option that reads more, if it
     /// is not set.
     pub fn of_encoding(limits: Limits) -> Option<Hint> {
-        if limits.via_v6() { None } else { Some(Hint::UnknownEncoding) }
+        if limits.via_v6() {
+            None
+        } else {
+            Some(Hint::UnknownEncoding)
+        }
     }
 
     /// What to know about the offset of a TLV that a fault tells, of an input that begins with
