@@ -7,6 +7,7 @@ use crate::pairs_fault::PairsFault;
 use crate::run_fault::{RunFault, Side};
 use crate::sender_keys::SenderKeys;
 use babel_capture::{Fault as CaptureFault, Reason as LeftOutReason};
+use babel_table::Limits;
 use babel_tlv::{Fault, Reason};
 use thiserror::Error;
 
@@ -110,10 +111,19 @@ impl Hint {
     /// What to know about TLVs that a job ignored for this reason, in the dump on this side.
     pub fn of_reason(job: &Job, reason: Reason, side: Side) -> Option<Hint> {
         match reason {
-            Reason::UnknownEncoding if job.limits()?.via_v6() => None,
-            Reason::UnknownEncoding => Some(Hint::UnknownEncoding),
+            Reason::UnknownEncoding => Hint::of_encoding(job.limits()?),
             Reason::NoNextHop => Some(Hint::NoNextHop(side.option())),
             _ => None,
+        }
+    }
+
+    /// What to know about TLVs of an encoding that is not read: the option that reads more, if it
+    /// is not set.
+    pub fn of_encoding(limits: Limits) -> Option<Hint> {
+        if limits.via_v6() {
+            None
+        } else {
+            Some(Hint::UnknownEncoding)
         }
     }
 
@@ -146,7 +156,7 @@ impl Hint {
                     reason: Reason::UnknownEncoding,
                     ..
                 },
-            ) if !keys.limits.via_v6() => Some(Hint::UnknownEncoding),
+            ) => Hint::of_encoding(keys.limits),
             InputFault::LeftOut(datagram) => Hint::of_lack(datagram.reason),
             _ => None,
         }

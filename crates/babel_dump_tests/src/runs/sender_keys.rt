@@ -90,7 +90,10 @@ fn a_capture_without_keys(rt: HostRuntime) -> Result<(), Fail> {
         assert_eq!(rt; read.err(), Some(InputFault::Read));
     }
     let read = keys.gather(rt.alloc(), &mut ScriptedIn::new(&CAPTURE[..100], 1, 0));
-    assert_eq!(rt; read.err(), Some(InputFault::Capture(Fault::CutShort { at: 72 })));
+    assert_eq!(rt;
+        read.err(),
+        Some(InputFault::Capture(Fault::CutShort { at: 72 }))
+    );
     Ok(())
 }
 
@@ -108,7 +111,11 @@ static ROWS: [(u32, usize, Option<u32>); 6] = [
 fn rows_of_all_tables(rt: HostRuntime) -> Result<(), Fail> {
     let keys = one_file(rt.alloc(), "key --max-routes 3 x")?;
     for (before, rows, all) in &ROWS {
-        assert_eq!(rt; keys.rows_with(*before, *rows), *all, "of {before} and {rows}");
+        assert_eq!(rt;
+            keys.rows_with(*before, *rows),
+            *all,
+            "of {before} and {rows}"
+        );
     }
     Ok(())
 }

@@ -463,7 +463,7 @@ fn usage(rt: &impl Abort, alloc: Global, line: &str) -> Result<String, Fail> {
 /// are refused with. Of several that are no addresses the first is named, in the order `--from`,
 /// `--other-from`, `--to`, `--src`.
 #[rattlefmt::skip]
-static NO_JOBS: [(&str, &str); 17] = [
+static NO_JOBS: [(&str, &str); 18] = [
     ("lookup --src v --to w --from q",
      "not an address: q\nhint: --from takes an IPv4 or IPv6 address\n"),
     ("lookup --src v --to w --from ::",
@@ -495,6 +495,7 @@ static NO_JOBS: [(&str, &str); 17] = [
       hint: 0.0.0.0 or :: will do for routes from any source\n"),
     ("compare --from :: --other-from :: - -", "both dumps are standard input\n"),
     ("key --from :: - a -", "two files are standard input\n"),
+    ("key - a -", "two files are standard input\n"),
     ("lookup --from :: --each - -", "the dump and the pairs cannot both be standard input\n"),
     ("show --from :: --max-octets 82 --max-routes 1",
      "--max-octets 82 is less than 83 for each of 1 routes\nhint: lower --max-routes too\n"),
@@ -514,7 +515,7 @@ const USAGE: &str = "Usage: babel-dump";
 const BODY: &str = "'--body <OCTETS>'";
 
 /// Words that are refused, and a part of the text.
-static REFUSED: [(&str, &str); 31] = [
+static REFUSED: [(&str, &str); 30] = [
     ("", USAGE),
     ("", "\n  show  "),
     ("shows", USAGE),
@@ -539,7 +540,6 @@ static REFUSED: [(&str, &str); 31] = [
     ("normalise --from :: --json", USAGE),
     ("key --from :: --json", USAGE),
     ("key --from :: --hex", USAGE),
-    ("key x", USAGE),
     ("pairs --from :: --body 128", USAGE),
     ("normalise --from :: --count", USAGE),
     ("normalise --from :: --body 127", BODY),

@@ -3,10 +3,9 @@ use Rattle.std.proofs.Common.{◌≡◌, Bool, ◌≢◌, ◌++◌, ℕ, List, S
 use Rattle.babel_prefix.specs.Address.{Address}
 use Rattle.babel_tlv.specs.declared.fault.Fault.TheVariants as faults
 use Rattle.babel_tlv.specs.declared.start.Start.{Start}
-use Rattle.babel_table.specs.Bounds.{start_of}
+use Rattle.babel_table.specs.Bounds.{Bounds, start_of}
 use Rattle.babel_table.specs.DumpFault.{DumpFault, MayGoOn}
 use Rattle.babel_table.specs.Feeding.{Progress, HasRead, NeedsMemory, TookPackets}
-use Rattle.babel_table.specs.declared.feeder.Feeder.{Feeder}
 use Rattle.babel_table.specs.contracts.feeder.Feeder.{the_view}
 use Rattle.babel_table.proofs.FeedLaws.{stays-read, stays-failed, failed-fault, failed-memory, taken-next, taken-read, failed-next, stops-failed, stops-within, may_go_on-next}
 use Rattle.babel_table.proofs.feeder.Feeder.feed.Goals as goal
@@ -15,8 +14,8 @@ abbrev begun : Address → Bool → Start
 begun sender via_v6 = record { sender = sender; via_v6 = via_v6 }
 
 -- the packets begin with what the limits and the sender give
-started : (f : Feeder) → f.stream.start.via_v6 ≡ f.limits.via_v6 → f.stream.start ≡ start_of f.limits f.stream.start.sender
-started f is = ap (begun f.stream.start.sender) is
+started : (start : Start) (limits : Bounds) → start.via_v6 ≡ limits.via_v6 → start ≡ start_of limits start.sender
+started start limits is = ap (begun start.sender) is
 
 pub returns-in-Some-clause-fed : goal.returns-in-Some-clause-fed
 returns-in-Some-clause-fed c =
@@ -38,7 +37,7 @@ returns-in-Ok-clause-fed c =
     let old = the_view c.self.inside in
     let new = the_view (record { alloc = c.self.inside.alloc; limits = c.self.inside.limits; stream = c.take_within.new.self; fault = c.self.inside.fault }) in
     let took = subst (λ (s : Start). TookPackets old.mode old.limits.entries s old.at (old.pending ++ c.args.piece.now) old.table new.table new.pending new.at)
-    (started c.self.inside c.self.invariant.1)
+    (started c.self.inside.stream.start c.self.inside.limits c.self.invariant.1)
     (subst (λ (n : ℕ). TookPackets old.mode n c.self.inside.stream.start old.at (old.pending ++ c.args.piece.now) old.table new.table new.pending new.at) c.self.invariant.0 c.in-Ok.ensures.took) in
     subst (λ (p : Progress). (fed : List ℕ) → HasRead p fed → HasRead new (fed ++ c.args.piece.now)) c.self.view_is
     (λ fed read. taken-read new (fed ++ c.args.piece.now) c.in_default.is
@@ -50,7 +49,7 @@ returns-in-Ok-clause-ok c =
     let old = the_view c.self.inside in
     let new = the_view (record { alloc = c.self.inside.alloc; limits = c.self.inside.limits; stream = c.take_within.new.self; fault = c.self.inside.fault }) in
     let took = subst (λ (s : Start). TookPackets old.mode old.limits.entries s old.at (old.pending ++ c.args.piece.now) old.table new.table new.pending new.at)
-    (started c.self.inside c.self.invariant.1)
+    (started c.self.inside.stream.start c.self.inside.limits c.self.invariant.1)
     (subst (λ (n : ℕ). TookPackets old.mode n c.self.inside.stream.start old.at (old.pending ++ c.args.piece.now) old.table new.table new.pending new.at) c.self.invariant.0 c.in-Ok.ensures.took) in (
       ap (λ (p : Progress). p.fault) (sym c.self.view_is) ∙ c.in_default.is,
       c.in_default.is,
@@ -67,7 +66,7 @@ returns-in-Err-clause-fed c =
     let stops = stops-within old.limits.bytes c.bytes.result old.mode old.limits.entries c.self.inside.stream.so_far.rows.entries
     (start_of old.limits old.sender) c.self.inside.stream.start old.at
     old.pending c.args.piece.now old.table c.in-Err.fault c.bytes.ensures.value c.self.invariant.0
-    (started c.self.inside c.self.invariant.1) c.in-Err.ensures.stops in
+    (started c.self.inside.stream.start c.self.inside.limits c.self.invariant.1) c.in-Err.ensures.stops in
     subst (λ (p : Progress). (fed : List ℕ) → HasRead p fed → HasRead new (fed ++ c.args.piece.now)) c.self.view_is
     (λ fed read. failed-next old new refl c.take_within.ensures.settings.0 (ap (λ (s : Start). s.sender) c.take_within.ensures.settings.2) (fed ++ c.args.piece.now) c.in-Err.fault
     (stops-failed old c.args.piece.now fed c.in-Err.fault c.in_default.is stops read))
@@ -78,7 +77,7 @@ returns-in-Err-clause-fault c =
     let stops = stops-within old.limits.bytes c.bytes.result old.mode old.limits.entries c.self.inside.stream.so_far.rows.entries
     (start_of old.limits old.sender) c.self.inside.stream.start old.at
     old.pending c.args.piece.now old.table c.in-Err.fault c.bytes.ensures.value c.self.invariant.0
-    (started c.self.inside c.self.invariant.1) c.in-Err.ensures.stops in
+    (started c.self.inside.stream.start c.self.inside.limits c.self.invariant.1) c.in-Err.ensures.stops in
     subst (λ (p : Progress). c.in-Err.fault ≢ faults.Memory → (fed more : List ℕ) → HasRead p fed
     → DumpFault p.limits p.mode p.sender ((fed ++ c.args.piece.now) ++ more) c.in-Err.fault) c.self.view_is
     (λ not fed more read. failed-fault old (fed ++ c.args.piece.now) c.in-Err.fault (stops-failed old c.args.piece.now fed c.in-Err.fault c.in_default.is stops read) not more)
@@ -89,6 +88,6 @@ returns-in-Err-clause-memory c =
     let stops = stops-within old.limits.bytes c.bytes.result old.mode old.limits.entries c.self.inside.stream.so_far.rows.entries
     (start_of old.limits old.sender) c.self.inside.stream.start old.at
     old.pending c.args.piece.now old.table c.in-Err.fault c.bytes.ensures.value c.self.invariant.0
-    (started c.self.inside c.self.invariant.1) c.in-Err.ensures.stops in
+    (started c.self.inside.stream.start c.self.inside.limits c.self.invariant.1) c.in-Err.ensures.stops in
     subst (λ (p : Progress). c.in-Err.fault ≡ faults.Memory → (fed : List ℕ) → HasRead p fed → NeedsMemory p.mode (start_of p.limits p.sender) (fed ++ c.args.piece.now)) c.self.view_is
     (λ memory fed read. failed-memory old (fed ++ c.args.piece.now) c.in-Err.fault (stops-failed old c.args.piece.now fed c.in-Err.fault c.in_default.is stops read) memory)
