@@ -1,6 +1,6 @@
 -- What the canonical octets, and the canonical pairs, of a reader's dump are.
-use Rattle.std.proofs.Common.{◌≡◌, ℕ, List, Result, Ok, Err, ap, subst, sym, ◌∙◌, arith, inl, inr}
-use Rattle.std.specs.Prelude.{◌≢◌, IfErr, IfOk}
+use Rattle.std.proofs.Common.{◌≡◌, ℕ, List, ap, subst, sym, ◌∙◌, arith, inl, inr}
+use Rattle.std.specs.Prelude.{◌≢◌}
 use Rattle.babel_tlv.specs.declared.fault.Fault.{Fault}
 use Rattle.babel_tlv.specs.declared.fault.Fault.TheVariants as faults
 use Rattle.babel_tlv.specs.declared.view.View.{View}
@@ -114,19 +114,17 @@ refused_form reader view table seen fault gave seen_is (inr memory) not_memory =
 
 -- ---- so with what was made of a table
 
-module _ {V : Type 0} (octets_in : V → List ℕ) (reading : Reading) (view : View) (body : ℕ) (table seen : Routes) (seen_is : seen ≡ seen_table view table) where
+module _ (reading : Reading) (view : View) (body : ℕ) (table seen : Routes) (seen_is : seen ≡ seen_table view table) where
   pub normal_of : Headline → HeadlineUnder → AllNormalises → AnswersAreTold → AreBounds reading.limits → IsBodySize body
-      → (result : Result V Fault) → IfOk result (λ made. SaysCanonical reading.limits body seen.rows (octets_in made))
-      → IfOk result (λ made. (dump : Input) → dump.reading ≡ reading → GaveTable dump table → GaveNormal dump view body table.report (octets_in made))
-  normal_of headline under all told bounds size (Err fault) says = tt
-  normal_of headline under all told bounds size (Ok made) says = λ dump same gave.
-      gave_normal headline under all told dump view body table seen table.report (octets_in made) (subst (λ (r : Reading). AreBounds r.limits) (sym same) bounds) size gave seen_is
-      (ap (λ (t : Routes). t.report) (sym seen_is)) (subst (λ (r : Reading). SaysCanonical r.limits body seen.rows (octets_in made)) (sym same) says)
+      → (octets : List ℕ) → SaysCanonical reading.limits body seen.rows octets
+      → (dump : Input) → dump.reading ≡ reading → GaveTable dump table → GaveNormal dump view body table.report octets
+  normal_of headline under all told bounds size octets says dump same gave =
+      gave_normal headline under all told dump view body table seen table.report octets (subst (λ (r : Reading). AreBounds r.limits) (sym same) bounds) size gave seen_is
+      (ap (λ (t : Routes). t.report) (sym seen_is)) (subst (λ (r : Reading). SaysCanonical r.limits body seen.rows octets) (sym same) says)
 
-  pub normal_refused : (result : Result V Fault) → IfErr result (CanonicalFault reading.limits seen.rows)
-      → IfErr result (λ fault. fault ≢ faults.Memory → (dump : Input) → dump.reading ≡ reading → GaveTable dump table → IsFaultOfForm dump view fault)
-  normal_refused (Ok made) is = tt
-  normal_refused (Err fault) is = λ not_memory dump same gave.
+  pub normal_refused : (fault : Fault) → CanonicalFault reading.limits seen.rows fault → fault ≢ faults.Memory
+      → (dump : Input) → dump.reading ≡ reading → GaveTable dump table → IsFaultOfForm dump view fault
+  normal_refused fault is not_memory dump same gave =
       refused_form dump view table seen fault gave seen_is (subst (λ (r : Reading). CanonicalFault r.limits seen.rows fault) (sym same) is) not_memory
 
   pub routes_of : RoutesHeadline → AreBounds reading.limits → IsBodySize body → AreRows table.rows → (octets : List ℕ) → IsCanonicalText body seen.rows octets

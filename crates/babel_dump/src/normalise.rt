@@ -135,5 +135,6 @@ pub(crate) fn normal_octets(
     canonical_octets_tell_answers();
     canonical_octets_tell_answers_under();
     answers_are_told();
-    canonical_octets(alloc, reading.limits, body, &table.seen(view))
+    let octets = canonical_octets(alloc, reading.limits, body, &table.seen(view))?;
+    Ok(octets)
 }

@@ -4,7 +4,7 @@ use Rattle.babel_dump.proofs.normalise.read_octets.Goals as goal
 
 pub returns : goal.returns
 returns g c = record {
-  made = c.in_ok-octets.ensures.ok _ refl c.in_ok-table.ensures.made;
+  made = rw c.report-report.ensures (c.in_ok-octets.ensures.ok _ refl c.in_ok-table.ensures.made);
   cause = search rules;
   called = search rules;
 }

@@ -3,5 +3,5 @@ use Rattle.babel_dump.proofs.routes.octets_of_routes.Goals as goal
 
 pub returns-clause-ok : goal.returns-clause-ok
 returns-clause-ok c =
-    routes_of (λ octets. octets.items) c.args.reading c.args.view c.args.body c.args.table c.seen.result c.seen.ensures
+    routes_of c.args.reading c.args.view c.args.body c.args.table c.seen.result c.seen.ensures
     c.route_octets_tell_routes.ensures.headline c.entries.ensures.valid c.octets.ensures.valid c.rows.ensures.valid c.in_ok-octets.octets.items c.in_ok-octets.ensures
