@@ -1287,8 +1287,8 @@ impl<A: Address> Reading<A> {
         self.owner[OWN] = None;
     }
 
-    /// Takes an Update of this family, in its own encoding or in encoding 4. Its prefix is one load,
-    /// a shift and two masks.
+    /// Takes an Update of this family, in its own encoding or in encoding 4. Its prefix is one
+    /// load, a shift and two masks.
     fn take_update<const ENCODING: usize>(
         &mut self,
         shared: &mut Shared,
