@@ -1,6 +1,8 @@
 -- No fault of the octets is want of memory.
 use Rattle.std.proofs.Common.{◌≡◌, ◌≢◌, ℕ, List, arith, inl, inr, length, subst, sym, ◌∙◌}
-use Rattle.std.specs.Prelude.{Err, IfErr, None, Ok, Option, Result, Some}
+use Rattle.std.specs.Prelude.{Err, IfErr, None, Ok, Option, Result, Some, ℤ}
+use Rattle.babel_capture.specs.declared.clock.Stamp.{Stamp}
+use Rattle.babel_capture.specs.Times.{moment_in}
 use Rattle.babel_capture.specs.declared.fault.Fault.{Fault}
 use Rattle.babel_capture.specs.declared.fault.Fault.TheVariants as faults
 use Rattle.babel_capture.specs.declared.lack.Lack.{Lack}
@@ -33,13 +35,13 @@ lack-other at lacks.Snapped is = cc
 
 -- ---- what blocks say
 
-linked : (at interface number : ℕ) (frame : List ℕ) (whole : ℕ) (link : Option Link) → holds_by at interface number frame whole link ≢ Err faults.Memory
-linked at interface number frame whole None is = cc
-linked at interface number frame whole (Some link) is = cc
+linked : (at interface number : ℕ) (moment : Option ℤ) (frame : List ℕ) (whole : ℕ) (link : Option Link) → holds_by at interface number moment frame whole link ≢ Err faults.Memory
+linked at interface number moment frame whole None is = cc
+linked at interface number moment frame whole (Some link) is = cc
 
-packets : (at interface : ℕ) (frame : List ℕ) (whole : ℕ) (described : Option Interface) → packet_of at interface frame whole described ≢ Err faults.Memory
-packets at interface frame whole None is = cc
-packets at interface frame whole (Some described) is = linked at interface described.link frame whole (link_of described.link) is
+packets : (at interface : ℕ) (stamp : Option Stamp) (frame : List ℕ) (whole : ℕ) (described : Option Interface) → packet_of at interface stamp frame whole described ≢ Err faults.Memory
+packets at interface stamp frame whole None is = cc
+packets at interface stamp frame whole (Some described) is = linked at interface described.link (moment_in described.clock stamp) frame whole (link_of described.link) is
 
 kept : (before : Before) (at : ℕ) (order : Order) (block : List ℕ) (number captured : ℕ) → kept_said before at order block number captured ≢ Err faults.Memory
 kept before at order block number captured is = grind (arith, packets)

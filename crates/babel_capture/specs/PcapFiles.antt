@@ -1,6 +1,6 @@
 -- pcap files, as they are laid out, and what they are read as: draft-ietf-opsawg-pcap, 4 and 5.
 use Rattle.std.specs.Prelude.{◌≡◌, ℕ, ◌+◌, ◌*◌, ◌^◌, ◌<◌, ◌≤◌, List, [], ◌∷◌, ◌++◌, length, map}
-use Rattle.std.specs.Prelude.{Contains, Some}
+use Rattle.std.specs.Prelude.{Contains, Some, ℤ, pos, ◌==◌, if◌then◌else◌}
 use Rattle.std.specs.List.{All, flat_map}
 use Rattle.byteorder.specs.Endian.{big_bytes, little_bytes}
 use Rattle.babel_capture.specs.declared.link.Link.{Link}
@@ -53,8 +53,10 @@ header_octets pcap =
 abbrev pub pcap_octets : PcapFile → List ℕ
 pcap_octets pcap = header_octets pcap ++ flat_map (record_octets pcap.order) pcap.records
 
--- lengths fit their fields, and a packet has at most 262,144 octets
+-- numbers fit their fields, and a packet has at most 262,144 octets
 pub record IsPcapRecord (packet : PcapRecord) : Type 0 where
+  pub seconds_fit : packet.seconds < 2 ^ 32
+  pub fraction_fits : packet.fraction < 2 ^ 32
   pub len_fits : packet.whole_len < 2 ^ 32
   pub few : length packet.frame ≤ 262144
 
@@ -68,11 +70,18 @@ pub record IsPcap (pcap : PcapFile) (link : Link) : Type 0 where
   pub is_link : link_of pcap.link_number ≡ Some link
   pub are_records : All IsPcapRecord pcap.records
 
+-- its time in nanoseconds since the start of 1970
+abbrev pub record_moment : ℕ → PcapRecord → ℤ
+record_moment magic packet =
+    pos (packet.seconds * 1000000000
+    + packet.fraction * (if magic == 0xa1b23c4d then 1 else 1000))
+
 -- the packets of its one interface
 abbrev pub packets_in : PcapFile → Link → List Captured
 packets_in pcap link = map (λ packet. record {
   interface = 0;
   link = link;
+  moment = Some (record_moment pcap.magic packet);
   frame = packet.frame;
   whole_len = packet.whole_len;
 }) pcap.records

@@ -8,6 +8,7 @@
 
 mod block;
 mod capture;
+mod clock;
 mod context;
 mod ethernet;
 mod fault;
@@ -35,6 +36,7 @@ mod report;
 mod seen;
 mod stream;
 mod tallies;
+mod time;
 mod udp;
 mod updates;
 mod wanted;
@@ -53,4 +55,5 @@ pub use reason::Reason;
 pub use report::Report;
 pub use seen::Seen;
 pub use tallies::{MAX_SENDERS, Origin, Tally};
+pub use time::Time;
 pub use wanted::Wanted;

@@ -29,7 +29,7 @@ const SECOND: &str =
 
 /// What is read of a capture of so many octets at most: the dump of fe80::5eff:fe00:c601 in
 /// hexadecimal, or the fault.
-static CAPTURES: [(&[&str], u64, &str); 21] = [
+static CAPTURES: [(&[&str], u64, &str); 24] = [
     (
         &[
             LITTLE,
@@ -222,6 +222,34 @@ static CAPTURES: [(&[&str], u64, &str); 21] = [
         ],
         4096,
         "bad length at 28",
+    ),
+    (
+        &[
+            "0a0d0d0a0000001c1a2b3c4d00010000ffffffffffffffff0000001c",
+            "000000010000001c000100000000000000090002090000000000001c",
+        ],
+        4096,
+        "bad length at 28",
+    ),
+    (
+        &[
+            "0a0d0d0a0000001c1a2b3c4d00010000ffffffffffffffff0000001c",
+            "000000010000001c0001000000000000000e0004ffffffff0000001c",
+        ],
+        4096,
+        "bad length at 28",
+    ),
+    (
+        &[
+            "0a0d0d0a0000001c1a2b3c4d00010000ffffffffffffffff0000001c",
+            "000000010000002800010000000000000009000189000000",
+            "000e0008ffffffffffffffff00000028",
+            "00000002000000700000000000000000000000000000004e0000004e",
+            FIRST,
+            "000000000070",
+        ],
+        4096,
+        "2a02000c0406000040ff006409020000",
     ),
 ];
 
