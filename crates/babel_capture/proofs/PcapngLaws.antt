@@ -210,7 +210,8 @@ sliced octets front rest place dropped =
 module _ (order : Order) (limit at first : ℕ) (interfaces : List Interface) where
   described_says : (number reserved snap : ℕ) (options : List ℕ) → Fits (body_of order (described number reserved snap options)) → number < 2 ^ 16 → snap < 2 ^ 32 → length interfaces < 65536
       → (all_options order options).is_bad ≡ false
-      → block_said (inside order limit first interfaces) at (octets_in order (described number reserved snap options)) ≡ Ok (describes (interface_of number snap (all_options order options)) (all_options order options).name)
+      → block_said (inside order limit first interfaces) at (octets_in order (described number reserved snap options))
+      ≡ Ok (describes (interface_of number snap (all_options order options)) (all_options order options).name)
   described_says number reserved snap options is number_fits snap_fits few whole =
       let octets = octets_in order (described number reserved snap options) in
       let body = body_of order (described number reserved snap options) in
@@ -224,7 +225,8 @@ module _ (order : Order) (limit at first : ℕ) (interfaces : List Interface) wh
 
   enhanced_says : (number high low whole : ℕ) (frame more : List ℕ) (packets later : List Captured) → Fits (body_of order (enhanced number high low whole frame more)) → number < 2 ^ 32
       → high < 2 ^ 32 → low < 2 ^ 32 → (is : IsPacket interfaces (first + number) (halves high low) whole frame packets later)
-      → block_said (inside order limit first interfaces) at (octets_in order (enhanced number high low whole frame more)) ≡ Ok (holds (packet_at (first + number) is.link (moment_in is.interface.clock (halves high low)) frame whole))
+      → block_said (inside order limit first interfaces) at (octets_in order (enhanced number high low whole frame more))
+      ≡ Ok (holds (packet_at (first + number) is.link (moment_in is.interface.clock (halves high low)) frame whole))
   enhanced_says number high low whole frame more packets later fits number_fits high_fits low_fits is =
       let octets = octets_in order (enhanced number high low whole frame more) in
       let body = body_of order (enhanced number high low whole frame more) in
@@ -240,7 +242,8 @@ module _ (order : Order) (limit at first : ℕ) (interfaces : List Interface) wh
 
   old_says : (number drops high low whole : ℕ) (frame more : List ℕ) (packets later : List Captured) → Fits (body_of order (old number drops high low whole frame more))
       → number < 2 ^ 16 → high < 2 ^ 32 → low < 2 ^ 32 → (is : IsPacket interfaces (first + number) (halves high low) whole frame packets later)
-      → block_said (inside order limit first interfaces) at (octets_in order (old number drops high low whole frame more)) ≡ Ok (holds (packet_at (first + number) is.link (moment_in is.interface.clock (halves high low)) frame whole))
+      → block_said (inside order limit first interfaces) at (octets_in order (old number drops high low whole frame more))
+      ≡ Ok (holds (packet_at (first + number) is.link (moment_in is.interface.clock (halves high low)) frame whole))
   old_says number drops high low whole frame more packets later fits short high_fits low_fits is =
       let octets = octets_in order (old number drops high low whole frame more) in
       let body = body_of order (old number drops high low whole frame more) in
@@ -254,7 +257,8 @@ module _ (order : Order) (limit at first : ℕ) (interfaces : List Interface) wh
       typed order limit at first interfaces 2 body (omega arith) (λ (e : 2 ≡ 0x0a0d0d0a). absurd (omega (arith, e))) fits
       ∙ rw (least, fields.0, fields.1, room, read, fields.2, fields.3, fields.4, is.is_described, is.is_link) refl
 
-  simple_says : (whole : ℕ) (frame padding : List ℕ) (packets later : List Captured) → Fits (body_of order (simple whole frame padding)) → (is : IsPacket interfaces first None whole frame packets later)
+  simple_says : (whole : ℕ) (frame padding : List ℕ) (packets later : List Captured) → Fits (body_of order (simple whole frame padding))
+      → (is : IsPacket interfaces first None whole frame packets later)
       → length frame ≡ kept_len is.interface.snap_len whole
       → block_said (inside order limit first interfaces) at (octets_in order (simple whole frame padding)) ≡ Ok (holds (packet_at first is.link None frame whole))
   simple_says whole frame padding packets later fits is kept =

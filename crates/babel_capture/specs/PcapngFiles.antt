@@ -130,8 +130,8 @@ interface_of link_number snap_len options =
 -- Blocks, of which each fits, hold these packets, where these interfaces were described before, of
 -- which those of this section begin at `first`: the numbers of a block fit their fields; no option
 -- of a description runs past it, or has a length that it can't have; a packet is of an interface
--- that was described, by its number in the section, of a link type that is read, and a simple one of
--- the section's first; of a simple one as much is kept as that interface keeps; blocks of other
+-- that was described, by its number in the section, of a link type that is read, and a simple one
+-- of the section's first; of a simple one as much is kept as that interface keeps; blocks of other
 -- types hold none; and a section has interfaces of its own.
 abbrev pub Hold : Order → ℕ → List Interface → List PcapngBlock → List Captured → Type 0
 Hold order first interfaces [] packets = packets ≡ []
