@@ -3,7 +3,7 @@ use Rattle.std.proofs.Common.{◌≡◌, ℕ, ◌+◌, ◌-◌, ◌*◌, ◌%◌
 use Rattle.std.proofs.Math.Seq.{drop-append_seam}
 use Rattle.std.proofs.lemmas.List.{take_all}
 use Rattle.std.proofs.lemmas.Bool.Decides.{nat_tests}
-use Rattle.std.specs.Prelude.{Contains, Some, Ok, map, slice_range, Bool, true, pos, ◌==◌, if◌then◌else◌}
+use Rattle.std.specs.Prelude.{Contains, None, Some, Ok, map, slice_range, Bool, true, pos, ◌==◌, if◌then◌else◌}
 use Rattle.std.specs.List.{All, flat_map}
 use Rattle.std.proofs.lemmas.List.Elements.{All-head, All-tail}
 use Rattle.byteorder.specs.Endian.{big_bytes, big_number, little_bytes, little_number}
@@ -27,6 +27,8 @@ use Rattle.babel_capture.specs.Gathering.{Gathering}
 use Rattle.babel_capture.proofs.NumberLaws.{rest_is}
 use Rattle.babel_capture.proofs.OneCapture.{blocks_one, some_header}
 use Rattle.babel_capture.specs.PcapFiles.{record_moment, written, PcapRecord, record_octets, PcapFile, header_octets, pcap_octets, IsPcapRecord, IsPcap, packets_in, packets_of, held_in, IsReadAs}
+use Rattle.babel_capture.specs.declared.window.Window.TheVariants as windows
+use Rattle.babel_capture.specs.Window.{Extent, all_times}
 
 -- what was written is read back
 pub written-long : (order : Order) (number : ℕ) → length (written order 4 number) ≡ 4
@@ -92,7 +94,7 @@ abbrev interface_in : PcapFile → Interface
 interface_in pcap = record { link = pcap.link_number; snap_len = pcap.snap_len; clock = pcap_clock pcap.magic }
 
 abbrev behind : PcapFile → ℕ → Before
-behind pcap limit = record { limit = limit; layout = layouts.Pcap pcap.order; first = 0; interfaces = interface_in pcap ∷ [] }
+behind pcap limit = record { limit = limit; layout = layouts.Pcap pcap.order; first = 0; interfaces = interface_in pcap ∷ []; window = windows.Whole; start = None }
 
 abbrev captured_in : PcapFile → Link → PcapRecord → Captured
 captured_in pcap link packet = record { interface = 0; link = link; moment = Some (record_moment pcap.magic packet); frame = packet.frame; whole_len = packet.whole_len }
@@ -206,18 +208,18 @@ header_order : (pcap : PcapFile) (link : Link) → IsPcap pcap link → pcap_ord
 header_order pcap link is =
     order_told pcap.order pcap.magic (past_magic pcap.order pcap.reserved pcap.reserved_too pcap.snap_len (pcap.other_bits * 2 ^ 16 + pcap.link_number)) (magic_of pcap.magic is.is_magic)
 
-header_is : (pcap : PcapFile) (link : Link) (limit : ℕ) → IsPcap pcap link → 24 ≤ limit → IsBlock (start limit) 0 (header_octets pcap)
+header_is : (pcap : PcapFile) (link : Link) (limit : ℕ) → IsPcap pcap link → 24 ≤ limit → IsBlock (start (all_times limit)) 0 (header_octets pcap)
 header_is pcap link limit is fits =
     let octets = header_octets pcap in
     let long : length octets ≡ 24 = header_long pcap.order pcap.magic pcap.reserved pcap.reserved_too pcap.snap_len (pcap.other_bits * 2 ^ 16 + pcap.link_number) in
     let all : take 24 octets ≡ octets = take_all 24 octets (omega (arith, long)) in
     let order : pcap_order octets ≡ Some pcap.order = header_order pcap link is in
     let within : nat_lt (limit - 0) 24 ≡ false = grind (arith, nat_tests) in
-    let len : block_len (start limit) 0 (take 24 octets) ≡ Ok 24 = rw (all, order, within) refl in
+    let len : block_len (start (all_times limit)) 0 (take 24 octets) ≡ Ok 24 = rw (all, order, within) refl in
     record { header = omega (arith, long); len = len ∙ ap Ok (sym long) }
 
 header_says : (pcap : PcapFile) (link : Link) (limit : ℕ) → IsPcap pcap link
-    → block_said (start limit) 0 (header_octets pcap) ≡ Ok (file pcap.order (interface_in pcap))
+    → block_said (start (all_times limit)) 0 (header_octets pcap) ≡ Ok (file pcap.order (interface_in pcap))
 unfolding block_said
 header_says pcap link limit is =
     let octets = header_octets pcap in
@@ -231,7 +233,7 @@ header_says pcap link limit is =
     written-back pcap.order 4 pcap.magic [] (past_magic pcap.order pcap.reserved pcap.reserved_too pcap.snap_len bits) (magic_fits pcap.magic (magic_of pcap.magic is.is_magic)) in
     rw (order, field.0, field.1, field.2, field.3, number, magic) refl
 
-pub pcap_is_read : (limit : ℕ) (pcap : PcapFile) (link : Link) → IsPcap pcap link → length (pcap_octets pcap) ≤ limit → IsReadAs limit (pcap_octets pcap) (packets_in pcap link)
+pub pcap_is_read : (limit : ℕ) (pcap : PcapFile) (link : Link) → IsPcap pcap link → length (pcap_octets pcap) ≤ limit → IsReadAs (all_times limit) (pcap_octets pcap) (packets_in pcap link)
 pcap_is_read limit pcap link is fits =
     let header = header_octets pcap in
     let later = flat_map (record_octets pcap.order) pcap.records in
@@ -252,7 +254,7 @@ pcap_is_read limit pcap link is fits =
       held = records_hold pcap link limit is.is_link (0 + length header) pcap.records;
     }
 
-pub packets_are_one : (limit : ℕ) (octets : List ℕ) (packets : List Captured) (gathering : Gathering) → IsReadAs limit octets packets → (read : IsRead limit octets gathering)
+pub packets_are_one : (limit : Extent) (octets : List ℕ) (packets : List Captured) (gathering : Gathering) → IsReadAs limit octets packets → (read : IsRead limit octets gathering)
     → packets_of read.blocks ≡ packets
 packets_are_one limit octets packets gathering is read =
     let same = (blocks_one (start limit) 0 is.blocks read.blocks [] [] is.are_blocks read.are_blocks (ap (λ (t : List ℕ). t ++ []) (sym is.whole ∙ read.whole))

@@ -22,6 +22,8 @@ use Rattle.babel_capture.specs.PcapngFiles.{octets_in, octets_from, pcapng_octet
 use Rattle.babel_capture.specs.Reading.{HasStarted}
 use Rattle.babel_capture.specs.Times.{moment_in}
 use Rattle.babel_capture.proofs.PcapLaws.{written-back}
+use Rattle.babel_capture.specs.declared.window.Window.TheVariants as windows
+use Rattle.babel_capture.specs.Window.{all_times}
 
 -- ---- a block of any type
 
@@ -62,7 +64,7 @@ front_12 orders.Little kind body = refl
 
 -- within a section, where these interfaces were described, its own from this one on
 abbrev inside : Order → ℕ → ℕ → List Interface → Before
-inside order limit first interfaces = record { limit = limit; layout = layouts.Section order; first = first; interfaces = interfaces }
+inside order limit first interfaces = record { limit = limit; layout = layouts.Section order; first = first; interfaces = interfaces; window = windows.Whole; start = None }
 
 module _ (order : Order) (limit at first : ℕ) (interfaces : List Interface) (kind : ℕ) (body : List ℕ) (kind_fits : kind < 2 ^ 32) (none : kind ≢ 0x0a0d0d0a) (is : Fits body) where
   block_is : at + (12 + length body) ≤ limit → IsBlock (inside order limit first interfaces) at (block_octets order kind body)
@@ -382,7 +384,7 @@ module _ (order : Order) (head : SectionHeader) (is : IsSection order head) wher
   small : 12 + length (section_body order head) < 2 ^ 32
   small = (let few = is.fits.few in omega arith)
 
-  header_is : (limit : ℕ) → length (header order head) ≤ limit → IsBlock (start limit) 0 (header order head)
+  header_is : (limit : ℕ) → length (header order head) ≤ limit → IsBlock (start (all_times limit)) 0 (header order head)
   header_is limit there =
       let long = block_long order 0x0a0d0d0a (section_body order head) in
       let sized = section_long order head in
@@ -393,7 +395,7 @@ module _ (order : Order) (head : SectionHeader) (is : IsSection order head) wher
       let total = section_total limit 0 (take 24 (header order head)) (told.2 0) (front_total order head small) (omega arith) in
       record { header = omega (arith, long); len = rw (none, plain) total }
 
-  header_says : (limit : ℕ) → block_said (start limit) 0 (header order head) ≡ Ok (section order)
+  header_says : (limit : ℕ) → block_said (start (all_times limit)) 0 (header order head) ≡ Ok (section order)
   unfolding block_said
   header_says limit =
       let none = (header_told order head).0 in
@@ -525,7 +527,7 @@ blocks_laid order limit at first interfaces (begins next head ∷ blocks) packet
     (blocks_laid next limit (at + length octets) (length interfaces) interfaces blocks packets hold (omega (arith, count)))
 
 pub pcapng_is_read : (limit : ℕ) (order : Order) (head : SectionHeader) (blocks : List PcapngBlock) (packets : List Captured) → IsSection order head → Hold order 0 [] blocks packets
-    → length (pcapng_octets order head blocks) ≤ limit → IsReadAs limit (pcapng_octets order head blocks) packets
+    → length (pcapng_octets order head blocks) ≤ limit → IsReadAs (all_times limit) (pcapng_octets order head blocks) packets
 pcapng_is_read limit order head blocks packets is hold there =
     let octets = header order head in
     let later = octets_from order blocks in

@@ -19,12 +19,16 @@ use Rattle.babel_capture.specs.declared.layout.Layout.{Layout}
 use Rattle.babel_capture.specs.declared.layout.Layout.TheVariants as layouts
 use Rattle.babel_capture.specs.declared.link.Link.{Link}
 use Rattle.babel_capture.specs.declared.order.Order.{Order}
+use Rattle.babel_capture.specs.declared.window.Moment.{Moment}
+use Rattle.babel_capture.specs.declared.window.Window.{Window}
+use Rattle.babel_capture.specs.declared.window.Window.TheVariants as windows
 use Rattle.babel_capture.specs.Context.{Before}
 use Rattle.babel_capture.specs.Lengths.{pcap_order, section_order}
 use Rattle.babel_capture.specs.Link.{link_of}
 use Rattle.babel_capture.specs.Numbers.{number_at}
 use Rattle.babel_capture.specs.Options.{Options, all_options}
-use Rattle.babel_capture.specs.Times.{moment_in}
+use Rattle.babel_capture.specs.Times.{moment_in, time_asked, time_in}
+use Rattle.babel_capture.specs.Window.{is_between}
 
 -- a captured packet: the number of its interface, the interface's link type, when it came in
 -- nanoseconds since the start of 1970, where its block has a time, the octets kept, and how many it
@@ -37,13 +41,24 @@ pub record Captured : Type 0 where
   pub whole_len : ℕ
 
 -- the header of a pcap file, the header of a section, an interface with its name, which is empty
--- where it has none, a packet, or a block that is ignored
+-- where it has none, a packet, a packet that is skipped for its time, or a block that is ignored
 pub data Content : Type 0 where
   file : (order : Order) (interface : Interface) → Content
   section : (order : Order) → Content
   describes : (interface : Interface) (name : List ℕ) → Content
   holds : (packet : Captured) → Content
+  skips : (packet : Captured) → Content
   nothing : Content
+
+-- when the first packet came, where times are asked for
+abbrev pub start_with : Option ℕ → Option ℤ → Option ℕ
+start_with (Some start) moment = Some start
+start_with None moment = time_in moment
+
+abbrev pub started_with : Window → Before → Option ℤ → Before
+started_with windows.Whole before moment = before
+started_with (windows.Between since until) before moment =
+    record before { start = start_with before.start moment }
 
 -- what the blocks so far say, this one too
 abbrev pub context_after : Before → Content → Before
@@ -56,31 +71,47 @@ context_after before (section order) = record before {
 context_after before (describes interface name) = record before {
   interfaces = before.interfaces ++ interface ∷ [];
 }
-context_after before (holds packet) = before
+context_after before (holds packet) = started_with before.window before packet.moment
+context_after before (skips packet) = started_with before.window before packet.moment
 context_after before nothing = before
+
+-- a packet that came then is read, or skipped; the first one came when this one did where none did
+-- before
+abbrev pub by_time : Option Moment → Option Moment → Option ℕ → Captured → Result ℕ Fault
+    → Result Content Fault
+by_time since until start packet (Err fault) = Err fault
+by_time since until start packet (Ok time) =
+    Ok (if is_between since until (unwrap_or start time) time then holds packet else skips packet)
+
+abbrev pub read_by : Window → Option ℕ → ℕ → Captured → Result Content Fault
+read_by windows.Whole start at packet = Ok (holds packet)
+read_by (windows.Between since until) start at packet =
+    by_time since until start packet (time_asked at packet.moment)
 
 -- a packet of an interface that was described, with a link type that is read; its time is counted
 -- as the interface's are
-abbrev pub holds_by : ℕ → ℕ → ℕ → Option ℤ → List ℕ → ℕ → Option Link → Result Content Fault
-holds_by at interface number moment frame whole None = Err (faults.UnreadLink at number)
-holds_by at interface number moment frame whole (Some link) = Ok (holds (record {
-  interface = interface;
-  link = link;
-  moment = moment;
-  frame = frame;
-  whole_len = whole;
-}))
-
-abbrev pub packet_of : ℕ → ℕ → Option Stamp → List ℕ → ℕ → Option Interface
+abbrev pub holds_by : Before → ℕ → ℕ → ℕ → Option ℤ → List ℕ → ℕ → Option Link
     → Result Content Fault
-packet_of at interface stamp frame whole None = Err (faults.NoInterface at)
-packet_of at interface stamp frame whole (Some described) =
-    holds_by at interface described.link (moment_in described.clock stamp) frame whole (link_of
-    described.link)
+holds_by before at interface number moment frame whole None = Err (faults.UnreadLink at number)
+holds_by before at interface number moment frame whole (Some link) =
+    read_by before.window before.start at (record {
+      interface = interface;
+      link = link;
+      moment = moment;
+      frame = frame;
+      whole_len = whole;
+    })
+
+abbrev pub packet_of : Before → ℕ → ℕ → Option Stamp → List ℕ → ℕ → Option Interface
+    → Result Content Fault
+packet_of before at interface stamp frame whole None = Err (faults.NoInterface at)
+packet_of before at interface stamp frame whole (Some described) =
+    holds_by before at interface described.link (moment_in described.clock stamp) frame whole
+    (link_of described.link)
 
 abbrev pub packet_said : Before → ℕ → ℕ → Option Stamp → List ℕ → ℕ → Result Content Fault
 packet_said before at interface stamp frame whole =
-    packet_of at interface stamp frame whole (slice_get before.interfaces interface)
+    packet_of before at interface stamp frame whole (slice_get before.interfaces interface)
 
 -- draft-ietf-opsawg-pcap, 4: the version is at 4 and 6, and it is 2.4
 abbrev pub is_file_version : Order → List ℕ → Bool
@@ -145,6 +176,7 @@ names_in (file order interface) = [] ∷ []
 names_in (section order) = []
 names_in (describes interface name) = name ∷ []
 names_in (holds packet) = []
+names_in (skips packet) = []
 names_in nothing = []
 
 -- draft-ietf-opsawg-pcapng, 4.2: the times of an interface are in microseconds where no option says
@@ -257,4 +289,5 @@ content_of (blocks.File order interface) = file order interface
 content_of (blocks.Section order) = section order
 content_of (blocks.Interface interface name) = describes interface name.now
 content_of (blocks.Packet packet) = holds (captured_of packet)
+content_of (blocks.Skipped packet) = skips (captured_of packet)
 content_of blocks.Other = nothing

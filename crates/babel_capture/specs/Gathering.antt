@@ -10,7 +10,7 @@ use Rattle.babel_capture.specs.declared.wanted.Wanted.{Wanted}
 use Rattle.babel_capture.specs.declared.wanted.Wanted.TheVariants as wanteds
 use Rattle.babel_capture.specs.Blocks.{Sighting, sight_in}
 use Rattle.babel_capture.specs.Contents.{Captured, Content, file, section, describes, holds}
-use Rattle.babel_capture.specs.Contents.{nothing}
+use Rattle.babel_capture.specs.Contents.{skips, nothing}
 use Rattle.babel_capture.specs.Counts.{Counts, Made, counts_of}
 use Rattle.babel_capture.specs.Findings.{Found, passed, untold, left, refused, found, Finds}
 use Rattle.babel_capture.specs.Lack.{lack_fault}
@@ -111,4 +111,5 @@ BlockNeedsMemory wanted senders (holds packet) =
     (origin : Origin) × (octets : List ℕ)
     × Finds wanted (sight_in packet) (found origin.place origin.sender octets)
     × PacketNeedsMemory wanted senders origin octets
+BlockNeedsMemory wanted senders (skips packet) = ⊥
 BlockNeedsMemory wanted senders nothing = ⊥

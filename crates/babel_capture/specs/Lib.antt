@@ -37,3 +37,4 @@ pub mod Tallies
 pub mod Times
 pub mod Udp
 pub mod Updates
+pub mod Window

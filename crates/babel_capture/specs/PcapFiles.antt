@@ -8,9 +8,10 @@ use Rattle.babel_capture.specs.declared.order.Order.{Order}
 use Rattle.babel_capture.specs.declared.order.Order.TheVariants as orders
 use Rattle.babel_capture.specs.Blocks.{BlockAt, AreBlocks, context_behind, octets_of, start}
 use Rattle.babel_capture.specs.Contents.{Captured, Content, file, section, describes, holds}
-use Rattle.babel_capture.specs.Contents.{nothing}
+use Rattle.babel_capture.specs.Contents.{skips, nothing}
 use Rattle.babel_capture.specs.Link.{link_of}
 use Rattle.babel_capture.specs.Reading.{HasStarted}
+use Rattle.babel_capture.specs.Window.{Extent}
 
 -- a number in so many octets, in a file of this byte order
 abbrev pub written : Order → ℕ → ℕ → List ℕ
@@ -92,12 +93,13 @@ held_in (file order interface) = []
 held_in (section order) = []
 held_in (describes interface name) = []
 held_in (holds packet) = packet ∷ []
+held_in (skips packet) = []
 held_in nothing = []
 
 abbrev pub packets_of : List BlockAt → List Captured
 packets_of blocks = flat_map (λ block. held_in block.content) blocks
 
-pub record IsReadAs (limit : ℕ) (octets : List ℕ) (packets : List Captured) : Type 0 where
+pub record IsReadAs (limit : Extent) (octets : List ℕ) (packets : List Captured) : Type 0 where
   pub blocks : List BlockAt
   pub whole : octets ≡ octets_of blocks
   pub are_blocks : AreBlocks (start limit) 0 blocks

@@ -43,6 +43,11 @@ abbrev pub in_years : ℤ → Option ℕ
 in_years (pos nanoseconds) = within_years nanoseconds
 in_years (negsuc before) = None
 
+-- the time, if it is of these years, where there is one
+abbrev pub time_in : Option ℤ → Option ℕ
+time_in None = None
+time_in (Some moment) = in_years moment
+
 -- where a time is asked for: the time of the packet in the block at this offset, or the fault
 abbrev pub time_or : Fault → Option ℕ → Result ℕ Fault
 time_or fault None = Err fault

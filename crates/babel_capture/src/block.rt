@@ -4,10 +4,10 @@ ghost use Rattle.babel_capture.specs.Numbers.{number_at};
 ghost use Rattle.babel_capture.specs.Lengths.{header_len};
 ghost use Rattle.babel_capture.specs.Contents.{block_said, captured_of, content_of, file_said};
 ghost use Rattle.babel_capture.specs.Contents.{interface_said, kept_len, kept_said, numbered_said};
-ghost use Rattle.babel_capture.specs.Contents.{packet_said, packet_stamp, pcapng_said, record_said};
-ghost use Rattle.babel_capture.specs.Contents.{record_stamp, section_said, simple_said, typed_said};
-ghost use Rattle.babel_capture.specs.Contents.{versioned_said};
-ghost use Rattle.babel_capture.specs.Times.{time_asked};
+ghost use Rattle.babel_capture.specs.Contents.{packet_said, packet_stamp, pcapng_said, read_by};
+ghost use Rattle.babel_capture.specs.Contents.{record_said, record_stamp, section_said};
+ghost use Rattle.babel_capture.specs.Contents.{simple_said, typed_said, versioned_said};
+ghost use Rattle.babel_capture.specs.Times.{time_asked, time_in};
 
 use crate::clock::{Clock, Resolution, Stamp};
 use crate::context::Context;
@@ -18,6 +18,7 @@ use crate::link::Link;
 use crate::options::read_options;
 use crate::order::Order;
 use crate::time::Time;
+use crate::window::{Window, is_between};
 
 /// Types of blocks: draft-ietf-opsawg-pcapng, 4.2, 4.3, 4.4. The packet block is an old one, which
 /// the enhanced packet block replaced.
@@ -63,8 +64,15 @@ pub struct Packet<'a> {
 }
 
 impl Packet<'_> {
-    /// When it came, where a time is asked for; it is in the block at this offset.
-    pub fn time(&self, at: u64) -> Result<Time, Fault>
+    /// When it came; `None` where its block has no time, or one before 1970 or after the year 9999.
+    pub fn time(&self) -> Option<Time>
+        ensures { result ≡ time_in (captured_of self.now).moment }
+    {
+        self.clock.time(self.stamp?)
+    }
+
+    /// When it came, where a time is asked for, in the block at this offset.
+    fn time_asked(&self, at: u64) -> Result<Time, Fault>
         ensures { result ≡ time_asked at (captured_of self.now).moment }
     {
         let Some(stamp) = self.stamp else {
@@ -94,6 +102,8 @@ pub enum Block<'a> {
     },
     /// A captured packet.
     Packet(Packet<'a>),
+    /// A captured packet that is skipped for its time.
+    Skipped(Packet<'a>),
     /// A block of another type, which is ignored.
     Other,
 }
@@ -123,19 +133,42 @@ fn read_packet<'a>(
     let Some(described) = before.interface(interface) else {
         return Err(Fault::NoInterface { at });
     };
-    match Link::of(described.link) {
-        Some(link) => Ok(Block::Packet(Packet {
-            interface: interface as u64,
-            link,
-            clock: described.clock,
-            stamp,
-            frame,
-            whole_len,
-        })),
-        None => Err(Fault::UnreadLink {
+    let Some(link) = Link::of(described.link) else {
+        return Err(Fault::UnreadLink {
             at,
             number: described.link,
-        }),
+        });
+    };
+    let packet = Packet {
+        interface: interface as u64,
+        link,
+        clock: described.clock,
+        stamp,
+        frame,
+        whole_len,
+    };
+    read_by(before, at, packet)
+}
+
+/// A packet that is read, or skipped for its time.
+fn read_by<'a>(before: &Context, at: u64, packet: Packet<'a>) -> Result<Block<'a>, Fault>
+    ensures ok { IfOk result (λ block. read_by before.now.window before.now.start at (captured_of
+        packet.entry) ≡ Ok (content_of block)) }
+    ensures err { IfErr result (λ fault. read_by before.now.window before.now.start at (captured_of
+        packet.entry) ≡ Err fault) }
+{
+    let Window::Between { since, until } = before.window() else {
+        return Ok(Block::Packet(packet));
+    };
+    let time = match packet.time_asked(at) {
+        Ok(time) => time,
+        Err(fault) => return Err(fault),
+    };
+    let first = before.start().unwrap_or(time);
+    if is_between(since, until, first, time) {
+        Ok(Block::Packet(packet))
+    } else {
+        Ok(Block::Skipped(packet))
     }
 }
 

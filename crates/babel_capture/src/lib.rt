@@ -40,6 +40,7 @@ mod time;
 mod udp;
 mod updates;
 mod wanted;
+mod window;
 
 pub use capture::Capture;
 pub use fault::Fault;
@@ -57,3 +58,4 @@ pub use seen::Seen;
 pub use tallies::{MAX_SENDERS, Origin, Tally};
 pub use time::Time;
 pub use wanted::Wanted;
+pub use window::{Moment, Window};
