@@ -2,11 +2,12 @@
 """Runs a program over small random tables, and compares what it writes with what a slow program has
 from the definitions.
 
-    definition.py PROGRAM [--plain] [--all] [--tables N] [--seed N]
+    definition.py PROGRAM [--plain] [--all] [--tiny] [--tables N] [--seed N]
 
 Each table has a few routes of both families, with and without source prefixes, some retracted, in
-any order; half of them have prefixes within the first four bits alone, the others prefixes of any
-length that share long beginnings. `pairs`, with and without `--count` and `--hold`, `lookup`, and
+any order; half of them have prefixes within the first four bits alone, the others, unless it is
+said that all are tiny, prefixes of any length that share long beginnings, which may have 100,000
+pairs. `pairs`, with and without `--count` and `--hold`, `lookup`, and
 `compare` with another table, which mostly differs in a few Updates, must write what the definitions
 say and end with the status of that; and, unless it is the plain program, `pairs` and `compare` with
 `--ignore metric`. With `--all` so must `compare --all`, with and without `--count`, `--json`,
@@ -14,9 +15,11 @@ say and end with the status of that; and, unless it is the plain program, `pairs
 """
 
 import argparse
+import concurrent.futures
 import functools
 import ipaddress
 import json
+import os
 import pathlib
 import random
 import struct
@@ -24,13 +27,21 @@ import subprocess
 import sys
 import tempfile
 
-from loads import INFINITY, NEXT_HOP, ROUTER_ID, WIDTH, WILDCARD
-
+WIDTH = {4: 32, 6: 128}
+INFINITY = 0xFFFF
+ROUTER_ID = bytes.fromhex("060a0000 02e0905949f30003")
+NEXT_HOP = bytes.fromhex("070a0300 0000000000000001")
+WILDCARD = bytes.fromhex("080a0000 0000 0640 0001 ffff")
 FROM = ["--from", "192.0.2.1"]
 ANY = (0, 0)
 VIA = {4: "192.0.2.1", 6: "fe80:0:0:0:0:0:0:1"}
 # What the program, and not the plain one, says of dumps that are made of no Updates.
-NO_UPDATES = {"note: no Updates", "note: other: no Updates"}
+NO_UPDATES = {
+    "note: no Updates",
+    "note: other: no Updates",
+    '{"note":"no-updates"}',
+    '{"note":"no-updates","other":true}',
+}
 
 
 # ---- random Updates: (family, destination, source, metric), or None for a retraction of all; a
@@ -57,7 +68,7 @@ def sibling(prefix, width):
     return (bits ^ 1 << width - length, length) if length else prefix
 
 
-def random_updates(rng):
+def random_updates(rng, tiny):
     """Few sources and few values, so that functions of the source repeat."""
     updates = []
     for family, width in WIDTH.items():
@@ -65,6 +76,8 @@ def random_updates(rng):
         prefix = rng.choice(
             (lambda: short_prefix(rng, width), lambda: long_prefix(rng, width, stems))
         )
+        if tiny:
+            prefix = functools.partial(short_prefix, rng, width)
         sources = [ANY]
         for _ in range(rng.randrange(3)):
             source = prefix()
@@ -334,18 +347,50 @@ def compare_runs(left, right, words, dumps, every):
         yield ["compare", "--all", "--count", "--json", *words], count + as_json, *end
 
 
-def expected_runs(rng, updates, others, dumps, options):
+def expected_runs(rng, updates, others, dumps, plain, every):
     for hold in ([], ["--hold"]):
         words = [*hold, *FROM]
         left, right = (table_of(each, bool(hold)) for each in (updates, others))
         yield from pair_runs(left, words, dumps[0])
         yield from lookup_run(rng, left, words, dumps[0])
-        yield from compare_runs(left, right, words, dumps, options.all)
-        if not options.plain:
+        yield from compare_runs(left, right, words, dumps, every)
+        if not plain:
             words = ["--ignore", "metric", *words]
             left, right = (without_metrics(table) for table in (left, right))
             yield from pair_runs(left, words, dumps[0])
-            yield from compare_runs(left, right, words, dumps, options.all)
+            yield from compare_runs(left, right, words, dumps, every)
+
+
+def checked(program, folder, tables, seed, plain, every, tiny):
+    """For each run over so many tables: its command, how many lines it must write, and how what it
+    did differs from the definitions, if it does."""
+
+    def check(turn):
+        rng = random.Random(f"{seed} {turn}")
+        updates = random_updates(rng, tiny)
+        others = changed(rng, updates) if rng.randrange(8) else random_updates(rng, tiny)
+        dumps = [folder / f"table-{turn}{other}.dump" for other in ("", "-other")]
+        for dump, sent in zip(dumps, (updates, others)):
+            dump.write_bytes(dump_of(sent))
+        found = []
+        for words, *wanted, note in expected_runs(rng, updates, others, dumps, plain, every):
+            run = subprocess.run([program, *words], capture_output=True, text=True)
+            lines, told = (
+                [line for line in text.splitlines() if line not in NO_UPDATES]
+                for text in (run.stdout, run.stderr)
+            )
+            given = [lines, run.returncode], told
+            is_right = given == (wanted, [note] if note and not plain else [])
+            problem = f"table {turn}, {words}: {given} in place of {wanted} and {note!r}"
+            problem += f": {updates}, {others}"
+            found.append((words[0], len(wanted[0]), "" if is_right else problem))
+        for dump in dumps:
+            dump.unlink()
+        return found
+
+    with concurrent.futures.ThreadPoolExecutor(os.cpu_count()) as pool:
+        for found in pool.map(check, range(tables)):
+            yield from found
 
 
 def main():
@@ -359,29 +404,26 @@ def main():
         help="the program is the plain one, which lacks some options",
     )
     parser.add_argument("--all", action="store_true", help="run compare --all, too")
+    tiny = "prefixes within the first four bits alone"
+    parser.add_argument("--tiny", action="store_true", help=tiny)
     parser.add_argument("--tables", type=int, default=1_000)
     parser.add_argument("--seed", type=int, default=1)
     options = parser.parse_args()
-    program, rng = options.program.resolve(), random.Random(options.seed)
     runs, wrong, most = 0, 0, 0
     with tempfile.TemporaryDirectory() as folder:
-        dumps = [pathlib.Path(folder) / name for name in ("one.dump", "other.dump")]
-        for turn in range(options.tables):
-            updates = random_updates(rng)
-            others = changed(rng, updates) if rng.randrange(8) else random_updates(rng)
-            for dump, sent in zip(dumps, (updates, others)):
-                dump.write_bytes(dump_of(sent))
-            for words, lines, status, note in expected_runs(rng, updates, others, dumps, options):
-                run = subprocess.run([program, *words], capture_output=True, text=True)
-                runs += 1
-                most = max(most, len(lines))
-                told = set(run.stderr.splitlines()) - NO_UPDATES
-                is_told = told == ({note} if note and not options.plain else set())
-                if run.stdout.splitlines() != lines or not is_told or run.returncode != status:
-                    wrong += 1
-                    given = f"{run.stdout!r}, {run.stderr!r} and status {run.returncode}"
-                    given += f" in place of {lines!r}, {note!r} and status {status}"
-                    print(f"table {turn}, {words}: {given}: {updates}, {others}")
+        for _, lines, problem in checked(
+            options.program.resolve(),
+            pathlib.Path(folder),
+            options.tables,
+            options.seed,
+            options.plain,
+            options.all,
+            options.tiny,
+        ):
+            runs, most = runs + 1, max(most, lines)
+            if problem:
+                wrong += 1
+                print(problem)
     print(f"{wrong} of {runs} runs differ from the definitions; the longest text had {most} lines")
     return 1 if wrong else 0
 
