@@ -327,8 +327,8 @@ def write_hidden(path, rng, count):
 
 def write_chains(folder, name, rng, count):
     """So many deep functions of the source at one network, and 95 networks in one another, each
-    with another announcement for the deepest source of each; and the same with other metrics, which
-    no destination answers, since all rows are hidden by a last network."""
+    with another announcement for the deepest source of each; and the same with other metrics
+    there."""
     anns = announcements(rng, 20)
     combs = [comb(rng) for _ in range(count)]
     network = 0x2001_0DB8 << 96
@@ -356,8 +356,8 @@ def write_router_ids(path, rng, count):
 def write_again(path, rng, count):
     """So many IPv6 hosts, announced in order, and again in any order as often as there is room."""
     keys = sorted(hosts(rng, 6, count))
-    again = (update(6, bits, 128) for bits in itertools.chain(keys, iter(lambda: rng.choice(keys), 0)))
-    write_tlvs(path, again)
+    again = itertools.chain(keys, iter(lambda: rng.choice(keys), None))
+    write_tlvs(path, (update(6, bits, 128) for bits in again))
 
 
 def hosts(rng, family, count):
@@ -566,6 +566,15 @@ def main():
     write_hosts_from_hosts(folder, random.Random(f"{seed} hosts from hosts"))
     write_default_over_hosts(folder / "default-over-hosts.dump", random.Random(f"{seed} default"))
     write_deep(folder, random.Random(f"{seed} deep"))
+    for size in (16, 64, 256):
+        rng = random.Random(f"{seed} router-ids {size}")
+        write_router_ids(folder / f"router-ids-{size}k.dump", rng, size * 1_024)
+    for size in (16, 64):
+        rng = random.Random(f"{seed} hidden {size}")
+        write_hidden(folder / f"hidden-{size}k.dump", rng, size * 1_024)
+    for size in (64, 256):
+        write_chains(folder, f"chains-{size}", random.Random(f"{seed} chains {size}"), size)
+    write_again(folder / "again.dump", random.Random(f"{seed} again"), MAX_ROWS)
     write_one_tag(folder, random.Random(f"{seed} one tag"))
     write_nested(folder, random.Random(f"{seed} nested"))
     write_readings(folder, seed)
