@@ -311,16 +311,20 @@ def comb(rng):
 
 
 def write_hidden(path, rng, count):
-    """16 deep functions of the source at one network; in each of its hosts' blocks of 18 rows the
-    deepest source of each has another announcement, which both halves of the block hide again. So
-    many rows, of which nearly none is seen."""
+    """16 deep functions of the source at one network; in each of its blocks of two hosts the deepest
+    source of each has an announcement of its own, and both hosts hide that again. So many rows, 18
+    a block, of which nearly none is seen."""
     anns = announcements(rng, 20)
+    router_id, seqno, _ = anns[0]
     combs = [comb(rng) for _ in range(16)]
     network = 0x2001_0DB8 << 96
     routes = [(6, network, 32, rng.choice(anns), source) for each in combs for source in each]
     for place in range((count - len(routes)) // 18):
         block = network | place << 1
-        routes += [(6, block, 127, rng.choice(anns), each[-1]) for each in combs]
+        routes += [
+            (6, block, 127, (router_id, seqno, rng.randrange(INFINITY)), each[-1])
+            for each in combs
+        ]
         routes += [(6, block | half, 128, anns[0]) for half in (0, 1)]
     write_routes(path, routes)
 
