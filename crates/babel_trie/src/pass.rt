@@ -353,7 +353,7 @@ impl<V: LawfulOrd, R: Rows<V>> Pass<V, R> {
 }
 
 /// How many nodes at the front are kept once these sources are said too: all, if they name one.
-fn kept_with<V>(kept: usize, sources: Sources<V>, all: usize) -> usize
+fn kept_with<V: Copy>(kept: usize, sources: Sources<V>, all: usize) -> usize
     ensures { ((v : V) × (sources ≡ Constant v) × (result ≡ kept)) ⊎ (result ≡ all) }
 {
     match sources {

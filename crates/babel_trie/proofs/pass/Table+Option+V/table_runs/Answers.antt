@@ -24,7 +24,12 @@ use Rattle.babel_trie.proofs.pass.Table+Option+V.table_runs.Goals as goal
 use Rattle.babel_trie.proofs.pass.Table+Option+V.table_runs.Goals.{then-due-len+then-nodes-ge-FEW_NODES+in_ok-early_count+else-branch-most, else-due-len}
 
 all_taken : {A : Type 0} (xs ys : List A) → ys ≡ xs → take (length ys) xs ≡ xs
-all_taken xs ys is = ap (λ (zs : List A). take (length zs) xs) is ∙ take-length xs
+all_taken {A = A} xs ys is = ap (λ (zs : List A). take (length zs) xs) is ∙ take-length xs
+
+kept_so : {V : Type 0} (kept : ℕ) (s : Sources (Option V)) (more nodes : List (Node (Option V))) (after : ℕ) → nodes ≡ more
+    → IsKeptWith kept s nodes after → IsKeptWith kept s more after
+kept_so kept s more nodes after is (inl one) = inl one
+kept_so kept s more nodes after is (inr all) = inr (all ∙ ap length is)
 
 -- nothing is said
 none_said : {V : Type 0} (w : ℕ) (f : Answers V) (nodes : List (Node (Option V))) (list : List (Change (Sources (Option V)))) → list ≡ []
@@ -142,10 +147,7 @@ loop-due-preserved g c =
     let quiet : (d : ℕ) → d < start → IsQuietUpTo d g.R.Rows.rows new = λ d lt. (reach.next d).1 (subst (λ (o : Option ℕ). IfSome o (λ next. d < next)) (sym c.in-Some.is) lt) in
     let filled = c.in_ok-say.ensures.filled start behind in
     let here = come (reach.pass rows i.pass) at reach.reached i.within (quiet at behind) c.sources-sources.result c.sources-sources.ensures in
-    let kept : IsKeptWith c.loop-due.kept c.sources-sources.result table.nodes.items c.kept_with-kept.result = elim c.kept_with-kept.ensures [
-      | inl one ↦ inl one
-      | inr all ↦ inr (all ∙ ap length c.nodes-kept-2.ensures)
-    ] in
+    let kept = kept_so c.loop-due.kept c.sources-sources.result table.nodes.items c.nodes-in-loop-due.result.now c.kept_with-kept.result c.nodes-in-loop-due.ensures c.kept_with-kept.ensures in
     let comes : IsQuietUpTo start g.R.Rows.rows new → ⊥ =
     λ q. let lt : start < start = subst (λ (o : Option ℕ). IfSome o (λ next. start < next)) c.in-Some.is ((reach.next start).0 q) in omega arith in
     record {
