@@ -73,7 +73,9 @@ early_count-requires-clause-runs g c =
     let some : 0 < length list = omega (arith, c.if-due-len.true, c.len.ensures, i.due) in
     let begun = some_below c.loop-due.at list i.below some in
     let h = so_far w c.loop-due.at (answer w (map row_of rows)) nodes list i.runs i.below in
-    let runs = has_runs_so_far w c.loop-due.at (answer w (map row_of rows)) nodes list i.runs i.below (says-grows w c.loop-due.at (answer w (map row_of rows)) (take c.loop-due.kept nodes) nodes list (λ k n e. slice_get-taken nodes c.loop-due.kept k n e) i.says) begun (omega (arith, i.within)) in
+    let f = answer w (map row_of rows) in
+    let says = says-grows w c.loop-due.at f (take c.loop-due.kept nodes) nodes list (λ k n e. slice_get-taken nodes c.loop-due.kept k n e) i.says in
+    let runs = has_runs_so_far w c.loop-due.at f nodes list i.runs i.below says begun (omega (arith, i.within)) in
     (w, h, subst (λ (xs : List (Change (Sources (Option g.row.V.Denot)))). HasRuns w nodes xs h) (sym is) runs)
 
 pub returns-then-branch-most-clause-sound : goal.returns-then-branch-most-clause-sound
@@ -93,9 +95,10 @@ returns-then-branch-most-clause-runs g c =
     let f = answer w (map row_of rows) in
     let some : 0 < length list = omega (arith, c.if-due-len.true, c.len.ensures, i.due) in
     let begun = some_below c.loop-due.at list i.below some in
+    let says = says-grows w c.loop-due.at f (take c.loop-due.kept nodes) nodes list (λ k n e. slice_get-taken nodes c.loop-due.kept k n e) i.says in
     let h = so_far w c.loop-due.at f nodes list i.runs i.below in
     let runs = subst (λ (xs : List (Change (Sources (Option V)))). HasRuns w nodes xs h) (sym is)
-    (has_runs_so_far w c.loop-due.at f nodes list i.runs i.below (says-grows w c.loop-due.at f (take c.loop-due.kept nodes) nodes list (λ k n e. slice_get-taken nodes c.loop-due.kept k n e) i.says) begun (omega (arith, i.within))) in
+    (has_runs_so_far w c.loop-due.at f nodes list i.runs i.below says begun (omega (arith, i.within))) in
     let agree = subst (λ (xs : List (Change (Sources (Option V)))). AgreeUpTo w xs f h) (sym is) (agree_so_far w c.loop-due.at f nodes list i.runs i.below) in
     let boxes = boxes_exist (test_by g.V.Ord.cmp g.met.V.Ord.total g.met.V.LawfulOrd.exact) w f in
     let few = c.in_ok-early_count.ensures w f h boxes.0 runs agree boxes.1 in
@@ -127,7 +130,8 @@ returns-in_default-clause-runs g c =
     let quiet : (d : ℕ) → IsQuietUpTo d g.R.Rows.rows new = λ d. (reach.next d).1 (subst (λ (o : Option ℕ). IfSome o (λ start. d < start)) (sym c.in_default.is) tt) in
     let filled = c.in_ok-say.ensures.filled (2 ^ w) i.within in
     let here = come (reach.pass rows i.pass) at reach.reached i.within (quiet at) c.sources-sources.result c.sources-sources.ensures in
-    let says = says-more w at (2 ^ w) f (take c.loop-due.kept c.loop-due.self.nodes.items) nodes c.loop-due.list.items list c.sources-sources.result reach.keeps filled (λ d le lt. at-values here d le lt (quiet d)) i.says in
+    let says = says-more w at (2 ^ w) f (take c.loop-due.kept c.loop-due.self.nodes.items) nodes c.loop-due.list.items list c.sources-sources.result reach.keeps filled
+    (λ d le lt. at-values here d le lt (quiet d)) i.says in
     says-all w f nodes list filled.runs filled.below says
 
 pub loop-due-preserved : goal.loop-due-preserved
