@@ -301,6 +301,69 @@ def write_deepest(folder, name, rng, count):
         write_routes(folder / f"{name}{other}.dump", routes + found)
 
 
+def comb(rng):
+    """128 sources that part from one address at each of its bits, the longest last, so that what a
+    destination answers is 128 forks deep."""
+    spine = rng.getrandbits(128)
+    return [
+        ((spine >> 128 - length ^ 1) << 128 - length, length) for length in range(1, 128)
+    ] + [(spine, 128)]
+
+
+def write_hidden(path, rng, count):
+    """16 deep functions of the source at one network; in each of its blocks of two hosts the deepest
+    source of each has an announcement of its own, and both hosts hide that again. So many rows, 18
+    a block, of which nearly none is seen."""
+    anns = announcements(rng, 20)
+    router_id, seqno, _ = anns[0]
+    combs = [comb(rng) for _ in range(16)]
+    network = 0x2001_0DB8 << 96
+    routes = [(6, network, 32, rng.choice(anns), source) for each in combs for source in each]
+    for place in range((count - len(routes)) // 18):
+        block = network | place << 1
+        routes += [
+            (6, block, 127, (router_id, seqno, rng.randrange(INFINITY)), each[-1])
+            for each in combs
+        ]
+        routes += [(6, block | half, 128, anns[0]) for half in (0, 1)]
+    write_routes(path, routes)
+
+
+def write_chains(folder, name, rng, count):
+    """So many deep functions of the source at one network, and 95 networks in one another, each
+    with another announcement for the deepest source of each; and the same with other metrics
+    there."""
+    anns = announcements(rng, 20)
+    combs = [comb(rng) for _ in range(count)]
+    network = 0x2001_0DB8 << 96
+    for other, more in (("", 0), ("-other", 1)):
+        one = random.Random(f"{name} chains")
+        routes = [(6, network, 32, one.choice(anns), source) for each in combs for source in each]
+        routes += [
+            (6, network, length, (router_id, seqno, metric + more), each[-1])
+            for length in range(33, 128)
+            for each in combs
+            for router_id, seqno, metric in (one.choice(anns),)
+        ]
+        write_routes(folder / f"{name}{other}.dump", routes)
+
+
+def write_router_ids(path, rng, count):
+    """So many IPv6 hosts, each by a router of its own."""
+    routes = [
+        (6, bits, 128, (rng.getrandbits(63).to_bytes(8, "big"), 1, 256))
+        for bits in hosts(rng, 6, count)
+    ]
+    write_routes(path, routes)
+
+
+def write_again(path, rng, count):
+    """So many IPv6 hosts, announced in order, and again in any order as often as there is room."""
+    keys = sorted(hosts(rng, 6, count))
+    again = itertools.chain(keys, iter(lambda: rng.choice(keys), None))
+    write_tlvs(path, (update(6, bits, 128) for bits in again))
+
+
 def hosts(rng, family, count):
     """So many addresses of one network, in any order."""
     network, free = {4: (10 << 24, 24), 6: (0x2001_0DB8 << 96, 96)}[family]
@@ -507,6 +570,15 @@ def main():
     write_hosts_from_hosts(folder, random.Random(f"{seed} hosts from hosts"))
     write_default_over_hosts(folder / "default-over-hosts.dump", random.Random(f"{seed} default"))
     write_deep(folder, random.Random(f"{seed} deep"))
+    for size in (16, 64, 256):
+        rng = random.Random(f"{seed} router-ids {size}")
+        write_router_ids(folder / f"router-ids-{size}k.dump", rng, size * 1_024)
+    for size in (16, 64):
+        rng = random.Random(f"{seed} hidden {size}")
+        write_hidden(folder / f"hidden-{size}k.dump", rng, size * 1_024)
+    for size in (64, 256):
+        write_chains(folder, f"chains-{size}", random.Random(f"{seed} chains {size}"), size)
+    write_again(folder / "again.dump", random.Random(f"{seed} again"), MAX_ROWS)
     write_one_tag(folder, random.Random(f"{seed} one tag"))
     write_nested(folder, random.Random(f"{seed} nested"))
     write_readings(folder, seed)

@@ -54,8 +54,11 @@ COMPARED = (
     ("hosts-from-hosts", "hosts-from-hosts-other"),
     ("deep", "deep-other"),
     ("default-over-hosts", "default-over-hosts"),
+    ("chains-64", "chains-64-other"),
+    ("chains-256", "chains-256-other"),
 )
 NESTED = ("nested", "nested-sources")
+COUNTED = ("hidden-16k", "hidden-64k", "router-ids-16k", "router-ids-64k", "router-ids-256k")
 SIZES = (1, 4, 16, 64, 256)
 CAPTURES = ("frames.pcap", "one-sender.pcap", "small-packets.pcapng", "many-senders.pcap")
 
@@ -71,6 +74,9 @@ def cases():
     for load in ("one-tag", "one-tag-replaced"):
         for command in ("show", "normalise"):
             yield load, [command, *FROM]
+    yield "again", ["show", *FROM]
+    for load in COUNTED:
+        yield load, ["pairs", "--count", *FROM]
     for load in NESTED:
         yield load, ["lookup", "--each", f"{load}.pairs", *FROM]
     for load in SHARED:

@@ -6,9 +6,10 @@
 Each dump is one of examples/routers, with one to four octets changed, and in one of eight dumps the
 end cut off. Both programs must write the same octets and texts and give the same status in each
 run: `show`, also with `--short`, `pairs`, also with `--count`, `normalise` at some size of a
-packet's body, two lookups, and `compare` with the dump as it was, each with and without `--hold`;
-`normalise` and `compare` with `--routes`, too. Exits 1 where they do not. The same seed makes the
-same dumps.
+packet's body, two lookups, and `compare` with the dump as it was, each with and without `--hold`,
+and with and without `--v4-via-v6`; `normalise` and `compare` with `--routes`, too. Exits 1 where
+they do not. The same seed makes the same dumps. Octets are also changed to 4, which is the address
+encoding of `--v4-via-v6` in many places.
 """
 
 import argparse
@@ -32,7 +33,7 @@ BODIES = (128, 129, 255, 1_024, 65_535)
 def changed(rng, octets):
     octets = bytearray(octets)
     for _ in range(rng.randrange(1, 5)):
-        octets[rng.randrange(len(octets))] = rng.choice((0, 1, 8, 128, 255, rng.randrange(256)))
+        octets[rng.randrange(len(octets))] = rng.choice((0, 1, 4, 8, 128, 255, rng.randrange(256)))
     if rng.randrange(8) == 0:
         del octets[rng.randrange(len(octets)) :]
     return bytes(octets)
@@ -40,8 +41,8 @@ def changed(rng, octets):
 
 def runs(sender, original, dump, body):
     """The words of each run over a changed dump."""
-    for hold in [], ["--hold"]:
-        sent = [*hold, "--from", sender]
+    for mode in [], ["--hold"], ["--v4-via-v6"], ["--hold", "--v4-via-v6"]:
+        sent = [*mode, "--from", sender]
         yield ["show", *sent, dump]
         yield ["show", "--short", *sent, dump]
         yield ["pairs", *sent, dump]

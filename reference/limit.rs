@@ -2,6 +2,8 @@
 //! as fast as we can write one. Std alone, safe, single-threaded, one file.
 //!
 //!     rustc -O --edition 2021 limit.rs
+//! Each command takes `--v4-via-v6` too.
+//!
 //!     limit show [--hold] --from A [FILE]
 //!     limit lookup [--hold] --from A --to D --src S [FILE]
 //!     limit lookup [--hold] --from A --each PAIRS [FILE]
@@ -77,7 +79,6 @@ trait Address:
     fn hashed(self, seed: &Seed, tag: u32) -> u64;
     fn print<W: Write>(self, out: &mut Out<W>);
     fn of(addr: Addr) -> Option<Self>;
-    fn next_hop_tlv(self) -> ([u8; 20], usize);
 
     /// The highest bits, at most the width.
     fn top(bits: u32) -> Self;
@@ -176,13 +177,6 @@ impl Address for u32 {
             Addr::V6(_) => None,
         }
     }
-
-    fn next_hop_tlv(self) -> ([u8; 20], usize) {
-        let mut tlv = [0; 20];
-        tlv[..4].copy_from_slice(&[7, 6, 1, 0]);
-        tlv[4..8].copy_from_slice(&self.to_be_bytes());
-        (tlv, 8)
-    }
 }
 
 impl Address for u128 {
@@ -230,18 +224,49 @@ impl Address for u128 {
             Addr::V6(bits) => Some(bits),
         }
     }
+}
 
-    fn next_hop_tlv(self) -> ([u8; 20], usize) {
-        let octets = self.to_be_bytes();
+/// A next hop: of the family of its route, or of IPv6 for a route of IPv4 (RFC 9229).
+#[derive(Clone, Copy, PartialEq, Eq)]
+enum Hop {
+    V4(u32),
+    V6(u128),
+}
+
+impl Hop {
+    fn tlv(self) -> ([u8; 20], usize) {
         let mut tlv = [0; 20];
-        if self >> 64 == LINK_LOCAL >> 64 {
-            tlv[..4].copy_from_slice(&[7, 10, 3, 0]);
-            tlv[4..12].copy_from_slice(&octets[8..]);
-            return (tlv, 12);
+        match self {
+            Hop::V4(bits) => {
+                tlv[..4].copy_from_slice(&[7, 6, 1, 0]);
+                tlv[4..8].copy_from_slice(&bits.to_be_bytes());
+                (tlv, 8)
+            }
+            Hop::V6(bits) if bits >> 64 == LINK_LOCAL >> 64 => {
+                tlv[..4].copy_from_slice(&[7, 10, 3, 0]);
+                tlv[4..12].copy_from_slice(&bits.to_be_bytes()[8..]);
+                (tlv, 12)
+            }
+            Hop::V6(bits) => {
+                tlv[..4].copy_from_slice(&[7, 18, 2, 0]);
+                tlv[4..].copy_from_slice(&bits.to_be_bytes());
+                (tlv, 20)
+            }
         }
-        tlv[..4].copy_from_slice(&[7, 18, 2, 0]);
-        tlv[4..].copy_from_slice(&octets);
-        (tlv, 20)
+    }
+
+    fn hashed(self, seed: &Seed) -> u64 {
+        match self {
+            Hop::V4(bits) => bits.hashed(seed, 0),
+            Hop::V6(bits) => bits.hashed(seed, 0),
+        }
+    }
+
+    fn print<W: Write>(self, out: &mut Out<W>) {
+        match self {
+            Hop::V4(bits) => bits.print(out),
+            Hop::V6(bits) => bits.print(out),
+        }
     }
 }
 
@@ -510,14 +535,14 @@ impl<T: Hashed> Numbered<T> {
 
 /// Who announces a route: all of it that Updates do not repeat.
 #[derive(Clone, Copy, PartialEq, Eq)]
-struct Owner<A> {
+struct Owner {
     router_id: u64,
-    next_hop: A,
+    next_hop: Hop,
 }
 
-impl<A: Address> Hashed for Owner<A> {
+impl Hashed for Owner {
     fn hashed(&self, seed: &Seed) -> u64 {
-        seed.mixed(self.next_hop.hashed(seed, 0), self.router_id)
+        seed.mixed(self.next_hop.hashed(seed), self.router_id)
     }
 }
 
@@ -597,18 +622,25 @@ struct Shared {
     /// How many rows there are, in both families.
     held: usize,
     router_id: Option<u64>,
+    /// Whether encoding 4 is read.
+    via_v6: bool,
 }
 
 struct TooManyRoutes;
 
+/// The encoding of a family's own, and encoding 4 (RFC 9229), of IPv4: places in `Reading`.
+const OWN: usize = 0;
+const VIA_V6: usize = 1;
+
 /// One family of a dump being read: its parser state in this packet, and its rows.
 struct Reading<A> {
     sender: Option<A>,
-    default: Option<A>,
+    /// The default prefixes: of the family's own encoding, and of encoding 4.
+    defaults: [Option<A>; 2],
     next_hop: Option<A>,
-    /// The number of the router-id and the next hop, for this router-id.
-    owner: Option<(u64, u32)>,
-    owners: Numbered<Owner<A>>,
+    /// The number of the router-id and the next hop, for this router-id; by encoding, too.
+    owner: [Option<(u64, u32)>; 2],
+    owners: Numbered<Owner>,
     sources: Numbered<Prefix<A>>,
     rows: Vec<Row<A>>,
     /// Made when a key comes that is neither the next nor beyond all others.
@@ -622,14 +654,14 @@ struct Reading<A> {
 }
 
 impl<A: Address> Reading<A> {
-    fn new(sender: Addr, owners: Numbered<Owner<A>>) -> Reading<A> {
+    fn new(sender: Addr, owners: Numbered<Owner>) -> Reading<A> {
         let mut sources = Numbered::new();
         sources.number(Prefix::WHOLE);
         Reading {
             sender: A::of(sender),
-            default: None,
+            defaults: [None; 2],
             next_hop: None,
-            owner: None,
+            owner: [None; 2],
             owners,
             sources,
             rows: Vec::new(),
@@ -641,9 +673,9 @@ impl<A: Address> Reading<A> {
     }
 
     fn begin_packet(&mut self) {
-        self.default = None;
+        self.defaults = [None; 2];
         self.next_hop = self.sender;
-        self.owner = None;
+        self.owner = [None; 2];
     }
 
     fn retract_all(&mut self) {
@@ -877,7 +909,7 @@ struct Rows<A> {
     rows: Vec<Row<A>>,
     rising: bool,
     sources: Vec<Prefix<A>>,
-    owners: Numbered<Owner<A>>,
+    owners: Numbered<Owner>,
 }
 
 impl<A: Address> Rows<A> {
@@ -1098,13 +1130,14 @@ struct Reader {
 }
 
 impl Reader {
-    fn new(sender: Addr, hold: bool, owners: Owners) -> Reader {
+    fn new(sender: Addr, hold: bool, via_v6: bool, owners: Owners) -> Reader {
         Reader {
             shared: Shared {
                 hold,
                 epoch: 0,
                 held: 0,
                 router_id: None,
+                via_v6,
             },
             v4: Reading::new(sender, owners.v4),
             v6: Reading::new(sender, owners.v6),
@@ -1159,8 +1192,18 @@ impl Reader {
             8 if len < FIXED => Err(Reason::Short.into()),
             8 => match tlv[2] {
                 0 => self.take_wildcard(tlv, &octets[FIXED..len]),
-                1 => self.v4.take_update(&mut self.shared, tlv, octets, len),
-                2 => self.v6.take_update(&mut self.shared, tlv, octets, len),
+                1 => {
+                    let hop = self.v4.next_hop.map(Hop::V4);
+                    self.v4.take_update::<OWN>(&mut self.shared, hop, tlv, octets, len)
+                }
+                2 => {
+                    let hop = self.v6.next_hop.map(Hop::V6);
+                    self.v6.take_update::<OWN>(&mut self.shared, hop, tlv, octets, len)
+                }
+                4 if self.shared.via_v6 => {
+                    let hop = self.v6.next_hop.map(Hop::V6);
+                    self.v4.take_update::<VIA_V6>(&mut self.shared, hop, tlv, octets, len)
+                }
                 _ if tlv[3] & 0x40 != 0 => Err(Stop::EncodingSetsRouterId),
                 _ => Err(Reason::UnknownEncoding.into()),
             },
@@ -1195,6 +1238,7 @@ impl Reader {
             2 => self.v6.set_next_hop(u128::load(&octets)),
             _ => self.v6.set_next_hop(LINK_LOCAL | u128::load(&octets) >> 64),
         }
+        self.v4.owner[VIA_V6] = None;
         check_no_mandatory(rest)
     }
 
@@ -1240,13 +1284,15 @@ fn check_rest(octets: &[u8], mut at: usize, end: usize, offset: u64) -> Result<(
 impl<A: Address> Reading<A> {
     fn set_next_hop(&mut self, next_hop: A) {
         self.next_hop = Some(next_hop);
-        self.owner = None;
+        self.owner[OWN] = None;
     }
 
-    /// Takes an Update of this family. Its prefix is one load, a shift and two masks.
-    fn take_update(
+    /// Takes an Update of this family, in its own encoding or in encoding 4. Its prefix is one
+    /// load, a shift and two masks.
+    fn take_update<const ENCODING: usize>(
         &mut self,
         shared: &mut Shared,
+        hop: Option<Hop>,
         tlv: &Window,
         octets: &[u8],
         end: usize,
@@ -1261,7 +1307,7 @@ impl<A: Address> Reading<A> {
         }
         let mut bits = A::load(field);
         if omitted > 0 {
-            let default = self.default.ok_or(Reason::NoDefault)?;
+            let default = self.defaults[ENCODING].ok_or(Reason::NoDefault)?;
             bits = default & A::top(8 * omitted) | bits.down(8 * omitted);
         }
         let rest = FIXED + plen.div_ceil(8).saturating_sub(omitted) as usize;
@@ -1270,7 +1316,7 @@ impl<A: Address> Reading<A> {
         }
         bits = bits & A::top(plen);
         if flags & 0x80 != 0 {
-            self.default = Some(bits);
+            self.defaults[ENCODING] = Some(bits);
         }
         if flags & 0x40 != 0 {
             shared.router_id = Some(bits.low_word());
@@ -1288,7 +1334,7 @@ impl<A: Address> Reading<A> {
         if stated as u16 == INFINITY {
             return Ok(self.retract_route(shared, dst, source)?);
         }
-        let owner = self.owner(shared.router_id)?;
+        let owner = self.owner::<ENCODING>(shared.router_id, hop)?;
         let source = source.map_or(0, |source| self.sources.number(source));
         Ok(self.announce(shared, Key::new(dst, source), owner, stated)?)
     }
@@ -1310,9 +1356,13 @@ impl<A: Address> Reading<A> {
         }
     }
 
-    /// The number of who announces now.
-    fn owner(&mut self, router_id: Option<u64>) -> Result<u32, Stop> {
-        if let (Some((id, number)), Some(current)) = (self.owner, router_id) {
+    /// The number of who announces now, by this next hop.
+    fn owner<const ENCODING: usize>(
+        &mut self,
+        router_id: Option<u64>,
+        hop: Option<Hop>,
+    ) -> Result<u32, Stop> {
+        if let (Some((id, number)), Some(current)) = (self.owner[ENCODING], router_id) {
             if id == current {
                 return Ok(number);
             }
@@ -1321,12 +1371,12 @@ impl<A: Address> Reading<A> {
         if router_id == 0 || router_id == u64::MAX {
             return Err(Reason::ReservedRouterId.into());
         }
-        let next_hop = self.next_hop.ok_or(Reason::NoNextHop)?;
+        let next_hop = hop.ok_or(Reason::NoNextHop)?;
         let number = self.owners.number(Owner {
             router_id,
             next_hop,
         }) as u32;
-        self.owner = Some((router_id, number));
+        self.owner[ENCODING] = Some((router_id, number));
         Ok(number)
     }
 }
@@ -1391,8 +1441,8 @@ fn read_source<A: Address>(octets: &[u8]) -> Result<Option<Prefix<A>>, Reason> {
 // ---- a whole dump
 
 struct Owners {
-    v4: Numbered<Owner<u32>>,
-    v6: Numbered<Owner<u128>>,
+    v4: Numbered<Owner>,
+    v6: Numbered<Owner>,
 }
 
 impl Owners {
@@ -1453,9 +1503,10 @@ fn read_dump(
     mut input: impl Read,
     sender: Addr,
     hold: bool,
+    via_v6: bool,
     owners: Owners,
 ) -> Result<Table, ReadFault> {
-    let mut reader = Reader::new(sender, hold, owners);
+    let mut reader = Reader::new(sender, hold, via_v6, owners);
     let mut octets = vec![0; BUFFER + WINDOW];
     let (mut at, mut start, mut end) = (0, 0, 0);
     loop {
@@ -2265,7 +2316,7 @@ impl<W: Write> Out<W> {
         self.prefix(src);
     }
 
-    fn answer<A: Address>(&mut self, owners: &[Owner<A>], value: u64) {
+    fn answer(&mut self, owners: &[Owner], value: u64) {
         match value {
             NOTHING => return self.text(b"none\n"),
             UNREACHABLE => return self.text(b"unreachable\n"),
@@ -2288,7 +2339,7 @@ impl<W: Write> Out<W> {
 
     fn line<A: Address>(
         &mut self,
-        owners: &[Owner<A>],
+        owners: &[Owner],
         dst: Prefix<A>,
         src: Prefix<A>,
         value: u64,
@@ -2300,7 +2351,7 @@ impl<W: Write> Out<W> {
         self.hand_over_if_full()
     }
 
-    fn difference<A: Address>(&mut self, owners: &[Owner<A>], difference: &RouteDifference<A>) {
+    fn difference<A: Address>(&mut self, owners: &[Owner], difference: &RouteDifference<A>) {
         self.text(b"differ ");
         self.prefix(difference.key.0);
         self.source(difference.key.1);
@@ -2313,7 +2364,7 @@ impl<W: Write> Out<W> {
     /// The row of one side, if it has one.
     fn changed_row<A: Address>(
         &mut self,
-        owners: &[Owner<A>],
+        owners: &[Owner],
         sign: &[u8; 1],
         difference: &RouteDifference<A>,
         held: u64,
@@ -2359,23 +2410,23 @@ struct Writer<W: Write> {
     /// Where the packet that is open begins.
     start: Option<usize>,
     router_id: Option<u64>,
+    next_hop_v4: Option<u32>,
+    next_hop_v6: Option<u128>,
 }
 
-/// What the open packet has said of a family.
+/// The last destination of a family in the open packet: of its own encoding, and of encoding 4.
 struct Said<A> {
-    next_hop: Option<A>,
-    destination: Option<A>,
+    destinations: [Option<A>; 2],
 }
 
 impl<A> Said<A> {
     const NOTHING: Said<A> = Said {
-        next_hop: None,
-        destination: None,
+        destinations: [None, None],
     };
 }
 
 impl<W: Write> Writer<W> {
-    fn put_pairs<A: Address>(&mut self, canon: &Canon<A>, owners: &[Owner<A>]) -> io::Result<()> {
+    fn put_pairs<A: Address>(&mut self, canon: &Canon<A>, owners: &[Owner]) -> io::Result<()> {
         let mut said = Said::NOTHING;
         canon.each_pair(|dst, src, value| self.put_pair(&mut said, owners, dst, src, value))
     }
@@ -2393,7 +2444,7 @@ impl<W: Write> Writer<W> {
     fn put_pair<A: Address>(
         &mut self,
         said: &mut Said<A>,
-        owners: &[Owner<A>],
+        owners: &[Owner],
         dst: Prefix<A>,
         src: Prefix<A>,
         value: u64,
@@ -2410,6 +2461,8 @@ impl<W: Write> Writer<W> {
         }
         self.start = Some(self.out.at);
         self.router_id = None;
+        self.next_hop_v4 = None;
+        self.next_hop_v6 = None;
         *said = Said::NOTHING;
         self.out.text(&[42, 2, 0, 0]);
         self.put_group(said, owners, dst, src, value);
@@ -2426,27 +2479,33 @@ impl<W: Write> Writer<W> {
     fn put_group<A: Address>(
         &mut self,
         said: &mut Said<A>,
-        owners: &[Owner<A>],
+        owners: &[Owner],
         dst: Prefix<A>,
         src: Prefix<A>,
         value: u64,
     ) {
+        let mut encoding = A::ENCODING;
         if value != UNREACHABLE {
-            self.put_owner(said, &owners[(value >> 32) as usize]);
+            let owner = &owners[(value >> 32) as usize];
+            self.put_owner(owner);
+            if A::WIDTH == 32 && matches!(owner.next_hop, Hop::V6(_)) {
+                encoding = 4;
+            }
         }
+        let last = &mut said.destinations[usize::from(encoding == 4)];
         let count = u32::from(dst.len.div_ceil(8));
-        let omitted = match said.destination {
+        let omitted = match *last {
             None => 0,
             Some(last) => ((last ^ dst.bits).leading_zeros() / 8).min(count),
         };
-        said.destination = Some(dst.bits);
+        *last = Some(dst.bits);
         let source_count = usize::from(src.len.div_ceil(8));
         let source_len = if src.len == 0 { 0 } else { 3 + source_count };
         let field = (count - omitted) as usize;
         let mut update = [0; WINDOW];
         update[0] = 8;
         update[1] = (10 + field + source_len) as u8;
-        update[2..6].copy_from_slice(&[A::ENCODING, 0x80, dst.len, omitted as u8]);
+        update[2..6].copy_from_slice(&[encoding, 0x80, dst.len, omitted as u8]);
         update[6..8].copy_from_slice(&INTERVAL.to_be_bytes());
         update[8..FIXED].copy_from_slice(&(value as u32).to_be_bytes());
         update[FIXED..].copy_from_slice(&dst.bits.up(8 * omitted).octets());
@@ -2457,15 +2516,18 @@ impl<W: Write> Writer<W> {
         }
     }
 
-    fn put_owner<A: Address>(&mut self, said: &mut Said<A>, owner: &Owner<A>) {
+    fn put_owner(&mut self, owner: &Owner) {
         if self.router_id != Some(owner.router_id) {
             self.router_id = Some(owner.router_id);
             self.out.text(&[6, 10, 0, 0]);
             self.out.text(&owner.router_id.to_be_bytes());
         }
-        if said.next_hop != Some(owner.next_hop) {
-            said.next_hop = Some(owner.next_hop);
-            let (tlv, len) = owner.next_hop.next_hop_tlv();
+        let current = match owner.next_hop {
+            Hop::V4(bits) => self.next_hop_v4.replace(bits) == Some(bits),
+            Hop::V6(bits) => self.next_hop_v6.replace(bits) == Some(bits),
+        };
+        if !current {
+            let (tlv, len) = owner.next_hop.tlv();
             self.out.put(tlv, len);
         }
     }
@@ -2499,7 +2561,9 @@ fn read_words(mut words: impl Iterator<Item = String>) -> Option<Words> {
     let (mut options, mut flags, mut files) = (HashMap::new(), Vec::new(), Vec::new());
     while let Some(word) = words.next() {
         match word.strip_prefix("--") {
-            Some(flag @ ("hex" | "hold" | "count" | "all" | "routes" | "short")) => {
+            Some(flag @ (
+                "hex" | "hold" | "v4-via-v6" | "count" | "all" | "routes" | "short"
+            )) => {
                 flags.push(flag.to_string());
             }
             Some(option) => {
@@ -2565,7 +2629,8 @@ impl Words {
         owners: Owners,
         side: &'static str,
     ) -> Result<Table, Failure> {
-        read_dump(dump, sender, self.has("hold"), owners).map_err(|fault| match fault {
+        let (hold, via_v6) = (self.has("hold"), self.has("v4-via-v6"));
+        read_dump(dump, sender, hold, via_v6, owners).map_err(|fault| match fault {
             ReadFault::Io => Failure::Read(side),
             ReadFault::Dump(fault) => Failure::Dump(side, fault),
         })
@@ -2740,7 +2805,7 @@ fn pairs(words: &Words) -> Result<u8, Failure> {
 fn put_pair_lines<A: Address>(
     out: &mut Out<impl Write>,
     canon: &Canon<A>,
-    owners: &[Owner<A>],
+    owners: &[Owner],
 ) -> io::Result<()> {
     canon.each_pair(|dst, src, value| out.line(owners, dst, src, value))
 }
@@ -2753,6 +2818,8 @@ fn normalise(words: &Words) -> Result<u8, Failure> {
         body,
         start: None,
         router_id: None,
+        next_hop_v4: None,
+        next_hop_v6: None,
     };
     if words.has("routes") {
         table.sort();

@@ -1,6 +1,7 @@
 #!/usr/bin/env python3
 """docs/DEFINITIONS.md: how long each file of definitions is, that each uses only those above it,
-those that the headline needs, and the clauses that are quoted. docs/PROMISES.md: what it names.
+those that the headline needs, the clauses that are quoted, and those that public contracts name.
+docs/PROMISES.md: what it names.
 
 Run by itself, this prints the lists and the numbers of that page anew, into it.
 """
@@ -8,6 +9,7 @@ Run by itself, this prints the lists and the numbers of that page anew, into it.
 import re
 import textwrap
 
+import cited
 import headline
 import promises
 import transcript
@@ -61,6 +63,7 @@ def check(tally, _long):
     hint = "python3 tests/definitions.py prints them anew\n"
     tally.check("the lists and numbers of docs/DEFINITIONS.md", told and told + hint)
     check_order(tally)
+    cited.check(tally, set(headline.files()))
     promises.check(tally)
     lengths = {}
     for file in headline.files():

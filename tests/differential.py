@@ -1,5 +1,6 @@
 """The plain programs of reference/ beside the proved one: over dumps changed at random and the
-golden files; of captures, over those of extract.py."""
+golden files; of captures, over those of extract.py. And both beside the definitions, over small
+random tables."""
 
 import pathlib
 import tempfile
@@ -10,11 +11,14 @@ import transcript
 from checks import built_program, need
 
 from changed import compared
+from definition import checked
 from plain import PLAIN, PLAIN_OF_CAPTURES, build
 
 SEED = 1
 DUMPS = 600
 DUMPS_LONG = 6_000
+TABLES = 300
+TABLES_LONG = 3_000
 
 
 def check(tally, long):
@@ -28,5 +32,11 @@ def check(tally, long):
         dumps = DUMPS_LONG if long else DUMPS
         for command, _, difference in compared(program, plain, folder, dumps, SEED):
             tally.check(f"the plain program beside {command}", difference)
+        tables = TABLES_LONG if long else TABLES
+        for side, is_plain in (program, False), (plain, True):
+            for command, _, problem in checked(
+                side, folder, tables, SEED, is_plain, not is_plain, tiny=True
+            ):
+                tally.check(f"the definitions beside {command} of {side.name}", problem)
         plain = build(PLAIN_OF_CAPTURES, folder)
         extract.check_cases(plain, extract.cases_of(tally), tally, extract.without_notes)

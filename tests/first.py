@@ -58,7 +58,7 @@ def check_flags(program, tally):
     for command in COMMANDS:
         words = [program, command, "--help"]
         text = subprocess.run(words, check=True, capture_output=True, text=True).stdout
-        flags |= set(re.findall(r"^  (?:-\w, |    )(--[a-z-]+)(?=$|  )", text, re.MULTILINE))
+        flags |= set(re.findall(r"^  (?:-\w, |    )(--[a-z0-9-]+)(?=$|  )", text, re.MULTILINE))
     expect(tally, "the options without a value", unproved.FLAGS, flags - {"--help", "--version"})
 
 

@@ -22,6 +22,7 @@ from plain import PLAIN, build
 
 GOLDEN = TOP / "tests/golden"
 MODES = ["", " --hold"]
+VIA_V6 = "babeld-v4-via-v6"
 LOOKUPS = 12
 # What is longer is kept by its length, its hash, and its first and its last line.
 LONGEST = 40_000
@@ -30,8 +31,13 @@ BY_HASH = (
 )
 
 
+def modes(name):
+    """The options with which a dump is read: address encoding 4 where it has that, too."""
+    return MODES + [f"{mode} --v4-via-v6" for mode in MODES if name == VIA_V6]
+
+
 def show(name, sent):
-    return [f"show{mode} {sent} {name}.dump" for mode in MODES]
+    return [f"show{mode} {sent} {name}.dump" for mode in modes(name)]
 
 
 def lookup(name, sent):
@@ -41,25 +47,29 @@ def lookup(name, sent):
         ("203.0.113.1", "198.51.100.1"), ("3fff::1", "3fff::2")
     ]
     words = [f"--to {dst} --src {src} {name}.dump" for dst, src in asked]
-    return [f"lookup{mode} {sent} {each}" for each in words for mode in MODES]
+    return [f"lookup{mode} {sent} {each}" for each in words for mode in modes(name)]
 
 
 def pairs(name, sent):
     return [
-        f"pairs{mode}{count} {sent} {name}.dump" for count in (" --count", "") for mode in MODES
+        f"pairs{mode}{count} {sent} {name}.dump"
+        for count in (" --count", "")
+        for mode in modes(name)
     ]
 
 
 def normalise(name, sent):
     sizes = ["", " --body 128", " --body 65535"]
-    return [f"normalise{mode} --hex{body} {sent} {name}.dump" for body in sizes for mode in MODES]
+    return [
+        f"normalise{mode} --hex{body} {sent} {name}.dump" for body in sizes for mode in modes(name)
+    ]
 
 
 def compare(name, sent):
     others = [
         f"--other-from {sender} {name}.dump {other}.dump" for other, sender in SENDERS.items()
     ]
-    return [f"compare{mode} {sent} {other}" for other in others for mode in MODES]
+    return [f"compare{mode} {sent} {other}" for other in others for mode in modes(name)]
 
 
 COMMANDS = (show, lookup, pairs, normalise, compare)

@@ -221,7 +221,8 @@ def check_little_memory(program, folder, tally):
 
 def words_of(text):
     """The long options in a text; fish writes each after `-l`, and an option after it."""
-    return {f"--{name}" for name in re.findall(r"(?:--| -l (?=[a-z-]+ -))([a-z][a-z-]*)", text)}
+    names = re.findall(r"(?:--| -l (?=[a-z0-9-]+ -))([a-z][a-z0-9-]*)", text)
+    return {f"--{name}" for name in names}
 
 
 def help_of(program, *words):

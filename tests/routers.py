@@ -2,6 +2,7 @@
 the routes of random tables."""
 
 import concurrent.futures
+import itertools
 import os
 import pathlib
 import tempfile
@@ -18,16 +19,18 @@ from agree import SENDERS
 
 def check_tables(program, tally):
     """The rows are those of the router that heard the packets."""
-    for name, sender in SENDERS.items():
-        theirs, _ = agree.neighbour_rows(name, sender)
-        differing = sorted(map(str, theirs ^ agree.program_rows(program, name, sender)))
-        tally.check(f"the neighbour's table of {name}", "\n".join(differing))
+    for (name, sender), options in itertools.product(SENDERS.items(), ([], ["--v4-via-v6"])):
+        theirs, _ = agree.neighbour_rows(name, sender, bool(options))
+        differing = sorted(map(str, theirs ^ agree.program_rows(program, name, sender, options)))
+        tally.check(f"the neighbour's table of {' '.join([name, *options])}", "\n".join(differing))
 
 
 def check_canonical(program, folder, tally):
     """The canonical dumps are normalised to themselves and answer as the dumps do."""
     cases = [
-        (name, sender, mode.split()) for name, sender in SENDERS.items() for mode in golden.MODES
+        (name, sender, mode.split())
+        for name, sender in SENDERS.items()
+        for mode in golden.modes(name)
     ]
 
     def wrong(case):

@@ -22,14 +22,16 @@ HOPS = {4: ["192.0.2.1", "192.0.2.2"], 6: ["fe80::1", "fe80::2"]}
 FIELDS = ["next_hop", "router_id", "seqno", "metric"]
 
 
-def table(rng):
-    """Routes by destination and source, or None for one that is retracted."""
+def table(rng, via_v6):
+    """Routes by destination and source, or None for one that is retracted. Those of IPv4 may have
+    next hops of IPv6, too."""
     rows = {}
     for _ in range(rng.randrange(12)):
         family = rng.choice((4, 6))
         key = tuple(ipaddress.ip_network(rng.choice(PREFIXES[family])) for _ in range(2))
         numbers = (rng.choice(of) for of in ((1, 2), (7, 8), (0, 96)))
-        route = rng.choice(HOPS[family]), *numbers
+        hops = HOPS[4] + HOPS[6] if via_v6 and family == 4 else HOPS[family]
+        route = rng.choice(hops), *numbers
         rows[key] = rng.choice((None, route, route, route))
     return rows
 
@@ -44,13 +46,14 @@ def tlv(kind, *parts):
 
 
 def dump(rows):
-    """A packet for each row: RFC 8966, 4.2, 4.6.7 to 4.6.9; RFC 9079, 7.1."""
+    """A packet for each row: RFC 8966, 4.2, 4.6.7 to 4.6.9; RFC 9079, 7.1; RFC 9229, 2.1."""
     packets = b""
     for (dst, src), route in rows.items():
         hop, router, seqno, metric = route or (HOPS[dst.version][0], 1, 0, 65_535)
-        encoding = bytes((1 if dst.version == 4 else 2,))
+        hop = ipaddress.ip_address(hop)
+        encoding = bytes(({(4, 4): 1, (6, 6): 2, (4, 6): 4}[dst.version, hop.version],))
         body = tlv(6, b"\0\0", struct.pack("!Q", router))
-        body += tlv(7, encoding, b"\0", ipaddress.ip_address(hop).packed)
+        body += tlv(7, bytes((1 if hop.version == 4 else 2,)), b"\0", hop.packed)
         fixed = struct.pack("!BBBHHH", 0, dst.prefixlen, 0, 1_600, seqno, metric)
         source = tlv(128, bytes((src.prefixlen,)), octets_of(src)) if src.prefixlen else b""
         body += tlv(8, encoding, fixed, octets_of(dst), source)
@@ -119,7 +122,8 @@ def is_diff(text, files, rows, others, differing):
 def wrong_of(program, folder, turn):
     """What the program says of a pair of tables that the definition does not."""
     rng = random.Random(turn)
-    one, other = table(rng), table(rng)
+    via_v6 = rng.choice(([], ["--v4-via-v6"]))
+    one, other = table(rng, via_v6), table(rng, via_v6)
     if rng.randrange(2):
         other = {**one, **dict(list(other.items())[:2])}
     files = [folder / f"{side}-{turn}.dump" for side in ("one", "other")]
@@ -128,7 +132,7 @@ def wrong_of(program, folder, turn):
     ignored = [name for name in FIELDS if rng.randrange(4) == 0]
     hold = rng.choice(([], ["--hold"]))
     view = ["--ignore", ",".join(ignored).replace("_", "-")] if ignored else []
-    words = ["--quiet", "--from", SENDER, *hold, *view]
+    words = ["--quiet", "--from", SENDER, *hold, *via_v6, *view]
 
     def run(command, *more):
         of = "--stat" if command == "diff" else "--routes"

@@ -27,7 +27,7 @@ FAILED, CLOSED_PIPE, NO_ANSWER = 4, 141, 126
 
 # The options that no word follows.
 FLAGS = set(
-    "--hold --strict --quiet --json --short --count --hex --all --routes --stat --accept-cut"
+    "--hold --v4-via-v6 --strict --quiet --json --short --count --hex --all --routes --stat --accept-cut"
     " --summary".split()
 )
 

@@ -27,7 +27,6 @@ use Rattle.babel_tlv.specs.declared.held.Held.TheVariants as helds
 use Rattle.babel_tlv.specs.declared.mode.Mode.TheVariants as modes
 use Rattle.babel_tlv.specs.Pair.{Pair}
 use Rattle.babel_tlv.specs.Pairs.{IsPair, held_cmp}
-use Rattle.babel_tlv.specs.Group.{pair_family}
 use Rattle.babel_tlv.specs.News.{spoken, pair_event}
 use Rattle.babel_tlv.proofs.OrderLaws.{held_exact}
 use Rattle.babel_table.specs.Rows.{IsRising, entries_of}
@@ -125,7 +124,7 @@ same_on rows others more one other d s d_in s_in e = one d s d_in s_in e ∙ oth
 
 member_too : (rows others ps qs : List Pair) → AnswerTheSame rows others → AreBoxes rows ps → AreBoxes others qs → (pair : Pair) → Contains ps pair → Contains qs pair
 member_too rows others ps qs same p_boxes q_boxes pair member =
-    let family = pair_family pair in
+    let family = pair.0.dst.address.family in
     let fits = all_in IsPair ps pair p_boxes.are_rows.each (Listed-from_Contains ps pair member) in
     let of_family : AreOfFamily family (entry_of pair) = (refl, sym fits.one_family) in
     let row = row_of (entry_of pair) in
@@ -167,22 +166,24 @@ boxes_tell_apart rows others boxes other_boxes are other_are = (
   (λ same. boxes_one rows others boxes other_boxes same are other_are),
 )
 
--- what a box holds, a row holds
-pub record HeldByRow (rows : List Pair) (held : Held) : Type 0 where
+-- what a box holds, a row of its family holds
+pub record HeldByRow (rows : List Pair) (box : Pair) : Type 0 where
   pub pair : Pair
   pub member : Contains rows pair
-  pub fits_too : pair.1 ≡ held
+  pub family : pair.0.dst.address.family ≡ box.0.dst.address.family
+  pub fits_too : pair.1 ≡ box.1
 
-pub box_held : (rows boxes : List Pair) → AreBoxes rows boxes → (box : Pair) → Contains boxes box → HeldByRow rows box.1
+pub box_held : (rows boxes : List Pair) → AreBoxes rows boxes → (box : Pair) → Contains boxes box → HeldByRow rows box
 box_held rows boxes are box member =
-    let family = pair_family box in
+    let family = box.0.dst.address.family in
     let fits = all_in IsPair boxes box are.are_rows.each (Listed-from_Contains boxes box member) in
     let row = row_of (entry_of box) in
     let is_box = ((are.exact family).exact row).0 (row_of_pair family boxes box member (refl, sym fits.one_family)) in
     let is_answer = is_box.answered row.dst.start row.src.start is_box.dst_is_prefix.start_in_range is_box.src_is_prefix.start_in_range refl refl in
     let top = top-from_answer (width_of family) (rows_in family (entries_of rows)) row.dst.start row.src.start box.1 is_answer in
     let from = pair_of_row family rows top.0 (Contains-from_Listed (rows_in family (entries_of rows)) top.0 top.1.listed) in
-    record { pair = from.pair; member = from.member; fits_too = ap (λ (r : Row Held). r.value) from.is_row ∙ top.2 }
+    let value : from.pair.1 ≡ top.0.value = ap (λ (r : Row Held). r.value) from.is_row in
+    record { pair = from.pair; member = from.member; family = from.of_family.0; fits_too = value ∙ top.2 }
 
 -- boxes of what answers the same
 pub boxes_too : (rows others boxes : List Pair) → AnswerTheSame rows others → AreBoxes rows boxes → AreBoxes others boxes

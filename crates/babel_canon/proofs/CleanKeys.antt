@@ -17,17 +17,18 @@ use Rattle.babel_tlv.specs.declared.event.Event.TheVariants as events
 use Rattle.babel_tlv.specs.declared.held.Held.{Held}
 use Rattle.babel_tlv.specs.declared.held.Held.TheVariants as helds
 use Rattle.babel_tlv.specs.declared.mode.Mode.{Mode}
+use Rattle.babel_tlv.specs.declared.start.Start.{Start}
 use Rattle.babel_tlv.specs.Framing.{TlvAt}
 use Rattle.babel_tlv.specs.Framing.{tlvs_of}
-use Rattle.babel_tlv.specs.Forming.{encoding, field_len, formed, update_encoding, update_metric}
-use Rattle.babel_tlv.specs.Context.{Context, context_after, next_hop_in_context, update_prefix}
+use Rattle.babel_tlv.specs.Forming.{field_len, formed, update_encoding, update_metric}
+use Rattle.babel_tlv.specs.Context.{Context, context_after, next_hop_in_context}
 use Rattle.babel_tlv.specs.Updating.{updated}
 use Rattle.babel_tlv.specs.Says.{current_router_id}
 use Rattle.babel_tlv.specs.Route.{RouteKey, Announcement, is_reserved}
 use Rattle.babel_tlv.specs.SubTlv.{is_source, source_prefix, source_of}
 use Rattle.babel_canon.specs.Items.{are_all_of, fit_update}
-use Rattle.babel_canon.specs.Told.{is_update, formed_in, wildcard_tells, route_tells, update_tells}
-use Rattle.babel_canon.specs.Told.{tells, told_by}
+use Rattle.babel_canon.specs.Told.{is_update, formed_in, hop_family_of, wildcard_tells}
+use Rattle.babel_canon.specs.Told.{route_tells, update_tells, tells, told_by}
 use Rattle.babel_canon.specs.Dumps.{told}
 use Rattle.babel_canon.specs.DumpAnswers.{same_key, retracted, held_after, held_for}
 use Rattle.babel_canon.proofs.HeldFor.{same_key-decides}
@@ -52,26 +53,35 @@ prefix_at-clean : (len : ℕ) (a : Address) → IsClean (prefix_at len a)
 prefix_at-clean len a = mul-mod_left (leading_bits (width_of a.family) len a.bits)
     (2 ^ (width_of a.family - len))
 
-formed-clean : (family : Family) (default : Option Address) (tlv : TlvAt)
-    → IfSome (update_prefix family default tlv) IsClean
-formed-clean family default tlv =
-    by (eqb tlv.kind 8 && leb 10 (length tlv.body) && eqb (update_encoding tlv.body)
-    (encoding family)) (result_ok (formed family default tlv.body))
-    (formed-holds IsClean family default tlv.body (λ len octets. prefix_at-clean len _))
-  where
-    by : (b : Bool) (p : Option AddressPrefix) → IfSome p IsClean → IfSome (cond b p None) IsClean
-    by true p clean = clean
-    by false p clean = tt
+formed-clean : (family : Family) (default : Option Address) (body : List ℕ)
+    → IfSome (result_ok (formed family default body)) IsClean
+formed-clean family default body =
+    formed-holds IsClean family default body (λ len octets. prefix_at-clean len _)
+
+if-clean : (b : Bool) (p : Option AddressPrefix) → IfSome p IsClean → IfSome (cond b p None) IsClean
+if-clean true p clean = clean
+if-clean false p clean = tt
+
+or-clean : (b : Bool) (p q : Option AddressPrefix) → IfSome p IsClean → IfSome q IsClean
+    → IfSome (option_or (cond b p None) q) IsClean
+or-clean true None q p_clean q_clean = q_clean
+or-clean true (Some prefix) q p_clean q_clean = p_clean
+or-clean false p q p_clean q_clean = q_clean
 
 formed_in-clean : (context : Context) (tlv : TlvAt) → IfSome (formed_in context tlv) IsClean
 formed_in-clean context tlv =
-    by (update_prefix V4 context.default_v4 tlv) (update_prefix V6 context.default_v6 tlv)
-    (formed-clean V4 context.default_v4 tlv) (formed-clean V6 context.default_v6 tlv)
-  where
-    by : (p q : Option AddressPrefix) → IfSome p IsClean → IfSome q IsClean
-        → IfSome (option_or p q) IsClean
-    by None q p_clean q_clean = q_clean
-    by (Some prefix) q p_clean q_clean = p_clean
+    let body = tlv.body in
+    let update = eqb tlv.kind 8 && leb 10 (length body) in
+    let one = update && (eqb (update_encoding body) 1 && true) in
+    let two = update && (eqb (update_encoding body) 2 && true) in
+    let four = update && (eqb (update_encoding body) 4 && context.via_v6) in
+    let p = result_ok (formed V4 context.default_v4 body) in
+    let q = result_ok (formed V6 context.default_v6 body) in
+    let r = result_ok (formed V4 context.default_v4_via_v6 body) in
+    or-clean one p (option_or (cond two q None) (cond four r None))
+    (formed-clean V4 context.default_v4 body)
+    (or-clean two q (cond four r None) (formed-clean V6 context.default_v6 body)
+    (if-clean four r (formed-clean V4 context.default_v4_via_v6 body)))
 
 whole-clean : (family : Family) → IsClean (whole_family family)
 whole-clean V4 = refl
@@ -108,7 +118,7 @@ update-clean context body (Some prefix) clean =
     let key : RouteKey = record { dst = prefix; src = source_of family items } in
     let are : AreClean key = (clean, source-clean family items) in
     let id = current_router_id context body prefix in
-    let hop = next_hop_in_context family context in
+    let hop = next_hop_in_context (hop_family_of body prefix) context in
     by (not (are_all_of octets items && fit_update family items))
     (eqb (update_metric body) 65535) key are (route_tells key body id hop)
     (route-clean key body id hop are)
@@ -147,12 +157,12 @@ both_clean : (front back : List Event) → AllByRecursion IsOfClean front
 both_clean [] back of of_back = of_back
 both_clean (event ∷ front) back of of_back = (of.0, both_clean front back of.1 of_back)
 
-told-clean : (sender : Address) (packets : List (List TlvAt))
-    → AllByRecursion IsOfClean (told sender packets)
-told-clean sender [] = tt
-told-clean sender (tlvs ∷ packets) =
-    both_clean (told_by (context_after sender []) tlvs) (told sender packets)
-    (told_by-clean (context_after sender []) tlvs) (told-clean sender packets)
+told-clean : (start : Start) (packets : List (List TlvAt))
+    → AllByRecursion IsOfClean (told start packets)
+told-clean start [] = tt
+told-clean start (tlvs ∷ packets) =
+    both_clean (told_by (context_after start []) tlvs) (told start packets)
+    (told_by-clean (context_after start []) tlvs) (told-clean start packets)
 
 -- ---- what is held
 
@@ -192,7 +202,7 @@ fold-clean mode key old (event ∷ later) of before = fold-clean mode key
     (held_after mode key old event) later of.1 (after-clean mode key old event of.0 before)
 
 -- a key for which a dump leaves something is clean
-pub held-clean : (mode : Mode) (sender : Address) (packets : List (List TlvAt)) (key : RouteKey)
-    (held : Held) → held_for mode (told sender packets) key ≡ Some held → AreClean key
-held-clean mode sender packets key held is = subst (IsCleanIfHeld key) is
-    (fold-clean mode key None (told sender packets) (told-clean sender packets) tt)
+pub held-clean : (mode : Mode) (start : Start) (packets : List (List TlvAt)) (key : RouteKey)
+    (held : Held) → held_for mode (told start packets) key ≡ Some held → AreClean key
+held-clean mode start packets key held is = subst (IsCleanIfHeld key) is
+    (fold-clean mode key None (told start packets) (told-clean start packets) tt)

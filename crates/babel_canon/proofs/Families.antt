@@ -1,5 +1,5 @@
 -- The boxes of the two families, one list behind the other, are the boxes.
-use Rattle.std.proofs.Common.{◌≡◌, ℕ, zero, suc, ◌+◌, ◌<◌, Bool, false, cond, List, [], ◌∷◌, ◌++◌, length, map, get_or, refl, sym, ap, subst, ◌∙◌, arith, inl, inr, Contains}
+use Rattle.std.proofs.Common.{◌≡◌, ℕ, zero, suc, ◌+◌, ◌<◌, Bool, true, false, cond, List, [], ◌∷◌, ◌++◌, length, map, get_or, refl, sym, ap, subst, ◌∙◌, arith, inl, inr, Contains}
 use Rattle.std.specs.List.{AllByRecursion, All, AllPairs, filter}
 use Rattle.std.specs.List.Sorted.{IsStrictlySortedBy}
 use Rattle.std.specs.Map.{keys_of}
@@ -33,7 +33,7 @@ use Rattle.babel_tlv.specs.declared.held.Held.TheVariants as helds
 use Rattle.babel_tlv.specs.Route.{RouteKey}
 use Rattle.babel_tlv.specs.Keys.{key_cmp}
 use Rattle.babel_tlv.specs.Pair.{Pair}
-use Rattle.babel_tlv.specs.Pairs.{FitsKey, IsPair}
+use Rattle.babel_tlv.specs.Pairs.{FitsKey, IsHopFor, IsPair}
 use Rattle.babel_table.specs.Rows.{entries_of}
 use Rattle.babel_table.specs.TableRows.{AreRows}
 use Rattle.babel_tlv.proofs.OrderLaws.{key_total}
@@ -162,7 +162,7 @@ v6_rows v4 v6 v4_of v6_of =
 -- ---- each box is a pair
 
 moved : (key other : RouteKey) (held : Held) → other.dst.address.family ≡ key.dst.address.family → FitsKey key held → FitsKey other held
-moved key other (helds.Route ann) e fits = (fits.0, fits.1 ∙ sym e)
+moved key other (helds.Route ann) e fits = (fits.0, subst (λ (f : Family). IsHopFor true f ann.next_hop.family) (sym e) fits.1)
 moved key other helds.Unreachable e fits = tt
 
 box_pair : (family : Family) (rows : List Pair) → AreRows rows → (entry : Entry Held) → AreOfFamily family entry

@@ -1,24 +1,29 @@
 -- The headline, from what the boxes of rows answer and what their text is read as.
-use Rattle.std.proofs.Common.{◌≡◌, ◌↔◌, ℕ, ◌≤◌, List, [], ◌∷◌, length, map, refl, sym, ap, subst, ◌∙◌, arith, inl, inr, Contains}
+use Rattle.std.proofs.Common.{◌≡◌, ◌↔◌, ℕ, ◌≤◌, Bool, true, List, [], ◌∷◌, length, map, refl, sym, ap, subst, ◌∙◌, arith, inl, inr, Contains}
 use Rattle.std.specs.List.{AllByRecursion}
+use Rattle.babel_prefix.specs.declared.family.Family.{Family}
 use Rattle.babel_prefix.specs.declared.family.Family.TheVariants.{V4}
 use Rattle.babel_prefix.specs.Address.{Address}
 use Rattle.babel_prefix.proofs.Members.{Listed, Contains-from_Listed, Listed-from_Contains}
 use Rattle.babel_tlv.specs.declared.held.Held.{Held}
 use Rattle.babel_tlv.specs.declared.held.Held.TheVariants as helds
+use Rattle.babel_tlv.specs.declared.start.Start.{Start}
 use Rattle.babel_tlv.specs.declared.mode.Mode.{Mode}
 use Rattle.babel_tlv.specs.declared.mode.Mode.TheVariants as modes
 use Rattle.babel_tlv.specs.Route.{RouteKey}
 use Rattle.babel_tlv.specs.Pair.{Pair}
+use Rattle.babel_tlv.specs.Pairs.{HopFits, IsHopFor, IsPair}
 use Rattle.babel_tlv.specs.Group.{IsCanonicalText}
 use Rattle.babel_tlv.specs.Framing.{TlvAt}
 use Rattle.babel_tlv.specs.Says.{sayings}
 use Rattle.babel_tlv.specs.News.{spoken, pair_event}
+use Rattle.babel_tlv.proofs.GroupTold.{HopsFit}
 use Rattle.babel_tlv.proofs.Telling.{what_of}
-use Rattle.babel_table.specs.Bounds.{Bounds, AreBounds}
+use Rattle.babel_table.specs.Bounds.{Bounds, AreBounds, start_of}
 use Rattle.babel_table.specs.Rows.{Routes}
 use Rattle.babel_table.specs.TableRows.{AreRows}
 use Rattle.babel_table.specs.TableOf.{IsTableOf}
+use Rattle.babel_table.proofs.HopLaws.{hops_fit}
 use Rattle.babel_canon.specs.Sizes.{IsBodySize}
 use Rattle.babel_canon.specs.RoundTrip.{IsRoute, AreReadableIn, TellsPairs, ReadsBack}
 use Rattle.babel_canon.specs.Boxes.{AreBoxes}
@@ -56,6 +61,25 @@ readable modes.Plain rows boxes reads are = each_is (λ (pair : Pair). IsRoute p
     let by = box_held rows boxes are box (Contains-from_Listed boxes box at) in
     subst IsRoute by.fits_too (all_in (λ (pair : Pair). IsRoute pair.1) rows by.pair reads (Listed-from_Contains rows by.pair by.member)))
 
+-- ---- next hops fit the keys
+
+-- what boxes have for next hops, rows of the same family have
+pub boxes_hop : (via_v6 : Bool) (rows boxes : List Pair) → HopsFit via_v6 rows → AreBoxes rows boxes → HopsFit via_v6 boxes
+boxes_hop via_v6 rows boxes hops are = each_is (λ (pair : Pair). HopFits via_v6 pair.0 pair.1) boxes (λ box at.
+    let by = box_held rows boxes are box (Contains-from_Listed boxes box at) in
+    moved by.pair.0 box.0 box.1 by.family
+    (subst (HopFits via_v6 by.pair.0) by.fits_too (all_in (λ (pair : Pair). HopFits via_v6 pair.0 pair.1) rows by.pair hops (Listed-from_Contains rows by.pair by.member))))
+  where
+    moved : (key other : RouteKey) (held : Held) → key.dst.address.family ≡ other.dst.address.family → HopFits via_v6 key held → HopFits via_v6 other held
+    moved key other (helds.Route ann) same fits = subst (λ (f : Family). IsHopFor via_v6 f ann.next_hop.family) same fits
+    moved key other helds.Unreachable same fits = tt
+
+-- each pair can be read where encoding 4 is read
+wide_hops : (pairs : List Pair) → AllByRecursion IsPair pairs → HopsFit true pairs
+wide_hops [] fits = tt
+wide_hops ((key, helds.Route ann) ∷ pairs) fits = (fits.0.fits.1, wide_hops pairs fits.1)
+wide_hops ((key, helds.Unreachable) ∷ pairs) fits = (tt, wide_hops pairs fits.1)
+
 -- ---- equal octets are the text of equal pairs
 
 events_tell : (ps qs : List Pair) → map pair_event ps ≡ map pair_event qs → ps ≡ qs
@@ -76,23 +100,24 @@ events_tell (p ∷ ps) (q ∷ qs) e =
     one key other helds.Unreachable (helds.Route b) e = absurd cc
     one key other helds.Unreachable helds.Unreachable e = cc
 
-told_one : (sender : Address) (octets : List ℕ) (ps qs : List Pair) → TellsPairs sender octets ps → TellsPairs sender octets qs → ps ≡ qs
-told_one sender octets ps qs one other =
+told_one : (start : Start) (octets : List ℕ) (ps qs : List Pair) → TellsPairs start octets ps → TellsPairs start octets qs → ps ≡ qs
+told_one start octets ps qs one other =
     let packets_are : one.packets ≡ other.packets = framed_one octets one.packets other.packets one.reads other.reads in
     let said_are : one.said ≡ other.said = oks_one one.said other.said
-    (sym one.fine ∙ ap (λ (packets : List (List TlvAt)). map what_of (sayings sender packets)) packets_are ∙ other.fine) in
+    (sym one.fine ∙ ap (λ (packets : List (List TlvAt)). map what_of (sayings start packets)) packets_are ∙ other.fine) in
     events_tell ps qs (sym one.news ∙ ap spoken said_are ∙ other.news)
 
-any_sender : Address
-any_sender = record { family = V4; bits = 0 }
+abbrev any_start : Start
+any_start = record { sender = record { family = V4; bits = 0 }; via_v6 = true }
 
-pub back : (mode : Mode) (body : ℕ) (pairs : List Pair) (octets : List ℕ) (sender : Address) → IsBodySize body → AreRows pairs → AreReadableIn mode pairs → IsCanonicalText body pairs octets
-    → ReadsBack mode sender octets pairs
-back mode body pairs octets sender size rows reads text = text_reads_back mode body pairs octets sender size.said rows.each (rising-apart pairs rows.rising) reads text
+pub back : (mode : Mode) (body : ℕ) (pairs : List Pair) (octets : List ℕ) (start : Start) → IsBodySize body → AreRows pairs → HopsFit start.via_v6 pairs → AreReadableIn mode pairs
+    → IsCanonicalText body pairs octets → ReadsBack mode start octets pairs
+back mode body pairs octets start size rows hops reads text = text_reads_back mode body pairs octets start size.said rows.each hops (rising-apart pairs rows.rising) reads text
 
 pub pairs_one : (body : ℕ) (ps qs : List Pair) (octets : List ℕ) → IsBodySize body → AreRows ps → AreRows qs → IsCanonicalText body ps octets → IsCanonicalText body qs octets → ps ≡ qs
 pairs_one body ps qs octets size p_rows q_rows p_text q_text =
-    told_one any_sender octets ps qs (back modes.Hold body ps octets any_sender size p_rows tt p_text).tells (back modes.Hold body qs octets any_sender size q_rows tt q_text).tells
+    told_one any_start octets ps qs (back modes.Hold body ps octets any_start size p_rows (wide_hops ps p_rows.each) tt p_text).tells
+    (back modes.Hold body qs octets any_start size q_rows (wide_hops qs q_rows.each) tt q_text).tells
 
 -- ---- equal octets are of equal answers
 
@@ -118,13 +143,13 @@ pub record IsItsOwn (limits : Bounds) (mode : Mode) (body : ℕ) (boxes : List P
   pub rows_are : again.table.rows ≡ boxes
   pub boxes_are : again.boxes ≡ boxes
 
-pub its_own : (limits : Bounds) (mode : Mode) (body : ℕ) → AreBounds limits → IsBodySize body → (rows boxes : List Pair) (octets : List ℕ) → AreBoxes rows boxes → AreReadableIn mode boxes
-    → length boxes ≤ limits.entries → IsCanonicalText body boxes octets → (any : Address) → IsItsOwn limits mode body boxes octets any
-its_own limits mode body bounds size rows boxes octets are reads few text any =
-    let read = back mode body boxes octets any size are.are_rows reads text in
+pub its_own : (limits : Bounds) (mode : Mode) (body : ℕ) → AreBounds limits → IsBodySize body → (rows boxes : List Pair) (octets : List ℕ) → AreBoxes rows boxes → HopsFit limits.via_v6 boxes
+    → AreReadableIn mode boxes → length boxes ≤ limits.entries → IsCanonicalText body boxes octets → (any : Address) → IsItsOwn limits mode body boxes octets any
+its_own limits mode body bounds size rows boxes octets are hops reads few text any =
+    let read = back mode body boxes octets (start_of limits any) size are.are_rows hops reads text in
     record {
       again = record {
-        no_fault = read.no_fault limits few (omega (arith, few, bounds.room));
+        no_fault = read.no_fault limits refl few (omega (arith, few, bounds.room));
         table = _;
         is_table = table_of_pairs limits mode any octets boxes are.are_rows.rising reads few read.tells;
         boxes = boxes;
@@ -153,7 +178,8 @@ stays_itself : (limits : Bounds) (mode : Mode) (body : ℕ) → AreBounds limits
     → (any : Address) → ReadsAgain AnswerTheSame (Normalises as_they_are limits mode body) (NormaliseFault as_they_are limits mode) limits mode one octets any
 stays_itself limits mode body bounds size it octets one any =
     let reads = readable mode one.table.rows one.boxes (rows_readable limits mode it.sender it.dump one.table one.is_table) one.are_boxes in
-    let own = its_own limits mode body bounds size one.table.rows one.boxes octets one.are_boxes reads one.few one.text any in
+    let hops = boxes_hop limits.via_v6 one.table.rows one.boxes (hops_fit limits mode it.sender it.dump one.table one.is_table) one.are_boxes in
+    let own = its_own limits mode body bounds size one.table.rows one.boxes octets one.are_boxes hops reads one.few one.text any in
     let same : AnswerTheSame one.boxes one.table.rows = boxes_answer one.table.rows one.boxes one.are_boxes in
     record {
       no_fault = own.again.no_fault;

@@ -1,5 +1,5 @@
 -- Octets that tell what pairs say, and nothing else, have no fault where a table has room for the pairs.
-use Rattle.std.proofs.Common.{◌≡◌, ℕ, ◌+◌, ◌≤◌, List, [], ◌∷◌, ◌++◌, length, map, Result, Ok, refl, sym, ap, subst, ◌∙◌, append_assoc, arith, inl, inr}
+use Rattle.std.proofs.Common.{◌≡◌, ℕ, Bool, ◌+◌, ◌≤◌, List, [], ◌∷◌, ◌++◌, length, map, Result, Ok, refl, sym, ap, subst, ◌∙◌, append_assoc, arith, inl, inr}
 use Rattle.std.specs.List.{flat_map}
 use Rattle.std.proofs.lemmas.List.{append-nil}
 use Rattle.std.proofs.lemmas.List.Concat.{flat_map-append}
@@ -7,13 +7,14 @@ use Rattle.babel_prefix.specs.Address.{Address}
 use Rattle.babel_tlv.specs.declared.event.Event.{Event}
 use Rattle.babel_tlv.specs.declared.fault.Fault.{Fault}
 use Rattle.babel_tlv.specs.declared.mode.Mode.{Mode}
+use Rattle.babel_tlv.specs.declared.start.Start.{Start}
 use Rattle.babel_tlv.specs.Framing.{ArePackets, packet_octets}
 use Rattle.babel_tlv.specs.Says.{Saying, sayings, sayings_behind}
 use Rattle.babel_tlv.specs.Pair.{Pair}
 use Rattle.babel_tlv.specs.News.{spoken, pair_event}
 use Rattle.babel_tlv.proofs.Telling.{as_ok, what_of}
 use Rattle.babel_tlv.proofs.OneReading.{go_on, packets_fine}
-use Rattle.babel_table.specs.Bounds.{Bounds}
+use Rattle.babel_table.specs.Bounds.{Bounds, start_of}
 use Rattle.babel_table.specs.TableOf.{AreFine}
 use Rattle.babel_table.specs.DumpFault.{Refuses, RefusedBy, StreamFault, HasNoFault}
 use Rattle.babel_canon.specs.RoundTrip.{TellsPairs}
@@ -99,9 +100,9 @@ none_refuses mode entries said more told pairs fault fine news room refused =
 
 -- ---- no fault
 
-no_stream_fault : (mode : Mode) (entries : ℕ) (sender : Address) (octets : List ℕ) (pairs : List Pair) (fault : Fault) → TellsPairs sender octets pairs → length pairs ≤ entries
-    → StreamFault mode entries sender octets fault → ⊥
-no_stream_fault mode entries sender octets pairs fault tells room faulty =
+no_stream_fault : (mode : Mode) (entries : ℕ) (start : Start) (octets : List ℕ) (pairs : List Pair) (fault : Fault) → TellsPairs start octets pairs → length pairs ≤ entries
+    → StreamFault mode entries start octets fault → ⊥
+no_stream_fault mode entries start octets pairs fault tells room faulty =
     let front = faulty.0 in
     let rest = faulty.1 in
     let reads = faulty.2 in
@@ -109,18 +110,22 @@ no_stream_fault mode entries sender octets pairs fault tells room faulty =
     let on = go_on 0 tells.packets front rest tells.reads.placed reads.placed same in
     let place : length (flat_map packet_octets front) ≡ 0 + length (flat_map packet_octets front) = omega arith in
     let placed : ArePackets (length (flat_map packet_octets front)) on.later = subst (λ (a : ℕ). ArePackets a on.later) (sym place) on.placed in
-    let all : sayings sender tells.packets ≡ sayings sender front ++ sayings sender on.later =
-    ap (sayings sender) on.parts ∙ flat_map-append (sayings_behind sender []) front on.later in
-    let fine : map what_of (sayings sender front ++ sayings sender on.later) ≡ map as_ok tells.said = ap (λ (ss : List Saying). map what_of ss) (sym all) ∙ tells.fine in
+    let all : sayings start tells.packets ≡ sayings start front ++ sayings start on.later =
+    ap (sayings start) on.parts ∙ flat_map-append (sayings_behind start []) front on.later in
+    let fine : map what_of (sayings start front ++ sayings start on.later) ≡ map as_ok tells.said = ap (λ (ss : List Saying). map what_of ss) (sym all) ∙ tells.fine in
     elim (faulty.3) as (λ _. ⊥) [
       | inl framing ↦ packets_fine (length (flat_map packet_octets front)) on.later rest fault placed on.rest_is framing.2 framing.3
-      | inr refused ↦ none_refuses mode entries (sayings sender front) (sayings sender on.later) tells.said pairs fault fine tells.news room refused
+      | inr refused ↦ none_refuses mode entries (sayings start front) (sayings start on.later) tells.said pairs fault fine tells.news room refused
     ]
 
-pub no_fault : (mode : Mode) (limits : Bounds) (sender : Address) (octets : List ℕ) (pairs : List Pair) → TellsPairs sender octets pairs → length pairs ≤ limits.entries → length octets ≤ limits.bytes
-    → HasNoFault limits mode sender octets
+-- the packets of a dump begin as is asked, where encoding 4 is read as there
+pub begins_so : (limits : Bounds) (start : Start) → limits.via_v6 ≡ start.via_v6 → start_of limits start.sender ≡ start
+begins_so limits start same = ap (λ (b : Bool). record { sender = start.sender; via_v6 = b }) same
+
+pub no_fault : (mode : Mode) (limits : Bounds) (sender : Address) (octets : List ℕ) (pairs : List Pair) → TellsPairs (start_of limits sender) octets pairs → length pairs ≤ limits.entries
+    → length octets ≤ limits.bytes → HasNoFault limits mode sender octets
 no_fault mode limits sender octets pairs tells room short fault faulty =
     elim faulty as (λ _. ⊥) [
-      | inl within ↦ no_stream_fault mode limits.entries sender octets pairs fault tells room within.1
+      | inl within ↦ no_stream_fault mode limits.entries (start_of limits sender) octets pairs fault tells room within.1
       | inr past ↦ elim past as (λ _. ⊥) [ inl cut ↦ omega (arith, cut.0) | inr long ↦ omega (arith, long.0) ]
     ]

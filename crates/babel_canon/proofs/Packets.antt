@@ -6,7 +6,8 @@ use borrow.Rule.Slice.PartMut.{mid_of, put_mid}
 use Rattle.babel_tlv.specs.Framing.{framed}
 use Rattle.babel_tlv.specs.Pair.{Pair}
 use Rattle.babel_tlv.specs.Group.{group, groups_behind, body_of, route_tlvs, written_id, written_hop, written_dst, update_tlv}
-use Rattle.babel_tlv.specs.Group.{pair_family, shared_octets, held_seqno, held_metric, ArePacked, IsCanonicalText}
+use Rattle.babel_tlv.specs.Encodings.{hop_family}
+use Rattle.babel_tlv.specs.Group.{pair_encoding, shared_octets, held_seqno, held_metric, ArePacked, IsCanonicalText}
 use Rattle.babel_tlv.specs.Writing.{group_in, written_after, Written}
 use Rattle.babel_tlv.proofs.WrittenLaws.{group_in-written_after}
 use Rattle.babel_tlv.proofs.TextTold.{packed}
@@ -21,9 +22,9 @@ use Rattle.babel_canon.proofs.Groups.{latest_first-snoc, body-snoc}
 some_octets : (last : List Pair) → length (body_of last) ≡ 0 → last ≡ []
 some_octets [] none = refl
 some_octets (pair ∷ pairs) none =
-    let family = pair_family pair in
-    let route = route_tlvs (written_id []) (written_hop family []) pair.1 in
-    let update = update_tlv (shared_octets (written_dst family []) pair.0.dst) pair.0 (held_seqno pair.1) (held_metric pair.1) in
+    let encoding = pair_encoding pair in
+    let route = route_tlvs (written_id []) (written_hop (hop_family encoding) []) pair.1 in
+    let update = update_tlv encoding (shared_octets (written_dst encoding []) pair.0.dst) pair.0 (held_seqno pair.1) (held_metric pair.1) in
     absurd (omega (arith, none, length-append (group [] pair) (groups_behind (pair ∷ []) pairs), length-append route update))
 
 -- the body with one pair more

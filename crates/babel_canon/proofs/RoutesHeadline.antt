@@ -11,17 +11,18 @@ use Rattle.babel_tlv.specs.declared.view.View.{View}
 use Rattle.babel_tlv.specs.Group.{IsCanonicalText}
 use Rattle.babel_tlv.specs.Pair.{Pair}
 use Rattle.babel_tlv.specs.Says.{Saying, sayings}
-use Rattle.babel_tlv.specs.Views.{keeps_all, seen}
+use Rattle.babel_tlv.specs.Views.{keeps_all}
 use Rattle.babel_tlv.proofs.ViewLaws.{seen_twice_is_seen}
-use Rattle.babel_table.specs.Bounds.{Bounds, AreBounds}
+use Rattle.babel_table.specs.Bounds.{Bounds, AreBounds, start_of}
 use Rattle.babel_table.specs.DumpFault.{HasNoFault}
 use Rattle.babel_table.specs.Holds.{HoldsAtMost}
 use Rattle.babel_table.specs.Rows.{Routes, entries_of}
-use Rattle.babel_table.specs.Seen.{seen_rows, seen_table}
+use Rattle.babel_table.specs.Seen.{seen_row, seen_rows, seen_table}
 use Rattle.babel_table.specs.TableRows.{AreRows}
 use Rattle.babel_table.specs.TableOf.{AreFine, IsTableOf}
 use Rattle.babel_table.proofs.RowsLaws.{rows-none, rows-one}
 use Rattle.babel_table.proofs.SeenLaws.{all_rows, seen_are_rows}
+use Rattle.babel_table.proofs.HopLaws.{hops_fit}
 use Rattle.babel_canon.specs.Headline.{DumpsAnswer, TellsApart}
 use Rattle.babel_canon.specs.Routes.{AreRouteOctets, AreRoutes, RoutesFault, RoutesHeadline, RoutesReadAgain, RoutesTheSame, SameRoutesAnswer, SaysRoutes}
 use Rattle.babel_canon.specs.Sent.{Sent, sent}
@@ -29,7 +30,7 @@ use Rattle.babel_canon.specs.Sizes.{IsBodySize}
 use Rattle.babel_canon.proofs.Headline.{back, pairs_one, rows_readable}
 use Rattle.babel_canon.proofs.OneOutcome.{rows_one, texts_one}
 use Rattle.babel_canon.proofs.Tables.{table_of_pairs}
-use Rattle.babel_canon.proofs.Views.{seen_answers_tell, seen_readable}
+use Rattle.babel_canon.proofs.Views.{seen_answers_tell, seen_hops, seen_readable}
 
 -- ---- rows are never too many
 
@@ -40,7 +41,7 @@ few_said mode entries before (saying ∷ later) said few (event, is, more, fine)
 
 few_rows : (limits : Bounds) (mode : Mode) (sender : Address) (dump : List ℕ) (table : Routes) → IsTableOf limits mode sender dump table → length table.rows ≤ limits.entries
 few_rows limits mode sender dump table is =
-    let few = few_said mode limits.entries [] (sayings sender is.packets) is.said ([], rows-none mode, omega arith) is.fine in
+    let few = few_said mode limits.entries [] (sayings (start_of limits sender) is.packets) is.said ([], rows-none mode, omega arith) is.fine in
     let same = ap (λ (rows : List Pair). length rows) (rows-one mode is.said few.0 table.rows few.1 is.rows) in
     omega (arith, same, few.2)
 
@@ -53,7 +54,8 @@ length-seen view (row ∷ rows) = omega (arith, length-seen view rows)
 twice : (view : View) (rows : List Pair) → seen_rows view (seen_rows view rows) ≡ seen_rows view rows
 twice view [] = refl
 twice view (row ∷ rows) =
-    ap (λ (held : Held). (row.0, held) ∷ seen_rows view (seen_rows view rows)) (seen_twice_is_seen view row.1) ∙ ap (λ (l : List Pair). (row.0, seen view row.1) ∷ l) (twice view rows)
+    ap (λ (held : Held). (row.0, held) ∷ seen_rows view (seen_rows view rows)) (seen_twice_is_seen view row.0.dst.address.family row.1)
+    ∙ ap (λ (l : List Pair). seen_row view row ∷ l) (twice view rows)
 
 -- ---- the headline
 
@@ -79,9 +81,10 @@ module _ (view : View) (limits : Bounds) (mode : Mode) (body : ℕ) (size : IsBo
       let are_rows = seen_are_rows view one.table.rows one.rows in
       let reads = seen_readable view mode one.table.rows (rows_readable limits mode it.sender it.dump one.table one.is_table) in
       let few : length rows ≤ limits.entries = rw (length-seen view one.table.rows) (few_rows limits mode it.sender it.dump one.table one.is_table) in
-      let read = back mode body rows octets any size are_rows reads one.text in
+      let hops = seen_hops limits.via_v6 view one.table.rows (hops_fit limits mode it.sender it.dump one.table one.is_table) in
+      let read = back mode body rows octets (start_of limits any) size are_rows hops reads one.text in
       let is_table = table_of_pairs limits mode any octets rows are_rows.rising reads few read.tells in
-      let no_fault = read.no_fault limits few (omega (arith, few, bounds.room)) in
+      let no_fault = read.no_fault limits refl few (omega (arith, few, bounds.room)) in
       record {
         no_fault = no_fault;
         answers = on_tables (sent any octets) it _ one.table is_table one.is_table (AreRoutes view) refl;

@@ -20,7 +20,7 @@ use Rattle.babel_tlv.specs.declared.mode.Mode.{Mode}
 use Rattle.babel_tlv.specs.Pair.{Pair}
 use Rattle.babel_tlv.specs.Route.{RouteKey}
 use Rattle.babel_table.specs.BestMatch.{ContainsBoth, IsMoreSpecific}
-use Rattle.babel_table.specs.Bounds.{Bounds}
+use Rattle.babel_table.specs.Bounds.{Bounds, start_of}
 use Rattle.babel_table.specs.Rows.{Routes, entries_of}
 use Rattle.babel_table.specs.TableOf.{IsTableOf}
 use Rattle.babel_table.proofs.HoldsLaws.{Holds-stands, stands-Holds}
@@ -228,7 +228,7 @@ module _ (limits : Bounds) (mode : Mode) (sender : Address) (dump : List ℕ) (t
         ∙ Holds-stands mode is_table.said key held (is_table.rows.held key held c);
     all = λ key held is. is_table.rows.all key held (stands-Holds mode is_table.said key held
         (sym (held_for-stands mode is_table.said key) ∙ is));
-    clean = λ key held is. held-clean mode sender is_table.packets key held
+    clean = λ key held is. held-clean mode (start_of limits sender) is_table.packets key held
         (ap (λ (es : List Event). held_for mode es key)
         (told-table limits mode sender dump table is_table) ∙ is);
   }

@@ -10,7 +10,7 @@ use Rattle.babel_tlv.specs.declared.mode.Mode.TheVariants as modes
 use Rattle.babel_tlv.specs.Says.{Saying, sayings}
 use Rattle.babel_tlv.specs.Pair.{Pair}
 use Rattle.babel_tlv.proofs.Telling.{as_ok, what_of}
-use Rattle.babel_table.specs.Bounds.{Bounds}
+use Rattle.babel_table.specs.Bounds.{Bounds, start_of}
 use Rattle.babel_table.specs.Counts.{counts_of}
 use Rattle.babel_table.specs.TableOf.{AreFine, IsTableOf}
 use Rattle.babel_table.specs.Holds.{AreRowsOf, HoldsAtMost}
@@ -56,14 +56,14 @@ fine_from mode entries told before (saying ∷ all) (event ∷ later) few parts 
     (event, here, few (before ++ event ∷ []) later on, fine_from mode entries told (before ++ event ∷ []) all later few on rest)
 
 pub table_of_pairs : (limits : Bounds) (mode : Mode) (sender : Address) (octets : List ℕ) (pairs : List Pair) → IsRising pairs → AreReadableIn mode pairs → length pairs ≤ limits.entries
-    → (tells : TellsPairs sender octets pairs) → IsTableOf limits mode sender octets (record { rows = pairs; report = counts_of (sayings sender tells.packets) })
+    → (tells : TellsPairs (start_of limits sender) octets pairs) → IsTableOf limits mode sender octets (record { rows = pairs; report = counts_of (sayings (start_of limits sender) tells.packets) })
 table_of_pairs limits mode sender octets pairs rising readable room tells =
     let hold = pairs_hold mode tells.said pairs (rising-apart pairs rising) readable tells.news in
     record {
       packets = tells.packets;
       said = tells.said;
       reads = tells.reads;
-      fine = fine_from mode limits.entries tells.said [] (sayings sender tells.packets) tells.said few refl tells.fine;
+      fine = fine_from mode limits.entries tells.said [] (sayings (start_of limits sender) tells.packets) tells.said few refl tells.fine;
       rows = record { rising = rising; held = λ key held c. (hold key held).1 c; all = λ key held h. (hold key held).0 h };
       report = refl;
     }

@@ -16,9 +16,14 @@ use Rattle.babel_tlv.specs.declared.event.Event.{Event}
 use Rattle.babel_tlv.specs.declared.event.Event.TheVariants as events
 use Rattle.babel_tlv.specs.declared.fault.Fault.{Fault}
 use Rattle.babel_tlv.specs.declared.fault.Fault.TheVariants as faults
+use Rattle.babel_tlv.specs.declared.held.Held.{Held}
+use Rattle.babel_tlv.specs.declared.held.Held.TheVariants as helds
 use Rattle.babel_tlv.specs.declared.reason.Reason.{Reason}
 use Rattle.babel_tlv.specs.declared.reason.Reason.TheVariants as reasons
+use Rattle.babel_tlv.specs.declared.start.Start.{Start}
+use Rattle.babel_tlv.specs.Encodings.{hop_family, prefix_family}
 use Rattle.babel_tlv.specs.Framing.{TlvAt, tlvs_of}
+use Rattle.babel_tlv.specs.Group.{encoding_for}
 use Rattle.babel_tlv.specs.Forming.{update_encoding, update_metric, prefix_len, omitted, field_len}
 use Rattle.babel_tlv.specs.Forming.{formed, next_hop_in, prefix_from, sets_router_id}
 use Rattle.babel_tlv.specs.Route.{RouteKey, Announcement, is_reserved}
@@ -30,7 +35,8 @@ use Rattle.babel_tlv.specs.Says.{key_event, prefix_event, update_said}
 use Rattle.babel_tlv.specs.Updating.{updated}
 use Rattle.babel_tlv.proofs.Telling.{says_in, what_of, sayings_behind-says_in}
 use Rattle.babel_canon.specs.Items.{are_all_of, is_optional, fit_update}
-use Rattle.babel_canon.specs.Told.{wildcard_tells, route_tells, update_tells, tells, told_by}
+use Rattle.babel_canon.specs.Told.{hop_family_of, wildcard_tells, route_tells, update_tells}
+use Rattle.babel_canon.specs.Told.{tells, told_by}
 use Rattle.babel_canon.specs.Dumps.{told}
 use Rattle.babel_canon.proofs.Items.{sub-update, sub-wildcard}
 
@@ -115,28 +121,53 @@ prefix_by false infinite (Some reason) key route announced event e same is = ref
 prefix_by true infinite (Some reason) key route announced event e same is = absurd cc
 prefix_by false infinite None key route announced event e same is = absurd cc
 
+-- the next hop is of the prefix's family, but in encoding 4 of IPv6
+hop_family-same : (body : List ℕ) (prefix : AddressPrefix) (n : ℕ) → update_encoding body ≡ n
+    → eqb n 4 ≡ false → hop_family_of body prefix ≡ prefix.address.family
+hop_family-same body prefix n is other = rw (is, other) refl
+
+hop_family-via : (body : List ℕ) (prefix : AddressPrefix) → update_encoding body ≡ 4
+    → hop_family_of body prefix ≡ V6
+hop_family-via body prefix is = rw is refl
+
 module _ (context : Context) where
-  update-quiet : (body : List ℕ) (prefix : AddressPrefix) → update_tells context body (Some prefix)
-      ≡ quiet (prefix_event prefix.address.family context body (Ok prefix))
-  update-quiet body prefix =
-      let family = prefix.address.family in
+  -- what an Update tells by a prefix of a family, with a next hop of a family
+  abbrev tells_in : Family → Family → List ℕ → AddressPrefix → Event
+  tells_in family hop body prefix =
+      let octets = drop (10 + field_len body) body in
+      let items = tlvs_of 0 octets in
+      let key : RouteKey = record { dst = prefix; src = source_of family items } in
+      cond (not (are_all_of octets items && fit_update family items)) events.Nothing
+      (cond (eqb (update_metric body) 65535) (events.Retract key)
+      (route_tells key body (current_router_id context body prefix)
+      (next_hop_in_context hop context)))
+
+  update-quiet : (encoding : _) (body : List ℕ) (prefix : AddressPrefix)
+      → tells_in (prefix_family encoding) (hop_family encoding) body prefix
+      ≡ quiet (prefix_event encoding context body (Ok prefix))
+  update-quiet encoding body prefix =
+      let family = prefix_family encoding in
       let octets = drop (10 + field_len body) body in
       let items = tlvs_of 0 octets in
       let id = current_router_id context body prefix in
-      let hop = next_hop_in_context family context in
+      let hop = next_hop_in_context (hop_family encoding) context in
       let key : RouteKey = record { dst = prefix; src = source_of family items } in
       prefix_by (are_all_of octets items && fit_update family items)
       (eqb (update_metric body) 65535) _ key (route_tells key body id hop)
-      (announce_event key body id hop) (key_event family context body prefix key)
+      (announce_event key body id hop) (key_event encoding context body prefix key)
       (search sub-update) (route-quiet key body id hop) refl
 
   -- what is formed tells what it says; what forms nothing tells nothing
-  prefix-quiet : (family : Family) (body : List ℕ) (is : Result AddressPrefix Reason)
-      → IfSome (result_ok is) (λ prefix. prefix.address.family ≡ family)
-      → update_tells context body (result_ok is) ≡ quiet (prefix_event family context body is)
-  prefix-quiet family body (Err reason) of = refl
-  prefix-quiet family body (Ok prefix) of = update-quiet body prefix
-      ∙ ap (λ (f : Family). quiet (prefix_event f context body (Ok prefix))) of
+  prefix-quiet : (encoding : _) (body : List ℕ) (is : Result AddressPrefix Reason)
+      → ((prefix : AddressPrefix) → prefix.address.family ≡ prefix_family encoding
+      → hop_family_of body prefix ≡ hop_family encoding)
+      → IfSome (result_ok is) (λ prefix. prefix.address.family ≡ prefix_family encoding)
+      → update_tells context body (result_ok is) ≡ quiet (prefix_event encoding context body is)
+  prefix-quiet encoding body (Err reason) hop of = refl
+  prefix-quiet encoding body (Ok prefix) hop of =
+      ap (λ (f : Family). tells_in f (hop_family_of body prefix) body prefix) of
+      ∙ ap (λ (f : Family). tells_in (prefix_family encoding) f body prefix) (hop prefix of)
+      ∙ update-quiet encoding body prefix
 
 -- what holds of each prefix of a family, whatever its octets, holds of one that is formed
 pub formed-holds : (Holds : AddressPrefix → Type 0) (family : Family) (default : Option Address)
@@ -156,6 +187,11 @@ formed-holds Holds family default body each =
     by false false false true prefix holds = tt
     by false false false false prefix holds = holds
 
+formed-family : (family : Family) (default : Option Address) (body : List ℕ)
+    → IfSome (result_ok (formed family default body)) (λ p. p.address.family ≡ family)
+formed-family family default body =
+    formed-holds (λ p. p.address.family ≡ family) family default body (λ len octets. refl)
+
 -- ---- any TLV
 
 or_none : (p : Option AddressPrefix) → option_or p None ≡ p
@@ -163,24 +199,35 @@ or_none None = refl
 or_none (Some prefix) = refl
 
 -- which encodings are read
-encoding_by : (n : ℕ) (wild : Event) (told : Option AddressPrefix → Event)
-    (p q : Option AddressPrefix) (refused : Result Event Fault) (wild_said one_said two_said : Event)
+encoding_by : (n : ℕ) (via : Bool) (wild : Event) (told : Option AddressPrefix → Event)
+    (p q r : Option AddressPrefix) (refused : Result Event Fault)
+    (wild_said one_said two_said four_said : Event)
     → told None ≡ events.Nothing → quiet_of refused ≡ events.Nothing → wild ≡ quiet wild_said
-    → told p ≡ quiet one_said → told q ≡ quiet two_said
-    → cond (eqb n 0) wild (told (option_or (cond (eqb n 1) p None) (cond (eqb n 2) q None)))
-    ≡ quiet_of (cond (leb 3 n) refused (cond (eqb n 0) (Ok wild_said)
-    (cond (eqb n 1) (Ok one_said) (Ok two_said))))
-encoding_by zero wild told p q refused wild_said one_said two_said none r w o t = w
-encoding_by (suc zero) wild told p q refused wild_said one_said two_said none r w o t =
-    ap told (or_none p) ∙ o
-encoding_by (suc (suc zero)) wild told p q refused wild_said one_said two_said none r w o t = t
-encoding_by (suc (suc (suc n))) wild told p q refused wild_said one_said two_said none r w o t =
-    let k : ℕ = suc (suc (suc n)) in
+    → (n ≡ 1 → told p ≡ quiet one_said) → (n ≡ 2 → told q ≡ quiet two_said)
+    → (n ≡ 4 → told r ≡ quiet four_said)
+    → cond (eqb n 0) wild (told (option_or (cond (eqb n 1 && true) p None)
+    (option_or (cond (eqb n 2 && true) q None) (cond (eqb n 4 && via) r None))))
+    ≡ quiet_of (cond (eqb n 0) (Ok wild_said) (cond (eqb n 1 && true) (Ok one_said)
+    (cond (eqb n 2 && true) (Ok two_said) (cond (eqb n 4 && via) (Ok four_said) refused))))
+encoding_by zero via wild told p q r refused wild_said one two four none unread w o t f = w
+encoding_by (suc zero) via wild told p q r refused wild_said one two four none unread w o t f =
+    ap told (or_none p) ∙ o refl
+encoding_by (suc (suc zero)) via wild told p q r refused wild_said one two four none unread w o t f =
+    ap told (or_none q) ∙ t refl
+encoding_by (suc (suc (suc zero))) via wild told p q r refused wild_said one two four none unread w o t
+    f = none ∙ sym unread
+encoding_by (suc (suc (suc (suc zero)))) true wild told p q r refused wild_said one two four none unread
+    w o t f = f refl
+encoding_by (suc (suc (suc (suc zero)))) false wild told p q r refused wild_said one two four none
+    unread w o t f = none ∙ sym unread
+encoding_by (suc (suc (suc (suc (suc n))))) via wild told p q r refused wild_said one two four none
+    unread w o t f =
+    let k : ℕ = suc (suc (suc (suc (suc n)))) in
     let zero_not : eqb k 0 ≡ false = grind (arith, nat_tests) in
     let one_not : eqb k 1 ≡ false = grind (arith, nat_tests) in
     let two_not : eqb k 2 ≡ false = grind (arith, nat_tests) in
-    let unread : leb 3 k ≡ true = grind (arith, nat_tests) in
-    rw (zero_not, one_not, two_not, unread) (none ∙ sym r)
+    let four_not : eqb k 4 ≡ false = grind (arith, nat_tests) in
+    rw (zero_not, one_not, two_not, four_not) (none ∙ sym unread)
 
 unread-quiet : (sets : Bool) (at : ℕ) → quiet_of (cond sets (Err (faults.EncodingSetsRouterId at))
     (Ok (events.Ignored reasons.UnknownEncoding))) ≡ events.Nothing
@@ -213,6 +260,15 @@ other_by true hop id_says hop_says update i h = sym i
 other_by false true id_says hop_says update i h = sym h
 other_by false false id_says hop_says update i h = refl
 
+-- a route with a next hop of IPv6, which of IPv4 is of encoding 4
+abbrev via_v6_route : Held
+via_v6_route = helds.Route (record {
+  router_id = [];
+  seqno = 0;
+  metric = 0;
+  next_hop = record { family = V6; bits = 0 };
+})
+
 abbrev tlv_at : ℕ → ℕ → List ℕ → TlvAt
 tlv_at at kind body = record { at = at; kind = kind; body = body }
 
@@ -229,13 +285,20 @@ module _ (context : Context) where
           let long : leb 10 (length body) ≡ true = grind (arith, nat_tests) in
           let four = formed V4 context.default_v4 body in
           let six = formed V6 context.default_v6 body in
-          rw (long, is) (encoding_by (update_encoding body) (wildcard_tells body)
-          (update_tells context body) (result_ok four) (result_ok six) _ (wildcard_event body) _ _
+          let four_via_six = formed V4 context.default_v4_via_v6 body in
+          rw (long, is) (encoding_by (update_encoding body) context.via_v6 (wildcard_tells body)
+          (update_tells context body) (result_ok four) (result_ok six) (result_ok four_via_six) _
+          (wildcard_event body) _ _ _
           refl (unread-quiet (sets_router_id body) at) (wildcard-quiet body)
-          (prefix-quiet context V4 body four
-          (formed-holds (λ p. p.address.family ≡ V4) V4 context.default_v4 body (λ len octets. refl)))
-          (prefix-quiet context V6 body six
-          (formed-holds (λ p. p.address.family ≡ V6) V6 context.default_v6 body (λ len octets. refl))))
+          (λ number. prefix-quiet context (encoding_for V4 helds.Unreachable) body four
+          (λ prefix is. hop_family-same body prefix 1 number refl ∙ is)
+          (formed-family V4 context.default_v4 body))
+          (λ number. prefix-quiet context (encoding_for V6 helds.Unreachable) body six
+          (λ prefix is. hop_family-same body prefix 2 number refl ∙ is)
+          (formed-family V6 context.default_v6 body))
+          (λ number. prefix-quiet context (encoding_for V4 via_v6_route) body four_via_six
+          (λ prefix is. hop_family-via body prefix number)
+          (formed-family V4 context.default_v4_via_v6 body)))
 
   -- what a TLV tells is what it says, without the reasons
   pub tells-said : (tlv : TlvAt) → tells context tlv ≡ quiet_of (said context tlv)
@@ -261,14 +324,14 @@ told_by-says_in context (tlv ∷ tlvs) =
     (told_by-says_in (updated context tlv) tlvs)
 
 -- what a dump tells is what its TLVs say, without the reasons
-pub told-sayings : (sender : Address) (packets : List (List TlvAt))
-    → told sender packets ≡ map quiet_of (map what_of (sayings sender packets))
-told-sayings sender [] = refl
-told-sayings sender (tlvs ∷ packets) =
-    let here = sayings_behind sender [] tlvs in
-    ap (λ (es : List Event). es ++ told sender packets)
-    (told_by-says_in (context_after sender []) tlvs
-    ∙ ap (map quiet_of) (sym (sayings_behind-says_in sender [] tlvs)))
-    ∙ ap (λ (es : List Event). map quiet_of (map what_of here) ++ es) (told-sayings sender packets)
-    ∙ sym (ap (map quiet_of) (map-append what_of here (sayings sender packets))
-    ∙ map-append quiet_of (map what_of here) (map what_of (sayings sender packets)))
+pub told-sayings : (start : Start) (packets : List (List TlvAt))
+    → told start packets ≡ map quiet_of (map what_of (sayings start packets))
+told-sayings start [] = refl
+told-sayings start (tlvs ∷ packets) =
+    let here = sayings_behind start [] tlvs in
+    ap (λ (es : List Event). es ++ told start packets)
+    (told_by-says_in (context_after start []) tlvs
+    ∙ ap (map quiet_of) (sym (sayings_behind-says_in start [] tlvs)))
+    ∙ ap (λ (es : List Event). map quiet_of (map what_of here) ++ es) (told-sayings start packets)
+    ∙ sym (ap (map quiet_of) (map-append what_of here (sayings start packets))
+    ∙ map-append quiet_of (map what_of here) (map what_of (sayings start packets)))

@@ -1,5 +1,5 @@
 -- The headline, by what dumps answer: this project's own.
-use Rattle.std.specs.Prelude.{◌≡◌, ◌↔◌, ℕ, List}
+use Rattle.std.specs.Prelude.{◌≡◌, ◌↔◌, ℕ, Bool, List}
 use Rattle.babel_prefix.specs.Address.{Address}
 use Rattle.babel_tlv.specs.declared.fault.Fault.{Fault}
 use Rattle.babel_tlv.specs.declared.fault.Fault.TheVariants as faults
@@ -15,11 +15,11 @@ use Rattle.babel_canon.specs.DumpAnswers.{IsSettled, AnswerAlike}
 -- * read with any sender, the octets answer as the dump does, what is made of them is themselves
 --   and nothing else, and only running out of memory keeps them from it.
 pub record AnswersTell (Made : Sent → List ℕ → Type 0) (Refused : Sent → Fault → Type 0)
-    (mode : Mode) (one : Sent) (octets : List ℕ) : Type 0 where
-  pub settled : IsSettled mode one
+    (via_v6 : Bool) (mode : Mode) (one : Sent) (octets : List ℕ) : Type 0 where
+  pub settled : IsSettled via_v6 mode one
   pub tells_apart : (other : Sent) (other_octets : List ℕ) → Made other other_octets
-      → ((octets ≡ other_octets) ↔ AnswerAlike mode one other)
-  pub reads_alike : (any : Address) → AnswerAlike mode (sent any octets) one
+      → ((octets ≡ other_octets) ↔ AnswerAlike via_v6 mode one other)
+  pub reads_alike : (any : Address) → AnswerAlike via_v6 mode (sent any octets) one
   pub again : (any : Address) → Made (sent any octets) octets
   pub unchanged : (any : Address) (other : List ℕ) → Made (sent any octets) other → other ≡ octets
   pub only_memory : (any : Address) (fault : Fault) → Refused (sent any octets) fault

@@ -67,22 +67,23 @@ IsAnswer mode events d s None =
     (key : RouteKey) → ContainsBoth d s key → held_for mode events key ≡ None
 IsAnswer mode events d s (Some held) = HasBest mode events d s held
 
--- the dump answers this for a destination and a source address
-pub record DumpAnswers (mode : Mode) (one : Sent) (d s : Address)
+-- the dump answers this for a destination and a source address, where encoding 4 is read or not
+pub record DumpAnswers (via_v6 : Bool) (mode : Mode) (one : Sent) (d s : Address)
     (answer : Option Held) : Type 0 where
   pub packets : List (List TlvAt)
-  pub is_dump : IsDump one.dump packets
-  pub answers : IsAnswer mode (told one.sender packets) d s answer
+  pub is_dump : IsDump via_v6 one.dump packets
+  pub answers :
+      IsAnswer mode (told (record { sender = one.sender; via_v6 = via_v6 }) packets) d s answer
 
 -- the dump has exactly one answer for each destination and source address of one family
-abbrev pub IsSettled : Mode → Sent → Type 0
-IsSettled mode one =
+abbrev pub IsSettled : Bool → Mode → Sent → Type 0
+IsSettled via_v6 mode one =
     (d s : Address) → IsAddress d → IsAddress s → d.family ≡ s.family
-    → ((answer : Option Held) × DumpAnswers mode one d s answer
-    × ((other : Option Held) → DumpAnswers mode one d s other → other ≡ answer))
+    → ((answer : Option Held) × DumpAnswers via_v6 mode one d s answer
+    × ((other : Option Held) → DumpAnswers via_v6 mode one d s other → other ≡ answer))
 
 -- two dumps answer the same for each destination and source address of one family
-abbrev pub AnswerAlike : Mode → Sent → Sent → Type 0
-AnswerAlike mode one other =
+abbrev pub AnswerAlike : Bool → Mode → Sent → Sent → Type 0
+AnswerAlike via_v6 mode one other =
     (d s : Address) → IsAddress d → IsAddress s → d.family ≡ s.family → (answer : Option Held)
-    → DumpAnswers mode one d s answer ↔ DumpAnswers mode other d s answer
+    → DumpAnswers via_v6 mode one d s answer ↔ DumpAnswers via_v6 mode other d s answer

@@ -21,7 +21,7 @@ abbrev pub AnswersAreSeen : Type 0
 AnswersAreSeen =
     (view : View) (rows : List Pair) (d s : Address)
     → answer_for (entries_of (seen_rows view rows)) d s
-    ≡ option_map (seen view) (answer_for (entries_of rows) d s)
+    ≡ option_map (seen view d.family) (answer_for (entries_of rows) d s)
 
 -- tables answer the same under a view exactly where what the view sees of them answers the same
 abbrev pub SeenAnswersTell : Type 0

@@ -1,5 +1,6 @@
 //! Laws of the definitions.
-ghost use Rattle.babel_canon.specs.AnswersAreTold.{AnswerIsOne, AnswersAreTold, TableAnswers};
+ghost use Rattle.babel_canon.specs.AnswersAreTold.{AnswerIsOne, AnswersAreTold};
+ghost use Rattle.babel_canon.specs.AnswersAreTold.{SettledIsOne, TableAnswers};
 ghost use Rattle.babel_canon.specs.RoundTrip.{TextReadsBack};
 ghost use Rattle.babel_canon.specs.BoxesTell.{BoxesAnswer, BoxesTellApart};
 ghost use Rattle.babel_canon.specs.DifferenceLaws.{DifferencesAreFewest, DifferencesAreOne};
@@ -91,12 +92,13 @@ pub fn differences_are_one()
     ensures many { ManyAreMore }
 {}
 
-/// What a dump answers for two addresses is what its table answers, and is one; and canonical
-/// octets tell dumps apart exactly where these answers do, and, read with any sender, answer alike
-/// and are their own canonical form.
+/// What a dump answers for two addresses is what its table answers, and is one; so is what a
+/// settled dump answers; and canonical octets tell dumps apart exactly where these answers do, and,
+/// read with any sender, answer alike and are their own canonical form.
 pub fn answers_are_told()
     ensures table { TableAnswers }
     ensures one { AnswerIsOne }
+    ensures settled { SettledIsOne }
     ensures headline { AnswersAreTold }
 {}
 

@@ -38,7 +38,8 @@ pub fn normalise(
     ensures err { IfErr result (NormaliseFault as_they_are limits mode (sent sender dump.now)) }
     ensures answers_tell { IfOk result (λ text.
         AnswersTell (Normalises as_they_are limits mode body)
-        (NormaliseFault as_they_are limits mode) mode (sent sender dump.now) text.items) }
+        (NormaliseFault as_they_are limits mode)
+        limits.via_v6 mode (sent sender dump.now) text.items) }
     ensures tells_apart { IfOk result (λ text.
         TellsApart AnswerTheSame (Normalises as_they_are limits mode body)
         limits mode (sent sender dump.now) text.items) }

@@ -9,7 +9,7 @@ use Rattle.babel_prefix.proofs.Counted.{count-none, count-push}
 use Rattle.babel_capture.specs.declared.link.Link.{Link}
 use Rattle.babel_capture.specs.declared.reason.Reason.{Reason}
 use Rattle.babel_capture.specs.declared.reason.Reason.TheVariants as reasons
-use Rattle.babel_capture.specs.Findings.{Found, passed, untold, left, refused, found}
+use Rattle.babel_capture.specs.Findings.{Found, passed, untold, left, refused, lacked, found}
 use Rattle.babel_capture.specs.Counts.{Made, Counts, all_reasons, is_left_for, left_for, is_short, is_cooked, is_cooked_link, counts_of}
 use Rattle.babel_capture.specs.Counting.{one_more, left_with, counted}
 
@@ -54,6 +54,7 @@ reason_of passed = None
 reason_of untold = None
 reason_of (left reason) = Some reason
 reason_of (refused lack) = None
+reason_of (lacked place sender lack) = None
 reason_of (found place sender packet) = None
 
 by_found : (f : Reason → Count) (at : ℕ) (what : Found) → map (λ (r : Reason). bumped (is_left_for r what) at (f r)) all_reasons ≡ left_with (map f all_reasons) (reason_of what) at
@@ -61,6 +62,7 @@ by_found f at passed = refl
 by_found f at untold = refl
 by_found f at (left reason) = set_one f at reason
 by_found f at (refused lack) = refl
+by_found f at (lacked place sender lack) = refl
 by_found f at (found place sender packet) = refl
 
 abbrev counts : ℕ → List Count → ℕ → ℕ → Counts
@@ -79,6 +81,8 @@ by_what old link (left reason) =
     let left_out = left_with old.left_out (Some reason) (old.packets + 1) in
     ap (λ (n : ℕ). counts (old.packets + 1) left_out n (old.cooked + 0)) (nothing_more old.short) ∙ ap (counts (old.packets + 1) left_out old.short) (nothing_more old.cooked)
 by_what old link (refused lack) = ap (λ (n : ℕ). counts (old.packets + 1) old.left_out n (old.cooked + 0)) (nothing_more old.short)
+    ∙ ap (counts (old.packets + 1) old.left_out old.short) (nothing_more old.cooked)
+by_what old link (lacked place sender lack) = ap (λ (n : ℕ). counts (old.packets + 1) old.left_out n (old.cooked + 0)) (nothing_more old.short)
     ∙ ap (counts (old.packets + 1) old.left_out old.short) (nothing_more old.cooked)
 by_what old link (found place sender packet) =
     ap (λ (n : ℕ). counts (old.packets + 1) old.left_out n (old.cooked + cond (is_cooked_link link) 1 0)) (nothing_more old.short)

@@ -14,7 +14,7 @@ use Rattle.babel_capture.specs.declared.wanted.Wanted.TheVariants as wanteds
 use Rattle.babel_capture.specs.Blocks.{Sighting, sighting_of, sightings_in}
 use Rattle.babel_capture.specs.Contents.{Content, file, section, describes, holds, nothing}
 use Rattle.babel_capture.specs.Counts.{Made}
-use Rattle.babel_capture.specs.Findings.{Found, passed, untold, left, refused, found, Finds, PayloadIs, CarriedIs, LackIs}
+use Rattle.babel_capture.specs.Findings.{Found, passed, untold, left, refused, lacked, found, Finds, PayloadIs, CarriedIs, LackIs}
 use Rattle.babel_capture.specs.Gathering.{AreMade, octets_found, dump_of}
 use Rattle.babel_capture.specs.PacketEnds.{AreEnds, end_found, ends_from, ends_of}
 use Rattle.babel_capture.specs.Sight.{Sight, Carried, other, too_short, datagram, other_port, not_link_local, lacking, carries}
@@ -27,6 +27,7 @@ HasOctets passed = Unit {0}
 HasOctets untold = Unit {0}
 HasOctets (left reason) = Unit {0}
 HasOctets (refused lack) = Unit {0}
+HasOctets (lacked place sender lack) = Unit {0}
 HasOctets (found place sender packet) = 0 < length packet
 
 payload_octets : (place : Place) (sender : Address) (payload : List ℕ) (what : Found) → PayloadIs place sender payload what → HasOctets what
@@ -37,14 +38,15 @@ payload_octets place sender payload what (inr (inl (short, is))) = subst HasOcte
 payload_octets place sender payload what (inr (inr (inl (header, magic, is)))) = subst HasOctets (sym is) tt
 payload_octets place sender payload what (inr (inr (inr (header, magic, version, is)))) = subst HasOctets (sym is) tt
 
-lack_octets : (wanted : Wanted) (lack : Lack) (what : Found) → LackIs wanted lack what → HasOctets what
-lack_octets wanteds.Everyone lack what is = subst HasOctets (sym is) tt
-lack_octets (wanteds.Sender sender place) lack what is = subst HasOctets (sym is) tt
+lack_octets : (wanted : Wanted) (place : Place) (sender : Address) (lack : Lack) (what : Found) → LackIs wanted place sender lack what → HasOctets what
+lack_octets wanteds.Everyone place sender lack what is = subst HasOctets (sym is) tt
+lack_octets wanteds.Each place sender lack what is = subst HasOctets (sym is) tt
+lack_octets (wanteds.Sender only there) place sender lack what is = subst HasOctets (sym is) tt
 
 carried_octets : (wanted : Wanted) (place : Place) (sender : Address) (carried : Carried) (what : Found) → CarriedIs wanted place sender carried what → HasOctets what
 carried_octets wanted place sender other_port what is = subst HasOctets (sym is) tt
 carried_octets wanted place sender not_link_local what is = subst HasOctets (sym is) tt
-carried_octets wanted place sender (lacking lack) what is = lack_octets wanted lack what is
+carried_octets wanted place sender (lacking lack) what is = lack_octets wanted place sender lack what is
 carried_octets wanted place sender (carries payload) what is = payload_octets place sender payload what is
 
 some_octets : (wanted : Wanted) (sight : Sight) (what : Found) → Finds wanted sight what → HasOctets what
@@ -117,22 +119,29 @@ more-noted before number passed ends has = same-noted before (before + 0) number
 more-noted before number untold ends has = same-noted before (before + 0) number ends (omega arith) ∙ sym (append-nil ends)
 more-noted before number (left reason) ends has = same-noted before (before + 0) number ends (omega arith) ∙ sym (append-nil ends)
 more-noted before number (refused lack) ends has = same-noted before (before + 0) number ends (omega arith) ∙ sym (append-nil ends)
+more-noted before number (lacked place sender lack) ends has = same-noted before (before + 0) number ends (omega arith) ∙ sym (append-nil ends)
 more-noted before number (found place sender packet) ends has =
     let more : nat_lt before (before + length packet) ≡ true = grind (arith, nat_tests) in
     rw more refl
 
-one-more : (wanted : Wanted) (taken dump more : List ℕ) (made : List Made) (one : Made) (ends : List PacketEnd) → HasOctets one.what
-    → taken ++ dump ≡ dump_of wanted made → taken ++ more ≡ dump_of wanted (made ++ one ∷ []) → AreEnds wanted taken made ends
-    → AreEnds wanted taken (made ++ one ∷ []) (noted (length dump) (length more) one.number ends)
-one-more wanteds.Everyone taken dump more made one ends has is is_more are =
+-- where there is no dump
+nothing-more : (wanted : Wanted) (taken dump more : List ℕ) (made : List Made) (one : Made) (ends : List PacketEnd) → taken ++ dump ≡ [] → taken ++ more ≡ []
+    → ((kept : List Made) → ends_of wanted kept ≡ []) → AreEnds wanted taken made ends → AreEnds wanted taken (made ++ one ∷ []) (noted (length dump) (length more) one.number ends)
+nothing-more wanted taken dump more made one ends is is_more no_ends are =
     let none : length dump ≡ length more = omega (arith, ap length is, ap length is_more, length-append taken dump, length-append taken more) in
     record {
       gone = are.gone;
       kept = are.kept ++ one ∷ [];
       whole = ap (λ (m : List Made). m ++ one ∷ []) are.whole ∙ append_assoc are.gone are.kept (one ∷ []);
       taken_is = are.taken_is;
-      are_ends = same-noted (length dump) (length more) one.number ends none ∙ are.are_ends;
+      are_ends = same-noted (length dump) (length more) one.number ends none ∙ are.are_ends ∙ no_ends are.kept ∙ sym (no_ends (are.kept ++ one ∷ []));
     }
+
+one-more : (wanted : Wanted) (taken dump more : List ℕ) (made : List Made) (one : Made) (ends : List PacketEnd) → HasOctets one.what
+    → taken ++ dump ≡ dump_of wanted made → taken ++ more ≡ dump_of wanted (made ++ one ∷ []) → AreEnds wanted taken made ends
+    → AreEnds wanted taken (made ++ one ∷ []) (noted (length dump) (length more) one.number ends)
+one-more wanteds.Everyone taken dump more made one ends has is is_more are = nothing-more wanteds.Everyone taken dump more made one ends is is_more (λ kept. refl) are
+one-more wanteds.Each taken dump more made one ends has is is_more are = nothing-more wanteds.Each taken dump more made one ends is is_more (λ kept. refl) are
 one-more (wanteds.Sender sender place) taken dump more made one ends has is is_more are =
     let front : octets_made made ≡ octets_made are.gone ++ octets_made are.kept =
     ap octets_made are.whole ∙ flat_map-append (λ (m : Made). octets_found m.what) are.gone are.kept in
@@ -203,4 +212,5 @@ ends-gone wanted taken dump made is = record {
   where
     none : (w : Wanted) → [] ≡ ends_of w []
     none wanteds.Everyone = refl
+    none wanteds.Each = refl
     none (wanteds.Sender sender place) = refl

@@ -17,10 +17,11 @@ use Rattle.babel_capture.specs.Blocks.{Sighting, sight_in}
 use Rattle.babel_capture.specs.Contents.{Captured, holds}
 use Rattle.babel_capture.specs.Counts.{Counts, Made}
 use Rattle.babel_capture.specs.Counting.{counted, counted_with, short_counted, packet_counted}
-use Rattle.babel_capture.specs.Findings.{Found, passed, untold, left, refused, found, Finds}
+use Rattle.babel_capture.specs.Findings.{CarriedIs, Found, LackIs, PayloadIs, passed, untold, left, refused, lacked, found, Finds}
 use Rattle.babel_capture.specs.Lack.{lack_fault}
-use Rattle.babel_capture.specs.Sight.{Sight}
+use Rattle.babel_capture.specs.Sight.{Carried, Sight, carries, datagram, lacking, not_link_local, other, other_port, too_short}
 use Rattle.babel_capture.specs.Gathering.{AreMade, BlockNeedsMemory, PacketNeedsMemory, IsTaken, Gathering, IsGathered, IsRefusedPacket, octets_found, dump_of, dump_with}
+use Rattle.babel_capture.specs.Dumps.{Dumps, dumps_by, dumps_of, dumps_with}
 use Rattle.babel_capture.specs.Tallies.{Senders, IsOneTooMany, senders_with, senders_of, tallied}
 use Rattle.babel_capture.proofs.CountLaws.{counts-push}
 
@@ -36,10 +37,19 @@ made-push wanted (first ∷ before) next made what (one, others, is, number, lin
 
 dump-push : (wanted : Wanted) (made : List Made) (dump : List ℕ) (one : Made) → dump ≡ dump_of wanted made → dump_with wanted dump (octets_found one.what) ≡ dump_of wanted (made ++ one ∷ [])
 dump-push wanteds.Everyone made dump one is = is
+dump-push wanteds.Each made dump one is = is
 dump-push (wanteds.Sender sender place) made dump one is =
     ap (λ (d : List ℕ). d ++ octets_found one.what) is
     ∙ ap (λ (d : List ℕ). flat_map (λ (m : Made). octets_found m.what) made ++ d) (sym (append-nil (octets_found one.what)))
     ∙ sym (flat_map-append (λ (m : Made). octets_found m.what) made (one ∷ []))
+
+dumps-push : (wanted : Wanted) (made : List Made) (one : Made) → dumps_of wanted (made ++ one ∷ []) ≡ dumps_with wanted (dumps_of wanted made) one.number one.what
+dumps-push wanted made one = from [] made
+  where
+    from : (dumps : Dumps) (made : List Made) → fold (λ (d : Dumps) (m : Made). dumps_with wanted d m.number m.what) dumps (made ++ one ∷ [])
+        ≡ dumps_with wanted (fold (λ (d : Dumps) (m : Made). dumps_with wanted d m.number m.what) dumps made) one.number one.what
+    from dumps [] = refl
+    from dumps (first ∷ made) = from (dumps_with wanted dumps first.number first.what) made
 
 senders-push : (made : List Made) (one : Made) → senders_of (made ++ one ∷ []) ≡ senders_with (senders_of made) one.what
 senders-push made one = from [] made
@@ -50,10 +60,10 @@ senders-push made one = from [] made
     from senders (first ∷ made) = from (senders_with senders first.what) made
 
 pub gathered-push : (before : List Sighting) (next : Sighting) (old new : Gathering) (what : Found) → new.wanted ≡ old.wanted
-    → new.dump ≡ dump_with old.wanted old.dump (octets_found what) → new.report ≡ counted old.report next.link what
+    → new.dump ≡ dump_with old.wanted old.dump (octets_found what) → new.dumps ≡ dumps_with old.wanted old.dumps next.number what → new.report ≡ counted old.report next.link what
     → new.senders ≡ senders_with old.senders what → length new.senders ≤ 65536 → IsTaken what
     → IsGathered before old → next.number ≡ old.report.packets + 1 → Finds old.wanted next.what what → IsGathered (before ++ next ∷ []) new
-gathered-push before next old new what same dump report senders few takes gathered number finds =
+gathered-push before next old new what same dump dumps report senders few takes gathered number finds =
     let one : Made = made_of next what in
     let is_senders : new.senders ≡ senders_of (gathered.made ++ one ∷ []) =
     senders ∙ ap (λ (t : Senders). senders_with t what) gathered.senders ∙ sym (senders-push gathered.made one) in
@@ -67,6 +77,8 @@ gathered-push before next old new what same dump report senders few takes gather
       };
       dump = subst (λ (w : Wanted). new.dump ≡ dump_of w (gathered.made ++ one ∷ [])) (sym same)
           (dump ∙ dump-push old.wanted gathered.made old.dump one gathered.dump);
+      dumps = subst (λ (w : Wanted). new.dumps ≡ dumps_of w (gathered.made ++ one ∷ [])) (sym same)
+          (dumps ∙ ap (λ (d : Dumps). dumps_with old.wanted d next.number what) gathered.dumps ∙ sym (dumps-push old.wanted gathered.made one));
       report = report ∙ ap (λ (c : Counts). counted c next.link what) gathered.report ∙ sym (counts-push gathered.made one is_number);
       senders = is_senders;
     }
@@ -74,16 +86,31 @@ gathered-push before next old new what same dump report senders few takes gather
 -- octets that were taken out stand before what is added
 pub dump-after : (wanted : Wanted) (taken dump octets : List ℕ) → taken ++ dump_with wanted dump octets ≡ dump_with wanted (taken ++ dump) octets
 dump-after wanteds.Everyone taken dump octets = refl
+dump-after wanteds.Each taken dump octets = refl
 dump-after (wanteds.Sender sender place) taken dump octets = sym (append_assoc taken dump octets)
 
 -- what is no packet leaves the dump
 pub dump-stays : (wanted : Wanted) (dump : List ℕ) → dump ≡ dump_with wanted dump []
 dump-stays wanteds.Everyone dump = refl
+dump-stays wanteds.Each dump = refl
 dump-stays (wanteds.Sender sender place) dump = sym (append-nil dump)
 
-pub on-ok3 : {T E : Type 0} {P Q R S : Type 0} (r : Result T E) → (P → Q → R → S) → OnOk r P → OnOk r Q → OnOk r R → OnOk r S
-on-ok3 (Ok x) goes one two three = goes one two three
-on-ok3 (Err e) goes one two three = tt
+dumps-stay : (wanted : Wanted) (dumps : Dumps) (number : ℕ) (what : Found) → dumps_by dumps number what ≡ dumps → dumps ≡ dumps_with wanted dumps number what
+dumps-stay wanteds.Everyone dumps number what same = refl
+dumps-stay wanteds.Each dumps number what same = sym same
+dumps-stay (wanteds.Sender sender place) dumps number what same = refl
+
+pub on-ok4 : {T E : Type 0} {P Q R S U : Type 0} (r : Result T E) → (P → Q → R → S → U) → OnOk r P → OnOk r Q → OnOk r R → OnOk r S → OnOk r U
+on-ok4 (Ok x) goes one two three four = goes one two three four
+on-ok4 (Err e) goes one two three four = tt
+
+pub on-ok-all : {T E : Type 0} {P : Type 0} (r : Result T E) → P → OnOk r P
+on-ok-all (Ok x) is = is
+on-ok-all (Err e) is = tt
+
+pub if-err-all : {T E : Type 0} {P : E → Type 0} (r : Result T E) → ((e : E) → P e) → IfErr r P
+if-err-all (Ok x) is = tt
+if-err-all (Err e) is = is e
 
 pub on-ok : {T E : Type 0} {P Q : Type 0} (r : Result T E) → (P → Q) → OnOk r P → OnOk r Q
 on-ok (Ok x) goes is = goes is
@@ -98,26 +125,64 @@ module _ (before : List Sighting) (next : Sighting) (old new : Gathering) (findi
   abbrev Goes : Type 0
   Goes = IsGathered before old → next.number ≡ old.report.packets + 1 → Finds old.wanted next.what finding → IsGathered (before ++ next ∷ []) new
 
-  pub passed-push : finding ≡ passed → new.wanted ≡ old.wanted → new.dump ≡ old.dump → new.report ≡ counted_with old.report None → new.senders ≡ old.senders → Goes
-  passed-push is same dump report senders gathered number finds =
-      gathered-push before next old new passed same (dump ∙ dump-stays old.wanted old.dump) report senders (few_kept before old new senders gathered) tt gathered number
+  pub passed-push : finding ≡ passed → new.wanted ≡ old.wanted → new.dump ≡ old.dump → new.dumps ≡ old.dumps → new.report ≡ counted_with old.report None → new.senders ≡ old.senders → Goes
+  passed-push is same dump dumps report senders gathered number finds =
+      gathered-push before next old new passed same (dump ∙ dump-stays old.wanted old.dump) (dumps ∙ dumps-stay old.wanted old.dumps next.number passed refl) report senders
+      (few_kept before old new senders gathered) tt gathered number
       (subst (Finds old.wanted next.what) is finds)
 
-  pub short-push : finding ≡ untold → new.wanted ≡ old.wanted → new.dump ≡ old.dump → new.report ≡ short_counted old.report → new.senders ≡ old.senders → Goes
-  short-push is same dump report senders gathered number finds =
-      gathered-push before next old new untold same (dump ∙ dump-stays old.wanted old.dump) report senders (few_kept before old new senders gathered) tt gathered number
+  pub short-push : finding ≡ untold → new.wanted ≡ old.wanted → new.dump ≡ old.dump → new.dumps ≡ old.dumps → new.report ≡ short_counted old.report → new.senders ≡ old.senders → Goes
+  short-push is same dump dumps report senders gathered number finds =
+      gathered-push before next old new untold same (dump ∙ dump-stays old.wanted old.dump) (dumps ∙ dumps-stay old.wanted old.dumps next.number untold refl) report senders
+      (few_kept before old new senders gathered) tt gathered number
       (subst (Finds old.wanted next.what) is finds)
 
-  pub left-push : (reason : Reason) → finding ≡ left reason → new.wanted ≡ old.wanted → new.dump ≡ old.dump → new.report ≡ counted_with old.report (Some reason) → new.senders ≡ old.senders → Goes
-  left-push reason is same dump report senders gathered number finds =
-      gathered-push before next old new (left reason) same (dump ∙ dump-stays old.wanted old.dump) report senders (few_kept before old new senders gathered) tt gathered number
+  pub left-push : (reason : Reason) → finding ≡ left reason → new.wanted ≡ old.wanted → new.dump ≡ old.dump → new.dumps ≡ old.dumps → new.report ≡ counted_with old.report (Some reason)
+      → new.senders ≡ old.senders → Goes
+  left-push reason is same dump dumps report senders gathered number finds =
+      gathered-push before next old new (left reason) same (dump ∙ dump-stays old.wanted old.dump) (dumps ∙ dumps-stay old.wanted old.dumps next.number (left reason) refl) report senders
+      (few_kept before old new senders gathered) tt gathered number
       (subst (Finds old.wanted next.what) is finds)
 
   pub found-push : (place : Place) (sender : Address) (packet : List ℕ) → finding ≡ found place sender packet → new.wanted ≡ old.wanted → new.dump ≡ dump_with old.wanted old.dump packet
+      → new.dumps ≡ dumps_with old.wanted old.dumps next.number (found place sender packet)
       → new.report ≡ packet_counted old.report next.link → new.senders ≡ tallied old.senders (record { place = place; sender = sender }) packet → length new.senders ≤ 65536 → Goes
-  found-push place sender packet is same dump report senders few gathered number finds =
-      gathered-push before next old new (found place sender packet) same dump report senders few tt gathered number
+  found-push place sender packet is same dump dumps report senders few gathered number finds =
+      gathered-push before next old new (found place sender packet) same dump dumps report senders few tt gathered number
       (subst (Finds old.wanted next.what) is finds)
+
+  -- where the dump of each is wanted
+  pub lacked-push : (place : Place) (sender : Address) (lack : Lack) → finding ≡ lacked place sender lack → old.wanted ≡ wanteds.Each → new.wanted ≡ old.wanted → new.dump ≡ old.dump
+      → new.dumps ≡ dumps_by old.dumps next.number (lacked place sender lack) → new.report ≡ counted_with old.report None → new.senders ≡ old.senders → Goes
+  lacked-push place sender lack is each same dump dumps report senders gathered number finds =
+      let what = lacked place sender lack in
+      gathered-push before next old new what same (dump ∙ dump-stays old.wanted old.dump) (dumps ∙ ap (λ (w : Wanted). dumps_with w old.dumps next.number what) (sym each)) report senders
+      (few_kept before old new senders gathered) tt gathered number (subst (Finds old.wanted next.what) is finds)
+
+-- a datagram is said to lack something for its sender's dump only where that of each is wanted
+lacked_each : (wanted : Wanted) (place there : Place) (sender from : Address) (lack which : Lack) → LackIs wanted place sender lack (lacked there from which) → wanted ≡ wanteds.Each
+lacked_each wanteds.Everyone place there sender from lack which is = absurd cc
+lacked_each wanteds.Each place there sender from lack which is = refl
+lacked_each (wanteds.Sender only at) place there sender from lack which is = absurd cc
+
+payload_lacks_none : (place there : Place) (sender from : Address) (payload : List ℕ) (which : Lack) → PayloadIs place sender payload (lacked there from which) → ⊥
+payload_lacks_none place there sender from payload which (inl (body, begins, is)) = cc
+payload_lacks_none place there sender from payload which (inr (inl (short, is))) = cc
+payload_lacks_none place there sender from payload which (inr (inr (inl (long, magic, is)))) = cc
+payload_lacks_none place there sender from payload which (inr (inr (inr (long, magic, version, is)))) = cc
+
+carried_each : (wanted : Wanted) (place there : Place) (sender from : Address) (carried : Carried) (which : Lack) → CarriedIs wanted place sender carried (lacked there from which)
+    → wanted ≡ wanteds.Each
+carried_each wanted place there sender from other_port which is = absurd cc
+carried_each wanted place there sender from not_link_local which is = absurd cc
+carried_each wanted place there sender from (lacking lack) which is = lacked_each wanted place there sender from lack which is
+carried_each wanted place there sender from (carries payload) which is = absurd (payload_lacks_none place there sender from payload which is)
+
+pub each_wanted : (wanted : Wanted) (sight : Sight) (place : Place) (sender : Address) (lack : Lack) → Finds wanted sight (lacked place sender lack) → wanted ≡ wanteds.Each
+each_wanted wanted other place sender lack is = absurd cc
+each_wanted wanted too_short place sender lack is = absurd cc
+each_wanted wanted (datagram at from carried) place sender lack (inl (wants, is)) = carried_each wanted at place from sender carried lack is
+each_wanted wanted (datagram at from carried) place sender lack (inr (not, is)) = absurd cc
 
 pub finds-at : (wanted here : Wanted) (sight : Sight) (finding : Found) → wanted ≡ here → Finds wanted sight finding → Finds here sight finding
 finds-at wanted here sight finding is_wanted finds = subst (λ (w : Wanted). Finds w sight finding) is_wanted finds
@@ -142,7 +207,7 @@ pub found-needs : {T : Type 0} (r : Result T Fault) (wanted before : Wanted) (he
     → wanted ≡ before → here ≡ senders → finding ≡ found origin.place origin.sender octets → Finds before (sight_in packet) finding
     → IfErr r (λ fault. fault ≡ faults.Memory → PacketNeedsMemory wanted here origin octets) → IfErr r (λ fault. fault ≡ faults.Memory → BlockNeedsMemory before senders (holds packet))
 found-needs (Ok x) wanted before here senders packet origin octets finding same are is finds needs = tt
-found-needs (Err fault) wanted before here senders packet origin octets finding same are is finds needs = λ memory. (
+found-needs (Err fault) wanted before here senders packet origin octets finding same are is finds needs = λ memory. inl (
   origin,
   octets,
   subst (Finds before (sight_in packet)) is finds,
@@ -155,5 +220,6 @@ pub found-added : {T : Type 0} (r : Result T Fault) (wanted : Wanted) (senders :
     → OnOk r (new ≡ dump_with wanted old octets) → OnOk r ((new ≡ old) ⊎ BlockNeedsMemory wanted senders (holds packet))
 found-added (Err fault) wanted senders packet origin octets finding is finds old new added = tt
 found-added (Ok x) wanteds.Everyone senders packet origin octets finding is finds old new added = inl added
+found-added (Ok x) wanteds.Each senders packet origin octets finding is finds old new added = inl added
 found-added (Ok x) (wanteds.Sender sender place) senders packet origin octets finding is finds old new added =
-    inr (origin, octets, subst (Finds (wanteds.Sender sender place) (sight_in packet)) is finds, tt)
+    inr (inl (origin, octets, subst (Finds (wanteds.Sender sender place) (sight_in packet)) is finds, tt))

@@ -1,6 +1,8 @@
 pub mod BackingLaws
 pub mod CountLaws
 pub mod EndLaws
+pub mod DumpLaws
+pub mod EachLaws
 pub mod Entries
 pub mod FindingLaws
 pub mod FramingLaws

@@ -1,6 +1,6 @@
 -- Octets are one capture, whose packets give one dump, one report and one list of senders.
 use Rattle.std.proofs.Common.{◌≡◌, ◌≢◌, ℕ, ◌+◌, ◌*◌, ◌/◌, ◌%◌, ◌<◌, List, [], ◌∷◌, ◌++◌, length, take, drop, refl, sym, ap, subst, ◌∙◌, append_assoc, inl, inr, arith, length-append, slice_index}
-use Rattle.std.specs.Prelude.{◌⊎◌, Some, None, Result, Ok, Err}
+use Rattle.std.specs.Prelude.{◌⊎◌, Option, Some, None, Result, Ok, Err}
 use Rattle.std.specs.Result.{IsOkAnd}
 use Rattle.std.proofs.lemmas.List.{append-nil, drop_at, take-append-le, take_at}
 use Rattle.babel_prefix.specs.Address.{Address}
@@ -21,6 +21,7 @@ use Rattle.babel_capture.specs.Contents.{Content, block_said, context_after, not
 use Rattle.babel_capture.specs.Context.{Before}
 use Rattle.babel_capture.specs.Counts.{Counts, Made, counts_of}
 use Rattle.babel_capture.specs.Findings.{CarriedIs, Either, Finds, Found, IsWanted, LackIs, PayloadIs, found, passed}
+use Rattle.babel_capture.specs.Dumps.{Dumps, dumps_of}
 use Rattle.babel_capture.specs.Gathering.{AreMade, Gathering, IsGathered, dump_of}
 use Rattle.babel_capture.specs.Lengths.{block_len, header_len}
 use Rattle.babel_capture.specs.OneCapture.{CaptureIsOne, CutCaptureIsOne}
@@ -85,15 +86,17 @@ payload_one place sender payload what again (inr (inr (inr (long, magic, version
 payload_one place sender payload what again (inr (inr (inr (long, magic, version, is)))) (inr (inr (inl (long_too, magic_too, is_again)))) = absurd (magic_too magic)
 payload_one place sender payload what again (inr (inr (inr (long, magic, version, is)))) (inr (inr (inr (long_too, magic_too, version_too, is_again)))) = is ∙ sym is_again
 
-lack_one : (wanted : Wanted) (lack : Lack) (what again : Found) → LackIs wanted lack what → LackIs wanted lack again → what ≡ again
-lack_one wanteds.Everyone lack what again is is_again = is ∙ sym is_again
-lack_one (wanteds.Sender sender place) lack what again is is_again = is ∙ sym is_again
+lack_one : (wanted : Wanted) (place : Place) (sender : Address) (lack : Lack) (what again : Found) → LackIs wanted place sender lack what → LackIs wanted place sender lack again
+    → what ≡ again
+lack_one wanteds.Everyone place sender lack what again is is_again = is ∙ sym is_again
+lack_one wanteds.Each place sender lack what again is is_again = is ∙ sym is_again
+lack_one (wanteds.Sender only there) place sender lack what again is is_again = is ∙ sym is_again
 
 carried_one : (wanted : Wanted) (place : Place) (sender : Address) (carried : Carried) (what again : Found) → CarriedIs wanted place sender carried what → CarriedIs wanted place sender carried again
     → what ≡ again
 carried_one wanted place sender other_port what again is is_again = is ∙ sym is_again
 carried_one wanted place sender not_link_local what again is is_again = is ∙ sym is_again
-carried_one wanted place sender (lacking lack) what again is is_again = lack_one wanted lack what again is is_again
+carried_one wanted place sender (lacking lack) what again is is_again = lack_one wanted place sender lack what again is is_again
 carried_one wanted place sender (carries payload) what again is is_again = payload_one place sender payload what again is is_again
 
 pub finds_one : (wanted : Wanted) (sight : Sight) (what again : Found) → Finds wanted sight what → Finds wanted sight again → what ≡ again
@@ -187,13 +190,15 @@ some_header layouts.Start = omega arith
 some_header (layouts.Pcap order) = omega arith
 some_header (layouts.Section order) = omega arith
 
-one_gathering : (one another : Gathering) → one.wanted ≡ another.wanted → one.names ≡ another.names → one.dump ≡ another.dump → one.report ≡ another.report → one.senders ≡ another.senders
-    → one ≡ another
-one_gathering one another wanted names dump report senders =
-    let of : Wanted → List (List ℕ) → List ℕ → Counts → Senders → Gathering = λ w n d r s. record { wanted = w; names = n; dump = d; report = r; senders = s } in
-    ap (λ (w : Wanted). of w one.names one.dump one.report one.senders) wanted ∙ ap (λ (n : List (List ℕ)). of another.wanted n one.dump one.report one.senders) names
-    ∙ ap (λ (d : List ℕ). of another.wanted another.names d one.report one.senders) dump
-    ∙ ap (λ (r : Counts). of another.wanted another.names another.dump r one.senders) report ∙ ap (λ (s : Senders). of another.wanted another.names another.dump another.report s) senders
+one_gathering : (one another : Gathering) → one.wanted ≡ another.wanted → one.names ≡ another.names → one.dump ≡ another.dump → one.dumps ≡ another.dumps → one.report ≡ another.report
+    → one.senders ≡ another.senders → one ≡ another
+one_gathering one another wanted names dump dumps report senders =
+    let of : Wanted → List (List ℕ) → List ℕ → Dumps → Counts → Senders → Gathering = λ w n d e r s. record { wanted = w; names = n; dump = d; dumps = e; report = r; senders = s } in
+    ap (λ (w : Wanted). of w one.names one.dump one.dumps one.report one.senders) wanted ∙ ap (λ (n : List (List ℕ)). of another.wanted n one.dump one.dumps one.report one.senders) names
+    ∙ ap (λ (d : List ℕ). of another.wanted another.names d one.dumps one.report one.senders) dump
+    ∙ ap (λ (e : Dumps). of another.wanted another.names another.dump e one.report one.senders) dumps
+    ∙ ap (λ (r : Counts). of another.wanted another.names another.dump another.dumps r one.senders) report
+    ∙ ap (λ (s : Senders). of another.wanted another.names another.dump another.dumps another.report s) senders
 
 gathered_one : (sightings : List Sighting) (one another : Gathering) → IsGathered sightings one → IsGathered sightings another → one.wanted ≡ another.wanted → one.names ≡ another.names → one ≡ another
 gathered_one sightings one another is is_too wanted names =
@@ -201,15 +206,21 @@ gathered_one sightings one another is is_too wanted names =
     made_one one.wanted sightings is.made is_too.made is.taken.are_made (subst (λ (w : Wanted). AreMade w sightings is_too.made) (sym wanted) is_too.taken.are_made) in
     one_gathering one another wanted names
     (is.dump ∙ ap (dump_of one.wanted) made ∙ ap (λ (w : Wanted). dump_of w is_too.made) wanted ∙ sym is_too.dump)
+    (is.dumps ∙ ap (dumps_of one.wanted) made ∙ ap (λ (w : Wanted). dumps_of w is_too.made) wanted ∙ sym is_too.dumps)
     (is.report ∙ ap counts_of made ∙ sym is_too.report)
     (is.senders ∙ ap senders_of made ∙ sym is_too.senders)
 
-pub cut_capture_is_one : CutCaptureIsOne
-cut_capture_is_one limit octets one another place other_place is is_too wanted = by (blocks_one (start limit) 0 is.is_read.blocks is_too.is_read.blocks is.rest is_too.rest is.is_read.are_blocks
+-- two readings of the same octets, of any datagrams, have the same blocks
+pub same_blocks : (limit : ℕ) (octets : List ℕ) (one another : Gathering) (place other_place : Option ℕ) → (is : IsReadToCut limit octets one place)
+    → (is_too : IsReadToCut limit octets another other_place) → (is.is_read.blocks ≡ is_too.is_read.blocks) × (is.rest ≡ is_too.rest)
+same_blocks limit octets one another place other_place is is_too = blocks_one (start limit) 0 is.is_read.blocks is_too.is_read.blocks is.rest is_too.rest is.is_read.are_blocks
     is_too.is_read.are_blocks
     (ap (λ (t : List ℕ). t ++ is.rest) (sym is.is_read.whole) ∙ sym is.whole ∙ is_too.whole ∙ ap (λ (t : List ℕ). t ++ is_too.rest) is_too.is_read.whole)
     (subst (λ (n : ℕ). IsPartial (context_behind (start limit) is.is_read.blocks) n is.rest) (omega (arith, ap length is.is_read.whole)) is.partial)
-    (subst (λ (n : ℕ). IsPartial (context_behind (start limit) is_too.is_read.blocks) n is_too.rest) (omega (arith, ap length is_too.is_read.whole)) is_too.partial))
+    (subst (λ (n : ℕ). IsPartial (context_behind (start limit) is_too.is_read.blocks) n is_too.rest) (omega (arith, ap length is_too.is_read.whole)) is_too.partial)
+
+pub cut_capture_is_one : CutCaptureIsOne
+cut_capture_is_one limit octets one another place other_place is is_too wanted = by (same_blocks limit octets one another place other_place is is_too)
   where
     places : is.read ≡ is_too.read → is.rest ≡ is_too.rest → ((is.rest ≡ []) × (place ≡ None)) ⊎ ((is.rest ≢ []) × (place ≡ Some (length is.read)))
         → ((is_too.rest ≡ []) × (other_place ≡ None)) ⊎ ((is_too.rest ≢ []) × (other_place ≡ Some (length is_too.read))) → place ≡ other_place

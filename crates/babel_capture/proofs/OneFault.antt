@@ -13,7 +13,7 @@ use Rattle.babel_capture.specs.Capture.{CaptureFault, EndsShort, IsShortBy}
 use Rattle.babel_capture.specs.Contents.{Content, block_said, context_after, describes, file, holds, nothing, section}
 use Rattle.babel_capture.specs.Context.{Before}
 use Rattle.babel_capture.specs.Counts.{Made}
-use Rattle.babel_capture.specs.Findings.{Found, found, left, passed, refused, untold}
+use Rattle.babel_capture.specs.Findings.{Found, found, lacked, left, passed, refused, untold}
 use Rattle.babel_capture.specs.Lack.{lack_fault}
 use Rattle.babel_capture.specs.Gathering.{AreMade, AreTaken, IsRefused, IsTaken}
 use Rattle.babel_capture.specs.Lengths.{block_len, header_len}
@@ -34,6 +34,7 @@ with-longer senders passed = omega arith
 with-longer senders untold = omega arith
 with-longer senders (left reason) = omega arith
 with-longer senders (refused lack) = omega arith
+with-longer senders (lacked place sender lack) = omega arith
 with-longer senders (found place sender packet) = insert-longer origin_cmp (record { place = place; sender = sender }) _ senders
 
 more-longer : (senders : Senders) (made : List Made) → length senders ≤ length (more senders made)

@@ -14,11 +14,11 @@ use Rattle.babel_capture.specs.declared.wanted.Wanted.{Wanted}
 use Rattle.babel_capture.specs.declared.wanted.Wanted.TheVariants as wanteds
 use Rattle.babel_capture.specs.Blocks.{Sighting, sightings_of}
 use Rattle.babel_capture.specs.Counts.{Made}
-use Rattle.babel_capture.specs.Findings.{CarriedIs, Finds, Found, PayloadIs, found, left, passed, refused, untold}
+use Rattle.babel_capture.specs.Findings.{CarriedIs, Finds, Found, PayloadIs, found, lacked, left, passed, refused, untold}
 use Rattle.babel_capture.specs.Gathering.{AreMade}
 use Rattle.babel_capture.specs.OneOrigin.{NamedIsOne}
 use Rattle.babel_capture.specs.Sight.{Carried, Sight, datagram, lacking, not_link_local, other, other_port, too_short, carries}
-use Rattle.babel_capture.specs.Tallies.{Senders, origin_cmp, senders_with, tallied}
+use Rattle.babel_capture.specs.Tallies.{Senders, origin_cmp, senders_of, senders_with, tallied}
 use Rattle.babel_capture.proofs.TallyLaws.{origin_total}
 
 abbrev place_of : Place → Found → Place
@@ -26,6 +26,7 @@ place_of p passed = p
 place_of p untold = p
 place_of p (left reason) = p
 place_of p (refused lack) = p
+place_of p (lacked place sender lack) = p
 place_of p (found place sender packet) = place
 
 abbrev sender_of : Address → Found → Address
@@ -33,6 +34,7 @@ sender_of a passed = a
 sender_of a untold = a
 sender_of a (left reason) = a
 sender_of a (refused lack) = a
+sender_of a (lacked place sender lack) = a
 sender_of a (found place sender packet) = sender
 
 -- a packet that is found is of the place and the sender of its datagram
@@ -85,6 +87,7 @@ module _ (wanted : Address) (at : Place) where
   with_at_most sight senders untold finds most = most
   with_at_most sight senders (left reason) finds most = most
   with_at_most sight senders (refused lack) finds most = most
+  with_at_most sight senders (lacked place sender lack) finds most = most
   with_at_most sight senders (found place sender packet) finds most =
       let is = found_of sight place sender packet finds in
       subst (λ (p : Place). IsOneAtMost (tallied senders (record { place = p; sender = sender }) packet)) (sym is.0)
@@ -102,10 +105,13 @@ module _ (wanted : Address) (at : Place) where
   few senders (inl none) = omega (arith, ap length none)
   few senders (inr (tally, is)) = omega (arith, ap length is)
 
+pub one_sender_at_most : (sender : Address) (place : Place) (sightings : List Sighting) (made : List Made) → AreMade (wanteds.Sender sender (Some place)) sightings made
+    → length (senders_of made) ≤ 1
+one_sender_at_most sender place sightings made are = few sender place (senders_of made) (all_at_most sender place sightings made [] are (inl refl))
+
 pub named_is_one : NamedIsOne
 named_is_one limit octets gathering cut sender place read wanted =
     let gathered = read.is_read.gathered in
-    few sender place gathering.senders
-    (subst (λ (s : Senders). IsOneAtMost sender place s) (sym gathered.senders)
-    (all_at_most sender place (sightings_of read.is_read.blocks) gathered.made []
-    (subst (λ (w : Wanted). AreMade w (sightings_of read.is_read.blocks) gathered.made) wanted gathered.taken.are_made) (inl refl)))
+    subst (λ (s : Senders). length s ≤ 1) (sym gathered.senders)
+    (one_sender_at_most sender place (sightings_of read.is_read.blocks) gathered.made
+    (subst (λ (w : Wanted). AreMade w (sightings_of read.is_read.blocks) gathered.made) wanted gathered.taken.are_made))

@@ -41,14 +41,15 @@ in_payload place sender payload what (inr (inl (short, is))) = nothing_found (oc
 in_payload place sender payload what (inr (inr (inl (header, magic, is)))) = nothing_found (octets_found what) (ap octets_found is)
 in_payload place sender payload what (inr (inr (inr (header, magic, version, is)))) = nothing_found (octets_found what) (ap octets_found is)
 
-in_lack : (wanted : Wanted) (lack : Lack) (what : Found) → LackIs wanted lack what → ArePackets (octets_found what)
-in_lack wanteds.Everyone lack what is = nothing_found (octets_found what) (ap octets_found is)
-in_lack (wanteds.Sender sender place) lack what is = nothing_found (octets_found what) (ap octets_found is)
+in_lack : (wanted : Wanted) (place : Place) (sender : Address) (lack : Lack) (what : Found) → LackIs wanted place sender lack what → ArePackets (octets_found what)
+in_lack wanteds.Everyone place sender lack what is = nothing_found (octets_found what) (ap octets_found is)
+in_lack wanteds.Each place sender lack what is = nothing_found (octets_found what) (ap octets_found is)
+in_lack (wanteds.Sender only there) place sender lack what is = nothing_found (octets_found what) (ap octets_found is)
 
 in_carried : (wanted : Wanted) (place : Place) (sender : Address) (carried : Carried) (what : Found) → CarriedIs wanted place sender carried what → ArePackets (octets_found what)
 in_carried wanted place sender other_port what is = nothing_found (octets_found what) (ap octets_found is)
 in_carried wanted place sender not_link_local what is = nothing_found (octets_found what) (ap octets_found is)
-in_carried wanted place sender (lacking lack) what is = in_lack wanted lack what is
+in_carried wanted place sender (lacking lack) what is = in_lack wanted place sender lack what is
 in_carried wanted place sender (carries payload) what is = in_payload place sender payload what is
 
 in_sight : (wanted : Wanted) (sight : Sight) (what : Found) → Finds wanted sight what → ArePackets (octets_found what)
@@ -68,6 +69,7 @@ in_made wanted (sighting ∷ later) made (one, others, is, number, link, finds, 
 
 in_dump : (wanted : Wanted) (sightings : List Sighting) (made : List Made) → AreMade wanted sightings made → ArePackets (dump_of wanted made)
 in_dump wanteds.Everyone sightings made are = nothing_found [] refl
+in_dump wanteds.Each sightings made are = nothing_found [] refl
 in_dump (wanteds.Sender sender place) sightings made are = in_made (wanteds.Sender sender place) sightings made are
 
 pub dump_packets : (limit : ℕ) (octets : List ℕ) (gathering : Gathering) → IsRead limit octets gathering → ArePackets gathering.dump

@@ -107,6 +107,7 @@ lead-push account read block old new content is_block said context place gathers
         made = gathered.made;
         taken = subst (λ (s : List Sighting). AreTaken new.gathering.wanted s gathered.made) same gathered.taken;
         dump = gathered.dump;
+        dumps = gathered.dumps;
         report = gathered.report;
         senders = gathered.senders;
       };

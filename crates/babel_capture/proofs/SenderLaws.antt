@@ -16,7 +16,7 @@ use Rattle.babel_capture.specs.declared.tallies.Origin.{Origin}
 use Rattle.babel_capture.specs.declared.tallies.Tally.{Tally}
 use Rattle.babel_capture.specs.Capture.{IsRead}
 use Rattle.babel_capture.specs.Counts.{Made}
-use Rattle.babel_capture.specs.Findings.{Found, passed, untold, left, refused, found}
+use Rattle.babel_capture.specs.Findings.{Found, passed, untold, left, refused, lacked, found}
 use Rattle.babel_capture.specs.Gathering.{Gathering, octets_found}
 use Rattle.babel_capture.specs.Updates.{updates_in}
 use Rattle.babel_capture.specs.Senders.{AreSenders, is_from, packets_from, tally_for}
@@ -98,6 +98,7 @@ with_one before senders one passed is are = unchanged before senders one (λ ori
 with_one before senders one untold is are = unchanged before senders one (λ origin. ap (here origin) is) are
 with_one before senders one (left reason) is are = unchanged before senders one (λ origin. ap (here origin) is) are
 with_one before senders one (refused lack) is are = unchanged before senders one (λ origin. ap (here origin) is) are
+with_one before senders one (lacked place sender lack) is are = unchanged before senders one (λ origin. ap (here origin) is) are
 with_one before senders one (found place sender packet) is are =
     with_packet before senders one (record { place = place; sender = sender }) packet (λ origin. ap (here origin) is) are
 

@@ -200,6 +200,7 @@ out_of taken state None fed given = record {
       made = given.leads.gathered.made;
       taken = given.leads.gathered.taken;
       dump = append-nil (taken ++ state.progress.gathering.dump) ∙ given.leads.gathered.dump;
+      dumps = given.leads.gathered.dumps;
       report = given.leads.gathered.report;
       senders = given.leads.gathered.senders;
     };

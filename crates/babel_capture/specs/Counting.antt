@@ -2,7 +2,7 @@
 use Rattle.std.specs.Prelude.{ℕ, ◌+◌, if◌then◌else◌, List, slice_set, Option, None, Some}
 use Rattle.babel_capture.specs.declared.link.Link.{Link}
 use Rattle.babel_capture.specs.declared.reason.Reason.{Reason}
-use Rattle.babel_capture.specs.Findings.{Found, passed, untold, left, refused, found}
+use Rattle.babel_capture.specs.Findings.{Found, passed, untold, left, refused, lacked, found}
 use Rattle.babel_capture.specs.Counts.{Counts, reason_place, count_at, is_cooked_link}
 
 -- one more datagram left out, with this number
@@ -42,4 +42,5 @@ counted counts link passed = counted_with counts None
 counted counts link untold = short_counted counts
 counted counts link (left reason) = counted_with counts (Some reason)
 counted counts link (refused lack) = counted_with counts None
+counted counts link (lacked place sender lack) = counted_with counts None
 counted counts link (found place sender packet) = packet_counted counts link

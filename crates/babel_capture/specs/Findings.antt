@@ -17,12 +17,14 @@ use Rattle.babel_capture.specs.Sight.{Sight, Carried, other, too_short, datagram
 use Rattle.babel_capture.specs.Sight.{other_port, not_link_local, lacking, carries}
 
 -- nothing; a frame that is too short to tell; a datagram left out, for a reason; one that is
--- refused, for what it lacks; or a Babel packet, of a sender at a place
+-- refused, for what it lacks; one that the dump of its sender at its place lacks; or a Babel
+-- packet, of a sender at a place
 pub data Found : Type 0 where
   passed : Found
   untold : Found
   left : (reason : Reason) → Found
   refused : (lack : Lack) → Found
+  lacked : (place : Place) (sender : Address) (lack : Lack) → Found
   found : (place : Place) (sender : Address) (packet : List ℕ) → Found
 
 -- what the code makes of a packet
@@ -31,11 +33,13 @@ finding_of findings.Passed = passed
 finding_of findings.Short = untold
 finding_of (findings.Left reason) = left reason
 finding_of (findings.Refused lack) = refused lack
+finding_of (findings.Lacking place sender lack) = lacked place sender lack
 finding_of (findings.Packet place sender packet) = found place sender packet.now
 
 -- this sender is wanted at this place
 abbrev pub IsWanted : Wanted → Address → Place → Type 0
 IsWanted wanteds.Everyone sender place = Unit {0}
+IsWanted wanteds.Each sender place = Unit {0}
 IsWanted (wanteds.Sender wanted None) sender place = sender ≡ wanted
 IsWanted (wanteds.Sender wanted (Some there)) sender place = (sender ≡ wanted) × (place ≡ there)
 
@@ -53,16 +57,18 @@ PayloadIs place sender payload what =
     ⊎ (HasHeader payload × (slice_index payload 0 ≡ 42) × (slice_index payload 1 ≢ 2)
     × (what ≡ left reasons.BadVersion))
 
--- a datagram that lacks something is left out, but for the dump of one sender
-abbrev pub LackIs : Wanted → Lack → Found → Type 0
-LackIs wanteds.Everyone lack what = what ≡ left (lack_reason lack)
-LackIs (wanteds.Sender sender place) lack what = what ≡ refused lack
+-- A datagram that lacks something is left out where no dump is wanted, and refuses the capture
+-- where one is; where those of all senders are, the dump of its own lacks it.
+abbrev pub LackIs : Wanted → Place → Address → Lack → Found → Type 0
+LackIs wanteds.Everyone place sender lack what = what ≡ left (lack_reason lack)
+LackIs wanteds.Each place sender lack what = what ≡ lacked place sender lack
+LackIs (wanteds.Sender wanted there) place sender lack what = what ≡ refused lack
 
 -- what is made of a wanted datagram
 abbrev pub CarriedIs : Wanted → Place → Address → Carried → Found → Type 0
 CarriedIs wanted place sender other_port what = what ≡ left reasons.OtherPort
 CarriedIs wanted place sender not_link_local what = what ≡ left reasons.NotLinkLocal
-CarriedIs wanted place sender (lacking lack) what = LackIs wanted lack what
+CarriedIs wanted place sender (lacking lack) what = LackIs wanted place sender lack what
 CarriedIs wanted place sender (carries payload) what = PayloadIs place sender payload what
 
 -- what is made of a packet

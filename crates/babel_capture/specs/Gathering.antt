@@ -12,7 +12,8 @@ use Rattle.babel_capture.specs.Blocks.{Sighting, sight_in}
 use Rattle.babel_capture.specs.Contents.{Captured, Content, file, section, describes, holds}
 use Rattle.babel_capture.specs.Contents.{nothing}
 use Rattle.babel_capture.specs.Counts.{Counts, Made, counts_of}
-use Rattle.babel_capture.specs.Findings.{Found, passed, untold, left, refused, found, Finds}
+use Rattle.babel_capture.specs.Dumps.{Dumps, dumps_of}
+use Rattle.babel_capture.specs.Findings.{Found, passed, untold, left, refused, lacked, found, Finds}
 use Rattle.babel_capture.specs.Lack.{lack_fault}
 use Rattle.babel_capture.specs.Tallies.{CountNeedsMemory, IsOneTooMany, Senders, senders_of}
 use Rattle.babel_capture.specs.Tallies.{tally_of}
@@ -23,9 +24,10 @@ IsTaken passed = Unit {0}
 IsTaken untold = Unit {0}
 IsTaken (left reason) = Unit {0}
 IsTaken (refused lack) = ⊥
+IsTaken (lacked place sender lack) = Unit {0}
 IsTaken (found place sender packet) = Unit {0}
 
--- What is made of each packet. No datagram of a sender whose dump is wanted lacks something.
+-- What is made of each packet. No datagram of a sender whose dump alone is wanted lacks something.
 abbrev pub AreMade : Wanted → List Sighting → List Made → Type 0
 AreMade wanted [] made = made ≡ []
 AreMade wanted (sighting ∷ later) made =
@@ -45,16 +47,19 @@ octets_found passed = []
 octets_found untold = []
 octets_found (left reason) = []
 octets_found (refused lack) = []
+octets_found (lacked place sender lack) = []
 octets_found (found place sender packet) = packet
 
 -- the dump of the wanted sender: its packets, end to end
 abbrev pub dump_of : Wanted → List Made → List ℕ
 dump_of wanteds.Everyone made = []
+dump_of wanteds.Each made = []
 dump_of (wanteds.Sender sender place) made = flat_map (λ one. octets_found one.what) made
 
 -- the dump with these octets, if one is wanted
 abbrev pub dump_with : Wanted → List ℕ → List ℕ → List ℕ
 dump_with wanteds.Everyone dump octets = dump
+dump_with wanteds.Each dump octets = dump
 dump_with (wanteds.Sender sender place) dump octets = dump ++ octets
 
 -- what was gathered so far, and the names of the interfaces, which are empty where they have none
@@ -62,6 +67,7 @@ pub record Gathering : Type 0 where
   pub wanted : Wanted
   pub names : List (List ℕ)
   pub dump : List ℕ
+  pub dumps : Dumps
   pub report : Counts
   pub senders : Senders
 
@@ -78,11 +84,12 @@ pub record IsGathered (sightings : List Sighting) (gathering : Gathering) : Type
   pub made : List Made
   pub taken : AreTaken gathering.wanted sightings made
   pub dump : gathering.dump ≡ dump_of gathering.wanted made
+  pub dumps : gathering.dumps ≡ dumps_of gathering.wanted made
   pub report : gathering.report ≡ counts_of made
   pub senders : gathering.senders ≡ senders_of made
 
--- The packet in the block at this offset is refused: the datagram of a sender whose dump is wanted
--- lacks something, or its sender is one more than are kept.
+-- The packet in the block at this offset is refused: the datagram of a sender whose dump alone is
+-- wanted lacks something, or its sender is one more than are kept.
 abbrev pub IsRefusedPacket : Wanted → Senders → ℕ → Captured → Fault → Type 0
 IsRefusedPacket wanted senders at packet fault =
     ((lack : Lack) × (fault ≡ lack_fault at lack) × Finds wanted (sight_in packet) (refused lack))
@@ -95,20 +102,23 @@ abbrev pub IsRefused : Wanted → Senders → ℕ → Content → Fault → Type
 IsRefused wanted senders at (holds packet) fault = IsRefusedPacket wanted senders at packet fault
 IsRefused wanted senders at content fault = ⊥
 
--- memory is needed for a packet that is found: it is added to the dump, if one is wanted, or its
+-- memory is needed for a packet that is found: it is added to a dump, if one is wanted, or its
 -- sender is listed
 abbrev pub PacketNeedsMemory : Wanted → Senders → Origin → List ℕ → Type 0
 PacketNeedsMemory wanteds.Everyone senders origin packet =
     CountNeedsMemory (tally_of senders origin) packet
+PacketNeedsMemory wanteds.Each senders origin packet = Unit {0}
 PacketNeedsMemory (wanteds.Sender sender place) senders origin packet = Unit {0}
 
--- and for a block: it describes an interface, or holds such a packet
+-- and for a block: it describes an interface, or holds such a packet, or what a dump lacks, of each
 abbrev pub BlockNeedsMemory : Wanted → Senders → Content → Type 0
 BlockNeedsMemory wanted senders (file order interface) = Unit {0}
 BlockNeedsMemory wanted senders (section order) = ⊥
 BlockNeedsMemory wanted senders (describes interface name) = Unit {0}
 BlockNeedsMemory wanted senders (holds packet) =
-    (origin : Origin) × (octets : List ℕ)
+    ((origin : Origin) × (octets : List ℕ)
     × Finds wanted (sight_in packet) (found origin.place origin.sender octets)
-    × PacketNeedsMemory wanted senders origin octets
+    × PacketNeedsMemory wanted senders origin octets)
+    ⊎ ((origin : Origin) × (lack : Lack)
+    × Finds wanted (sight_in packet) (lacked origin.place origin.sender lack))
 BlockNeedsMemory wanted senders nothing = ⊥

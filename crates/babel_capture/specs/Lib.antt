@@ -5,6 +5,8 @@ pub mod Contents
 pub mod Context
 pub mod Counts
 pub mod Counting
+pub mod Dumps
+pub mod EachDump
 pub mod Ethernet
 pub mod Findings
 pub mod Frame

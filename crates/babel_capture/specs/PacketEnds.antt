@@ -5,7 +5,7 @@ use Rattle.babel_capture.specs.declared.packet_end.PacketEnd.{PacketEnd}
 use Rattle.babel_capture.specs.declared.wanted.Wanted.{Wanted}
 use Rattle.babel_capture.specs.declared.wanted.Wanted.TheVariants as wanteds
 use Rattle.babel_capture.specs.Counts.{Made}
-use Rattle.babel_capture.specs.Findings.{Found, passed, untold, left, refused, found}
+use Rattle.babel_capture.specs.Findings.{Found, passed, untold, left, refused, lacked, found}
 use Rattle.babel_capture.specs.Gathering.{dump_of, octets_found}
 
 -- the end of the packet with this number, if it was found, which begins at this offset
@@ -14,6 +14,7 @@ end_found at number passed = []
 end_found at number untold = []
 end_found at number (left reason) = []
 end_found at number (refused lack) = []
+end_found at number (lacked place sender lack) = []
 end_found at number (found place sender packet) =
     record { end = at + length packet; number = number } ∷ []
 
@@ -26,6 +27,7 @@ ends_from at (one ∷ later) =
 -- those of a dump
 abbrev pub ends_of : Wanted → List Made → List PacketEnd
 ends_of wanteds.Everyone made = []
+ends_of wanteds.Each made = []
 ends_of (wanteds.Sender sender place) made = ends_from 0 made
 
 -- These octets of the dump were taken out, those of the first packets: the ends are those of the

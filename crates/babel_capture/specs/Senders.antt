@@ -8,7 +8,7 @@ use Rattle.std.specs.Map.{keys_of}
 use Rattle.babel_capture.specs.declared.tallies.Origin.{Origin}
 use Rattle.babel_capture.specs.declared.tallies.Tally.{Tally}
 use Rattle.babel_capture.specs.Counts.{Made}
-use Rattle.babel_capture.specs.Findings.{Found, passed, untold, left, refused, found}
+use Rattle.babel_capture.specs.Findings.{Found, passed, untold, left, refused, lacked, found}
 use Rattle.babel_capture.specs.Gathering.{octets_found}
 use Rattle.babel_capture.specs.Updates.{updates_in}
 use Rattle.babel_capture.specs.Tallies.{Senders, origin_cmp, tally_of}
@@ -19,6 +19,7 @@ is_from origin passed = false
 is_from origin untold = false
 is_from origin (left reason) = false
 is_from origin (refused lack) = false
+is_from origin (lacked place sender lack) = false
 is_from origin (found place sender packet) =
     is_at (origin_cmp origin) (record { place = place; sender = sender })
 

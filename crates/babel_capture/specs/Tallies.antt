@@ -14,7 +14,7 @@ use Rattle.babel_capture.specs.declared.tallies.Origin.{Origin}
 use Rattle.babel_capture.specs.declared.tallies.Tally.{Tally}
 use Rattle.babel_capture.specs.Counts.{Made}
 use Rattle.babel_capture.specs.Updates.{updates_in}
-use Rattle.babel_capture.specs.Findings.{Found, passed, untold, left, refused, found}
+use Rattle.babel_capture.specs.Findings.{Found, passed, untold, left, refused, lacked, found}
 
 -- by the outer number, none first, then by the others
 abbrev pub vlans_cmp : Vlans → Vlans → Ordering
@@ -76,6 +76,7 @@ senders_with senders passed = senders
 senders_with senders untold = senders
 senders_with senders (left reason) = senders
 senders_with senders (refused lack) = senders
+senders_with senders (lacked place sender lack) = senders
 senders_with senders (found place sender packet) =
     tallied senders (record { place = place; sender = sender }) packet
 

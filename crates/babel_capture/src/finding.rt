@@ -2,8 +2,6 @@ ghost use Rattle.std.specs.Prelude.{◌≡◌};
 ghost use Rattle.babel_capture.specs.Blocks.{sight_in};
 ghost use Rattle.babel_capture.specs.Contents.{captured_of};
 ghost use Rattle.babel_capture.specs.Findings.{CarriedIs, Finds, LackIs, PayloadIs, finding_of};
-ghost use Rattle.babel_capture.specs.declared.place.Place.{Place as PlaceSaid};
-ghost use Rattle.babel_prefix.specs.Address.{Address};
 ghost use Rattle.babel_capture.specs.Sight.{flaw_of};
 
 use crate::block::Packet;
@@ -26,8 +24,14 @@ pub enum Finding<'a> {
     Short,
     /// It is left out.
     Left(Reason),
-    /// It lacks something, and the dump of its sender is wanted.
+    /// It lacks something, and the dump of its sender alone is wanted.
     Refused(Lack),
+    /// It lacks something, and the dump of each sender is wanted.
+    Lacking {
+        place: Place,
+        sender: Addr,
+        lack: Lack,
+    },
     /// A Babel packet: RFC 8966, 4.2.
     Packet {
         place: Place,
@@ -71,7 +75,7 @@ impl Wanted {
                 flaw,
             } => {
                 if self.takes(sender, place) {
-                    self.flaw_finding(flaw)
+                    self.flaw_finding(place, sender, flaw)
                 } else {
                     Finding::Passed
                 }
@@ -91,23 +95,27 @@ impl Wanted {
     }
 
     /// What is made of a wanted datagram that can't be read.
-    fn flaw_finding(&self, flaw: Flaw) -> Finding<'static>
-        ensures { (place : PlaceSaid) (sender : Address)
-            → CarriedIs self.now place sender (flaw_of flaw) (finding_of result) }
+    fn flaw_finding(&self, place: Place, sender: Addr, flaw: Flaw) -> Finding<'static>
+        ensures { CarriedIs self.now place sender (flaw_of flaw) (finding_of result) }
     {
         match flaw {
             Flaw::OtherPort => Finding::Left(Reason::OtherPort),
             Flaw::NotLinkLocal => Finding::Left(Reason::NotLinkLocal),
-            Flaw::Lacking(lack) => self.lack_finding(lack),
+            Flaw::Lacking(lack) => self.lack_finding(place, sender, lack),
         }
     }
 
     /// What is made of a wanted datagram that lacks something.
-    fn lack_finding(&self, lack: Lack) -> Finding<'static>
-        ensures { LackIs self.now lack (finding_of result) }
+    fn lack_finding(&self, place: Place, sender: Addr, lack: Lack) -> Finding<'static>
+        ensures { LackIs self.now place sender lack (finding_of result) }
     {
         match self {
             Wanted::Everyone => Finding::Left(lack.reason()),
+            Wanted::Each => Finding::Lacking {
+                place,
+                sender,
+                lack,
+            },
             Wanted::Sender { .. } => Finding::Refused(lack),
         }
     }

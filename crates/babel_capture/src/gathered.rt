@@ -1,18 +1,23 @@
 ghost use Rattle.std.specs.Prelude.{◌≡◌, ℕ, ◌+◌, ◌^◌, ◌<◌, ◌≤◌, ◌++◌, ◌∷◌, [], ◌⊎◌, List, length};
-ghost use Rattle.std.specs.Prelude.{OnOk, IfErr};
+ghost use Rattle.std.specs.Prelude.{OnOk, IfOk, IfErr, None, Some};
+ghost use Rattle.std.specs.Map.{keys_of};
 ghost use Rattle.babel_capture.specs.Blocks.{Sighting, sighting_of, sightings_in};
 ghost use Rattle.babel_capture.specs.Contents.{captured_of, content_of, holds, names_in};
 ghost use Rattle.babel_capture.specs.Gathering.{BlockNeedsMemory, IsGathered, IsRefused};
+ghost use Rattle.babel_capture.specs.Findings.{found};
+ghost use Rattle.babel_capture.specs.Dumps.{dump_added, dump_at, dumps_with};
 ghost use Rattle.babel_capture.specs.Gathering.{PacketNeedsMemory, dump_with, name_of, with_taken};
 ghost use Rattle.babel_capture.specs.Tallies.{IsOneTooMany, tallied};
 
 use crate::block::{Block, Packet};
+use crate::dumps::{Dumps, LackAt};
 use crate::fault::Fault;
 use crate::finding::Finding;
+use crate::lack::Lack;
 use crate::report::Report;
 use crate::tallies::{Origin, Tallies, Tally};
 use crate::wanted::Wanted;
-use std::alloc::Global;
+use std::alloc::{AllocError, Global};
 use std::collections::BTreeMap;
 use std::marker::Model;
 use std::mem;
@@ -24,6 +29,7 @@ pub struct Gathered {
     wanted: Wanted,
     names: Vec<Vec<u8>>,
     dump: Vec<u8>,
+    dumps: Dumps,
     report: Report,
     senders: Tallies,
 }
@@ -38,6 +44,7 @@ impl Model for Gathered {
       wanted = g.wanted;
       names = map (λ name. name.items) g.names.items;
       dump = g.dump.items;
+      dumps = g.dumps;
       report = g.report;
       senders = g.senders;
     } };
@@ -55,6 +62,7 @@ impl Gathered {
             wanted,
             names: Vec::new(alloc),
             dump: Vec::new(alloc),
+            dumps: Dumps::new(alloc),
             report: Report::new(),
             senders: Tallies::new(alloc),
         }
@@ -82,6 +90,24 @@ impl Gathered {
         ensures { result.now ≡ self.now.dump }
     {
         &self.dump
+    }
+
+    /// The dump of a sender at a place, where those of each are wanted; or what it lacks.
+    pub fn dump_of(&self, origin: &Origin) -> Result<&[u8], LackAt>
+        ensures ok { IfOk result (λ dump. dump_at self.now.dumps origin.now
+            ≡ record { octets = dump.now; lack = None }) }
+        ensures lacks { IfErr result
+            (λ lack. (dump_at self.now.dumps origin.now).lack ≡ Some lack) }
+    {
+        self.dumps.of(origin)
+    }
+
+    /// The senders at their places that have a dump, by place, then by address, where those of each
+    /// are wanted.
+    pub fn origins(&self, alloc: Global) -> Result<Vec<Origin>, AllocError>
+        ensures { IfOk result (λ origins. origins.items ≡ keys_of self.now.dumps) }
+    {
+        self.dumps.origins(alloc)
     }
 
     /// The dump alone.
@@ -147,6 +173,14 @@ impl Gathered {
                 Ok(())
             }
             Finding::Refused(lack) => Err(lack.fault(at)),
+            Finding::Lacking {
+                place,
+                sender,
+                lack,
+            } => {
+                self.report.count(None);
+                self.add_lack(Origin { place, sender }, lack)
+            }
             Finding::Packet {
                 place,
                 sender,
@@ -191,6 +225,7 @@ impl Gathered {
         ensures wanted { self.new.wanted ≡ self.old.wanted }
         ensures names { OnOk result (self.new.names ≡ self.old.names ++ name.now ∷ []) }
         ensures dump { self.new.dump ≡ self.old.dump }
+        ensures dumps { self.new.dumps ≡ self.old.dumps }
         ensures report { self.new.report ≡ self.old.report }
         ensures senders { self.new.senders ≡ self.old.senders }
         ensures err { IfErr result (λ fault. fault ≡ Fault.Memory) }
@@ -203,13 +238,30 @@ impl Gathered {
         }
     }
 
-    /// Counts a packet for its sender, and adds it to the dump, if one is wanted.
+    /// Notes what the datagram in the packet that was counted last lacks, for its sender's dump.
+    fn add_lack(&mut self, origin: Origin, lack: Lack) -> Result<(), Fault>
+        ensures wanted { self.new.wanted ≡ self.old.wanted }
+        ensures names { self.new.names ≡ self.old.names }
+        ensures dump { self.new.dump ≡ self.old.dump }
+        ensures report { self.new.report ≡ self.old.report }
+        ensures senders { self.new.senders ≡ self.old.senders }
+        ensures dumps { OnOk result (self.new.dumps ≡ dump_added self.old.dumps origin []
+            (Some (record { packet = self.old.report.packets; lack = lack }))) }
+        ensures err { IfErr result (λ fault. fault ≡ Fault.Memory) }
+    {
+        let packet = self.report.packets();
+        self.dumps.add(&origin, &[], Some(LackAt { packet, lack }))
+    }
+
+    /// Counts a packet for its sender, and adds it to a dump, if one is wanted.
     fn add(&mut self, at: u64, origin: Origin, packet: &[u8]) -> Result<(), Fault>
         ensures wanted { self.new.wanted ≡ self.old.wanted }
         ensures names { self.new.names ≡ self.old.names }
         ensures report { self.new.report ≡ self.old.report }
         ensures dump { OnOk result (self.new.dump
             ≡ dump_with self.old.wanted self.old.dump packet.now) }
+        ensures dumps { OnOk result (self.new.dumps ≡ dumps_with self.old.wanted self.old.dumps
+            self.old.report.packets (found origin.place origin.sender packet.now)) }
         ensures senders { OnOk result (self.new.senders
             ≡ tallied self.old.senders origin packet.now) }
         ensures few { OnOk result (length self.new.senders ≤ 65536) }
@@ -219,8 +271,10 @@ impl Gathered {
             → PacketNeedsMemory self.old.wanted self.old.senders origin packet.now) }
     {
         self.senders.add(at, origin, packet)?;
-        if let Wanted::Sender { .. } = self.wanted {
-            self.dump.extend_from_slice(packet)?;
+        match self.wanted {
+            Wanted::Everyone => {}
+            Wanted::Each => self.dumps.add(&origin, packet, None)?,
+            Wanted::Sender { .. } => self.dump.extend_from_slice(packet)?,
         }
         Ok(())
     }

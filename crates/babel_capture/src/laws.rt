@@ -1,6 +1,7 @@
 //! What follows from the definitions alone.
 ghost use Rattle.std.specs.Prelude.{◌≡◌, ◌≢◌, ℕ, ◌+◌, ◌<◌, ◌≤◌, ◌++◌, ◌⊎◌, List, [], length, take};
 ghost use Rattle.babel_capture.specs.Capture.{CaptureFault, IsRead};
+ghost use Rattle.babel_capture.specs.EachDump.{EachIsOwn, LackingIsNone};
 ghost use Rattle.babel_capture.specs.Gathering.{Gathering};
 ghost use Rattle.babel_capture.specs.OneCapture.{CaptureIsOne, CutCaptureIsOne};
 ghost use Rattle.babel_capture.specs.OneFault.{CutIsTheFault, FaultIsOne, ReadHasNoFault};
@@ -162,6 +163,13 @@ pub fn outcome_is_one()
     ensures read { ReadHasNoFault }
     ensures cut { CutIsTheFault }
     ensures fault { FaultIsOne }
+{}
+
+/// Where the dumps of all senders are wanted, each is that of its sender at its place: what the
+/// same octets give where that alone is wanted; and where it lacks something, they give none.
+pub fn each_is_own()
+    ensures whole { EachIsOwn }
+    ensures lacking { LackingIsNone }
 {}
 
 /// Where the datagrams of one sender at one place are wanted, there is one tally at most.

@@ -1,5 +1,5 @@
 //! Captures of packets, as tcpdump and Wireshark write them (draft-ietf-opsawg-pcap,
-//! draft-ietf-opsawg-pcapng): who sent Babel datagrams, and the dump of one sender.
+//! draft-ietf-opsawg-pcapng): who sent Babel datagrams, and the dump of one sender, or of each.
 //!
 //! A `Capture` is read in pieces of any size. It tells its blocks, and each captured packet to the
 //! layer of frames, which looks into one frame and takes no memory. This crate knows nothing of
@@ -9,6 +9,7 @@
 mod block;
 mod capture;
 mod context;
+mod dumps;
 mod ethernet;
 mod fault;
 mod field;
@@ -40,6 +41,7 @@ mod updates;
 mod wanted;
 
 pub use capture::Capture;
+pub use dumps::LackAt;
 pub use fault::Fault;
 pub use flaw::Flaw;
 pub use frame::look;

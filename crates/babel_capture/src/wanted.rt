@@ -9,6 +9,8 @@ use babel_prefix::Addr;
 pub enum Wanted {
     /// Those of each sender.
     Everyone,
+    /// Those of each sender, for its dump at each place.
+    Each,
     /// Those of one sender: at one place where it is named, and else at all.
     Sender { sender: Addr, place: Option<Place> },
 }
@@ -19,7 +21,7 @@ impl Wanted {
         ensures { IsTrue result ↔ IsWanted self.now from at }
     {
         match self {
-            Wanted::Everyone => true,
+            Wanted::Everyone | Wanted::Each => true,
             Wanted::Sender {
                 sender,
                 place: None,

@@ -1,6 +1,6 @@
 -- What `extract` writes has no fault of framing but a TLV past the end of its packet.
-use Rattle.std.proofs.Common.{◌≡◌, ◌≢◌, ℕ, Bool, true, false, List, [], ◌∷◌, ◌++◌, length, take, drop, refl, sym, ap, subst, ◌∙◌, append_assoc, inl, inr, cond, nat_le, nat_lt, ◌==◌}
-use Rattle.std.specs.Prelude.{Option, Result, Ok, Err, IfErr}
+use Rattle.std.proofs.Common.{◌≡◌, ◌≢◌, ℕ, Bool, true, false, List, [], ◌∷◌, ◌++◌, length, take, drop, refl, sym, ap, subst, ◌∙◌, append_assoc, inl, inr, cond, nat_lt, ◌==◌}
+use Rattle.std.specs.Prelude.{Option, Result, Ok, Err, IfErr, ◌&&◌}
 use Rattle.std.specs.List.{AllByRecursion, flat_map}
 use Rattle.std.proofs.lemmas.List.{append_cancel_left, take-append-drop}
 use Rattle.babel_prefix.specs.Address.{Address}
@@ -8,12 +8,13 @@ use Rattle.babel_tlv.specs.declared.event.Event.{Event}
 use Rattle.babel_tlv.specs.declared.fault.Fault.{Fault}
 use Rattle.babel_tlv.specs.declared.fault.Fault.TheVariants as faults
 use Rattle.babel_tlv.specs.declared.mode.Mode.{Mode}
+use Rattle.babel_tlv.specs.declared.start.Start.{Start}
 use Rattle.babel_tlv.specs.Context.{Context}
 use Rattle.babel_tlv.specs.Forming.{sets_router_id, update_encoding}
 use Rattle.babel_tlv.specs.FrameFaults.{PacketFault}
 use Rattle.babel_tlv.specs.Framing.{TlvAt, packet_octets}
 use Rattle.babel_tlv.specs.Says.{Saying, said, sayings, sayings_behind, update_said}
-use Rattle.babel_table.specs.Bounds.{Bounds}
+use Rattle.babel_table.specs.Bounds.{Bounds, start_of}
 use Rattle.babel_table.specs.DumpFault.{DumpFault, IsTruncated, RefusedBy, Refuses, StreamFault}
 use Rattle.babel_table.proofs.DumpLaws.{begins-more, header-more}
 use Rattle.babel_capture.specs.Gathering.{Gathering}
@@ -40,9 +41,10 @@ event_none = record { none = tt }
 
 update_none : (context : Context) (tlv : TlvAt) → NoFraming (update_said context tlv)
 update_none context tlv =
-    either_none (nat_lt (length tlv.body) 10) event_none
-    (either_none (nat_le 3 (update_encoding tlv.body)) (either_none (sets_router_id tlv.body) (record { none = λ framing. framing }) event_none)
-    (either_none (update_encoding tlv.body == 0) event_none (either_none (update_encoding tlv.body == 1) event_none event_none)))
+    let encoding : ℕ = update_encoding tlv.body in
+    either_none (nat_lt (length tlv.body) 10) event_none (either_none (encoding == 0) event_none
+    (either_none (encoding == 1 && true) event_none (either_none (encoding == 2 && true) event_none (either_none (encoding == 4 && context.via_v6) event_none
+    (either_none (sets_router_id tlv.body) (record { none = λ framing. framing }) event_none)))))
 
 said_none : (context : Context) (tlv : TlvAt) → NoFraming (said context tlv)
 said_none context tlv =
@@ -60,25 +62,25 @@ all_middle : (xs : List Saying) (x : Saying) (ys : List Saying) → AllByRecursi
 all_middle [] x ys all = all.0
 all_middle (z ∷ xs) x ys all = all_middle xs x ys all.1
 
-packet_none : (sender : Address) (earlier tlvs : List TlvAt) → AllByRecursion SaysNone (sayings_behind sender earlier tlvs)
-packet_none sender earlier [] = tt
-packet_none sender earlier (tlv ∷ tlvs) = ((said_none _ tlv).none, packet_none sender (tlv ∷ earlier) tlvs)
+packet_none : (start : Start) (earlier tlvs : List TlvAt) → AllByRecursion SaysNone (sayings_behind start earlier tlvs)
+packet_none start earlier [] = tt
+packet_none start earlier (tlv ∷ tlvs) = ((said_none _ tlv).none, packet_none start (tlv ∷ earlier) tlvs)
 
-packets_none : (sender : Address) (packets : List (List TlvAt)) → AllByRecursion SaysNone (sayings sender packets)
-packets_none sender [] = tt
-packets_none sender (packet ∷ packets) =
-    all_append (sayings_behind sender [] packet) (sayings sender packets) (packet_none sender [] packet) (packets_none sender packets)
+packets_none : (start : Start) (packets : List (List TlvAt)) → AllByRecursion SaysNone (sayings start packets)
+packets_none start [] = tt
+packets_none start (packet ∷ packets) =
+    all_append (sayings_behind start [] packet) (sayings start packets) (packet_none start [] packet) (packets_none start packets)
 
 refuses_none : (mode : Mode) (entries : ℕ) (before : List Event) (at : ℕ) (what : Result Event Fault) (fault : Fault)
     → IfErr what (λ refused. ¬ IsOfFraming refused) → Refuses mode entries before at what fault → ¬ IsOfFraming fault
 refuses_none mode entries before at (Ok event) fault none why framing = subst IsOfFraming why.0 framing
 refuses_none mode entries before at (Err refused) fault none why framing = none (subst IsOfFraming why framing)
 
-refused_none : (mode : Mode) (entries : ℕ) (sender : Address) (packets : List (List TlvAt)) (fault : Fault)
-    → RefusedBy mode entries (sayings sender packets) fault → ¬ IsOfFraming fault
-refused_none mode entries sender packets fault (front, saying, later, before, is, fine, why) =
+refused_none : (mode : Mode) (entries : ℕ) (start : Start) (packets : List (List TlvAt)) (fault : Fault)
+    → RefusedBy mode entries (sayings start packets) fault → ¬ IsOfFraming fault
+refused_none mode entries start packets fault (front, saying, later, before, is, fine, why) =
     refuses_none mode entries before saying.at saying.what fault
-    (all_middle front saying later (subst (λ (s : List Saying). AllByRecursion SaysNone s) is (packets_none sender packets))) why
+    (all_middle front saying later (subst (λ (s : List Saying). AllByRecursion SaysNone s) is (packets_none start packets))) why
 
 -- ---- whole packets have no such fault
 
@@ -103,14 +105,14 @@ some_more : (octets more : List ℕ) → octets ≢ [] → (octets ++ more) ≢ 
 some_more [] more some = absurd (some refl)
 some_more (octet ∷ octets) more some = λ none. absurd cc
 
-module _ (mode : Mode) (entries : ℕ) (sender : Address) (dump : List ℕ) (are : ArePackets dump) where
-  stream_framed : (fault : Fault) → StreamFault mode entries sender dump fault → ¬ IsOfFraming fault
+module _ (mode : Mode) (entries : ℕ) (start : Start) (dump : List ℕ) (are : ArePackets dump) where
+  stream_framed : (fault : Fault) → StreamFault mode entries start dump fault → ¬ IsOfFraming fault
   stream_framed fault (packets, rest, reads, inl (said, fine, some, why)) =
       past_end_alone fault (framing_fine dump are fault (packets, rest, reads, some, why))
-  stream_framed fault (packets, rest, reads, inr refused) = refused_none mode entries sender packets fault refused
+  stream_framed fault (packets, rest, reads, inr refused) = refused_none mode entries start packets fault refused
 
   -- the first octets of the dump
-  front_framed : (front more : List ℕ) → front ++ more ≡ dump → (fault : Fault) → StreamFault mode entries sender front fault → ¬ IsTruncated fault → ¬ IsOfFraming fault
+  front_framed : (front more : List ℕ) → front ++ more ≡ dump → (fault : Fault) → StreamFault mode entries start front fault → ¬ IsTruncated fault → ¬ IsOfFraming fault
   front_framed front more is fault (packets, rest, reads, inl (said, fine, some, why)) whole =
       past_end_alone fault (framing_fine dump are fault (
         packets,
@@ -122,15 +124,15 @@ module _ (mode : Mode) (entries : ℕ) (sender : Address) (dump : List ℕ) (are
         some_more rest more some,
         packet_more (length (flat_map packet_octets packets)) rest more fault why whole,
       ))
-  front_framed front more is fault (packets, rest, reads, inr refused) whole = refused_none mode entries sender packets fault refused
+  front_framed front more is fault (packets, rest, reads, inr refused) whole = refused_none mode entries start packets fault refused
 
 too_long_alone : (fault : Fault) → fault ≡ faults.TooLong → ¬ IsOfFraming fault
 too_long_alone fault is framing = subst IsOfFraming is framing
 
 dump_framed : (limits : Bounds) (mode : Mode) (sender : Address) (dump : List ℕ) → ArePackets dump → (fault : Fault) → DumpFault limits mode sender dump fault → ¬ IsOfFraming fault
-dump_framed limits mode sender dump are fault (inl (within, stream)) = stream_framed mode limits.entries sender dump are fault stream
+dump_framed limits mode sender dump are fault (inl (within, stream)) = stream_framed mode limits.entries (start_of limits sender) dump are fault stream
 dump_framed limits mode sender dump are fault (inr (inl (past, stream, whole))) =
-    front_framed mode limits.entries sender dump are (take limits.bytes dump) (drop limits.bytes dump) (take-append-drop limits.bytes dump) fault stream whole
+    front_framed mode limits.entries (start_of limits sender) dump are (take limits.bytes dump) (drop limits.bytes dump) (take-append-drop limits.bytes dump) fault stream whole
 dump_framed limits mode sender dump are fault (inr (inr (past, is, cut))) = too_long_alone fault is
 
 -- ---- what `extract` writes

@@ -6,13 +6,13 @@ use Rattle.std.specs.List.{AllByRecursion}
 use Rattle.std.specs.Option.{option_map}
 use Rattle.std.proofs.lemmas.Bool.{false≢true, ltb-true, lt-ltb}
 use Rattle.std.proofs.lemmas.List.{length-append}
-use Rattle.babel_prefix.specs.Address.{Address}
 use Rattle.babel_prefix.proofs.Members.{Contains-from_Listed, Listed, Listed-from_Contains, Listed-get_or, find-Some}
 use Rattle.babel_tlv.specs.declared.event.Event.{Event}
 use Rattle.babel_tlv.specs.declared.event.Event.TheVariants as events
 use Rattle.babel_tlv.specs.declared.fault.Fault.{Fault}
 use Rattle.babel_tlv.specs.declared.reason.Reason.{Reason}
 use Rattle.babel_tlv.specs.declared.reason.Reason.TheVariants as reasons
+use Rattle.babel_tlv.specs.declared.start.Start.{Start}
 use Rattle.babel_tlv.specs.Framing.{ArePackets, ArePlaced, TlvAt, body_octets, laid_out, packet_octets, tlv_octets}
 use Rattle.babel_tlv.specs.Says.{Saying, sayings, sayings_behind}
 use Rattle.babel_table.specs.Counts.{all_reasons, count_at, counts_of, ignored_in, is_ignored_for, reason_place}
@@ -387,15 +387,15 @@ some_octets : (kind : ℕ) (body : List ℕ) → 0 < length (laid_out kind body)
 some_octets zero body = omega arith
 some_octets (suc kind) body = omega arith
 
-within_packet : (sender : Address) (at : ℕ) (earlier tlvs : List TlvAt) → ArePlaced at tlvs → RiseWithin at (at + length (body_octets tlvs)) (sayings_behind sender earlier tlvs)
-within_packet sender at earlier [] placed = omega arith
-within_packet sender at earlier (tlv ∷ tlvs) placed =
+within_packet : (start : Start) (at : ℕ) (earlier tlvs : List TlvAt) → ArePlaced at tlvs → RiseWithin at (at + length (body_octets tlvs)) (sayings_behind start earlier tlvs)
+within_packet start at earlier [] placed = omega arith
+within_packet start at earlier (tlv ∷ tlvs) placed =
     let len = length (tlv_octets tlv) in
     let some : 0 < len = some_octets tlv.kind tlv.body in
     let whole : length (tlv_octets tlv ++ body_octets tlvs) ≡ len + length (body_octets tlvs) = length-append (tlv_octets tlv) (body_octets tlvs) in
-    let later = within_packet sender (at + len) (tlv ∷ earlier) tlvs placed.2 in
+    let later = within_packet start (at + len) (tlv ∷ earlier) tlvs placed.2 in
     let end : at + len + length (body_octets tlvs) ≡ at + length (body_octets (tlv ∷ tlvs)) = omega arith in
-    let told = sayings_behind sender (tlv ∷ earlier) tlvs in
+    let told = sayings_behind start (tlv ∷ earlier) tlvs in
     (omega (arith, placed.0), within_from (at + len) (suc tlv.at) (at + length (body_octets (tlv ∷ tlvs))) told (omega (arith, placed.0)) (subst (λ n. RiseWithin (at + len) n told) end later))
 
 -- the offset behind the packets
@@ -403,16 +403,16 @@ abbrev end_of : ℕ → List (List TlvAt) → ℕ
 end_of at [] = at
 end_of at (tlvs ∷ packets) = end_of (at + length (packet_octets tlvs)) packets
 
-within_packets : (sender : Address) (at : ℕ) (packets : List (List TlvAt)) → ArePackets at packets → RiseWithin at (end_of at packets) (sayings sender packets)
-within_packets sender at [] are = omega arith
-within_packets sender at (tlvs ∷ packets) are =
+within_packets : (start : Start) (at : ℕ) (packets : List (List TlvAt)) → ArePackets at packets → RiseWithin at (end_of at packets) (sayings start packets)
+within_packets start at [] are = omega arith
+within_packets start at (tlvs ∷ packets) are =
     let end : at + length (packet_octets tlvs) ≡ at + 4 + length (body_octets tlvs) = omega arith in
-    let here = within_packet sender (at + 4) [] tlvs are.1 in
-    let later = within_packets sender (at + length (packet_octets tlvs)) packets are.2 in
-    within_append at (at + length (packet_octets tlvs)) (end_of at (tlvs ∷ packets)) (sayings_behind sender [] tlvs) (sayings sender packets)
-    (within_from (at + 4) at (at + length (packet_octets tlvs)) (sayings_behind sender [] tlvs) (omega arith) (subst (λ n. RiseWithin (at + 4) n (sayings_behind sender [] tlvs)) (sym end) here))
+    let here = within_packet start (at + 4) [] tlvs are.1 in
+    let later = within_packets start (at + length (packet_octets tlvs)) packets are.2 in
+    within_append at (at + length (packet_octets tlvs)) (end_of at (tlvs ∷ packets)) (sayings_behind start [] tlvs) (sayings start packets)
+    (within_from (at + 4) at (at + length (packet_octets tlvs)) (sayings_behind start [] tlvs) (omega arith) (subst (λ n. RiseWithin (at + 4) n (sayings_behind start [] tlvs)) (sym end) here))
     later
 
 pub offsets_of_dumps_rise : OffsetsOfDumpsRise
-offsets_of_dumps_rise sender dump packets rest reads =
-    offsets_rise (sayings sender packets) (within_rises 0 (end_of 0 packets) (sayings sender packets) (within_packets sender 0 packets reads.placed))
+offsets_of_dumps_rise start dump packets rest reads =
+    offsets_rise (sayings start packets) (within_rises 0 (end_of 0 packets) (sayings start packets) (within_packets start 0 packets reads.placed))

@@ -1,5 +1,5 @@
 -- What the canonical octets, and the canonical pairs, of a reader's dump are.
-use Rattle.std.proofs.Common.{◌≡◌, ℕ, List, ap, subst, ◌∙◌, arith, inl, inr}
+use Rattle.std.proofs.Common.{◌≡◌, ℕ, List, ap, subst, sym, ◌∙◌, arith, inl, inr}
 use Rattle.std.specs.Prelude.{◌≢◌}
 use Rattle.babel_tlv.specs.declared.fault.Fault.{Fault}
 use Rattle.babel_tlv.specs.declared.fault.Fault.TheVariants as faults
@@ -27,6 +27,7 @@ use Rattle.babel_canon.specs.Views.{HeadlineUnder}
 use Rattle.babel_canon.specs.ViewsTell.{AllNormalises}
 use Rattle.babel_dump.specs.Given.{GaveNormal, GaveRoutes, GaveTable, Input, IsFaultOfForm, IsNormal}
 use Rattle.babel_dump.specs.Parts.{SaysPairs}
+use Rattle.babel_dump.specs.declared.reading.Reading.{Reading}
 
 -- the canonical octets of what is seen of the table are those of the dump under the view
 pub gave_normal : Headline → HeadlineUnder → AllNormalises → AnswersAreTold
@@ -52,7 +53,8 @@ gave_normal headline under all are_told reader view body table seen report octet
     let told = under view reading.limits reading.mode body bounds size it octets normal in
     let plain_of : view ≡ keeps_all → Normalises as_they_are reading.limits reading.mode body it octets =
     λ keeps. (all reading.limits reading.mode body it octets).0 (subst (λ (v : View). Normalises (seen_rows v) reading.limits reading.mode body it octets) keeps normal) in
-    let plain_told_of : view ≡ keeps_all → AnswersTell (Normalises as_they_are reading.limits reading.mode body) (NormaliseFault as_they_are reading.limits reading.mode) reading.mode it octets =
+    let plain_told_of : view ≡ keeps_all →
+    AnswersTell (Normalises as_they_are reading.limits reading.mode body) (NormaliseFault as_they_are reading.limits reading.mode) reading.limits.via_v6 reading.mode it octets =
     λ keeps. are_told reading.limits reading.mode body bounds size it octets (plain_of keeps) in
     let whole : view ≡ keeps_all → IsNormal AnswerTheSame as_they_are reading.limits reading.mode body it octets = λ keeps.
     let plain = plain_of keeps in
@@ -110,3 +112,24 @@ pub refused_form : (reader : Input) (view : View) (table seen : Routes) (fault :
 refused_form reader view table seen fault gave seen_is (inl (is, many)) not_memory =
     inr (is, (table, gave, subst (λ (t : Routes). HasManyBoxes reader.reading.limits t.rows) seen_is many))
 refused_form reader view table seen fault gave seen_is (inr memory) not_memory = absurd (not_memory memory)
+
+-- ---- so with what was made of a table
+
+module _ (reading : Reading) (view : View) (body : ℕ) (table seen : Routes) (seen_is : seen ≡ seen_table view table) where
+  pub normal_of : Headline → HeadlineUnder → AllNormalises → AnswersAreTold → AreBounds reading.limits → IsBodySize body
+      → (octets : List ℕ) → SaysCanonical reading.limits body seen.rows octets
+      → (dump : Input) → dump.reading ≡ reading → GaveTable dump table → GaveNormal dump view body table.report octets
+  normal_of headline under all told bounds size octets says dump same gave =
+      gave_normal headline under all told dump view body table seen table.report octets (subst (λ (r : Reading). AreBounds r.limits) (sym same) bounds) size gave seen_is
+      (ap (λ (t : Routes). t.report) (sym seen_is)) (subst (λ (r : Reading). SaysCanonical r.limits body seen.rows octets) (sym same) says)
+
+  pub normal_refused : (fault : Fault) → CanonicalFault reading.limits seen.rows fault → fault ≢ faults.Memory
+      → (dump : Input) → dump.reading ≡ reading → GaveTable dump table → IsFaultOfForm dump view fault
+  normal_refused fault is not_memory dump same gave =
+      refused_form dump view table seen fault gave seen_is (subst (λ (r : Reading). CanonicalFault r.limits seen.rows fault) (sym same) is) not_memory
+
+  pub routes_of : RoutesHeadline → AreBounds reading.limits → IsBodySize body → AreRows table.rows → (octets : List ℕ) → IsCanonicalText body seen.rows octets
+      → (dump : Input) → dump.reading ≡ reading → GaveTable dump table → GaveRoutes dump view body table.report octets
+  routes_of headline bounds size rows octets text dump same gave =
+      gave_routes headline dump view body table seen table.report octets (subst (λ (r : Reading). AreBounds r.limits) (sym same) bounds) size gave rows seen_is
+      (ap (λ (t : Routes). t.report) (sym seen_is)) text

@@ -25,7 +25,7 @@ uncounted : (reason : Reason) (counted : Option (ℕ × ℕ)) → first_counted 
 uncounted reason None is = refl
 uncounted reason (Some counted) is = absurd cc
 
-none_among : (counts : Counts) (reasons : List Reason) → first_among counts reasons ≡ None → AllByRecursion (λ reason. count_at counts.left_out (reason_place reason) ≡ None) reasons
+pub none_among : (counts : Counts) (reasons : List Reason) → first_among counts reasons ≡ None → AllByRecursion (λ reason. count_at counts.left_out (reason_place reason) ≡ None) reasons
 none_among counts [] is = tt
 none_among counts (reason ∷ rest) is =
     let both = both_none (left_out_for counts reason) (first_among counts rest) is in

@@ -1,7 +1,7 @@
 -- The limits that a user asks for: this project's own.
 use Rattle.std.specs.Prelude.{ℕ, ◌*◌, ◌-◌, ◌^◌, max, min, Option}
 use Rattle.std.specs.Option.{unwrap_or}
-use Rattle.babel_table.specs.Bounds.{Bounds}
+use Rattle.babel_table.specs.Bounds.{Bounds, bounds}
 
 -- the routes that may be: as many as asked for, or 262,144
 abbrev pub routes_within : Option ℕ → ℕ
@@ -14,4 +14,4 @@ octets_within octets routes = unwrap_or octets (max 33554432 (min (routes * 83) 
 
 abbrev pub asked_bounds : Option ℕ → Option ℕ → Bounds
 asked_bounds octets routes =
-    record { bytes = octets_within octets (routes_within routes); entries = routes_within routes }
+    bounds (octets_within octets (routes_within routes)) (routes_within routes)

@@ -1,9 +1,9 @@
 -- Laws of the definitions: which TLVs a report says were ignored, by what TLVs say. These are this
 -- project's own.
 use Rattle.std.specs.Prelude.{◌≡◌, ◌↔◌, ℕ, ◌<◌, List, ◌∷◌, ◌++◌, AllPairs, Contains, Ok, Some}
-use Rattle.babel_prefix.specs.Address.{Address}
 use Rattle.babel_tlv.specs.declared.event.Event.TheVariants as events
 use Rattle.babel_tlv.specs.declared.reason.Reason.{Reason}
+use Rattle.babel_tlv.specs.declared.start.Start.{Start}
 use Rattle.babel_tlv.specs.Framing.{TlvAt, ReadsAs}
 use Rattle.babel_tlv.specs.Says.{Saying, sayings}
 use Rattle.babel_table.specs.Counts.{counts_of}
@@ -47,5 +47,5 @@ FirstIsFirst =
 -- the TLVs of a dump lie at rising offsets
 abbrev pub OffsetsOfDumpsRise : Type 0
 OffsetsOfDumpsRise =
-    (sender : Address) (dump : List ℕ) (packets : List (List TlvAt)) (rest : List ℕ)
-    → ReadsAs dump packets rest → OffsetsRise (sayings sender packets)
+    (start : Start) (dump : List ℕ) (packets : List (List TlvAt)) (rest : List ℕ)
+    → ReadsAs dump packets rest → OffsetsRise (sayings start packets)

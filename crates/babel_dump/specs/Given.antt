@@ -145,7 +145,8 @@ pub record GaveNormal (reader : Input) (view : View) (body : ℕ) (report : Coun
   pub told : view ≡ keeps_all → AnswersTell
       (Normalises as_they_are reader.reading.limits reader.reading.mode body)
       (NormaliseFault as_they_are reader.reading.limits reader.reading.mode)
-      reader.reading.mode (sent reader.reading.sender gave.given.dump) octets
+      reader.reading.limits.via_v6 reader.reading.mode
+      (sent reader.reading.sender gave.given.dump) octets
   pub report_is : report ≡ table.report
 
 -- the reader gave a dump, all that it had, and these are its route octets under the view

@@ -22,8 +22,9 @@ const LONGEST_HEADER: u64 = 24;
 
 /// What was read of a capture: what its packets give, and where it is cut short.
 #[derive(Drop)]
-pub(crate) struct CaptureRead {
+pub struct CaptureRead {
     pub gathered: babel_capture::Gathered,
+    /// The offset where it is cut short, if it is and that is accepted.
     pub cut: Option<u64>,
 }
 

@@ -39,10 +39,10 @@ macro_rules! after_help {
 }
 
 const AFTER_HELP: &str = after_help!(
-    "IPv4 routes with an IPv6 next hop (address encoding 4, AE 4 for short, RFC 9229) are not \
-     read. babeld sends them on links without IPv4 addresses. They and their retractions are \
-     ignored and counted as unknown-encoding, so that an answer for IPv4 can be missing or \
-     stale.\n",
+    "IPv4 routes with an IPv6 next hop (address encoding 4, AE 4 for short, RFC 9229) are read \
+     with --v4-via-v6 alone. babeld sends them on links without IPv4 addresses. Without the \
+     option they and their retractions are ignored and counted as unknown-encoding, so that an \
+     answer for IPv4 can be missing or stale.\n",
     examples:
     "senders x.pcap",
     "show --from fe80::1 x.pcap",
@@ -81,9 +81,12 @@ const AFTER_KEY: &str = after_help!(
     refused: "a dump or a capture";
     "Each line is the key, two blanks and the file, as sha256sum writes it. Keys of one --ignore \
      and one --hold are equal exactly if the answers are, or, with --routes, the routes. The \
-     status is the greatest of all files.\n",
+     status is the greatest of all files. Without --from each sender in a capture has a line, with \
+     its address and its place after the file; --interface keeps those at one place, and \
+     --max-routes counts the routes of all.\n",
     examples:
     "key --from fe80::1 before.pcap now.pcap",
+    "key --quiet x.pcap",
     "key --routes --ignore seqno --from fe80::1 x.pcap";
     "0  done"
 );
@@ -244,7 +247,13 @@ fn key<'a>(alloc: Global) -> Result<Command<'a>, AllocError> {
         .value_name("FILE")
         .action(ArgAction::Append)
         .help("The dumps, or the captures that have them; standard input if omitted or -");
-    with_reading(alloc, command)?
+    let from = address(
+        alloc,
+        "from",
+        "The source address of the packets; if omitted, each sender in a capture has a key",
+    );
+    let command = command.arg(from.required(false))?.arg(interface(alloc))?;
+    with_settings(alloc, command)?
         .arg(strict(alloc))?
         .arg(ignore(alloc))?
         .arg(routes(alloc, "Make the keys of the routes, not of the answers"))?
@@ -453,11 +462,12 @@ fn with_reading<'a>(alloc: Global, command: Command<'a>) -> Result<Command<'a>, 
     with_settings(alloc, command.arg(from)?.arg(interface(alloc))?)
 }
 
-/// The command with what each command has that reads a dump: how retractions are read, whether
-/// there are notes, and the limits.
+/// The command with what each command has that reads a dump: how retractions and IPv4 routes with
+/// IPv6 next hops are read, whether there are notes, and the limits.
 fn with_settings<'a>(alloc: Global, command: Command<'a>) -> Result<Command<'a>, AllocError> {
     command
         .arg(hold(alloc))?
+        .arg(v4_via_v6(alloc))?
         .arg(quiet(alloc))?
         .arg(accept_cut(alloc))?
         .arg(number(
@@ -570,4 +580,10 @@ fn hold<'a>(alloc: Global) -> Arg<'a> {
     let help =
         "Keep a retracted route as unreachable, so that no less specific route takes its place";
     flag(alloc, "hold", help)
+}
+
+/// The option that reads IPv4 routes with IPv6 next hops: RFC 9229.
+fn v4_via_v6<'a>(alloc: Global) -> Arg<'a> {
+    let help = "Read IPv4 routes with an IPv6 next hop (address encoding 4, RFC 9229)";
+    flag(alloc, "v4-via-v6", help)
 }

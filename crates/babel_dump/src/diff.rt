@@ -31,7 +31,7 @@ use babel_tlv::View;
 use std::alloc::{AllocError, Global};
 
 /// No address and place, nor any line of numbers, is longer, in octets.
-const ROOM: usize = 160;
+pub(crate) const ROOM: usize = 160;
 
 /// Reads two dumps, the first to its end before the other, and makes the text of the rows that they
 /// hold differently, as a view sees both, below lines that name these files.
@@ -156,7 +156,7 @@ fn push_head(
 }
 
 /// Appends the words of a place, where one is named.
-fn push_place(buffer: &mut Vec<u8>, place: Option<Place>)
+pub(crate) fn push_place(buffer: &mut Vec<u8>, place: Option<Place>)
     requires { HasRoom buffer.old 91 }
     ensures text { buffer.new.items ≡ buffer.old.items ++ place_text place }
     ensures room { TookRoom buffer.old buffer.new 91 }

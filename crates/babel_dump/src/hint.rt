@@ -1,10 +1,13 @@
 //! What a user can do where an input is refused.
 use crate::dump_input::begins_capture;
+use crate::ignored::IgnoredTlv;
 use crate::input_fault::InputFault;
 use crate::job::Job;
 use crate::pairs_fault::PairsFault;
 use crate::run_fault::{RunFault, Side};
-use babel_capture::Fault as CaptureFault;
+use crate::sender_keys::SenderKeys;
+use babel_capture::{Fault as CaptureFault, Reason as LeftOutReason};
+use babel_table::Limits;
 use babel_tlv::{Fault, Reason};
 use thiserror::Error;
 
@@ -37,7 +40,7 @@ pub enum Hint {
     Trailer,
     /// A TLV has an address encoding that is not read.
     #[error("hint: unknown-encoding usually means IPv4 routes with IPv6 next hops (AE 4, \
-             RFC 9229), which are not read: IPv4 answers can be missing or stale")]
+             RFC 9229), which --v4-via-v6 reads: IPv4 answers can be missing or stale")]
     UnknownEncoding,
     /// A route has no next hop. This option names the sender.
     #[error("hint: no-next-hop: {0} names a sender of the other family, and these routes carry \
@@ -105,12 +108,22 @@ impl Hint {
         }
     }
 
-    /// What to know about TLVs that were ignored for this reason, in the dump on this side.
-    pub fn of_reason(reason: Reason, side: Side) -> Option<Hint> {
+    /// What to know about TLVs that a job ignored for this reason, in the dump on this side.
+    pub fn of_reason(job: &Job, reason: Reason, side: Side) -> Option<Hint> {
         match reason {
-            Reason::UnknownEncoding => Some(Hint::UnknownEncoding),
+            Reason::UnknownEncoding => Hint::of_encoding(job.limits()?),
             Reason::NoNextHop => Some(Hint::NoNextHop(side.option())),
             _ => None,
+        }
+    }
+
+    /// What to know about TLVs of an encoding that is not read: the option that reads more, if it
+    /// is not set.
+    pub fn of_encoding(limits: Limits) -> Option<Hint> {
+        if limits.via_v6() {
+            None
+        } else {
+            Some(Hint::UnknownEncoding)
         }
     }
 
@@ -131,11 +144,44 @@ impl Hint {
         }
     }
 
+    /// What to do about a fault of `key` without `--from`: of a capture that begins with these
+    /// octets, or of the dump of a sender in it.
+    pub fn of_sender_keys(keys: &SenderKeys, fault: &InputFault, begins: &[u8]) -> Option<Hint> {
+        match fault {
+            InputFault::Capture(fault) => Hint::of_capture(keys.limits.bytes(), fault, begins),
+            InputFault::Dump(Fault::TooManyPairs) => Some(Hint::Pairs(keys.limits.entries())),
+            InputFault::Dump(Fault::TooLong) => Some(Hint::Octets(keys.limits.bytes())),
+            InputFault::Ignored(
+                IgnoredTlv {
+                    reason: Reason::UnknownEncoding,
+                    ..
+                },
+            ) => Hint::of_encoding(keys.limits),
+            InputFault::LeftOut(datagram) => Hint::of_lack(datagram.reason),
+            _ => None,
+        }
+    }
+
+    /// What to do where a dump lacks a datagram, for this reason.
+    fn of_lack(reason: LeftOutReason) -> Option<Hint> {
+        match reason {
+            LeftOutReason::Snapped => Some(Hint::Snapped),
+            LeftOutReason::Fragment => Some(Hint::Fragment),
+            LeftOutReason::CutShort => Some(Hint::DatagramCutShort),
+            _ => None,
+        }
+    }
+
+    /// What octets are that begin so, where they are neither a dump nor a capture.
+    pub fn of_begins(begins: &[u8]) -> Option<Hint> {
+        Hint::of_other(begins)
+    }
+
     fn of_input(job: &Job, side: Side, fault: &InputFault, begins: &[u8]) -> Option<Hint> {
         match fault {
             InputFault::Dump(fault) => Hint::of_dump(job, *fault, begins),
-            InputFault::Ignored(tlv) => Hint::of_reason(tlv.reason, side),
-            InputFault::Capture(fault) => Hint::of_capture(job, fault, begins),
+            InputFault::Ignored(tlv) => Hint::of_reason(job, tlv.reason, side),
+            InputFault::Capture(fault) => Hint::of_capture(job.most_octets(), fault, begins),
             InputFault::SeveralInterfaces(_) => Some(Hint::Interface(side.place_option())),
             InputFault::NoPackets(_) => Some(Hint::Senders),
             InputFault::LeftOut(_) | InputFault::NoUpdates | InputFault::Read => None,
@@ -175,7 +221,7 @@ impl Hint {
         if is_text { Some(Hint::Text) } else { None }
     }
 
-    fn of_capture(job: &Job, fault: &CaptureFault, begins: &[u8]) -> Option<Hint> {
+    fn of_capture(limit: u32, fault: &CaptureFault, begins: &[u8]) -> Option<Hint> {
         match fault {
             CaptureFault::NotCapture if begins.starts_with(&[42, 2]) => Some(Hint::Dump),
             CaptureFault::NotCapture => Hint::of_other(begins).or(Some(Hint::Format)),
@@ -186,7 +232,7 @@ impl Hint {
             CaptureFault::DatagramCutShort { .. } => Some(Hint::DatagramCutShort),
             CaptureFault::Version { .. } => Some(Hint::Version),
             CaptureFault::UnreadLink { .. } => Some(Hint::Link),
-            CaptureFault::TooLong { .. } => Some(Hint::Octets(job.most_octets())),
+            CaptureFault::TooLong { .. } => Some(Hint::Octets(limit)),
             _ => None,
         }
     }

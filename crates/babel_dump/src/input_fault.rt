@@ -43,7 +43,7 @@ pub enum InputFault {
 impl InputFault {
     /// The exit status of the program: 5 where an allocation was refused, 4 where a read failed,
     /// else 3.
-    pub(crate) fn status(&self) -> u8
+    pub fn status(&self) -> u8
         ensures { result ≡ input_status self.now }
     {
         match self {

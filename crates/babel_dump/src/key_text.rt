@@ -3,6 +3,8 @@ ghost use Rattle.std.specs.Prelude.{◌≡◌, ◌++◌, IfOk, OnOk};
 ghost use Rattle.std.specs.Option.{option_copied};
 ghost use Rattle.babel_dump.specs.KeyText.{file_text, has_escape, key_line, name_escape};
 
+use crate::place_word::PlaceInWords;
+use babel_capture::Origin;
 use sha2::{Digest, Sha256};
 use std::alloc::{AllocError, Global};
 use std::fmt;
@@ -17,23 +19,40 @@ impl Display for Named<'_> {
         let Some(file) = self.0 else {
             return Ok(());
         };
-        for c in file.chars() {
-            match escape_of(c) {
-                Some(escape) => f.write_str(escape)?,
-                None => f.write_char(c)?,
-            }
-        }
+        write_file(f, file)?;
         f.write_str(": ")
     }
 }
 
+/// A file's name and a sender at its place in it, as the lines of keys have them, a colon and a
+/// space.
+#[derive(Clone, Copy)]
+pub struct NamedSender<'a>(pub &'a str, pub Origin);
+
+impl Display for NamedSender<'_> {
+    fn fmt<W: Write>(&self, f: &mut Formatter<W>) -> fmt::Result {
+        write_file(f, self.0)?;
+        write!(f, " {}{}: ", self.1.sender, PlaceInWords(self.1.place))
+    }
+}
+
+/// Writes a file's name.
+fn write_file<W: Write>(f: &mut Formatter<W>, file: &str) -> fmt::Result {
+    for c in file.chars() {
+        match escape_of(c) {
+            Some(escape) => f.write_str(escape)?,
+            None => f.write_char(c)?,
+        }
+    }
+    Ok(())
+}
+
 /// The line of the key of these octets: their SHA-256 in lower-case hexadecimal digits, two spaces
 /// and the file's name; with a backslash first where the name has a character that is escaped.
-pub(crate) fn key_line(alloc: Global, octets: &[u8], file: &str) -> Result<Vec<u8>, AllocError>
+pub(crate) fn key_line(alloc: Global, octets: &[u8], file: &[u8]) -> Result<Vec<u8>, AllocError>
     ensures { IfOk result (λ line. line.items ≡ key_line octets.now file.now) }
 {
     let digits = hex::encode(alloc, Sha256::digest(octets))?;
-    let file = file.as_bytes();
     let mut line = Vec::new(alloc);
     if has_escape(file) {
         line.push(b'\\')?;

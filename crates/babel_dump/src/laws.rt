@@ -2,6 +2,7 @@
 ghost use Rattle.babel_dump.specs.CapturedDump.{HandedIsDump, RefusalHasCause};
 ghost use Rattle.babel_dump.specs.ExtractLaws.{ExtractedIsFramed};
 ghost use Rattle.babel_dump.specs.FirstIgnored.{FirstIsFirst, NoneIsNone, OffsetsOfDumpsRise};
+ghost use Rattle.babel_dump.specs.FirstLeftOut.{NoneIsLeftOut, RefusedIsFirst};
 ghost use Rattle.babel_dump.specs.OneOutcome.{FaultIsOfAll, FaultIsOne, NamedIsNotSeveral};
 ghost use Rattle.babel_dump.specs.OneOutcome.{NothingWritten, OutcomeIsOne, OutcomeOrFault};
 ghost use Rattle.babel_dump.specs.OneOutcome.{WrittenIsPrefix};
@@ -44,6 +45,13 @@ pub fn ignored_is_first()
     ensures none { NoneIsNone }
     ensures first { FirstIsFirst }
     ensures rise { OffsetsOfDumpsRise }
+{}
+
+/// A report of a capture says that no datagram was left out only where none was; and the one for
+/// which strict reading refuses a capture is the first of its packets that was left out.
+pub fn left_out_is_first()
+    ensures none { NoneIsLeftOut }
+    ensures first { RefusedIsFirst }
 {}
 
 /// What a run was given by a device over a capture, to its end, is the dump in the capture that the

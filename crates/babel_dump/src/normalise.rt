@@ -1,7 +1,8 @@
-ghost use Rattle.std.specs.Prelude.{IfOk};
+ghost use Rattle.std.specs.Prelude.{◌≡◌, ◌≢◌, IfErr, IfOk};
 ghost use Rattle.babel_dump.specs.Command.{RanNormalise, WritesNormal};
 ghost use Rattle.babel_dump.specs.Device.{HasRoomToCount, HasRoomToWrite};
-ghost use Rattle.babel_dump.specs.Given.{GaveNormal, IsFaultOfForm, input, read_from};
+ghost use Rattle.babel_dump.specs.Given.{GaveNormal, GaveTable, Input, IsFaultOfForm, input};
+ghost use Rattle.babel_dump.specs.Given.{read_from};
 ghost use Rattle.babel_dump.specs.Parts.{Gathered, Says, SaysOctets};
 ghost use Rattle.babel_dump.specs.Run.{InputCause, OfFirst, calls_of, output};
 
@@ -18,8 +19,8 @@ use babel_canon::laws::{
 };
 use babel_canon::{Body, canonical_octets};
 use babel_prefix::Addr;
-use babel_table::{Limits, Report};
-use babel_tlv::{Mode, View};
+use babel_table::{Limits, Report, Table};
+use babel_tlv::{Fault, Mode, View};
 use std::alloc::{AllocError, Global};
 
 /// Reads a dump that this sender sent, and writes its canonical octets, in packets with bodies of
@@ -110,13 +111,30 @@ pub(crate) fn read_octets<R: ByteIn>(
         Gathered (calls_of input) (OfFirst (InputCause input (IsFaultOfForm input view)))
         (λ read. GaveNormal input view body read.0 read.1.items) result }
 {
-    let table = read_table(alloc, reading, reader)?;
-    let seen = table.seen(view);
-    let octets = canonical_octets(alloc, reading.limits, body, &seen)?;
+    let table = read_table(alloc, Reading { ..reading }, reader)?;
+    let report = *table.report();
+    let octets = normal_octets(alloc, reading, view, body, table)?;
+    Ok((report, octets))
+}
+
+/// The canonical octets, under the view, of a dump that is read so and has this table.
+pub(crate) fn normal_octets(
+    alloc: Global,
+    reading: Reading,
+    view: View,
+    body: Body,
+    table: Table,
+) -> Result<Vec<u8>, Fault>
+    ensures ok { IfOk result (λ octets. (dump : Input) → dump.reading ≡ reading
+        → GaveTable dump table → GaveNormal dump view body table.report octets.items) }
+    ensures err { IfErr result (λ fault. fault ≢ Fault.Memory → (dump : Input)
+        → dump.reading ≡ reading → GaveTable dump table → IsFaultOfForm dump view fault) }
+{
     // For the proof: what limits and sizes of bodies may be, and the laws of canonical octets.
     let _valid = (reading.limits.entries(), body.octets());
     canonical_octets_tell_answers();
     canonical_octets_tell_answers_under();
     answers_are_told();
-    Ok((*seen.report(), octets))
+    let octets = canonical_octets(alloc, reading.limits, body, &table.seen(view))?;
+    Ok(octets)
 }

@@ -14,6 +14,7 @@ use crate::note::{Note, SideNote};
 use crate::outcome::{Outcome, Reports};
 use crate::push_note::push_note_json;
 use crate::run_fault::{RunFault, Side};
+use crate::sender_keys::SenderKeys;
 use crate::write::{WriteFailed, write_all, write_text};
 use babel_table::Report;
 use std::alloc::{AllocError, Global};
@@ -94,6 +95,29 @@ impl Notes {
         }
     }
 
+    /// What there is to know of the capture of `key` without `--from`: nothing if that is quiet.
+    pub fn gather_capture(
+        &mut self,
+        keys: &SenderKeys,
+        capture: CaptureNotes,
+    ) -> Result<(), AllocError> {
+        self.list.clear();
+        if keys.quiet {
+            return Ok(());
+        }
+        self.add_capture(Side::First, capture)
+    }
+
+    /// What there is to know of the dump of a sender in it, of which this is the report.
+    pub fn gather_sender(&mut self, keys: &SenderKeys, report: Report) -> Result<(), AllocError> {
+        self.list.clear();
+        if keys.quiet {
+            return Ok(());
+        }
+        self.add_ignored(Side::First, report)?;
+        self.add_updates(Side::First, report)
+    }
+
     fn add(&mut self, side: Side, note: Note) -> Result<(), AllocError> {
         self.list.push(SideNote { side, note })?;
         Ok(())
@@ -109,13 +133,24 @@ impl Notes {
         capture: Option<CaptureNotes>,
     ) -> Result<(), AllocError> {
         if !job.reports_ignored() {
-            if let Some(note) = IgnoredNote::of(report) {
-                self.add(side, Note::Ignored(note))?;
-            }
+            self.add_ignored(side, report)?;
         }
         if let Some(capture) = capture {
             self.add_capture(side, capture)?;
         }
+        self.add_updates(side, report)
+    }
+
+    /// Adds what was ignored of a dump.
+    fn add_ignored(&mut self, side: Side, report: Report) -> Result<(), AllocError> {
+        match IgnoredNote::of(report) {
+            Some(note) => self.add(side, Note::Ignored(note)),
+            None => Ok(()),
+        }
+    }
+
+    /// Adds that a dump has no Update, if it has none.
+    fn add_updates(&mut self, side: Side, report: Report) -> Result<(), AllocError> {
         match report.updates() {
             0 => self.add(side, Note::NoUpdates),
             _ => Ok(()),

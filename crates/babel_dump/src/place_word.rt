@@ -29,6 +29,27 @@ impl fmt::Display for PlaceWord {
     }
 }
 
+/// A place in words: ` interface N link N vlan N.N`.
+#[derive(Clone, Copy)]
+pub(crate) struct PlaceInWords(pub Place);
+
+impl fmt::Display for PlaceInWords {
+    fn fmt<W: fmt::Write>(&self, f: &mut fmt::Formatter<W>) -> fmt::Result {
+        write!(f, " interface {}", self.0.interface)?;
+        if let Some(link) = self.0.link {
+            write!(f, " link {link}")?;
+        }
+        let mut mark = " vlan ";
+        for number in &self.0.vlans.numbers() {
+            if *number != 0 {
+                write!(f, "{mark}{number}")?;
+                mark = ".";
+            }
+        }
+        Ok(())
+    }
+}
+
 /// The place that a word of `--interface` names, as `PlaceWord` gives it: `1`, `1/3`, `1:10` or
 /// `1/3:10.20`. `None` for any other word.
 pub fn parse_place(word: &str) -> Option<Place> {

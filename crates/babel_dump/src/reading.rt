@@ -70,7 +70,7 @@ impl Reading {
 }
 
 /// How many octets a capture may have if its dump may have this many.
-fn capture_limit(dump: u32) -> u32
+pub(crate) fn capture_limit(dump: u32) -> u32
     ensures { result ≡ capture_limit dump }
 {
     USUAL_CAPTURE.max(dump)

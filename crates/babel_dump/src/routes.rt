@@ -4,7 +4,7 @@ ghost use Rattle.babel_dump.specs.Command.{CompareCause, ComparesRoutes, IsOfMem
 ghost use Rattle.babel_dump.specs.Command.{ListsRoutes, WritesRoutes};
 ghost use Rattle.babel_dump.specs.Device.{HasRoomToCount};
 ghost use Rattle.babel_dump.specs.Filter.{kept_rows};
-ghost use Rattle.babel_dump.specs.Given.{GaveRoutes, IsFaultOfGiven, read_from};
+ghost use Rattle.babel_dump.specs.Given.{GaveRoutes, GaveTable, Input, IsFaultOfGiven, read_from};
 ghost use Rattle.babel_dump.specs.InFormat.{listed_in, rows_or_count_in};
 ghost use Rattle.babel_dump.specs.Parts.{Gathered, Says, SaysRoutes};
 ghost use Rattle.babel_dump.specs.Run.{Called, InputCause, OfFirst, calls_of};
@@ -26,7 +26,7 @@ use crate::slices::{Found, Rows};
 use babel_canon::laws::route_octets_tell_routes;
 use babel_canon::{Body, Difference, route_differences, route_octets};
 use babel_table::{Report, Table};
-use babel_tlv::View;
+use babel_tlv::{Fault, View};
 use std::alloc::{AllocError, Global};
 
 /// Reads a dump to its end, or to its first fault, and makes its route octets under a view, or
@@ -62,13 +62,29 @@ pub(crate) fn read_route_octets<R: ByteIn>(
         Gathered (calls_of dump) (OfFirst (InputCause dump (IsFaultOfGiven dump)))
         (λ read. GaveRoutes dump view body read.0 read.1.items) result }
 {
-    let table = read_table(alloc, reading, reader)?;
+    let table = read_table(alloc, Reading { ..reading }, reader)?;
+    let report = *table.report();
+    let octets = octets_of_routes(alloc, reading, view, body, table)?;
+    Ok((report, octets))
+}
+
+/// The route octets, under the view, of a dump that is read so and has this table.
+pub(crate) fn octets_of_routes(
+    alloc: Global,
+    reading: Reading,
+    view: View,
+    body: Body,
+    table: Table,
+) -> Result<Vec<u8>, Fault>
+    ensures ok { IfOk result (λ octets. (dump : Input) → dump.reading ≡ reading
+        → GaveTable dump table → GaveRoutes dump view body table.report octets.items) }
+    ensures err { IfErr result (λ fault. fault ≡ Fault.Memory) }
+{
     // For the proof: what rows, limits and sizes of bodies may be, and the law of route octets.
     let _valid = (table.rows().len(), reading.limits.entries(), body.octets());
     route_octets_tell_routes();
-    let seen = table.seen(view);
-    let octets = route_octets(alloc, body, &seen)?;
-    Ok((*seen.report(), octets))
+    let octets = route_octets(alloc, body, &table.seen(view))?;
+    Ok(octets)
 }
 
 /// Reads a dump to its end, or to its first fault, and finds its rows that a filter keeps, as a
@@ -87,7 +103,7 @@ pub(crate) fn find_route_rows<R: ByteIn>(
         Gathered (calls_of dump) (OfFirst (InputCause dump (IsFaultOfGiven dump)))
         (Says (ListsRoutes dump view filter count format)) result }
 {
-    let table = read_table(alloc, reading, reader)?;
+    let table = read_table(alloc, Reading { ..reading }, reader)?;
     let outcome = Outcome {
         status: 0,
         reports: Reports::Dump(*table.report()),

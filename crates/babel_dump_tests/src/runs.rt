@@ -9,12 +9,13 @@ mod pairs_files;
 mod places;
 mod refusals;
 mod refused_memory;
+mod sender_keys;
 mod strict;
 mod words;
 
 ghost use Rattle.std.specs.Prelude.{◌<◌};
 
-use babel_dump::{Job, RunFault, read_words, run_job, status_of};
+use babel_dump::{Asked, Job, RunFault, read_words, run_job, status_of};
 use babel_prefix::{Addr, parse_addr};
 use babel_table::Limits;
 use babel_tlv::Mode;
@@ -112,8 +113,8 @@ fn job(alloc: Global, limits: Limits, mode: Mode, sender: &str, asked: &str) -> 
 /// The one job of the words of a line.
 fn one_job(alloc: Global, line: &str) -> Result<Job, Fail> {
     let jobs = match read_words(alloc, &split(alloc, line)?, false) {
-        Ok(jobs) => jobs,
-        Err(_refusal) => return Err(Fail::from("no job")),
+        Ok(Asked::Jobs(jobs)) => jobs,
+        Ok(Asked::SenderKeys(_)) | Err(_) => return Err(Fail::from("no job")),
     };
     if jobs.len() != 1 {
         return Err(Fail::from("several jobs"));

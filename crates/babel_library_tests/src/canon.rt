@@ -5,6 +5,7 @@ mod changed;
 mod refused_memory;
 mod sinks;
 mod sizes;
+mod via_v6;
 
 use crate::dumps::{
     ALL_RETRACTED, MERGED, NESTED_SOURCES, NESTED_SOURCES_FORM, ONE_HELD_FORM, ONE_ROUTE_FORM, V4,

@@ -532,6 +532,35 @@ fn tells_what_is_seen(rt: HostRuntime) -> Result<(), Fail> {
     Ok(())
 }
 
+#[test]
+fn each_dump_is_that_of_its_sender(rt: HostRuntime) -> Result<(), Fail> {
+    let (mut dumps, mut lacking) = (0, 0);
+    for (parts, _) in &SEEN {
+        let octets = joined(rt.alloc(), parts)?;
+        let Ok(all) = gathered_of(rt.alloc(), 4096, Wanted::Each, octets.as_slice(), 5) else {
+            continue;
+        };
+        for origin in &all.origins(rt.alloc())? {
+            let wanted = Wanted::Sender {
+                sender: origin.sender,
+                place: Some(origin.place),
+            };
+            let own = gathered_of(rt.alloc(), 4096, wanted, octets.as_slice(), 4096);
+            match (all.dump_of(origin), &own) {
+                (Ok(dump), Ok(own)) => {
+                    assert_eq!(rt; dump, own.dump());
+                    dumps += 1;
+                }
+                (Err(_lack), Err(_fault)) => lacking += 1,
+                _ => return Err(Fail::from("another dump")),
+            }
+        }
+    }
+    assert!(rt; dumps > 1);
+    assert!(rt; lacking > 0);
+    Ok(())
+}
+
 /// What is seen in a capture.
 fn seen(alloc: Global, octets: &[u8]) -> Result<String, Fail> {
     let Ok(gathered) = gathered_of(alloc, 4096, Wanted::Everyone, octets, 4096) else {

@@ -7,6 +7,7 @@ mod pieces;
 mod refused_memory;
 mod seeds;
 mod updates;
+mod via_v6;
 
 ghost use Rattle.std.specs.Prelude.{◌≡◌, ◌<◌, ◌^◌};
 ghost use Rattle.babel_prefix.specs.declared.family.Family.TheVariants.{V4, V6};

@@ -5,10 +5,10 @@ ghost use Rattle.std.specs.Prelude.{◌+◌, ◌<◌, ◌^◌, length};
 use crate::dumps::{
     ALL_RETRACTED, FAULTY_SUB_TLVS, LINK_LOCAL, MORE_OMITTED, ONE_IGNORED, ONE_ROUTE, ONE_V6_ROUTE,
     OTHER_ENCODING, RESERVED_ROUTER_ID, ROUTER_ID_BY_FLAG, SEVEN_REASONS, SOURCE_LEFT, TWO_ROUTES,
-    TWO_ROUTES_FORM, V4, V6, octets,
+    TWO_ROUTES_FORM, V4, V6, VIA_V6, octets,
 };
 use babel_prefix::parse_addr;
-use babel_tlv::{Event, Fault, Frame, State, Tlvs, check_body, frame};
+use babel_tlv::{Event, Fault, Frame, Start, State, Tlvs, check_body, frame};
 use std::alloc::Global;
 use std::process::Abort;
 use std::test::Fail;
@@ -134,6 +134,47 @@ static SAID: [(&str, &str, &str); 19] = [
     (V4, "2a02000d 080bff0008000640000101000a", "4 ignored: UnknownEncoding\n"),
 ];
 
+/// The same where IPv4 routes with IPv6 next hops are read.
+#[rattlefmt::skip]
+static SAID_VIA_V6: [(&str, &str, &str); 6] = [
+    (
+        V6,
+        VIA_V6,
+        "16 10.1.0.0/24 from 0.0.0.0/0 via fe80:0:0:0:0:0:0:1 id 0200000000000001 seqno 1 metric \
+        256\n\
+        31 10.1.2.0/24 from 0.0.0.0/0 via fe80:0:0:0:0:0:0:1 id 0200000000000001 seqno 1 metric \
+        512\n\
+        44 ignored: NoDefault\n\
+        57 10.0.0.0/8 from 0.0.0.0/0 retracted\n\
+        70 ignored: UnknownEncoding\n",
+    ),
+    // No next hop of IPv6, and then one.
+    (
+        V4,
+        "2a02003a 060a0000 0200000000000001 080b040008000640000101000a \
+         0712020020010db8000000000000000000000001 080b040008000640000101000a",
+        "16 ignored: NoNextHop\n\
+        49 10.0.0.0/8 from 0.0.0.0/0 via 2001:db8:0:0:0:0:0:1 id 0200000000000001 seqno 1 metric \
+        256\n",
+    ),
+    // The router-id of an IPv4 address.
+    (
+        V6,
+        "2a02000f 080d04401800064000010100 0a0102",
+        "4 10.1.2.0/24 from 0.0.0.0/0 via fe80:0:0:0:0:0:0:1 id 000000000a010200 seqno 1 metric \
+        256\n",
+    ),
+    // A source prefix, of IPv4.
+    (
+        V6,
+        "2a02001d 060a0000 0200000000000001 080f040008000640000101000a 80020814",
+        "16 10.0.0.0/8 from 20.0.0.0/8 via fe80:0:0:0:0:0:0:1 id 0200000000000001 seqno 1 metric \
+        256\n",
+    ),
+    (V6, "2a02000d 080b040021000640000101000a", "4 ignored: BadPlen\n"),
+    (V4, LINK_LOCAL, "4 ignored: UnknownEncoding\n"),
+];
+
 /// A line of what the TLV at this offset says; none where it says nothing.
 fn line(alloc: Global, at: u64, event: &Event) -> Result<String, Fail> {
     match event {
@@ -155,11 +196,15 @@ fn line(alloc: Global, at: u64, event: &Event) -> Result<String, Fail> {
     }
 }
 
-/// What the TLVs of a packet's body say, which begins at this offset of a dump of this sender.
-fn said_in(alloc: Global, sender: &str, body: &[u8], at: u64) -> Result<String, Fail>
+/// What the TLVs of a packet's body say, which begins at this offset of a dump.
+fn said_in(alloc: Global, start: Start, body: &[u8], at: u64) -> Result<String, Fail>
     requires { at + length body.now < 2 ^ 64 }
 {
-    let mut state = State::new(parse_addr(sender).ok_or("no address")?);
+    let mut state = if start.via_v6 {
+        State::at(start)
+    } else {
+        State::new(start.sender)
+    };
     let mut said = String::new(alloc);
     for tlv in Tlvs::new(body, at) {
         let event = state.step(&tlv)?;
@@ -168,8 +213,17 @@ fn said_in(alloc: Global, sender: &str, body: &[u8], at: u64) -> Result<String, 
     Ok(said)
 }
 
-/// What the TLVs of a dump of this sender say, over all its packets.
-fn said(rt: &impl Abort, alloc: Global, sender: &str, dump: &str) -> Result<String, Fail> {
+/// What the TLVs of a dump of this sender say, over all its packets, where IPv4 routes with IPv6
+/// next hops are read or not.
+fn said(
+    rt: &impl Abort,
+    alloc: Global,
+    sender: &str,
+    via_v6: bool,
+    dump: &str,
+) -> Result<String, Fail> {
+    let sender = parse_addr(sender).ok_or("no address")?;
+    let start = Start { sender, via_v6 };
     let octets = octets(alloc, dump)?;
     let mut said = String::new(alloc);
     let mut rest = octets.as_slice();
@@ -184,7 +238,7 @@ fn said(rt: &impl Abort, alloc: Global, sender: &str, dump: &str) -> Result<Stri
         };
         assert!(rt; body.len() < 65536 && used < 65536);
         assert_eq!(rt; check_body(body, at + 4), Ok(()), "of {dump}");
-        said.push_str(said_in(alloc, sender, body, at + 4)?.as_str())?;
+        said.push_str(said_in(alloc, start, body, at + 4)?.as_str())?;
         rest = rest.get(used..).ok_or("no octets after the packet")?;
         at += used as u64;
     }
@@ -194,7 +248,11 @@ fn said(rt: &impl Abort, alloc: Global, sender: &str, dump: &str) -> Result<Stri
 #[test]
 fn what_tlvs_say(rt: HostRuntime) -> Result<(), Fail> {
     for (sender, dump, wanted) in &SAID {
-        let said = said(&rt, rt.alloc(), sender, dump)?;
+        let said = said(&rt, rt.alloc(), sender, false, dump)?;
+        assert_eq!(rt; said.as_str(), *wanted, "of {dump} from {sender}");
+    }
+    for (sender, dump, wanted) in &SAID_VIA_V6 {
+        let said = said(&rt, rt.alloc(), sender, true, dump)?;
         assert_eq!(rt; said.as_str(), *wanted, "of {dump} from {sender}");
     }
     Ok(())

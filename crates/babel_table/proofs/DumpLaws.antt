@@ -6,7 +6,7 @@ use Rattle.std.proofs.lemmas.Bool.{eqb-true, false≢true}
 use Rattle.std.proofs.lemmas.List.{append-nil, length-append}
 use Rattle.std.proofs.lemmas.List.Concat.{flat_map-append}
 use Rattle.std.proofs.lemmas.List.Elements.{Contains-append_right}
-use Rattle.babel_prefix.specs.Address.{Address}
+use Rattle.babel_tlv.specs.declared.start.Start.{Start}
 use Rattle.babel_tlv.specs.declared.event.Event.{Event}
 use Rattle.babel_tlv.specs.declared.fault.Fault.{Fault}
 use Rattle.babel_tlv.specs.declared.fault.Fault.TheVariants as faults
@@ -29,8 +29,8 @@ flat-append a b = flat_map-append packet_octets a b
 length-flat : (a b : List (List TlvAt)) → length (flat_map packet_octets (a ++ b)) ≡ length (flat_map packet_octets a) + length (flat_map packet_octets b)
 length-flat a b = ap length (flat-append a b) ∙ length-append (flat_map packet_octets a) (flat_map packet_octets b)
 
-pub sayings-append : (sender : Address) (a b : List (List TlvAt)) → sayings sender (a ++ b) ≡ sayings sender a ++ sayings sender b
-sayings-append sender a b = flat_map-append (sayings_behind sender []) a b
+pub sayings-append : (start : Start) (a b : List (List TlvAt)) → sayings start (a ++ b) ≡ sayings start a ++ sayings start b
+sayings-append start a b = flat_map-append (sayings_behind start []) a b
 
 placed-append : (at place : ℕ) (a b : List (List TlvAt)) → ArePackets at a → place ≡ at + length (flat_map packet_octets a) → ArePackets place b → ArePackets at (a ++ b)
 placed-append at place [] b placed here later = subst (λ (n : ℕ). ArePackets n b) (omega (arith, here)) later
@@ -98,18 +98,18 @@ begins-more rest more body (fits, behind, is) = (fits, behind ++ more, ap (λ (t
 
 -- ---- taking on
 
-module _ (mode : Mode) (entries : ℕ) (sender : Address) where
-  takes-then : (a b : List (List TlvAt)) (old mid new : Routes) → Takes mode entries (sayings sender a) old mid
-      → Takes mode entries (sayings sender b) mid new → Takes mode entries (sayings sender (a ++ b)) old new
+module _ (mode : Mode) (entries : ℕ) (start : Start) where
+  takes-then : (a b : List (List TlvAt)) (old mid new : Routes) → Takes mode entries (sayings start a) old mid
+      → Takes mode entries (sayings start b) mid new → Takes mode entries (sayings start (a ++ b)) old new
   takes-then a b old mid new first second before stands =
       subst (λ (s : List Saying). StandsBehind mode entries new s)
-      (append_assoc before (sayings sender a) (sayings sender b) ∙ ap (λ (s : List Saying). before ++ s) (sym (sayings-append sender a b)))
-      (second (before ++ sayings sender a) (first before stands))
+      (append_assoc before (sayings start a) (sayings start b) ∙ ap (λ (s : List Saying). before ++ s) (sym (sayings-append start a b)))
+      (second (before ++ sayings start a) (first before stands))
 
   -- whole packets, and then more of them
-  pub took-on : (at place end : ℕ) (octets rest left : List ℕ) (old mid new : Routes) → TookPackets mode entries sender at octets old mid rest place
-      → TookPackets mode entries sender place rest mid new left end
-      → TookPackets mode entries sender at octets old new left end
+  pub took-on : (at place end : ℕ) (octets rest left : List ℕ) (old mid new : Routes) → TookPackets mode entries start at octets old mid rest place
+      → TookPackets mode entries start place rest mid new left end
+      → TookPackets mode entries start at octets old new left end
   took-on at place end octets rest left old mid new first second = record {
     packets = first.packets ++ second.packets;
     whole = sym (append-nil octets) ∙ whole-append octets [] rest left first.packets second.packets first.whole (append-nil rest ∙ second.whole);
@@ -119,8 +119,8 @@ module _ (mode : Mode) (entries : ℕ) (sender : Address) where
   }
 
   pub stops-on : (at place : ℕ) (octets rest : List ℕ) (old mid : Routes) (fault : Fault)
-      → TookPackets mode entries sender at octets old mid rest place → StopsBehind mode entries sender place rest mid fault
-      → StopsBehind mode entries sender at octets old fault
+      → TookPackets mode entries start at octets old mid rest place → StopsBehind mode entries start place rest mid fault
+      → StopsBehind mode entries start at octets old fault
   stops-on at place octets rest old mid fault first stops = record {
     now = stops.now;
     rest = stops.rest;
@@ -130,8 +130,8 @@ module _ (mode : Mode) (entries : ℕ) (sender : Address) where
   }
 
   -- octets behind those that were looked at change nothing
-  pub took-more : (at place : ℕ) (octets rest more : List ℕ) (old new : Routes) → TookPackets mode entries sender at octets old new rest place
-      → TookPackets mode entries sender at (octets ++ more) old new (rest ++ more) place
+  pub took-more : (at place : ℕ) (octets rest more : List ℕ) (old new : Routes) → TookPackets mode entries start at octets old new rest place
+      → TookPackets mode entries start at (octets ++ more) old new (rest ++ more) place
   took-more at place octets rest more old new took = record {
     packets = took.packets;
     whole = ap (λ (t : List ℕ). t ++ more) took.whole ∙ append_assoc (flat_map packet_octets took.packets) rest more;
@@ -140,11 +140,11 @@ module _ (mode : Mode) (entries : ℕ) (sender : Address) where
     takes = took.takes;
   }
 
-  stops_at-more : (now : Routes) (rest more : List ℕ) (place : ℕ) (fault : Fault) → StopsAt mode entries sender now rest place fault → StopsAt mode entries sender now (rest ++ more) place fault
+  stops_at-more : (now : Routes) (rest more : List ℕ) (place : ℕ) (fault : Fault) → StopsAt mode entries start now rest place fault → StopsAt mode entries start now (rest ++ more) place fault
   stops_at-more now rest more place fault (inl header) = inl (header-more place rest more fault header)
   stops_at-more now rest more place fault (inr (body, begins, why)) = inr (body, begins-more rest more body begins, why)
 
-  pub stops-more : (at : ℕ) (octets more : List ℕ) (old : Routes) (fault : Fault) → StopsBehind mode entries sender at octets old fault → StopsBehind mode entries sender at (octets ++ more) old fault
+  pub stops-more : (at : ℕ) (octets more : List ℕ) (old : Routes) (fault : Fault) → StopsBehind mode entries start at octets old fault → StopsBehind mode entries start at (octets ++ more) old fault
   stops-more at octets more old fault stops = record {
     now = stops.now;
     rest = stops.rest ++ more;
@@ -153,11 +153,11 @@ module _ (mode : Mode) (entries : ℕ) (sender : Address) where
     stops = stops_at-more stops.now stops.rest more stops.place fault stops.stops;
   }
 
-  pub took-end : (at place : ℕ) (octets rest : List ℕ) (old new : Routes) → TookPackets mode entries sender at octets old new rest place → place + length rest ≡ at + length octets
+  pub took-end : (at place : ℕ) (octets rest : List ℕ) (old new : Routes) → TookPackets mode entries start at octets old new rest place → place + length rest ≡ at + length octets
   took-end at place octets rest old new took = omega (arith, took.here, ap length took.whole, length-append (flat_map packet_octets took.packets) rest)
 
   -- of octets that are one packet at most, if any are taken then all are
-  pub one-taken : (at used : ℕ) (octets rest : List ℕ) (old new : Routes) → TookPackets mode entries sender at octets old new rest (at + used)
+  pub one-taken : (at used : ℕ) (octets rest : List ℕ) (old new : Routes) → TookPackets mode entries start at octets old new rest (at + used)
       → (HasHeader octets → length octets ≤ 4 + body_len octets) → used ≢ 0 → rest ≡ []
   one-taken at used octets rest old new took one some = by took.packets took.whole took.placed took.here
     where
@@ -176,36 +176,36 @@ module _ (mode : Mode) (entries : ℕ) (sender : Address) where
           empty (x ∷ xs) none = absurd (omega (arith, none))
 
 -- the rest of the octets, taken or not in a second step
-module _ (mode m : Mode) (entries e : ℕ) (sender s : Address) (settings : (m ≡ mode) × (e ≡ entries) × (s ≡ sender)) where
+module _ (mode m : Mode) (entries e : ℕ) (start s : Start) (settings : (m ≡ mode) × (e ≡ entries) × (s ≡ start)) where
   pub took-last : (r : Result (Unit {0}) Fault) (at place end : ℕ) (octets front rest left : List ℕ) (old mid new : Routes)
-      → TookPackets mode entries sender at octets old mid (front ++ rest) place → front ≡ []
-      → OnOk r (TookPackets m e s place rest mid new left end) → OnOk r (TookPackets mode entries sender at octets old new left end)
+      → TookPackets mode entries start at octets old mid (front ++ rest) place → front ≡ []
+      → OnOk r (TookPackets m e s place rest mid new left end) → OnOk r (TookPackets mode entries start at octets old new left end)
   took-last (Err fault) at place end octets front rest left old mid new first none second = tt
   took-last (Ok u) at place end octets front rest left old mid new first none second =
       let at_mode = subst (λ (x : Mode). TookPackets x e s place rest mid new left end) settings.0 second in
       let at_entries = subst (λ (x : ℕ). TookPackets mode x s place rest mid new left end) settings.1 at_mode in
-      let at_sender = subst (λ (x : Address). TookPackets mode entries x place rest mid new left end) settings.2 at_entries in
-      took-on mode entries sender at place end octets rest left old mid new
-      (subst (λ (t : List ℕ). TookPackets mode entries sender at octets old mid (t ++ rest) place) none first) at_sender
+      let at_sender = subst (λ (x : Start). TookPackets mode entries x place rest mid new left end) settings.2 at_entries in
+      took-on mode entries start at place end octets rest left old mid new
+      (subst (λ (t : List ℕ). TookPackets mode entries start at octets old mid (t ++ rest) place) none first) at_sender
 
-  pub stops-last : (r : Result (Unit {0}) Fault) (at place : ℕ) (octets front rest : List ℕ) (old mid : Routes) → TookPackets mode entries sender at octets old mid (front ++ rest) place → front ≡ []
-      → IfErr r (StopsBehind m e s place rest mid) → IfErr r (StopsBehind mode entries sender at octets old)
+  pub stops-last : (r : Result (Unit {0}) Fault) (at place : ℕ) (octets front rest : List ℕ) (old mid : Routes) → TookPackets mode entries start at octets old mid (front ++ rest) place → front ≡ []
+      → IfErr r (StopsBehind m e s place rest mid) → IfErr r (StopsBehind mode entries start at octets old)
   stops-last (Ok u) at place octets front rest old mid first none stops = tt
   stops-last (Err fault) at place octets front rest old mid first none stops =
       let at_mode = subst (λ (x : Mode). StopsBehind x e s place rest mid fault) settings.0 stops in
       let at_entries = subst (λ (x : ℕ). StopsBehind mode x s place rest mid fault) settings.1 at_mode in
-      let at_sender = subst (λ (x : Address). StopsBehind mode entries x place rest mid fault) settings.2 at_entries in
-      stops-on mode entries sender at place octets rest old mid fault
-      (subst (λ (t : List ℕ). TookPackets mode entries sender at octets old mid (t ++ rest) place) none first) at_sender
+      let at_sender = subst (λ (x : Start). StopsBehind mode entries x place rest mid fault) settings.2 at_entries in
+      stops-on mode entries start at place octets rest old mid fault
+      (subst (λ (t : List ℕ). TookPackets mode entries start at octets old mid (t ++ rest) place) none first) at_sender
 
-pub ready-next : (mode : Mode) (entries : ℕ) (sender : Address) (r : Result (Unit {0}) Fault) (bytes tlvs count at place : ℕ)
+pub ready-next : (mode : Mode) (entries : ℕ) (start : Start) (r : Result (Unit {0}) Fault) (bytes tlvs count at place : ℕ)
     (pending rest octets : List ℕ) (old new : Routes) → IsReady bytes tlvs at pending
-    → OnOk r (count ≤ place) → OnOk r (IsPartial rest) → OnOk r (TookPackets mode entries sender at (pending ++ octets) old new rest place) → at + (length pending + length octets) ≤ bytes
+    → OnOk r (count ≤ place) → OnOk r (IsPartial rest) → OnOk r (TookPackets mode entries start at (pending ++ octets) old new rest place) → at + (length pending + length octets) ≤ bytes
     → OnOk r (IsReady bytes count place rest)
-ready-next mode entries sender (Err fault) bytes tlvs count at place pending rest octets old new ready counted partial took fits = tt
-ready-next mode entries sender (Ok u) bytes tlvs count at place pending rest octets old new ready counted partial took fits = record {
+ready-next mode entries start (Err fault) bytes tlvs count at place pending rest octets old new ready counted partial took fits = tt
+ready-next mode entries start (Ok u) bytes tlvs count at place pending rest octets old new ready counted partial took fits = record {
   counted = counted;
-  in_limit = omega (arith, fits, took-end mode entries sender at place (pending ++ octets) rest old new took, length-append pending octets);
+  in_limit = omega (arith, fits, took-end mode entries start at place (pending ++ octets) rest old new took, length-append pending octets);
   partial = partial;
 }
 
@@ -226,22 +226,22 @@ none_left (x ∷ rest) pending whole some = absurd (some (whole (λ e. absurd cc
 -- ---- from the table to the dump
 
 -- the octets are whole packets that the table has taken, and less than another, which begins at this place
-pub record HasTakenTo (mode : Mode) (entries : ℕ) (sender : Address) (table : Routes) (at : ℕ) (pending octets : List ℕ) : Type 0 where
+pub record HasTakenTo (mode : Mode) (entries : ℕ) (start : Start) (table : Routes) (at : ℕ) (pending octets : List ℕ) : Type 0 where
   pub packets : List (List TlvAt)
   pub reads : ReadsAs octets packets pending
   pub partial : IsPartial pending
   pub place : at ≡ length (flat_map packet_octets packets)
-  pub stands : StandsBehind mode entries table (sayings sender packets)
+  pub stands : StandsBehind mode entries table (sayings start packets)
 
 -- want of memory, or a fault that the octets keep however they go on
-abbrev pub HasStopped : Mode → ℕ → Address → List ℕ → Fault → Type 0
-HasStopped mode entries sender octets fault =
-    ((fault ≡ faults.Memory) × NeedsMemory mode sender octets)
-    ⊎ (IsLasting fault × ((more : List ℕ) → StreamFault mode entries sender (octets ++ more) fault))
+abbrev pub HasStopped : Mode → ℕ → Start → List ℕ → Fault → Type 0
+HasStopped mode entries start octets fault =
+    ((fault ≡ faults.Memory) × NeedsMemory mode start octets)
+    ⊎ (IsLasting fault × ((more : List ℕ) → StreamFault mode entries start (octets ++ more) fault))
 
-module _ (mode : Mode) (entries : ℕ) (sender : Address) where
-  pub taken-then : (old new : Routes) (at place : ℕ) (pending rest octets more : List ℕ) → HasTakenTo mode entries sender old at pending octets
-      → TookPackets mode entries sender at (pending ++ more) old new rest place → IsPartial rest → HasTakenTo mode entries sender new place rest (octets ++ more)
+module _ (mode : Mode) (entries : ℕ) (start : Start) where
+  pub taken-then : (old new : Routes) (at place : ℕ) (pending rest octets more : List ℕ) → HasTakenTo mode entries start old at pending octets
+      → TookPackets mode entries start at (pending ++ more) old new rest place → IsPartial rest → HasTakenTo mode entries start new place rest (octets ++ more)
   taken-then old new at place pending rest octets more taken took partial = record {
     packets = taken.packets ++ took.packets;
     reads = record {
@@ -250,7 +250,7 @@ module _ (mode : Mode) (entries : ℕ) (sender : Address) where
     };
     partial = partial;
     place = omega (arith, taken.place, took.here, length-flat taken.packets took.packets);
-    stands = subst (λ (s : List Saying). StandsBehind mode entries new s) (sym (sayings-append sender taken.packets took.packets)) (took.takes (sayings sender taken.packets) taken.stands);
+    stands = subst (λ (s : List Saying). StandsBehind mode entries new s) (sym (sayings-append start taken.packets took.packets)) (took.takes (sayings start taken.packets) taken.stands);
   }
 
   reads-next : (octets rest : List ℕ) (packets : List (List TlvAt)) (tlvs : List TlvAt) (body behind : List ℕ) → ReadsAs octets packets rest → body ≡ body_octets tlvs → rest ≡ framed body ++ behind
@@ -263,7 +263,7 @@ module _ (mode : Mode) (entries : ℕ) (sender : Address) where
 
   -- the table's fault is one of the octets
   stops-stream : (table : Routes) (at : ℕ) (rest octets : List ℕ) (packets : List (List TlvAt)) (fault : Fault) → ReadsAs octets packets rest → at ≡ length (flat_map packet_octets packets)
-      → StandsBehind mode entries table (sayings sender packets) → StopsAt mode entries sender table rest at fault → HasStopped mode entries sender octets fault
+      → StandsBehind mode entries table (sayings start packets) → StopsAt mode entries start table rest at fault → HasStopped mode entries start octets fault
   stops-stream table at rest octets packets fault reads here stands (inl header) =
       inr (
         header-lasts at rest fault header,
@@ -296,14 +296,14 @@ module _ (mode : Mode) (entries : ℕ) (sender : Address) where
       )
   stops-stream table at rest octets packets fault reads here stands (inr (body, begins, inr (parts, fails))) =
       let tlvs : List TlvAt = tlvs_of (at + 4) body in
-      let said : List Saying = sayings_behind sender [] tlvs in
+      let said : List Saying = sayings_behind start [] tlvs in
       let more_read : ReadsAs octets (packets ++ tlvs ∷ []) begins.1 =
       reads-next octets rest packets tlvs body begins.1 reads parts.whole begins.2
       (subst IsBody parts.whole begins.0, subst (λ (n : ℕ). ArePlaced (n + 4) tlvs) here parts.placed, tt) in
       by tlvs begins.1 more_read fails
     where
       by : (tlvs : List TlvAt) (behind : List ℕ) → ReadsAs octets (packets ++ tlvs ∷ []) behind
-          → Fails mode entries (sayings_behind sender [] tlvs) table fault → HasStopped mode entries sender octets fault
+          → Fails mode entries (sayings_behind start [] tlvs) table fault → HasStopped mode entries start octets fault
       by tlvs behind reads_on (inl (lasting, refuses)) =
           inr (
             lasting,
@@ -312,8 +312,8 @@ module _ (mode : Mode) (entries : ℕ) (sender : Address) where
               behind ++ more,
               record { whole = ap (λ (t : List ℕ). t ++ more) reads_on.whole ∙ append_assoc (flat_map packet_octets (packets ++ tlvs ∷ [])) behind more; placed = reads_on.placed },
               inr (subst (λ (s : List Saying). RefusedBy mode entries s fault)
-                  (append_assoc (sayings sender packets) (sayings_behind sender [] tlvs) [] ∙ sym (sayings-append sender packets (tlvs ∷ [])))
-                  (refuses (sayings sender packets) [] stands)),
+                  (append_assoc (sayings start packets) (sayings_behind start [] tlvs) [] ∙ sym (sayings-append start packets (tlvs ∷ [])))
+                  (refuses (sayings start packets) [] stands)),
             ),
           )
       by tlvs behind reads_on (inr (memory, (saying, is_said, grows))) =
@@ -325,16 +325,16 @@ module _ (mode : Mode) (entries : ℕ) (sender : Address) where
               reads_on,
               (
                 saying,
-                subst (λ (s : List Saying). Contains s saying) (sym (sayings-append sender packets (tlvs ∷ [])))
-                    (Contains-append_right (sayings sender packets) (sayings_behind sender [] tlvs ++ []) saying
-                    (subst (λ (s : List Saying). Contains s saying) (sym (append-nil (sayings_behind sender [] tlvs))) is_said)),
+                subst (λ (s : List Saying). Contains s saying) (sym (sayings-append start packets (tlvs ∷ [])))
+                    (Contains-append_right (sayings start packets) (sayings_behind start [] tlvs ++ []) saying
+                    (subst (λ (s : List Saying). Contains s saying) (sym (append-nil (sayings_behind start [] tlvs))) is_said)),
                 grows,
               ),
             ),
           )
 
-  pub stopped-then : (old : Routes) (at : ℕ) (pending octets more : List ℕ) (fault : Fault) → HasTakenTo mode entries sender old at pending octets
-      → StopsBehind mode entries sender at (pending ++ more) old fault → HasStopped mode entries sender (octets ++ more) fault
+  pub stopped-then : (old : Routes) (at : ℕ) (pending octets more : List ℕ) (fault : Fault) → HasTakenTo mode entries start old at pending octets
+      → StopsBehind mode entries start at (pending ++ more) old fault → HasStopped mode entries start (octets ++ more) fault
   stopped-then old at pending octets more fault taken stops =
       stops-stream stops.now stops.place stops.rest (octets ++ more) (taken.packets ++ stops.took.packets) fault
       (record {
@@ -342,7 +342,7 @@ module _ (mode : Mode) (entries : ℕ) (sender : Address) where
         placed = placed-append 0 at taken.packets stops.took.packets taken.reads.placed (omega (arith, taken.place)) stops.took.placed;
       })
       (omega (arith, taken.place, stops.took.here, length-flat taken.packets stops.took.packets))
-      (subst (λ (s : List Saying). StandsBehind mode entries stops.now s) (sym (sayings-append sender taken.packets stops.took.packets)) (stops.took.takes (sayings sender taken.packets) taken.stands))
+      (subst (λ (s : List Saying). StandsBehind mode entries stops.now s) (sym (sayings-append start taken.packets stops.took.packets)) (stops.took.takes (sayings start taken.packets) taken.stands))
       stops.stops
 
 -- ---- octets that were taken have no fault, or are truncated
@@ -362,20 +362,20 @@ packet-no_fault place rest behind tlvs fault fits placed is (inr (inr (body, beg
     let same : body ≡ body_octets tlvs = (one_body body (body_octets tlvs) begins.1 behind begins.0 fits (sym begins.2 ∙ is)).0 in
     placed-no_stop (place + 4) past.0 tlvs placed (subst (λ (b : List ℕ). HasNoTlvAt (place + 4) b past.0) same past.1)
 
-module _ (mode : Mode) (entries : ℕ) (sender : Address) (table : Routes) (at : ℕ) (pending octets : List ℕ) (taken : HasTakenTo mode entries sender table at pending octets) where
-  pub only_truncated : (fault : Fault) → StreamFault mode entries sender octets fault → IsTruncated fault × (pending ≢ [])
+module _ (mode : Mode) (entries : ℕ) (start : Start) (table : Routes) (at : ℕ) (pending octets : List ℕ) (taken : HasTakenTo mode entries start table at pending octets) where
+  pub only_truncated : (fault : Fault) → StreamFault mode entries start octets fault → IsTruncated fault × (pending ≢ [])
   only_truncated fault (packets, rest, reads, why) =
       let one = packets_one 0 at taken.packets packets pending rest (omega (arith, taken.place)) taken.reads.placed reads.placed
       (partial-stuck at pending taken.partial) (sym taken.reads.whole ∙ reads.whole) in
       by packets rest one.0 one.1 one.2 why
     where
       by : (packets : List (List TlvAt)) (rest : List ℕ) (more : List (List TlvAt)) → taken.packets ≡ packets ++ more → rest ≡ flat_map packet_octets more ++ pending
-          → (((said : List Event) × AreFine mode entries [] (sayings sender packets) said × (rest ≢ [])
-          × PacketFault (length (flat_map packet_octets packets)) rest fault) ⊎ RefusedBy mode entries (sayings sender packets) fault)
+          → (((said : List Event) × AreFine mode entries [] (sayings start packets) said × (rest ≢ [])
+          × PacketFault (length (flat_map packet_octets packets)) rest fault) ⊎ RefusedBy mode entries (sayings start packets) fault)
           → IsTruncated fault × (pending ≢ [])
       by packets rest more is is_rest (inr refused) =
-          absurd (fine-not-refused mode entries (sayings sender packets) (sayings sender more) taken.stands.events fault
-          (subst (λ (s : List Saying). AreFine mode entries [] s taken.stands.events) (ap (sayings sender) is ∙ sayings-append sender packets more) taken.stands.fine) refused)
+          absurd (fine-not-refused mode entries (sayings start packets) (sayings start more) taken.stands.events fault
+          (subst (λ (s : List Saying). AreFine mode entries [] s taken.stands.events) (ap (sayings start) is ∙ sayings-append start packets more) taken.stands.fine) refused)
       by packets rest [] is is_rest (inl (said, fine, some, why)) =
           (partial-truncated (length (flat_map packet_octets packets)) rest fault (subst IsPartial (sym is_rest) taken.partial) why, λ none. some (is_rest ∙ none))
       by packets rest (tlvs ∷ more) is is_rest (inl (said, fine, some, why)) =
@@ -384,6 +384,6 @@ module _ (mode : Mode) (entries : ℕ) (sender : Address) (table : Routes) (at :
           (subst (λ (n : ℕ). ArePlaced (n + 4) tlvs) (omega arith) placed.1) (is_rest ∙ append_assoc (packet_octets tlvs) (flat_map packet_octets more) pending) why)
 
   -- they end within a packet
-  pub truncated : pending ≢ [] → StreamFault mode entries sender octets (faults.Truncated at)
+  pub truncated : pending ≢ [] → StreamFault mode entries start octets (faults.Truncated at)
   truncated some =
       (taken.packets, pending, taken.reads, inl (taken.stands.events, taken.stands.fine, some, inl (ap (λ (n : ℕ). faults.Truncated n) taken.place, taken.partial)))

@@ -10,12 +10,13 @@ use Rattle.babel_tlv.specs.declared.fault.Fault.{Fault}
 use Rattle.babel_tlv.specs.declared.fault.Fault.TheVariants as faults
 use Rattle.babel_tlv.specs.declared.held.Held.{Held}
 use Rattle.babel_tlv.specs.declared.mode.Mode.{Mode}
+use Rattle.babel_tlv.specs.declared.start.Start.{Start}
 use Rattle.babel_tlv.specs.Route.{RouteKey}
 use Rattle.babel_tlv.specs.Framing.{ReadsAs, packet_octets}
 use Rattle.babel_tlv.specs.Says.{sayings}
 use Rattle.babel_table.specs.Answers.{IsAnswerOf}
 use Rattle.babel_table.specs.BestMatch.{IsBestMatch}
-use Rattle.babel_table.specs.Bounds.{Bounds}
+use Rattle.babel_table.specs.Bounds.{Bounds, start_of}
 use Rattle.babel_table.specs.Counts.{Counts, counts_of}
 use Rattle.babel_table.specs.TableOf.{IsTableOf}
 use Rattle.babel_table.specs.DumpFault.{DumpFault, HasNoFault, IsTruncated, MayGoOn, StreamFault}
@@ -49,8 +50,8 @@ take-within bytes front more fits =
 
 module _ (limits : Bounds) (mode : Mode) (sender : Address) where
   -- a fault of octets within the limit stays that of the dump
-  pub dump_fault : (front more : List ℕ) (fault : Fault) → length front ≤ limits.bytes → ¬ IsTruncated fault → ((more : List ℕ) → StreamFault mode limits.entries sender (front ++ more) fault)
-      → DumpFault limits mode sender (front ++ more) fault
+  pub dump_fault : (front more : List ℕ) (fault : Fault) → length front ≤ limits.bytes → ¬ IsTruncated fault
+      → ((more : List ℕ) → StreamFault mode limits.entries (start_of limits sender) (front ++ more) fault) → DumpFault limits mode sender (front ++ more) fault
   dump_fault front more fault fits whole stream = by (length (front ++ more) - limits.bytes) refl
     where
       by : (past : ℕ) → length (front ++ more) - limits.bytes ≡ past → DumpFault limits mode sender (front ++ more) fault
@@ -58,12 +59,13 @@ module _ (limits : Bounds) (mode : Mode) (sender : Address) where
       by (suc n) is =
           inr (inl (
             omega (arith, is),
-            subst (λ (t : List ℕ). StreamFault mode limits.entries sender t fault) (sym (take-within limits.bytes front more fits)) (stream (take (limits.bytes - length front) more)),
+            subst (λ (t : List ℕ). StreamFault mode limits.entries (start_of limits sender) t fault) (sym (take-within limits.bytes front more fits))
+                (stream (take (limits.bytes - length front) more)),
             whole,
           ))
 
   -- octets up to the limit that were taken, and more behind them
-  too_long : (table : Routes) (at : ℕ) (pending front more : List ℕ) → HasTakenTo mode limits.entries sender table at pending front → length front ≡ limits.bytes → more ≢ []
+  too_long : (table : Routes) (at : ℕ) (pending front more : List ℕ) → HasTakenTo mode limits.entries (start_of limits sender) table at pending front → length front ≡ limits.bytes → more ≢ []
       → DumpFault limits mode sender (front ++ more) faults.TooLong
   too_long table at pending front [] taken fits some = absurd (some refl)
   too_long table at pending front (x ∷ more) taken fits some =
@@ -71,12 +73,12 @@ module _ (limits : Bounds) (mode : Mode) (sender : Address) where
         omega (arith, fits, length-append front (x ∷ more)),
         refl,
         λ other stream.
-            (only_truncated mode limits.entries sender table at pending front taken other
-            (subst (λ (t : List ℕ). StreamFault mode limits.entries sender t other) (take_at front (x ∷ more) limits.bytes fits) stream)).0,
+            (only_truncated mode limits.entries (start_of limits sender) table at pending front taken other
+            (subst (λ (t : List ℕ). StreamFault mode limits.entries (start_of limits sender) t other) (take_at front (x ∷ more) limits.bytes fits) stream)).0,
       ))
 
-needs-more : (mode : Mode) (sender : Address) (octets more : List ℕ) → NeedsMemory mode sender octets → NeedsMemory mode sender (octets ++ more)
-needs-more mode sender octets more (packets, rest, reads, grows) = (
+needs-more : (mode : Mode) (start : Start) (octets more : List ℕ) → NeedsMemory mode start octets → NeedsMemory mode start (octets ++ more)
+needs-more mode start octets more (packets, rest, reads, grows) = (
   packets,
   rest ++ more,
   record { whole = ap (λ (t : List ℕ). t ++ more) reads.whole ∙ append_assoc (flat_map packet_octets packets) rest more; placed = reads.placed },
@@ -86,19 +88,19 @@ needs-more mode sender octets more (packets, rest, reads, grows) = (
 -- ---- a feeder
 
 module _ (p : Progress) where
-  taken-to : (fed : List ℕ) → HasTaken p fed → HasTakenTo p.mode p.limits.entries p.sender p.table p.at p.pending fed
+  taken-to : (fed : List ℕ) → HasTaken p fed → HasTakenTo p.mode p.limits.entries (start_of p.limits p.sender) p.table p.at p.pending fed
   taken-to fed taken = record { packets = taken.packets; reads = taken.reads; partial = taken.partial; place = taken.place; stands = taken.stands }
 
   length-fed : (fed : List ℕ) → HasTaken p fed → length fed ≡ p.at + length p.pending
   length-fed fed taken = omega (arith, taken.place, ap length taken.reads.whole, length-append (flat_map packet_octets taken.packets) p.pending)
 
   pub may_go_on : (fed : List ℕ) → HasTaken p fed → MayGoOn p.limits p.mode p.sender fed
-  may_go_on fed taken fault (inl (fits, stream)) = (only_truncated p.mode p.limits.entries p.sender p.table p.at p.pending fed (taken-to fed taken) fault stream).0
+  may_go_on fed taken fault (inl (fits, stream)) = (only_truncated p.mode p.limits.entries (start_of p.limits p.sender) p.table p.at p.pending fed (taken-to fed taken) fault stream).0
   may_go_on fed taken fault (inr (inl (past, stream, not))) = absurd (omega (arith, past, taken.in_limit))
   may_go_on fed taken fault (inr (inr (past, is, all))) = absurd (omega (arith, past, taken.in_limit))
 
   pub no_fault : (fed : List ℕ) → HasTaken p fed → p.pending ≡ [] → HasNoFault p.limits p.mode p.sender fed
-  no_fault fed taken none fault (inl (fits, stream)) = (only_truncated p.mode p.limits.entries p.sender p.table p.at p.pending fed (taken-to fed taken) fault stream).1 none
+  no_fault fed taken none fault (inl (fits, stream)) = (only_truncated p.mode p.limits.entries (start_of p.limits p.sender) p.table p.at p.pending fed (taken-to fed taken) fault stream).1 none
   no_fault fed taken none fault (inr (inl (past, stream, not))) = absurd (omega (arith, past, taken.in_limit))
   no_fault fed taken none fault (inr (inr (past, is, all))) = absurd (omega (arith, past, taken.in_limit))
 
@@ -113,7 +115,7 @@ module _ (p : Progress) where
   }
 
   -- why octets are not taken is why the feeder has failed
-  failed-within : (octets fed : List ℕ) (fault : Fault) → HasTaken p fed → StopsWithin p.limits.bytes p.mode p.limits.entries p.sender p.at p.pending
+  failed-within : (octets fed : List ℕ) (fault : Fault) → HasTaken p fed → StopsWithin p.limits.bytes p.mode p.limits.entries (start_of p.limits p.sender) p.at p.pending
       octets p.table fault → HasFailed p fault (fed ++ octets)
   failed-within octets fed fault taken why =
       subst (HasFailed p fault) (append_assoc fed near far ∙ ap (λ (t : List ℕ). fed ++ t) (take-append-drop room octets)) (by why)
@@ -138,11 +140,11 @@ module _ (p : Progress) where
           let all : octets ≡ near = sym (take-append-drop room octets) ∙ ap (λ (t : List ℕ). near ++ t) none ∙ append-nil near in
           absurd (omega (arith, long, length-append p.pending octets, ap length all, length-take room octets, length-fed fed taken, taken.in_limit))
 
-      by : StopsWithin p.limits.bytes p.mode p.limits.entries p.sender p.at p.pending octets p.table fault → HasFailed p fault ((fed ++ near) ++ far)
-      by (inl stops) = settle (stopped-then p.mode p.limits.entries p.sender p.table p.at p.pending fed near fault (taken-to fed taken) stops)
+      by : StopsWithin p.limits.bytes p.mode p.limits.entries (start_of p.limits p.sender) p.at p.pending octets p.table fault → HasFailed p fault ((fed ++ near) ++ far)
+      by (inl stops) = settle (stopped-then p.mode p.limits.entries (start_of p.limits p.sender) p.table p.at p.pending fed near fault (taken-to fed taken) stops)
         where
-          settle : HasStopped p.mode p.limits.entries p.sender (fed ++ near) fault → HasFailed p fault ((fed ++ near) ++ far)
-          settle (inl (memory, needs)) = inl (memory, needs-more p.mode p.sender (fed ++ near) far needs)
+          settle : HasStopped p.mode p.limits.entries (start_of p.limits p.sender) (fed ++ near) fault → HasFailed p fault ((fed ++ near) ++ far)
+          settle (inl (memory, needs)) = inl (memory, needs-more p.mode (start_of p.limits p.sender) (fed ++ near) far needs)
           settle (inr (lasting, stream)) =
               inr (
                 lasting,
@@ -155,7 +157,7 @@ module _ (p : Progress) where
             λ more. subst (λ (t : List ℕ). DumpFault p.limits p.mode p.sender t fault) (sym (append_assoc (fed ++ near) far more))
                 (subst (λ (f : Fault). DumpFault p.limits p.mode p.sender ((fed ++ near) ++ (far ++ more)) f) (sym is)
                 (too_long p.limits p.mode p.sender now place rest (fed ++ near) (far ++ more)
-                (taken-then p.mode p.limits.entries p.sender p.table now p.at place p.pending rest fed near (taken-to fed taken) took partial) (exact long)
+                (taken-then p.mode p.limits.entries (start_of p.limits p.sender) p.table now p.at place p.pending rest fed near (taken-to fed taken) took partial) (exact long)
                 (some far more (behind long)))),
           )
         where
@@ -164,7 +166,7 @@ module _ (p : Progress) where
           some (x ∷ xs) more not = λ e. absurd cc
 
   failed-more : (octets fed : List ℕ) (fault : Fault) → HasFailed p fault fed → HasFailed p fault (fed ++ octets)
-  failed-more octets fed fault (inl (memory, needs)) = inl (memory, needs-more p.mode p.sender fed octets needs)
+  failed-more octets fed fault (inl (memory, needs)) = inl (memory, needs-more p.mode (start_of p.limits p.sender) fed octets needs)
   failed-more octets fed fault (inr (lasting, dump)) =
       inr (lasting, λ more. subst (λ (t : List ℕ). DumpFault p.limits p.mode p.sender t fault) (sym (append_assoc fed octets more)) (dump (octets ++ more)))
 
@@ -172,7 +174,7 @@ module _ (p : Progress) where
   failed-fault octets fault (inl (memory, needs)) not = absurd (not memory)
   failed-fault octets fault (inr (lasting, dump)) not = dump
 
-  pub failed-memory : (octets : List ℕ) (fault : Fault) → HasFailed p fault octets → fault ≡ faults.Memory → NeedsMemory p.mode p.sender octets
+  pub failed-memory : (octets : List ℕ) (fault : Fault) → HasFailed p fault octets → fault ≡ faults.Memory → NeedsMemory p.mode (start_of p.limits p.sender) octets
   failed-memory octets fault (inl (memory, needs)) is = needs
   failed-memory octets fault (inr (lasting, dump)) is = absurd (lasting-memory fault is lasting)
 
@@ -190,27 +192,27 @@ module _ (p : Progress) where
   stays-read octets fed fault is read = subst (λ (f : Option Fault). HasReadTo p f (fed ++ octets)) (sym is) (stays-failed octets fed fault is read)
 
   pub stops-failed : (octets fed : List ℕ) (fault : Fault) → p.fault ≡ None
-      → StopsWithin p.limits.bytes p.mode p.limits.entries p.sender p.at p.pending octets p.table fault → HasRead p fed → HasFailed p fault (fed ++ octets)
+      → StopsWithin p.limits.bytes p.mode p.limits.entries (start_of p.limits p.sender) p.at p.pending octets p.table fault → HasRead p fed → HasFailed p fault (fed ++ octets)
   stops-failed octets fed fault is why read = failed-within octets fed fault (read-taken fed is read) why
 
 -- the next value of a feeder
 module _ (p q : Progress) (same_limits : q.limits ≡ p.limits) (same_mode : q.mode ≡ p.mode) (same_sender : q.sender ≡ p.sender) where
   pub taken-next : (octets fed : List ℕ) → p.fault ≡ None → q.at + length q.pending ≤ p.limits.bytes
-      → TookPackets p.mode p.limits.entries p.sender p.at (p.pending ++ octets) p.table q.table q.pending q.at → IsPartial q.pending
+      → TookPackets p.mode p.limits.entries (start_of p.limits p.sender) p.at (p.pending ++ octets) p.table q.table q.pending q.at → IsPartial q.pending
       → HasRead p fed → HasTaken q (fed ++ octets)
   taken-next octets fed is fits took partial read =
       let taken : HasTaken p fed = read-taken p fed is read in
-      let next : HasTakenTo p.mode p.limits.entries p.sender q.table q.at q.pending (fed ++ octets) =
-      taken-then p.mode p.limits.entries p.sender p.table q.table p.at q.at p.pending q.pending fed octets (taken-to p fed taken) took partial in
-      let at_sender = subst (λ (s : Address). StandsBehind p.mode p.limits.entries q.table (sayings s next.packets)) (sym same_sender) next.stands in
-      let at_mode = subst (λ (m : Mode). StandsBehind m p.limits.entries q.table (sayings q.sender next.packets)) (sym same_mode) at_sender in
+      let next : HasTakenTo p.mode p.limits.entries (start_of p.limits p.sender) q.table q.at q.pending (fed ++ octets) =
+      taken-then p.mode p.limits.entries (start_of p.limits p.sender) p.table q.table p.at q.at p.pending q.pending fed octets (taken-to p fed taken) took partial in
+      let at_sender = subst (λ (s : Address). StandsBehind p.mode p.limits.entries q.table (sayings (start_of p.limits s) next.packets)) (sym same_sender) next.stands in
+      let at_mode = subst (λ (m : Mode). StandsBehind m p.limits.entries q.table (sayings (start_of p.limits q.sender) next.packets)) (sym same_mode) at_sender in
       record {
         packets = next.packets;
         in_limit = rw same_limits (omega (arith, fits, ap length next.reads.whole, length-append (flat_map packet_octets next.packets) q.pending, next.place));
         reads = next.reads;
         partial = partial;
         place = next.place;
-        stands = subst (λ (b : Bounds). StandsBehind q.mode b.entries q.table (sayings q.sender next.packets)) (sym same_limits) at_mode;
+        stands = subst (λ (b : Bounds). StandsBehind q.mode b.entries q.table (sayings (start_of b q.sender) next.packets)) (sym same_limits) at_mode;
       }
 
   pub may_go_on-next : (octets : List ℕ) → HasTaken q octets → MayGoOn p.limits p.mode p.sender octets
@@ -221,7 +223,12 @@ module _ (p q : Progress) (same_limits : q.limits ≡ p.limits) (same_mode : q.m
 
   pub failed-next : (octets : List ℕ) (fault : Fault) → HasFailed p fault octets → HasFailed q fault octets
   failed-next octets fault (inl (memory, needs)) =
-      inl (memory, subst (λ (m : Mode). NeedsMemory m q.sender octets) (sym same_mode) (subst (λ (s : Address). NeedsMemory p.mode s octets) (sym same_sender) needs))
+      inl (
+        memory,
+        subst (λ (b : Bounds). NeedsMemory q.mode (start_of b q.sender) octets) (sym same_limits)
+            (subst (λ (m : Mode). NeedsMemory m (start_of p.limits q.sender) octets) (sym same_mode)
+            (subst (λ (s : Address). NeedsMemory p.mode (start_of p.limits s) octets) (sym same_sender) needs)),
+      )
   failed-next octets fault (inr (lasting, dump)) =
       inr (
         lasting,
@@ -236,10 +243,11 @@ pub taken-read : (p : Progress) (octets : List ℕ) → p.fault ≡ None → Has
 taken-read p octets is taken = subst (λ (f : Option Fault). HasReadTo p f octets) (sym is) taken
 
 -- the limits as a feeder names them
-pub stops-within : (bytes b : ℕ) (mode : Mode) (entries e : ℕ) (sender : Address) (at : ℕ) (pending octets : List ℕ) (old : Routes) (fault : Fault) → b ≡ bytes → e ≡ entries
-    → StopsWithin b mode e sender at pending octets old fault → StopsWithin bytes mode entries sender at pending octets old fault
-stops-within bytes b mode entries e sender at pending octets old fault is_b is_e stops =
-    subst (λ (n : ℕ). StopsWithin bytes mode n sender at pending octets old fault) is_e (subst (λ (n : ℕ). StopsWithin n mode e sender at pending octets old fault) is_b stops)
+pub stops-within : (bytes b : ℕ) (mode : Mode) (entries e : ℕ) (start s : Start) (at : ℕ) (pending octets : List ℕ) (old : Routes) (fault : Fault) → b ≡ bytes → e ≡ entries → s ≡ start
+    → StopsWithin b mode e s at pending octets old fault → StopsWithin bytes mode entries start at pending octets old fault
+stops-within bytes b mode entries e start s at pending octets old fault is_b is_e is_s stops =
+    subst (λ (x : Start). StopsWithin bytes mode entries x at pending octets old fault) is_s
+    (subst (λ (n : ℕ). StopsWithin bytes mode n s at pending octets old fault) is_e (subst (λ (n : ℕ). StopsWithin n mode e s at pending octets old fault) is_b stops))
 
 -- a feeder that was fed nothing
 pub taken-none : (limits : Bounds) (mode : Mode) (sender : Address) (rows : List (RouteKey × Held)) (report : Counts) (pending : List ℕ) → rows ≡ [] → report ≡ counts_of [] → pending ≡ []

@@ -1,11 +1,13 @@
 -- The rows that are listed: what each key holds that is not retracted, in the order in which the keys came, and then sorted.
-use Rattle.std.proofs.Common.{◌≡◌, ℕ, Bool, true, false, cond, List, [], ◌∷◌, ◌++◌, Option, Some, None, refl, sym, ap, subst, ◌∙◌, append_assoc, append-nil}
+use Rattle.std.proofs.Common.{◌≡◌, ℕ, ◌+◌, ◌<◌, ◌≤◌, length, take, get_or, Bool, true, false, cond, List, [], ◌∷◌, ◌++◌, Option, Some, None, refl, sym, ap, subst, ◌∙◌, append_assoc, append-nil}
 use Rattle.std.specs.Option.{option_map}
 use Rattle.std.specs.Ordering.{eq_by_cmp}
-use Rattle.std.specs.List.{AllByRecursion, IsDistinct}
+use Rattle.std.specs.List.{AllByRecursion, IsDistinct, filter}
 use Rattle.std.specs.List.Sorted.{IsPermutation, IsStrictlySortedBy}
 use Rattle.std.specs.Map.{keys_of}
 use Rattle.std.specs.BTreeMap.{is_at}
+use Rattle.std.proofs.lemmas.List.{take_all, take_more}
+use Rattle.std.proofs.lemmas.List.Elements.{filter-append}
 use Rattle.babel_tlv.specs.declared.held.Held.{Held}
 use Rattle.babel_tlv.specs.Keys.{key_cmp}
 use Rattle.babel_tlv.specs.Route.{RouteKey}
@@ -13,7 +15,7 @@ use Rattle.babel_table.specs.Live.{Kept, current, live_rows}
 use Rattle.babel_table.specs.Rows.{IsRising}
 use Rattle.babel_table.specs.Said.{Words, standing, AreDistinct}
 use Rattle.babel_table.proofs.LiveLaws.{keys-live_rows, live_rows-lookup}
-use Rattle.babel_table.proofs.SaidLaws.{found, found-same, found-standing, same_entries, same_key, sorted-standing, word_of}
+use Rattle.babel_table.proofs.SaidLaws.{is_said, found, found-same, found-standing, same_entries, same_key, sorted-standing, word_of}
 
 -- with the row of a word, if there is one
 abbrev pub with_word : ℕ → RouteKey → Option Kept → List (RouteKey × Held) → List (RouteKey × Held)
@@ -118,3 +120,26 @@ module _ (wipes : ℕ) (rows : List (RouteKey × Held)) (rest : Words) (whole : 
       ∙ ap (λ es. found q es) complete
       ∙ found-listed wipes q all.words all.distinct)
       ∙ ap (live_rows wipes) all.stands
+
+-- ---- the words that are not retracted, in the order in which they came
+
+module _ (all rows : Words) (i : ℕ) (so_far : rows ≡ filter is_said (take i all)) where
+  pub whole-said : length all ≤ i → rows ≡ filter is_said all
+  whole-said past = so_far ∙ ap (filter is_said) (take_all i all past)
+
+  module _ (word : RouteKey × Option Kept) (inside : i < length all) (at : word ≡ get_or all i word) where
+    more : take (i + 1) all ≡ take i all ++ word ∷ []
+    more = take_more all i word inside ∙ ap (λ (w : RouteKey × Option Kept). take i all ++ w ∷ []) (sym at)
+
+    split : filter is_said (take (i + 1) all) ≡ filter is_said (take i all) ++ filter is_said ((word.0, word.1) ∷ [])
+    split = ap (filter is_said) more ∙ filter-append is_said (take i all) (word ∷ [])
+
+    pub said-next : (v : Kept) → word.1 ≡ Some v → rows ++ (word.0, Some v) ∷ [] ≡ filter is_said (take (i + 1) all)
+    said-next v is =
+        ap (λ (ws : Words). ws ++ (word.0, Some v) ∷ []) so_far
+        ∙ sym (split ∙ ap (λ (o : Option Kept). filter is_said (take i all) ++ filter is_said ((word.0, o) ∷ [])) is)
+
+    pub skipped-next : word.1 ≡ None → rows ≡ filter is_said (take (i + 1) all)
+    skipped-next is =
+        so_far
+        ∙ sym (split ∙ ap (λ (o : Option Kept). filter is_said (take i all) ++ filter is_said ((word.0, o) ∷ [])) is ∙ append-nil (filter is_said (take i all)))

@@ -1,6 +1,6 @@
 -- How far the keys around a key reach, and the best match that is found so.
 use Rattle.std.proofs.Common.{◌≡◌, ◌≢◌, inl, inr, ℕ, ◌+◌, ◌-◌, ◌*◌, ◌/◌, ◌^◌, ◌<◌, ◌≤◌, true, false, List, [], ◌∷◌, ◌++◌, get_or, length, refl, sym, ◌∙◌, ap, subst, arith, length-append}
-use Rattle.std.specs.List.{All, AllByRecursion, AllWithin, Contains, HoldsAt}
+use Rattle.std.specs.List.{AllByRecursion, AllWithin, Contains, HoldsAt}
 use Rattle.std.specs.List.Sorted.{IsStrictlySortedBy, IsPartitionedBy}
 use Rattle.std.specs.Map.{keys_of}
 use Rattle.std.specs.Cmp.{nat_cmp_is}
@@ -11,7 +11,7 @@ use Rattle.std.proofs.Math.ListN.{get_or-map, get_or-append}
 use Rattle.std.proofs.Math.Nat.{div-mul-le_self}
 use Rattle.std.proofs.Math.Seq.{get_or-append_seam}
 use Rattle.std.proofs.lemmas.Bool.{cases_lt, cases_order}
-use Rattle.std.proofs.lemmas.Cmp.{nat_cmp_total, tied_itself}
+use Rattle.std.proofs.lemmas.Cmp.{tied_itself}
 use Rattle.std.proofs.lemmas.List.{get_or_default}
 use Rattle.std.proofs.lemmas.List.Elements.{All-get_or, All-from_recursion}
 use Rattle.std.proofs.lemmas.Map.Entries.{length-keys_of}
@@ -26,7 +26,6 @@ use Rattle.babel_prefix.specs.Width.{width_of}
 use Rattle.babel_prefix.proofs.BlockLaws.{block_at-itself, within_shorter, same_block}
 use Rattle.babel_prefix.proofs.Insertion.{equal_of}
 use Rattle.babel_prefix.proofs.OrderLaws.{family_equality, address_equality, prefix_exact, prefix_total, prefix_equality}
-use Rattle.babel_tlv.specs.declared.held.Held.{Held}
 use Rattle.babel_tlv.specs.declared.held.Held.TheVariants.{Unreachable}
 use Rattle.babel_tlv.specs.Keys.{key_cmp, IsKey}
 use Rattle.babel_tlv.specs.Pair.{Pair}

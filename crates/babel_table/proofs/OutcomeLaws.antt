@@ -1,7 +1,7 @@
 -- A dump has one fault at most and one table at most, and a fault stays.
 use Rattle.std.proofs.Common.{◌≡◌, ◌≢◌, ℕ, ◌+◌, List, [], ◌∷◌, ◌++◌, length, take, refl, sym, ap, subst, ◌∙◌, append_assoc, inl, inr, arith}
 use Rattle.std.specs.Prelude.{◌⊎◌, slice_index, Result, Ok, Err, IfErr}
-use Rattle.std.specs.List.{flat_map, AllByRecursion, Contains}
+use Rattle.std.specs.List.{flat_map, AllByRecursion}
 use Rattle.std.proofs.lemmas.List.{length-append, take-append-le}
 use Rattle.babel_prefix.specs.Address.{Address}
 use Rattle.babel_tlv.specs.declared.event.Event.{Event}
@@ -10,11 +10,12 @@ use Rattle.babel_tlv.specs.declared.fault.Fault.{Fault}
 use Rattle.babel_tlv.specs.declared.fault.Fault.TheVariants as faults
 use Rattle.babel_tlv.specs.declared.mode.Mode.{Mode}
 use Rattle.babel_tlv.specs.declared.mode.Mode.TheVariants as modes
+use Rattle.babel_tlv.specs.declared.start.Start.{Start}
 use Rattle.babel_tlv.specs.FrameFaults.{HeaderFault, PacketFault, HasNoTlvAt, BeginsPacket}
 use Rattle.babel_tlv.specs.Framing.{TlvAt, ReadsAs, packet_octets}
 use Rattle.babel_tlv.specs.Route.{RouteKey, Announcement}
 use Rattle.babel_tlv.specs.Says.{Saying, sayings, sayings_behind}
-use Rattle.babel_table.specs.Bounds.{Bounds}
+use Rattle.babel_table.specs.Bounds.{Bounds, start_of}
 use Rattle.babel_table.specs.Counts.{Counts, counts_of}
 use Rattle.babel_table.specs.DumpFault.{Refuses, RefusedBy, StreamFault, DumpFault, IsTruncated}
 use Rattle.babel_table.specs.Feeding.{IsPartial, IsLasting, MayGrowAt}
@@ -148,25 +149,25 @@ module _ (mode : Mode) (entries : ℕ) where
 
 -- ---- the fault of octets
 
-module _ (mode : Mode) (entries : ℕ) (sender : Address) where
+module _ (mode : Mode) (entries : ℕ) (start : Start) where
   -- the same where one reading goes on
   refused-on : (packets others more : List (List TlvAt)) (fault other : Fault) → packets ≡ others ++ more
-      → RefusedBy mode entries (sayings sender packets) fault → RefusedBy mode entries (sayings sender others) other → fault ≡ other
+      → RefusedBy mode entries (sayings start packets) fault → RefusedBy mode entries (sayings start others) other → fault ≡ other
   refused-on packets others more fault other is refused again =
-      refused-one mode entries (sayings sender packets) fault other refused
-      (subst (λ (s : List Saying). RefusedBy mode entries s other) (sym (ap (sayings sender) is ∙ sayings-append sender others more))
-      (refused-more mode entries (sayings sender others) (sayings sender more) other again))
+      refused-one mode entries (sayings start packets) fault other refused
+      (subst (λ (s : List Saying). RefusedBy mode entries s other) (sym (ap (sayings start) is ∙ sayings-append start others more))
+      (refused-more mode entries (sayings start others) (sayings start more) other again))
 
   -- where a fault of framing stands behind TLVs that are all fine, none of them refuses the dump
   framed-not_refused : (octets rest behind : List ℕ) (packets others : List (List TlvAt)) (said : List Event) (fault other : Fault) → ReadsAs octets packets rest → ReadsAs octets others behind
-      → AreFine mode entries [] (sayings sender packets) said → PacketFault (length (flat_map packet_octets packets)) rest fault → RefusedBy mode entries (sayings sender others) other → ⊥
+      → AreFine mode entries [] (sayings start packets) said → PacketFault (length (flat_map packet_octets packets)) rest fault → RefusedBy mode entries (sayings start others) other → ⊥
   framed-not_refused octets rest behind packets others said fault other reads other_reads fine why refused =
       let at : ℕ = length (flat_map packet_octets packets) in
       let on = packets_one 0 at packets others rest behind (omega arith) reads.placed other_reads.placed (fault-stuck at rest fault why) (sym reads.whole ∙ other_reads.whole) in
-      fine-not-refused mode entries (sayings sender others) (sayings sender on.0) said other
-      (subst (λ (s : List Saying). AreFine mode entries [] s said) (ap (sayings sender) on.1 ∙ sayings-append sender others on.0) fine) refused
+      fine-not-refused mode entries (sayings start others) (sayings start on.0) said other
+      (subst (λ (s : List Saying). AreFine mode entries [] s said) (ap (sayings start) on.1 ∙ sayings-append start others on.0) fine) refused
 
-  stream-one : (octets : List ℕ) (fault other : Fault) → StreamFault mode entries sender octets fault → StreamFault mode entries sender octets other → fault ≡ other
+  stream-one : (octets : List ℕ) (fault other : Fault) → StreamFault mode entries start octets fault → StreamFault mode entries start octets other → fault ≡ other
   stream-one octets fault other (packets, rest, reads, inl (said, fine, some, why)) (others, behind, other_reads, inl (other_said, other_fine, other_some, other_why)) =
       let at : ℕ = length (flat_map packet_octets packets) in
       let other_at : ℕ = length (flat_map packet_octets others) in
@@ -183,7 +184,7 @@ module _ (mode : Mode) (entries : ℕ) (sender : Address) where
         | inr on ↦ sym (refused-on others packets on.0 other fault on.1 again refused)
       ]
 
-  stream-more : (octets more : List ℕ) (fault : Fault) → StreamFault mode entries sender octets fault → ¬ IsTruncated fault → StreamFault mode entries sender (octets ++ more) fault
+  stream-more : (octets more : List ℕ) (fault : Fault) → StreamFault mode entries start octets fault → ¬ IsTruncated fault → StreamFault mode entries start (octets ++ more) fault
   stream-more octets more fault (packets, rest, reads, why) whole = (
     packets,
     rest ++ more,
@@ -195,10 +196,10 @@ module _ (mode : Mode) (entries : ℕ) (sender : Address) where
       some_more [] some = absurd (some refl)
       some_more (x ∷ xs) some = λ none. absurd cc
 
-      by : (((said : List Event) × AreFine mode entries [] (sayings sender packets) said × (rest ≢ [])
-          × PacketFault (length (flat_map packet_octets packets)) rest fault) ⊎ RefusedBy mode entries (sayings sender packets) fault)
-          → (((said : List Event) × AreFine mode entries [] (sayings sender packets) said × ((rest ++ more) ≢ [])
-          × PacketFault (length (flat_map packet_octets packets)) (rest ++ more) fault) ⊎ RefusedBy mode entries (sayings sender packets) fault)
+      by : (((said : List Event) × AreFine mode entries [] (sayings start packets) said × (rest ≢ [])
+          × PacketFault (length (flat_map packet_octets packets)) rest fault) ⊎ RefusedBy mode entries (sayings start packets) fault)
+          → (((said : List Event) × AreFine mode entries [] (sayings start packets) said × ((rest ++ more) ≢ [])
+          × PacketFault (length (flat_map packet_octets packets)) (rest ++ more) fault) ⊎ RefusedBy mode entries (sayings start packets) fault)
       by (inl (said, fine, some, framing)) = inl (said, fine, some_more rest some, packet_fault-more (length (flat_map packet_octets packets)) rest more fault framing whole)
       by (inr refused) = inr refused
 
@@ -215,13 +216,13 @@ all_middle : (xs : List Saying) (x : Saying) (ys : List Saying) → AllByRecursi
 all_middle [] x ys all = all.0
 all_middle (z ∷ xs) x ys all = all_middle xs x ys all.1
 
-packet_lasts : (sender : Address) (earlier tlvs : List TlvAt) → AllByRecursion Lasting (sayings_behind sender earlier tlvs)
-packet_lasts sender earlier [] = tt
-packet_lasts sender earlier (tlv ∷ tlvs) = ((said_lasts _ tlv).lasts, packet_lasts sender (tlv ∷ earlier) tlvs)
+packet_lasts : (start : Start) (earlier tlvs : List TlvAt) → AllByRecursion Lasting (sayings_behind start earlier tlvs)
+packet_lasts start earlier [] = tt
+packet_lasts start earlier (tlv ∷ tlvs) = ((said_lasts _ tlv).lasts, packet_lasts start (tlv ∷ earlier) tlvs)
 
-packets_last : (sender : Address) (packets : List (List TlvAt)) → AllByRecursion Lasting (sayings sender packets)
-packets_last sender [] = tt
-packets_last sender (packet ∷ packets) = all_append (sayings_behind sender [] packet) (sayings sender packets) (packet_lasts sender [] packet) (packets_last sender packets)
+packets_last : (start : Start) (packets : List (List TlvAt)) → AllByRecursion Lasting (sayings start packets)
+packets_last start [] = tt
+packets_last start (packet ∷ packets) = all_append (sayings_behind start [] packet) (sayings start packets) (packet_lasts start [] packet) (packets_last start packets)
 
 refuses-lasting : (mode : Mode) (entries : ℕ) (before : List Event) (at : ℕ) (what : Result Event Fault) (fault : Fault) → IfErr what IsLasting
     → Refuses mode entries before at what fault → IsLasting fault
@@ -229,28 +230,28 @@ refuses-lasting mode entries before at (Ok event) fault lasts why = subst IsLast
 refuses-lasting mode entries before at (Err refused) fault lasts why = subst IsLasting (sym why) lasts
 
 -- octets are cut off, or have a fault that lasts
-stream_kinds : (mode : Mode) (entries : ℕ) (sender : Address) (octets : List ℕ) (fault : Fault) → StreamFault mode entries sender octets fault → IsTruncated fault ⊎ IsLasting fault
-stream_kinds mode entries sender octets fault (packets, rest, reads, inl (said, fine, some, inl cut)) = inl (subst IsTruncated (sym cut.0) tt)
-stream_kinds mode entries sender octets fault (packets, rest, reads, inl (said, fine, some, inr (inl header))) = inr (header-lasts (length (flat_map packet_octets packets)) rest fault header)
-stream_kinds mode entries sender octets fault (packets, rest, reads, inl (said, fine, some, inr (inr (body, begins, past)))) = inr (subst IsLasting (sym past.2) tt)
-stream_kinds mode entries sender octets fault (packets, rest, reads, inr (front, saying, later, before, is, fine, why)) =
+stream_kinds : (mode : Mode) (entries : ℕ) (start : Start) (octets : List ℕ) (fault : Fault) → StreamFault mode entries start octets fault → IsTruncated fault ⊎ IsLasting fault
+stream_kinds mode entries start octets fault (packets, rest, reads, inl (said, fine, some, inl cut)) = inl (subst IsTruncated (sym cut.0) tt)
+stream_kinds mode entries start octets fault (packets, rest, reads, inl (said, fine, some, inr (inl header))) = inr (header-lasts (length (flat_map packet_octets packets)) rest fault header)
+stream_kinds mode entries start octets fault (packets, rest, reads, inl (said, fine, some, inr (inr (body, begins, past)))) = inr (subst IsLasting (sym past.2) tt)
+stream_kinds mode entries start octets fault (packets, rest, reads, inr (front, saying, later, before, is, fine, why)) =
     inr (refuses-lasting mode entries before saying.at saying.what fault
-    (all_middle front saying later (subst (λ (s : List Saying). AllByRecursion Lasting s) is (packets_last sender packets))) why)
+    (all_middle front saying later (subst (λ (s : List Saying). AllByRecursion Lasting s) is (packets_last start packets))) why)
 
 dump_kinds : (limits : Bounds) (mode : Mode) (sender : Address) (dump : List ℕ) (fault : Fault) → DumpFault limits mode sender dump fault → IsTruncated fault ⊎ IsLasting fault
-dump_kinds limits mode sender dump fault (inl (within, stream)) = stream_kinds mode limits.entries sender dump fault stream
-dump_kinds limits mode sender dump fault (inr (inl (past, stream, whole))) = stream_kinds mode limits.entries sender (take limits.bytes dump) fault stream
+dump_kinds limits mode sender dump fault (inl (within, stream)) = stream_kinds mode limits.entries (start_of limits sender) dump fault stream
+dump_kinds limits mode sender dump fault (inr (inl (past, stream, whole))) = stream_kinds mode limits.entries (start_of limits sender) (take limits.bytes dump) fault stream
 dump_kinds limits mode sender dump fault (inr (inr (past, is, cut))) = inr (subst IsLasting (sym is) tt)
 
 -- ---- the laws
 
 pub fault_is_one : FaultIsOne
-fault_is_one limits mode sender dump fault other (inl (within, stream)) (inl (again, other_stream)) = stream-one mode limits.entries sender dump fault other stream other_stream
+fault_is_one limits mode sender dump fault other (inl (within, stream)) (inl (again, other_stream)) = stream-one mode limits.entries (start_of limits sender) dump fault other stream other_stream
 fault_is_one limits mode sender dump fault other (inl (within, stream)) (inr (inl (past, other_stream, whole))) = absurd (omega (arith, within, past))
 fault_is_one limits mode sender dump fault other (inl (within, stream)) (inr (inr (past, is, cut))) = absurd (omega (arith, within, past))
 fault_is_one limits mode sender dump fault other (inr (inl (past, stream, whole))) (inl (within, other_stream)) = absurd (omega (arith, within, past))
 fault_is_one limits mode sender dump fault other (inr (inl (past, stream, whole))) (inr (inl (again, other_stream, other_whole))) =
-    stream-one mode limits.entries sender (take limits.bytes dump) fault other stream other_stream
+    stream-one mode limits.entries (start_of limits sender) (take limits.bytes dump) fault other stream other_stream
 fault_is_one limits mode sender dump fault other (inr (inl (past, stream, whole))) (inr (inr (again, is, cut))) = absurd (whole (cut fault stream))
 fault_is_one limits mode sender dump fault other (inr (inr (past, is, cut))) (inl (within, stream)) = absurd (omega (arith, within, past))
 fault_is_one limits mode sender dump fault other (inr (inr (past, is, cut))) (inr (inl (again, stream, whole))) = absurd (whole (cut other stream))
@@ -265,18 +266,18 @@ fault_is_of_octets limits mode sender dump fault refused = by (dump_kinds limits
 
 pub fault_stays : FaultStays
 fault_stays limits mode sender given more fault (inl (within, stream)) whole =
-    dump_fault limits mode sender given more fault within whole (λ behind. stream-more mode limits.entries sender given behind fault stream whole)
+    dump_fault limits mode sender given more fault within whole (λ behind. stream-more mode limits.entries (start_of limits sender) given behind fault stream whole)
 fault_stays limits mode sender given more fault (inr (inl (past, stream, lasts))) whole =
     inr (inl (
       omega (arith, past, length-append given more),
-      subst (λ (t : List ℕ). StreamFault mode limits.entries sender t fault) (sym (take-append-le limits.bytes given more (omega (arith, past)))) stream,
+      subst (λ (t : List ℕ). StreamFault mode limits.entries (start_of limits sender) t fault) (sym (take-append-le limits.bytes given more (omega (arith, past)))) stream,
       lasts,
     ))
 fault_stays limits mode sender given more fault (inr (inr (past, is, cut))) whole =
     inr (inr (
       omega (arith, past, length-append given more),
       is,
-      λ other stream. cut other (subst (λ (t : List ℕ). StreamFault mode limits.entries sender t other) (take-append-le limits.bytes given more (omega (arith, past))) stream),
+      λ other stream. cut other (subst (λ (t : List ℕ). StreamFault mode limits.entries (start_of limits sender) t other) (take-append-le limits.bytes given more (omega (arith, past))) stream),
     ))
 
 -- the events of a table are those of its packets
@@ -284,11 +285,11 @@ pub table_is_one : TableIsOne
 table_is_one limits mode sender dump table other is_table is_other =
     let packets : is_table.packets ≡ is_other.packets = framed_one dump is_table.packets is_other.packets is_table.reads is_other.reads in
     let said : is_table.said ≡ is_other.said =
-    fine_one mode limits.entries [] (sayings sender is_other.packets) is_table.said is_other.said
-    (subst (λ (ps : List (List TlvAt)). AreFine mode limits.entries [] (sayings sender ps) is_table.said) packets is_table.fine) is_other.fine in
+    fine_one mode limits.entries [] (sayings (start_of limits sender) is_other.packets) is_table.said is_other.said
+    (subst (λ (ps : List (List TlvAt)). AreFine mode limits.entries [] (sayings (start_of limits sender) ps) is_table.said) packets is_table.fine) is_other.fine in
     let rows : table.rows ≡ other.rows =
     rows-one mode is_other.said table.rows other.rows (subst (λ (es : List Event). AreRowsOf mode es table.rows) said is_table.rows) is_other.rows in
-    let report : table.report ≡ other.report = is_table.report ∙ ap (λ (ps : List (List TlvAt)). counts_of (sayings sender ps)) packets ∙ sym is_other.report in
+    let report : table.report ≡ other.report = is_table.report ∙ ap (λ (ps : List (List TlvAt)). counts_of (sayings (start_of limits sender) ps)) packets ∙ sym is_other.report in
     ap (λ rows. routes rows table.report) rows ∙ ap (λ (counts : Counts). routes other.rows counts) report
 
 -- what may grow in each mode
@@ -309,11 +310,11 @@ hold_grows (Ok (events.Ignored reason)) grows = absurd grows
 hold_grows (Err fault) grows = absurd grows
 
 pub routes_need_memory : RoutesNeedMemory
-routes_need_memory sender octets (packets, rest, reads, (saying, is_in, grows)) =
+routes_need_memory start octets (packets, rest, reads, (saying, is_in, grows)) =
     let grown = plain_grows saying.what grows in
     (packets, rest, saying, grown.0, reads, is_in, grown.1, (grown.2, grown.3, grown.4))
 
 pub keys_need_memory : KeysNeedMemory
-keys_need_memory sender octets (packets, rest, reads, (saying, is_in, grows)) =
+keys_need_memory start octets (packets, rest, reads, (saying, is_in, grows)) =
     let grown = hold_grows saying.what grows in
     (packets, rest, saying, grown.0, reads, is_in, grown.1, (grown.2, grown.3))

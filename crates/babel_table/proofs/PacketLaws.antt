@@ -4,7 +4,7 @@ use Rattle.std.specs.Prelude.{◌⊎◌}
 use Rattle.std.specs.List.{flat_map}
 use Rattle.std.proofs.lemmas.List.{append-nil, length-append, drop_at, take_all}
 use Rattle.std.proofs.lemmas.List.Concat.{flat_map-append}
-use Rattle.babel_prefix.specs.Address.{Address}
+use Rattle.babel_tlv.specs.declared.start.Start.{Start}
 use Rattle.babel_tlv.specs.declared.fault.Fault.{Fault}
 use Rattle.babel_tlv.specs.declared.mode.Mode.{Mode}
 use Rattle.babel_tlv.specs.FrameFaults.{BeginsPacket, AreTlvs}
@@ -13,8 +13,8 @@ use Rattle.babel_tlv.specs.Says.{Saying, sayings, sayings_behind}
 use Rattle.babel_table.specs.Feeding.{StandsBehind, Takes, Fails, TookPackets}
 use Rattle.babel_table.specs.Rows.{Routes}
 
-pub packets-none : (mode : Mode) (entries : ℕ) (sender : Address) (at : ℕ) (octets : List ℕ) (old : Routes) → TookPackets mode entries sender at octets old old octets at
-packets-none mode entries sender at octets old = record {
+pub packets-none : (mode : Mode) (entries : ℕ) (start : Start) (at : ℕ) (octets : List ℕ) (old : Routes) → TookPackets mode entries start at octets old old octets at
+packets-none mode entries start at octets old = record {
   packets = [];
   whole = refl;
   placed = tt;
@@ -36,19 +36,19 @@ placed-push at (first ∷ packets) tlvs place placed here fits parts = (
       (omega (arith, here, length-append (packet_octets first) (flat_map packet_octets packets))) fits parts,
 )
 
-pub packets-next : (mode : Mode) (entries : ℕ) (sender : Address) (at : ℕ) (octets : List ℕ) (old now next : Routes) (rest body : List ℕ) (place : ℕ)
-    → TookPackets mode entries sender at octets old now rest place
-    → BeginsPacket rest body → AreTlvs (place + 4) body (tlvs_of (place + 4) body) → Takes mode entries (sayings_behind sender [] (tlvs_of (place + 4) body)) now next
-    → TookPackets mode entries sender at octets old next (drop (4 + length body) rest) (place + (4 + length body))
-packets-next mode entries sender at octets old now next rest body place took (fits, behind, is_rest) parts takes =
+pub packets-next : (mode : Mode) (entries : ℕ) (start : Start) (at : ℕ) (octets : List ℕ) (old now next : Routes) (rest body : List ℕ) (place : ℕ)
+    → TookPackets mode entries start at octets old now rest place
+    → BeginsPacket rest body → AreTlvs (place + 4) body (tlvs_of (place + 4) body) → Takes mode entries (sayings_behind start [] (tlvs_of (place + 4) body)) now next
+    → TookPackets mode entries start at octets old next (drop (4 + length body) rest) (place + (4 + length body))
+packets-next mode entries start at octets old now next rest body place took (fits, behind, is_rest) parts takes =
     let tlvs : List TlvAt = tlvs_of (place + 4) body in
     let is_body : body_octets tlvs ≡ body = sym parts.whole in
     let is_packet : packet_octets tlvs ≡ framed body = ap framed is_body in
     let dropped : drop (4 + length body) rest ≡ behind = ap (drop (4 + length body)) is_rest ∙ drop_at (framed body) behind (4 + length body) (length-framed body) in
     let joined : flat_map packet_octets (took.packets ++ tlvs ∷ []) ≡ flat_map packet_octets took.packets ++ framed body =
     flat_map-append packet_octets took.packets (tlvs ∷ []) ∙ ap (λ (t : List ℕ). flat_map packet_octets took.packets ++ t) (append-nil (packet_octets tlvs) ∙ is_packet) in
-    let said : sayings sender (took.packets ++ tlvs ∷ []) ≡ sayings sender took.packets ++ sayings_behind sender [] tlvs =
-    flat_map-append (sayings_behind sender []) took.packets (tlvs ∷ []) ∙ ap (λ (t : List Saying). sayings sender took.packets ++ t) (append-nil (sayings_behind sender [] tlvs)) in
+    let said : sayings start (took.packets ++ tlvs ∷ []) ≡ sayings start took.packets ++ sayings_behind start [] tlvs =
+    flat_map-append (sayings_behind start []) took.packets (tlvs ∷ []) ∙ ap (λ (t : List Saying). sayings start took.packets ++ t) (append-nil (sayings_behind start [] tlvs)) in
     record {
       packets = took.packets ++ tlvs ∷ [];
       whole = took.whole ∙ ap (λ (t : List ℕ). flat_map packet_octets took.packets ++ t) is_rest ∙ sym (append_assoc (flat_map packet_octets took.packets) (framed body) behind)
@@ -56,8 +56,8 @@ packets-next mode entries sender at octets old now next rest body place took (fi
       placed = placed-push at took.packets tlvs place took.placed took.here (subst IsBody (sym is_body) fits) parts.placed;
       here = rw joined (omega (arith, took.here, length-append (flat_map packet_octets took.packets) (framed body), length-framed body));
       takes = λ before stands. subst (λ (s : List Saying). StandsBehind mode entries next s)
-          (append_assoc before (sayings sender took.packets) (sayings_behind sender [] tlvs) ∙ ap (λ (s : List Saying). before ++ s) (sym said))
-          (takes (before ++ sayings sender took.packets) (took.takes before stands));
+          (append_assoc before (sayings start took.packets) (sayings_behind start [] tlvs) ∙ ap (λ (s : List Saying). before ++ s) (sym said))
+          (takes (before ++ sayings start took.packets) (took.takes before stands));
     }
 
 -- ---- as a loop meets them
@@ -76,24 +76,24 @@ pub body-stops : (m mode : Mode) (e entries : ℕ) → m ≡ mode → e ≡ entr
 body-stops m mode e entries is_m is_e said now fault (inl past) = inl past
 body-stops m mode e entries is_m is_e said now fault (inr (whole, fails)) = inr (whole, fails-at m mode e entries is_m is_e said now fault fails)
 
-pub packets-next_used : (mode : Mode) (entries : ℕ) (sender : Address) (at : ℕ) (octets : List ℕ) (old now next : Routes) (rest body : List ℕ)
-    (place used : ℕ) → used ≡ 4 + length body → TookPackets mode entries sender at octets old now rest place
-    → BeginsPacket rest body → AreTlvs (place + 4) body (tlvs_of (place + 4) body) → Takes mode entries (sayings_behind sender [] (tlvs_of (place + 4) body)) now next
-    → TookPackets mode entries sender at octets old next (drop used rest) (place + used)
-packets-next_used mode entries sender at octets old now next rest body place used is took begins parts takes =
-    subst (λ (n : ℕ). TookPackets mode entries sender at octets old next (drop n rest) (place + n)) (sym is)
-    (packets-next mode entries sender at octets old now next rest body place took begins parts takes)
+pub packets-next_used : (mode : Mode) (entries : ℕ) (start : Start) (at : ℕ) (octets : List ℕ) (old now next : Routes) (rest body : List ℕ)
+    (place used : ℕ) → used ≡ 4 + length body → TookPackets mode entries start at octets old now rest place
+    → BeginsPacket rest body → AreTlvs (place + 4) body (tlvs_of (place + 4) body) → Takes mode entries (sayings_behind start [] (tlvs_of (place + 4) body)) now next
+    → TookPackets mode entries start at octets old next (drop used rest) (place + used)
+packets-next_used mode entries start at octets old now next rest body place used is took begins parts takes =
+    subst (λ (n : ℕ). TookPackets mode entries start at octets old next (drop n rest) (place + n)) (sym is)
+    (packets-next mode entries start at octets old now next rest body place took begins parts takes)
 
 -- how many octets were taken says what the rest is, and where it begins
-module _ (mode : Mode) (entries : ℕ) (sender : Address) (at : ℕ) (octets : List ℕ) (old now : Routes) (rest : List ℕ) (place : ℕ)
-    (took : TookPackets mode entries sender at octets old now rest place) where
+module _ (mode : Mode) (entries : ℕ) (start : Start) (at : ℕ) (octets : List ℕ) (old now : Routes) (rest : List ℕ) (place : ℕ)
+    (took : TookPackets mode entries start at octets old now rest place) where
   lengths : length octets ≡ length (flat_map packet_octets took.packets) + length rest
   lengths = ap length took.whole ∙ length-append (flat_map packet_octets took.packets) rest
 
   pub rest-left : drop (length octets - length rest) octets ≡ rest
   rest-left = ap (drop (length octets - length rest)) took.whole ∙ drop_at (flat_map packet_octets took.packets) rest (length octets - length rest) (omega (arith, lengths))
 
-  pub took-left : TookPackets mode entries sender at octets old now (drop (length octets - length rest) octets) (at + (length octets - length rest))
+  pub took-left : TookPackets mode entries start at octets old now (drop (length octets - length rest) octets) (at + (length octets - length rest))
   took-left =
       let here : place ≡ at + (length octets - length rest) = omega (arith, took.here, lengths) in
       rw (rest-left, ← here) took

@@ -1,10 +1,10 @@
 -- TLVs of a packet, taken one by one.
 use Rattle.std.proofs.Common.{◌≡◌, ℕ, zero, suc, ◌+◌, ◌≤◌, ltb, Bool, true, false, cond, take, List, [], ◌∷◌, ◌++◌, length, refl, sym, ap, subst, ◌∙◌, append_assoc, inl, inr, arith}
-use Rattle.std.specs.Prelude.{Result, Ok, Err, IfErr, OnOk, ◌==◌, nat_lt, nat_le}
+use Rattle.std.specs.Prelude.{Result, Ok, Err, IfErr, OnOk, ◌==◌, ◌&&◌, nat_lt}
 use Rattle.std.specs.List.{Contains}
 use Rattle.std.proofs.lemmas.List.{append-nil}
 use Rattle.std.proofs.lemmas.List.Elements.{Contains-append_right}
-use Rattle.babel_prefix.specs.Address.{Address}
+use Rattle.babel_tlv.specs.declared.start.Start.{Start}
 use Rattle.babel_tlv.specs.declared.event.Event.{Event}
 use Rattle.babel_tlv.specs.declared.fault.Fault.{Fault}
 use Rattle.babel_tlv.specs.declared.mode.Mode.{Mode}
@@ -29,9 +29,10 @@ event_lasts = record { lasts = tt }
 
 update_lasts : (context : Context) (tlv : TlvAt) → Lasts (update_said context tlv)
 update_lasts context tlv =
-    either_lasts (nat_lt (length tlv.body) 10) event_lasts
-    (either_lasts (nat_le 3 (update_encoding tlv.body)) (either_lasts (sets_router_id tlv.body) (record { lasts = tt }) event_lasts)
-    (either_lasts (update_encoding tlv.body == 0) event_lasts (either_lasts (update_encoding tlv.body == 1) event_lasts event_lasts)))
+    let encoding : ℕ = update_encoding tlv.body in
+    either_lasts (nat_lt (length tlv.body) 10) event_lasts (either_lasts (encoding == 0) event_lasts
+    (either_lasts (encoding == 1 && true) event_lasts (either_lasts (encoding == 2 && true) event_lasts (either_lasts (encoding == 4 && context.via_v6) event_lasts
+    (either_lasts (sets_router_id tlv.body) (record { lasts = tt }) event_lasts)))))
 
 pub said_lasts : (context : Context) (tlv : TlvAt) → Lasts (said context tlv)
 said_lasts context tlv =
@@ -42,71 +43,71 @@ said_lasts context tlv =
 said-lasting : (context : Context) (tlv : TlvAt) (fault : Fault) → said context tlv ≡ Err fault → IsLasting fault
 said-lasting context tlv fault is = subst (λ (r : Result Event Fault). IfErr r IsLasting) is (said_lasts context tlv).lasts
 
-module _ (mode : Mode) (entries : ℕ) (sender : Address) (old : Routes) (all : List TlvAt) where
-  here_said : (context : Context) (tlv : TlvAt) (some : List TlvAt) (event : Event) → context ≡ context_after sender some
-      → said context tlv ≡ Ok event → said (context_after sender some) tlv ≡ Ok event
+module _ (mode : Mode) (entries : ℕ) (start : Start) (old : Routes) (all : List TlvAt) where
+  here_said : (context : Context) (tlv : TlvAt) (some : List TlvAt) (event : Event) → context ≡ context_after start some
+      → said context tlv ≡ Ok event → said (context_after start some) tlv ≡ Ok event
   here_said context tlv some event is e = subst (λ (c : Context). said c tlv ≡ Ok event) is e
 
   abbrev what : TlvAt → Result Event Fault → Saying
   what tlv r = record { at = tlv.at; kind = tlv.kind; what = r }
 
-  pub took-next : (now next : Routes) (context after : Context) (tlv : TlvAt) (left : List TlvAt) (event : Event) → TookSome mode entries sender old all now context (tlv ∷ left)
-      → said context tlv ≡ Ok event → ((earlier : List TlvAt) → context ≡ context_after sender earlier → after ≡ context_after sender (tlv ∷ earlier))
+  pub took-next : (now next : Routes) (context after : Context) (tlv : TlvAt) (left : List TlvAt) (event : Event) → TookSome mode entries start old all now context (tlv ∷ left)
+      → said context tlv ≡ Ok event → ((earlier : List TlvAt) → context ≡ context_after start earlier → after ≡ context_after start (tlv ∷ earlier))
       → ((before : List Saying) → StandsBehind mode entries now before → StandsBehind mode entries next (before ++ event_at tlv event ∷ []))
-      → TookSome mode entries sender old all next after left
+      → TookSome mode entries start old all next after left
   took-next now next context after tlv left event some is_said goes takes =
-      let here : what tlv (said (context_after sender some.earlier) tlv) ≡ event_at tlv event = ap (what tlv) (here_said context tlv some.earlier event some.context_is is_said) in
+      let here : what tlv (said (context_after start some.earlier) tlv) ≡ event_at tlv event = ap (what tlv) (here_said context tlv some.earlier event some.context_is is_said) in
       record {
         earlier = tlv ∷ some.earlier;
         done = some.done ++ event_at tlv event ∷ [];
         context_is = goes some.earlier some.context_is;
-        whole = some.whole ∙ ap (λ (s : Saying). some.done ++ s ∷ sayings_behind sender (tlv ∷ some.earlier) left) here
-            ∙ sym (append_assoc some.done (event_at tlv event ∷ []) (sayings_behind sender (tlv ∷ some.earlier) left));
+        whole = some.whole ∙ ap (λ (s : Saying). some.done ++ s ∷ sayings_behind start (tlv ∷ some.earlier) left) here
+            ∙ sym (append_assoc some.done (event_at tlv event ∷ []) (sayings_behind start (tlv ∷ some.earlier) left));
         stands = λ before stands. subst (StandsBehind mode entries next) (append_assoc before some.done (event_at tlv event ∷ [])) (takes (before ++ some.done) (some.stands before stands));
       }
 
   -- the TLV refuses the dump
-  pub took-refused : (now : Routes) (context : Context) (tlv : TlvAt) (left : List TlvAt) (fault : Fault) → TookSome mode entries sender old all now context (tlv ∷ left)
-      → said context tlv ≡ Err fault → Fails mode entries (sayings_behind sender [] all) old fault
+  pub took-refused : (now : Routes) (context : Context) (tlv : TlvAt) (left : List TlvAt) (fault : Fault) → TookSome mode entries start old all now context (tlv ∷ left)
+      → said context tlv ≡ Err fault → Fails mode entries (sayings_behind start [] all) old fault
   took-refused now context tlv left fault some is_said =
-      let here : said (context_after sender some.earlier) tlv ≡ Err fault = subst (λ (c : Context). said c tlv ≡ Err fault) some.context_is is_said in
-      let one : Saying = what tlv (said (context_after sender some.earlier) tlv) in
-      let rest : List Saying = sayings_behind sender (tlv ∷ some.earlier) left in
-      let whole : sayings_behind sender [] all ≡ some.done ++ (one ∷ rest) = some.whole in
+      let here : said (context_after start some.earlier) tlv ≡ Err fault = subst (λ (c : Context). said c tlv ≡ Err fault) some.context_is is_said in
+      let one : Saying = what tlv (said (context_after start some.earlier) tlv) in
+      let rest : List Saying = sayings_behind start (tlv ∷ some.earlier) left in
+      let whole : sayings_behind start [] all ≡ some.done ++ (one ∷ rest) = some.whole in
       inl (
-        said-lasting (context_after sender some.earlier) tlv fault here,
+        said-lasting (context_after start some.earlier) tlv fault here,
         λ before later stands.
             subst (λ (s : List Saying). RefusedBy mode entries s fault)
             (append_assoc before some.done (one ∷ rest ++ later)
             ∙ ap (λ (s : List Saying). before ++ s) (sym (append_assoc some.done (one ∷ rest) later))
-            ∙ ap (λ (s : List Saying). before ++ (s ++ later)) (sym whole) ∙ sym (append_assoc before (sayings_behind sender [] all) later))
+            ∙ ap (λ (s : List Saying). before ++ (s ++ later)) (sym whole) ∙ sym (append_assoc before (sayings_behind start [] all) later))
             (refused_by mode entries now (before ++ some.done) one (rest ++ later) fault (some.stands before stands)
             (λ events are. subst (λ (r : Result Event Fault). Refuses mode entries events tlv.at r fault) (sym here) refl)),
       )
 
   -- there would be too many rows, or there is no memory
-  pub took-failed : (now : Routes) (context : Context) (tlv : TlvAt) (left : List TlvAt) (event : Event) (fault : Fault) → TookSome mode entries sender old all now context (tlv ∷ left)
-      → said context tlv ≡ Ok event → IsRefused mode entries tlv.at event now.rows fault → Fails mode entries (sayings_behind sender [] all) old fault
+  pub took-failed : (now : Routes) (context : Context) (tlv : TlvAt) (left : List TlvAt) (event : Event) (fault : Fault) → TookSome mode entries start old all now context (tlv ∷ left)
+      → said context tlv ≡ Ok event → IsRefused mode entries tlv.at event now.rows fault → Fails mode entries (sayings_behind start [] all) old fault
   took-failed now context tlv left event fault some is_said (inl (is, over)) =
-      let here : said (context_after sender some.earlier) tlv ≡ Ok event = here_said context tlv some.earlier event some.context_is is_said in
-      let one : Saying = what tlv (said (context_after sender some.earlier) tlv) in
-      let rest : List Saying = sayings_behind sender (tlv ∷ some.earlier) left in
-      let whole : sayings_behind sender [] all ≡ some.done ++ (one ∷ rest) = some.whole in
+      let here : said (context_after start some.earlier) tlv ≡ Ok event = here_said context tlv some.earlier event some.context_is is_said in
+      let one : Saying = what tlv (said (context_after start some.earlier) tlv) in
+      let rest : List Saying = sayings_behind start (tlv ∷ some.earlier) left in
+      let whole : sayings_behind start [] all ≡ some.done ++ (one ∷ rest) = some.whole in
       inl (
         subst IsLasting (sym is) tt,
         λ before later stands.
             subst (λ (s : List Saying). RefusedBy mode entries s fault)
             (append_assoc before some.done (one ∷ rest ++ later)
             ∙ ap (λ (s : List Saying). before ++ s) (sym (append_assoc some.done (one ∷ rest) later))
-            ∙ ap (λ (s : List Saying). before ++ (s ++ later)) (sym whole) ∙ sym (append_assoc before (sayings_behind sender [] all) later))
+            ∙ ap (λ (s : List Saying). before ++ (s ++ later)) (sym whole) ∙ sym (append_assoc before (sayings_behind start [] all) later))
             (refused_by mode entries now (before ++ some.done) one (rest ++ later) fault (some.stands before stands)
             (λ events are. subst (λ (r : Result Event Fault). Refuses mode entries events tlv.at r fault) (sym here) (is, over events are))),
       )
   took-failed now context tlv left event fault some is_said (inr (memory, grow)) =
-      let here : said (context_after sender some.earlier) tlv ≡ Ok event = here_said context tlv some.earlier event some.context_is is_said in
-      let one : Saying = what tlv (said (context_after sender some.earlier) tlv) in
-      let rest : List Saying = sayings_behind sender (tlv ∷ some.earlier) left in
-      let whole : sayings_behind sender [] all ≡ some.done ++ (one ∷ rest) = some.whole in
+      let here : said (context_after start some.earlier) tlv ≡ Ok event = here_said context tlv some.earlier event some.context_is is_said in
+      let one : Saying = what tlv (said (context_after start some.earlier) tlv) in
+      let rest : List Saying = sayings_behind start (tlv ∷ some.earlier) left in
+      let whole : sayings_behind start [] all ≡ some.done ++ (one ∷ rest) = some.whole in
       inr (
         memory,
         (
@@ -137,43 +138,43 @@ length-tlvs_of at octets = length-tlvs_past 0 at octets
 
 module _ (mode : Mode) (entries : ℕ) (now next : Routes) (context after : Context) (tlv : TlvAt) where
   pub tlv-taken : {T : Type 0} (event : Event) (taken : Result T Fault) → Ok event ≡ said context tlv
-      → ((sender : Address) (earlier : List TlvAt) → context ≡ context_after sender earlier → after ≡ context_after sender (tlv ∷ earlier))
+      → ((start : Start) (earlier : List TlvAt) → context ≡ context_after start earlier → after ≡ context_after start (tlv ∷ earlier))
       → OnOk taken ((before : List Saying) → StandsBehind mode entries now before → StandsBehind mode entries next (before ++ event_at tlv event ∷ []))
-      → OnOk taken ((sender : Address) (old : Routes) (all left : List TlvAt) → TookSome mode entries sender old all now context (tlv ∷ left) → TookSome mode entries sender old all next after left)
-  tlv-taken event (Ok x) is_said goes takes = λ sender old all left some. took-next mode entries sender old all now next context after tlv left event some (sym is_said) (goes sender) takes
+      → OnOk taken ((start : Start) (old : Routes) (all left : List TlvAt) → TookSome mode entries start old all now context (tlv ∷ left) → TookSome mode entries start old all next after left)
+  tlv-taken event (Ok x) is_said goes takes = λ start old all left some. took-next mode entries start old all now next context after tlv left event some (sym is_said) (goes start) takes
   tlv-taken event (Err fault) is_said goes takes = tt
 
   pub tlv-failed : {T : Type 0} (event : Event) (taken : Result T Fault) → Ok event ≡ said context tlv → IfErr taken (IsRefused mode entries tlv.at event now.rows)
-      → IfErr taken (λ fault. (sender : Address) (old : Routes) (all left : List TlvAt) → TookSome mode entries sender old all now context
-      (tlv ∷ left) → Fails mode entries (sayings_behind sender [] all) old fault)
+      → IfErr taken (λ fault. (start : Start) (old : Routes) (all left : List TlvAt) → TookSome mode entries start old all now context
+      (tlv ∷ left) → Fails mode entries (sayings_behind start [] all) old fault)
   tlv-failed event (Ok x) is_said refused = tt
-  tlv-failed event (Err fault) is_said refused = λ sender old all left some. took-failed mode entries sender old all now context tlv left event fault some (sym is_said) refused
+  tlv-failed event (Err fault) is_said refused = λ start old all left some. took-failed mode entries start old all now context tlv left event fault some (sym is_said) refused
 
 -- a TLV is the next of its packet, at the mode and the limit of the packet's start
-module _ (mode m : Mode) (entries e : ℕ) (is_m : m ≡ mode) (is_e : e ≡ entries) (sender : Address) (old : Routes) (all : List TlvAt) (now : Routes)
+module _ (mode m : Mode) (entries e : ℕ) (is_m : m ≡ mode) (is_e : e ≡ entries) (start : Start) (old : Routes) (all : List TlvAt) (now : Routes)
     (context : Context) (tlv : TlvAt) (all_left left : List TlvAt) (is_left : all_left ≡ tlv ∷ left) where
-  here : TookSome mode entries sender old all now context all_left → TookSome m e sender old all now context (tlv ∷ left)
-  here some = subst (λ (o : Mode). TookSome o e sender old all now context (tlv ∷ left)) (sym is_m)
-      (subst (λ (n : ℕ). TookSome mode n sender old all now context (tlv ∷ left)) (sym is_e) (subst (λ (l : List TlvAt). TookSome mode entries sender old all now context l) is_left some))
+  here : TookSome mode entries start old all now context all_left → TookSome m e start old all now context (tlv ∷ left)
+  here some = subst (λ (o : Mode). TookSome o e start old all now context (tlv ∷ left)) (sym is_m)
+      (subst (λ (n : ℕ). TookSome mode n start old all now context (tlv ∷ left)) (sym is_e) (subst (λ (l : List TlvAt). TookSome mode entries start old all now context l) is_left some))
 
-  pub body-failed : (fault : Fault) → TookSome mode entries sender old all now context all_left
-      → (TookSome m e sender old all now context (tlv ∷ left) → Fails m e (sayings_behind sender [] all) old fault)
-      → Fails mode entries (sayings_behind sender [] all) old fault
+  pub body-failed : (fault : Fault) → TookSome mode entries start old all now context all_left
+      → (TookSome m e start old all now context (tlv ∷ left) → Fails m e (sayings_behind start [] all) old fault)
+      → Fails mode entries (sayings_behind start [] all) old fault
   body-failed fault some fails =
-      subst (λ (o : Mode). Fails o entries (sayings_behind sender [] all) old fault) is_m (subst (λ (n : ℕ). Fails m n (sayings_behind sender [] all) old fault) is_e (fails (here some)))
+      subst (λ (o : Mode). Fails o entries (sayings_behind start [] all) old fault) is_m (subst (λ (n : ℕ). Fails m n (sayings_behind start [] all) old fault) is_e (fails (here some)))
 
-  pub body-taken : (next : Routes) (after : Context) → TookSome mode entries sender old all now context all_left
-      → (TookSome m e sender old all now context (tlv ∷ left) → TookSome m e sender old all next after left)
-      → TookSome mode entries sender old all next after left
+  pub body-taken : (next : Routes) (after : Context) → TookSome mode entries start old all now context all_left
+      → (TookSome m e start old all now context (tlv ∷ left) → TookSome m e start old all next after left)
+      → TookSome mode entries start old all next after left
   body-taken next after some takes =
-      subst (λ (o : Mode). TookSome o entries sender old all next after left) is_m (subst (λ (n : ℕ). TookSome m n sender old all next after left) is_e (takes (here some)))
+      subst (λ (o : Mode). TookSome o entries start old all next after left) is_m (subst (λ (n : ℕ). TookSome m n start old all next after left) is_e (takes (here some)))
 
-pub took-start : (mode : Mode) (entries : ℕ) (sender : Address) (old : Routes) (all : List TlvAt) (context : Context) (left : List TlvAt) → context ≡ context_after sender [] → left ≡ all
-    → TookSome mode entries sender old all old context left
-took-start mode entries sender old all context left is_context is_left = record {
+pub took-start : (mode : Mode) (entries : ℕ) (start : Start) (old : Routes) (all : List TlvAt) (context : Context) (left : List TlvAt) → context ≡ context_after start [] → left ≡ all
+    → TookSome mode entries start old all old context left
+took-start mode entries start old all context left is_context is_left = record {
   earlier = [];
   done = [];
   context_is = is_context;
-  whole = ap (λ (l : List TlvAt). sayings_behind sender [] l) (sym is_left);
+  whole = ap (λ (l : List TlvAt). sayings_behind start [] l) (sym is_left);
   stands = λ before stands. subst (StandsBehind mode entries old) (sym (append-nil before)) stands;
 }

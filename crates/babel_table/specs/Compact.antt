@@ -1,9 +1,11 @@
 -- How rows are kept: the key and what is held, of one family, in parts. This project's own.
-use Rattle.std.specs.Prelude.{◌≡◌, ◌≢◌, ◌==◌, if◌then◌else◌, ℕ, List}
+use Rattle.std.specs.Prelude.{◌≡◌, ◌≢◌, ◌==◌, if◌then◌else◌, ℕ, Bool, false, List}
 use Rattle.std.specs.Cmp.{IsTotalOrder}
 use Rattle.std.specs.List.{AllByRecursion}
 use Rattle.std.proofs.lemmas.Cmp.{on_total, then_total}
 use Rattle.babel_prefix.specs.declared.family.Family.{Family}
+use Rattle.babel_prefix.specs.declared.family.Family.TheVariants.{V6}
+use Rattle.babel_prefix.specs.Width.{same_family}
 use Rattle.babel_prefix.specs.Address.{Address, AddressPrefix}
 use Rattle.babel_prefix.specs.TotalOrder.{prefix_total}
 use Rattle.babel_tlv.specs.declared.held.Held.{Held}
@@ -28,16 +30,6 @@ pub key_total : IsTotalOrder key_cmp
 key_total = then_total (on_total (λ (k : RouteKey). k.dst) prefix_total)
     (on_total (λ (k : RouteKey). k.src) prefix_total)
 
--- an announcement with a next hop of a family, of its numbers
-abbrev pub announced : List ℕ → ℕ → ℕ → Family → ℕ → Announcement
-announced router_id seqno metric family bits =
-    record {
-      router_id = router_id;
-      seqno = seqno;
-      metric = metric;
-      next_hop = record { family = family; bits = bits };
-    }
-
 -- RFC 8966, 4.6.9: where the metric is infinite there is no route
 abbrev pub held_by : Announcement → Held
 held_by ann = if ann.metric == 65535 then helds.Unreachable else helds.Route ann
@@ -45,10 +37,15 @@ held_by ann = if ann.metric == 65535 then helds.Unreachable else helds.Route ann
 abbrev pub IsHeldBy : Announcement → Type 0
 IsHeldBy ann = ann.metric ≢ 65535 → IsAnnouncement ann
 
--- an announcement with a next hop of the family, or unreachable
-abbrev pub FitsFamily : Family → Held → Type 0
-FitsFamily family (helds.Route ann) = IsAnnouncement ann × (ann.next_hop.family ≡ family)
-FitsFamily family helds.Unreachable = Unit {0}
+-- an announcement with a next hop that can be kept, or unreachable
+abbrev pub CanKeep : (Address → Type 0) → Held → Type 0
+CanKeep Fits (helds.Route ann) = IsAnnouncement ann × Fits ann.next_hop
+CanKeep Fits helds.Unreachable = Unit {0}
+
+-- RFC 9229: whether a route has a next hop of IPv6
+abbrev pub is_via_v6 : Held → Bool
+is_via_v6 (helds.Route ann) = same_family ann.next_hop.family V6
+is_via_v6 helds.Unreachable = false
 
 -- each key is of the family
 abbrev pub AreOf : {V : Type 0} → Family → List (RouteKey × V) → Type 0

@@ -8,11 +8,12 @@ use Rattle.babel_tlv.specs.declared.fault.Fault.{Fault}
 use Rattle.babel_tlv.specs.declared.fault.Fault.TheVariants as faults
 use Rattle.babel_tlv.specs.declared.mode.Mode.{Mode}
 use Rattle.babel_tlv.specs.declared.held.Held.{Held}
+use Rattle.babel_tlv.specs.declared.start.Start.{Start}
 use Rattle.babel_tlv.specs.Framing.{TlvAt, ReadsAs, packet_octets}
 use Rattle.babel_tlv.specs.FrameFaults.{PacketFault}
 use Rattle.babel_tlv.specs.Route.{RouteKey}
 use Rattle.babel_tlv.specs.Says.{Saying, sayings}
-use Rattle.babel_table.specs.Bounds.{Bounds}
+use Rattle.babel_table.specs.Bounds.{Bounds, start_of}
 use Rattle.babel_table.specs.Holds.{AreRowsOf}
 use Rattle.babel_table.specs.TableOf.{AreFine}
 
@@ -37,12 +38,12 @@ RefusedBy mode entries told fault =
 
 -- The octets are packets whose TLVs are fine, and then octets that aren't none and begin with no
 -- packet; or they begin with packets of which a TLV refuses the dump.
-abbrev pub StreamFault : Mode → ℕ → Address → List ℕ → Fault → Type 0
-StreamFault mode entries sender octets fault =
+abbrev pub StreamFault : Mode → ℕ → Start → List ℕ → Fault → Type 0
+StreamFault mode entries start octets fault =
     (packets : List (List TlvAt)) × (rest : List ℕ) × ReadsAs octets packets rest
-    × (((said : List Event) × AreFine mode entries [] (sayings sender packets) said × (rest ≢ [])
+    × (((said : List Event) × AreFine mode entries [] (sayings start packets) said × (rest ≢ [])
     × PacketFault (length (flat_map packet_octets packets)) rest fault)
-    ⊎ RefusedBy mode entries (sayings sender packets) fault)
+    ⊎ RefusedBy mode entries (sayings start packets) fault)
 
 -- the dump ends within a packet
 abbrev pub IsTruncated : Fault → Type 0
@@ -53,11 +54,12 @@ IsTruncated fault = ⊥
 -- the octets up to the limit unless these have none or are only truncated, and then TooLong.
 abbrev pub DumpFault : Bounds → Mode → Address → List ℕ → Fault → Type 0
 DumpFault limits mode sender dump fault =
-    ((length dump ≤ limits.bytes) × StreamFault mode limits.entries sender dump fault)
+    let start = start_of limits sender in
+    ((length dump ≤ limits.bytes) × StreamFault mode limits.entries start dump fault)
     ⊎ ((limits.bytes < length dump)
-    × StreamFault mode limits.entries sender (take limits.bytes dump) fault × ¬ IsTruncated fault)
+    × StreamFault mode limits.entries start (take limits.bytes dump) fault × ¬ IsTruncated fault)
     ⊎ ((limits.bytes < length dump) × (fault ≡ faults.TooLong)
-    × ((other : Fault) → StreamFault mode limits.entries sender (take limits.bytes dump) other
+    × ((other : Fault) → StreamFault mode limits.entries start (take limits.bytes dump) other
     → IsTruncated other))
 
 abbrev pub HasNoFault : Bounds → Mode → Address → List ℕ → Type 0

@@ -12,12 +12,13 @@ use Rattle.babel_tlv.specs.declared.fault.Fault.TheVariants as faults
 use Rattle.babel_tlv.specs.declared.held.Held.{Held}
 use Rattle.babel_tlv.specs.declared.mode.Mode.{Mode}
 use Rattle.babel_tlv.specs.declared.mode.Mode.TheVariants as modes
+use Rattle.babel_tlv.specs.declared.start.Start.{Start}
 use Rattle.babel_tlv.specs.Framing.{TlvAt, ReadsAs, packet_octets, ArePackets, tlvs_of}
 use Rattle.babel_tlv.specs.FrameFaults.{LacksBody, HeaderFault, BeginsPacket, TlvPastEndAt, AreTlvs}
 use Rattle.babel_tlv.specs.Route.{RouteKey}
 use Rattle.babel_tlv.specs.Says.{Saying, sayings, sayings_behind}
 use Rattle.babel_tlv.specs.Context.{Context, context_after}
-use Rattle.babel_table.specs.Bounds.{Bounds}
+use Rattle.babel_table.specs.Bounds.{Bounds, start_of}
 use Rattle.babel_table.specs.Counts.{Counts, counts_of}
 use Rattle.babel_table.specs.Holds.{AreRowsOf}
 use Rattle.babel_table.specs.Rows.{Routes}
@@ -78,12 +79,12 @@ SomeMayGrow mode said = (saying : Saying) × Contains said saying × MayGrowAt m
 -- After the earlier TLVs of a packet, some of its TLVs are taken: what the others say, in this
 -- context, is all that is left of what the packet says, and the table stands after what was said
 -- before.
-pub record TookSome (mode : Mode) (entries : ℕ) (sender : Address) (old : Routes) (all : List TlvAt)
+pub record TookSome (mode : Mode) (entries : ℕ) (start : Start) (old : Routes) (all : List TlvAt)
     (now : Routes) (context : Context) (left : List TlvAt) : Type 0 where
   pub earlier : List TlvAt
   pub done : List Saying
-  pub context_is : context ≡ context_after sender earlier
-  pub whole : sayings_behind sender [] all ≡ done ++ sayings_behind sender earlier left
+  pub context_is : context ≡ context_after start earlier
+  pub whole : sayings_behind start [] all ≡ done ++ sayings_behind start earlier left
   pub stands : (said : List Saying) → StandsBehind mode entries old said →
       StandsBehind mode entries now (said ++ done)
 
@@ -116,31 +117,31 @@ Fails mode entries said old fault =
 
 -- the octets begin with packets, of which the first lies at this offset: they are taken, and the
 -- rest begins at this place
-pub record TookPackets (mode : Mode) (entries : ℕ) (sender : Address) (at : ℕ) (octets : List ℕ)
+pub record TookPackets (mode : Mode) (entries : ℕ) (start : Start) (at : ℕ) (octets : List ℕ)
     (old now : Routes) (rest : List ℕ) (place : ℕ) : Type 0 where
   pub packets : List (List TlvAt)
   pub whole : octets ≡ flat_map packet_octets packets ++ rest
   pub placed : ArePackets at packets
   pub here : place ≡ at + length (flat_map packet_octets packets)
-  pub takes : Takes mode entries (sayings sender packets) old now
+  pub takes : Takes mode entries (sayings start packets) old now
 
 -- why the octets at this place aren't taken: they begin with no packet whose body is TLVs, or one
 -- of its TLVs fails
-abbrev pub StopsAt : Mode → ℕ → Address → Routes → List ℕ → ℕ → Fault → Type 0
-StopsAt mode entries sender now rest place fault =
+abbrev pub StopsAt : Mode → ℕ → Start → Routes → List ℕ → ℕ → Fault → Type 0
+StopsAt mode entries start now rest place fault =
     HeaderFault place rest fault
     ⊎ ((body : List ℕ) × BeginsPacket rest body × (TlvPastEndAt (place + 4) body fault
     ⊎ (AreTlvs (place + 4) body (tlvs_of (place + 4) body)
-    × Fails mode entries (sayings_behind sender [] (tlvs_of (place + 4) body)) now fault)))
+    × Fails mode entries (sayings_behind start [] (tlvs_of (place + 4) body)) now fault)))
 
 -- some packets are taken, and then comes the fault
-pub record StopsBehind (mode : Mode) (entries : ℕ) (sender : Address) (at : ℕ) (octets : List ℕ)
+pub record StopsBehind (mode : Mode) (entries : ℕ) (start : Start) (at : ℕ) (octets : List ℕ)
     (old : Routes) (fault : Fault) : Type 0 where
   pub now : Routes
   pub rest : List ℕ
   pub place : ℕ
-  pub took : TookPackets mode entries sender at octets old now rest place
-  pub stops : StopsAt mode entries sender now rest place fault
+  pub took : TookPackets mode entries start at octets old now rest place
+  pub stops : StopsAt mode entries start now rest place fault
 
 -- less than a packet: nothing, less than a header, or a good header and less than its body
 abbrev pub IsPartial : List ℕ → Type 0
@@ -149,13 +150,13 @@ IsPartial octets = (length octets < 4) ⊎ LacksBody octets
 -- Why octets after some that are pending are not taken. Those past the limit on all are not looked
 -- at: among the others some packets are taken and then comes the fault, or all are taken, and there
 -- are too many octets.
-abbrev pub StopsWithin : ℕ → Mode → ℕ → Address → ℕ → List ℕ → List ℕ → Routes → Fault → Type 0
-StopsWithin bytes mode entries sender at pending octets old fault =
+abbrev pub StopsWithin : ℕ → Mode → ℕ → Start → ℕ → List ℕ → List ℕ → Routes → Fault → Type 0
+StopsWithin bytes mode entries start at pending octets old fault =
     let near : List ℕ = take (bytes - (at + length pending)) octets in
-    StopsBehind mode entries sender at (pending ++ near) old fault
+    StopsBehind mode entries start at (pending ++ near) old fault
     ⊎ ((fault ≡ faults.TooLong) × (bytes < at + length (pending ++ octets)) × (now : Routes)
     × (rest : List ℕ) × (place : ℕ)
-    × TookPackets mode entries sender at (pending ++ near) old now rest place × IsPartial rest)
+    × TookPackets mode entries start at (pending ++ near) old now rest place × IsPartial rest)
 
 -- ---- a feeder
 
@@ -185,18 +186,19 @@ pub record HasTaken (progress : Progress) (fed : List ℕ) : Type 0 where
   pub partial : IsPartial progress.pending
   pub place : progress.at ≡ length (flat_map packet_octets packets)
   pub stands : StandsBehind progress.mode progress.limits.entries progress.table
-      (sayings progress.sender packets)
+      (sayings (start_of progress.limits progress.sender) packets)
 
 -- some TLV of the whole packets that the octets begin with may need memory
-abbrev pub NeedsMemory : Mode → Address → List ℕ → Type 0
-NeedsMemory mode sender octets =
+abbrev pub NeedsMemory : Mode → Start → List ℕ → Type 0
+NeedsMemory mode start octets =
     (packets : List (List TlvAt)) × (rest : List ℕ) × ReadsAs octets packets rest
-    × SomeMayGrow mode (sayings sender packets)
+    × SomeMayGrow mode (sayings start packets)
 
 -- out of memory, or the fault of the octets, which it stays however they go on
 abbrev pub HasFailed : Progress → Fault → List ℕ → Type 0
 HasFailed progress fault fed =
-    ((fault ≡ faults.Memory) × NeedsMemory progress.mode progress.sender fed)
+    ((fault ≡ faults.Memory)
+    × NeedsMemory progress.mode (start_of progress.limits progress.sender) fed)
     ⊎ (IsLasting fault
     × ((more : List ℕ) →
     DumpFault progress.limits progress.mode progress.sender (fed ++ more) fault))

@@ -7,7 +7,7 @@ use Rattle.babel_table.specs.Rows.{Routes}
 
 -- each key, with what the view sees of what it holds
 abbrev pub seen_row : View → Pair → Pair
-seen_row view row = (row.0, seen view row.1)
+seen_row view row = (row.0, seen view row.0.dst.address.family row.1)
 
 abbrev pub seen_rows : View → List Pair → List Pair
 seen_rows view rows = map (seen_row view) rows

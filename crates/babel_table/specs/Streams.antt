@@ -1,8 +1,8 @@
 -- What a stream of packets, and the table so far, make of octets: this project's own, as what a
 -- feeder makes of them.
 use Rattle.std.specs.Prelude.{◌≡◌, ℕ, List, [], ◌∷◌, ◌⊎◌}
-use Rattle.babel_prefix.specs.Address.{Address}
 use Rattle.babel_tlv.specs.declared.fault.Fault.{Fault}
+use Rattle.babel_tlv.specs.declared.start.Start.{Start}
 use Rattle.babel_tlv.specs.Context.{Context}
 use Rattle.babel_tlv.specs.Framing.{TlvAt, tlvs_of}
 use Rattle.babel_tlv.specs.FrameFaults.{AreTlvs, TlvPastEndAt}
@@ -26,57 +26,57 @@ TakesSayings old said new = Takes old.rows.mode old.rows.entries said (table_of 
 -- where this TLV is the next one of its packet, it takes it, and the state goes on
 abbrev pub TakesTlv : SoFar → Context → TlvAt → SoFar → Context → Type 0
 TakesTlv old before tlv new after =
-    (sender : Address) (start : Routes) (all left : List TlvAt)
-    → TookSome old.rows.mode old.rows.entries sender start all (table_of old) before (tlv ∷ left)
-    → TookSome old.rows.mode old.rows.entries sender start all (table_of new) after left
+    (start : Start) (from : Routes) (all left : List TlvAt)
+    → TookSome old.rows.mode old.rows.entries start from all (table_of old) before (tlv ∷ left)
+    → TookSome old.rows.mode old.rows.entries start from all (table_of new) after left
 
 -- where this TLV is the next one of its packet, the packet fails
 abbrev pub FailsAtTlv : SoFar → Context → TlvAt → Fault → Type 0
 FailsAtTlv old before tlv fault =
-    (sender : Address) (start : Routes) (all left : List TlvAt)
-    → TookSome old.rows.mode old.rows.entries sender start all (table_of old) before (tlv ∷ left)
-    → Fails old.rows.mode old.rows.entries (sayings_behind sender [] all) start fault
+    (start : Start) (from : Routes) (all left : List TlvAt)
+    → TookSome old.rows.mode old.rows.entries start from all (table_of old) before (tlv ∷ left)
+    → Fails old.rows.mode old.rows.entries (sayings_behind start [] all) from fault
 
 -- a body at this offset is not TLVs to its end, or one of its TLVs fails
-abbrev pub FailsInBody : SoFar → Address → ℕ → List ℕ → Fault → Type 0
-FailsInBody old sender at body fault =
+abbrev pub FailsInBody : SoFar → Start → ℕ → List ℕ → Fault → Type 0
+FailsInBody old start at body fault =
     TlvPastEndAt at body fault
     ⊎ (AreTlvs at body (tlvs_of at body)
-    × Fails old.rows.mode old.rows.entries (sayings_behind sender [] (tlvs_of at body))
+    × Fails old.rows.mode old.rows.entries (sayings_behind start [] (tlvs_of at body))
     (table_of old) fault)
 
 -- it takes the packets that the octets at this offset begin with, and the rest begins at this place
-abbrev pub TakesPackets : SoFar → Address → ℕ → List ℕ → SoFar → List ℕ → ℕ → Type 0
-TakesPackets old sender at octets new rest place =
-    TookPackets old.rows.mode old.rows.entries sender at octets (table_of old) (table_of new) rest
+abbrev pub TakesPackets : SoFar → Start → ℕ → List ℕ → SoFar → List ℕ → ℕ → Type 0
+TakesPackets old start at octets new rest place =
+    TookPackets old.rows.mode old.rows.entries start at octets (table_of old) (table_of new) rest
     place
 
 -- it takes some packets of the octets at this offset, and then comes the fault
-abbrev pub StopsInPackets : SoFar → Address → ℕ → List ℕ → Fault → Type 0
-StopsInPackets old sender at octets fault =
-    StopsBehind old.rows.mode old.rows.entries sender at octets (table_of old) fault
+abbrev pub StopsInPackets : SoFar → Start → ℕ → List ℕ → Fault → Type 0
+StopsInPackets old start at octets fault =
+    StopsBehind old.rows.mode old.rows.entries start at octets (table_of old) fault
 
 -- ---- a stream
 
--- the mode, how many rows there may be, and the sender stay
+-- the mode, how many rows there may be, and what a packet begins with stay
 abbrev pub KeepsSettings : Stream → Stream → Type 0
 KeepsSettings old new =
     (new.so_far.rows.mode ≡ old.so_far.rows.mode)
     × (new.so_far.rows.entries ≡ old.so_far.rows.entries)
-    × (new.sender ≡ old.sender)
+    × (new.start ≡ old.start)
 
 -- it takes the packets that the octets begin with, and these are left
 abbrev pub TakesOctets : Stream → List ℕ → Stream → List ℕ → Type 0
 TakesOctets old octets new left =
-    TakesPackets old.so_far old.sender old.at octets new.so_far left new.at
+    TakesPackets old.so_far old.start old.at octets new.so_far left new.at
 
 -- it takes some packets of the octets, and then comes the fault
 abbrev pub StopsInOctets : Stream → List ℕ → Fault → Type 0
-StopsInOctets old octets fault = StopsInPackets old.so_far old.sender old.at octets fault
+StopsInOctets old octets fault = StopsInPackets old.so_far old.start old.at octets fault
 
 -- the same after what is pending, without looking at octets past so many in all
 abbrev pub StopsInLimit : ℕ → Stream → List ℕ → Fault → Type 0
 StopsInLimit bytes old octets fault =
-    StopsWithin bytes old.so_far.rows.mode old.so_far.rows.entries old.sender old.at old.pending
+    StopsWithin bytes old.so_far.rows.mode old.so_far.rows.entries old.start old.at old.pending
     octets
     (table_of old.so_far) fault

@@ -5,7 +5,7 @@ use Rattle.babel_tlv.specs.declared.event.Event.{Event}
 use Rattle.babel_tlv.specs.declared.mode.Mode.{Mode}
 use Rattle.babel_tlv.specs.Framing.{TlvAt, Framed}
 use Rattle.babel_tlv.specs.Says.{Saying, sayings}
-use Rattle.babel_table.specs.Bounds.{Bounds}
+use Rattle.babel_table.specs.Bounds.{Bounds, start_of}
 use Rattle.babel_table.specs.Counts.{counts_of}
 use Rattle.babel_table.specs.Rows.{Routes}
 use Rattle.babel_table.specs.Holds.{HoldsAtMost, AreRowsOf}
@@ -27,6 +27,6 @@ pub record IsTableOf (limits : Bounds) (mode : Mode) (sender : Address) (dump : 
   pub packets : List (List TlvAt)
   pub said : List Event
   pub reads : Framed dump packets
-  pub fine : AreFine mode limits.entries [] (sayings sender packets) said
+  pub fine : AreFine mode limits.entries [] (sayings (start_of limits sender) packets) said
   pub rows : AreRowsOf mode said table.rows
-  pub report : table.report ≡ counts_of (sayings sender packets)
+  pub report : table.report ≡ counts_of (sayings (start_of limits sender) packets)

@@ -8,6 +8,7 @@ ghost use Rattle.babel_table.specs.Said as said;
 
 use crate::compact_prefix::CompactPrefix;
 use crate::word::Word;
+use babel_prefix::Family;
 use babel_tlv::Key;
 use std::cmp::Ordering;
 use std::marker::Model;
@@ -140,6 +141,14 @@ impl<W: Word> CompactKey<W> {
             word: self.src,
             len: self.src_len,
         }
+    }
+
+    /// The family of its prefixes.
+    pub fn family(&self) -> Family
+        ensures value { result ≡ W.family }
+        ensures of_key { self.now.dst.address.family ≡ W.family }
+    {
+        self.dst.addr().family()
     }
 
     /// The key that is kept.

@@ -1,5 +1,6 @@
 use crate::compact_held::CompactHeld;
 use crate::compact_key::CompactKey;
 
-/// A key and what is held for it, of the family whose addresses are kept in these words.
-pub type CompactRow<W> = (CompactKey<W>, CompactHeld<W>);
+/// A key of the family whose addresses are kept in these words, and what is held for it, with next
+/// hops kept so.
+pub type CompactRow<W, H> = (CompactKey<W>, CompactHeld<H>);

@@ -6,7 +6,7 @@ ghost use Rattle.std.specs.BTreeMap.{insert_entry, is_at};
 ghost use Rattle.std.specs.Map.{keys_of, lookup, remove_entry};
 ghost use Rattle.babel_tlv.specs.Keys.{key_cmp};
 ghost use Rattle.babel_table.specs.BestMatch.{IsBestMatch};
-ghost use Rattle.babel_table.specs.Compact.{FitsFamily, address_in};
+ghost use Rattle.babel_table.specs.Compact.{CanKeep, address_in};
 ghost use Rattle.babel_table.specs.Live.{kept, live_rows};
 ghost use Rattle.babel_table.specs.Lookup.{IsBetter};
 ghost use Rattle.babel_table.specs.Rows.{IsRising};
@@ -15,6 +15,7 @@ ghost use Rattle.babel_table.specs.Said.{AreDistinct, AreIndexed, IsPlace, AreAb
 use crate::compact_held::CompactHeld;
 use crate::compact_key::CompactKey;
 use crate::compact_row::CompactRow;
+use crate::hop::Hop;
 use crate::places::Places;
 use crate::stored::Stored;
 use crate::word::Word;
@@ -30,16 +31,16 @@ const SPARE: usize = 16;
 const MOST_ROWS: usize = u32::MAX as usize;
 
 /// A key and what was last said of it: nothing where it was retracted.
-pub(crate) type WordRow<W> = (CompactKey<W>, Option<Stored<W>>);
+pub(crate) type WordRow<W, H> = (CompactKey<W>, Option<Stored<H>>);
 
-/// What is kept for the keys of the family whose addresses are kept in these words. A router
-/// repeats its routes in one order, whichever it is, so the row after the one found last is tried
-/// before any search; and what came last may be retracted at once.
+/// What is kept for the keys of the family whose addresses are kept in these words, with next hops
+/// kept so. A router repeats its routes in one order, whichever it is, so the row after the one
+/// found last is tried before any search; and what came last may be retracted at once.
 #[derive(Drop)]
-pub struct FamilyRows<W: Word> {
+pub struct FamilyRows<W: Word, H: Hop> {
     alloc: Global,
     /// A row for each key, in the order in which the keys came.
-    rows: Vec<WordRow<W>>,
+    rows: Vec<WordRow<W, H>>,
     /// The place that is tried first: after the row that was found last, or of the row that came
     /// last.
     next: usize,
@@ -51,7 +52,7 @@ pub struct FamilyRows<W: Word> {
     count: usize,
 }
 
-impl<W: Word> Model for FamilyRows<W> {
+impl<W: Word, H: Hop> Model for FamilyRows<W, H> {
     ghost use Rattle.std.specs.Prelude.{List};
     ghost use Rattle.babel_tlv.specs.Route.{RouteKey};
     ghost use Rattle.babel_table.specs.Live.{Kept};
@@ -64,9 +65,9 @@ impl<W: Word> Model for FamilyRows<W> {
     ghost invariant = { λ r. AreCounted r.count r.rows.items r.rising r.places };
 }
 
-impl<W: Word> FamilyRows<W> {
+impl<W: Word, H: Hop> FamilyRows<W, H> {
     /// Nothing for any key.
-    pub fn new(alloc: Global, seed: u128) -> FamilyRows<W>
+    pub fn new(alloc: Global, seed: u128) -> FamilyRows<W, H>
         ensures { result ≡ [] }
     {
         FamilyRows {
@@ -98,7 +99,7 @@ impl<W: Word> FamilyRows<W> {
         refusal: Option<Fault>,
     ) -> Result<(), Fault>
         requires family { key.now.dst.address.family ≡ W.family }
-        requires fits { FitsFamily W.family held }
+        requires fits { CanKeep H.fits held }
         requires few { length self.old < 2 ^ 62 }
         ensures ok { OnOk result
             (self.new ≡ insert_entry key_cmp self.old key.now (kept held wipes)) }
@@ -162,6 +163,40 @@ impl<W: Word> FamilyRows<W> {
         }
     }
 
+    /// Whether there is something for the key.
+    pub fn has(&self, key: &Key) -> bool
+        requires { key.now.dst.address.family ≡ W.family }
+        ensures { result ≡ is_some (lookup (is_at (key_cmp key.now)) self.now) }
+    {
+        let key = CompactKey::of(key);
+        match find(&self.rows, self.next, self.rising, &self.places, &key) {
+            Some(place) => self.rows[place].1.is_some(),
+            None => false,
+        }
+    }
+
+    /// The same in order, kept so that any next hop can be.
+    pub fn widened(&self, seed: u128) -> Result<FamilyRows<W, Addr>, AllocError>
+        ensures { IfOk result (λ rows. rows ≡ self.now) }
+    {
+        let mut rows = Vec::with_capacity(self.alloc, self.count)?;
+        for (key, said) in &self.rows {
+            if let Some(stored) = said {
+                rows.push((key.copied(), Some(stored.widened())))?;
+            }
+        }
+        sort(&mut rows);
+        let rising = rows.len();
+        Ok(FamilyRows {
+            alloc: self.alloc,
+            rows,
+            next: 0,
+            rising,
+            places: Places::new(self.alloc, seed),
+            count: self.count,
+        })
+    }
+
     /// Takes the retracted rows out where they are many more than the others, and puts these in
     /// order.
     fn compact(&mut self)
@@ -188,7 +223,7 @@ impl<W: Word> FamilyRows<W> {
     }
 
     /// The rows that these stand for after so many wipes, in order.
-    pub fn listed(self, alloc: Global, wipes: u64) -> Result<Vec<CompactRow<W>>, AllocError>
+    pub fn listed(self, alloc: Global, wipes: u64) -> Result<Vec<CompactRow<W, H>>, AllocError>
         ensures { IfOk result (λ rows. rows.items ≡ live_rows wipes self) }
     {
         drop(self.places);
@@ -214,7 +249,12 @@ impl<W: Word> FamilyRows<W> {
 
 /// The same among rows, for the addresses with these bits. The rows are gone through once, as they
 /// stand: RFC 9079, 4.
-fn best_standing<W: Word>(rows: &[WordRow<W>], wipes: u64, dst: W, src: W) -> Option<Held>
+fn best_standing<W: Word, H: Hop>(
+    rows: &[WordRow<W, H>],
+    wipes: u64,
+    dst: W,
+    src: W,
+) -> Option<Held>
     requires { AreDistinct (keys_of rows.now) }
     ensures { IsBestMatch (live_rows wipes (standing rows.now))
         (address_in W.family (W.number dst)) (address_in W.family (W.number src)) result }
@@ -251,8 +291,8 @@ fn is_better<W: Word>(
 }
 
 /// The key's place among the rows; the next one is tried first.
-fn find<W: Word>(
-    rows: &[WordRow<W>],
+fn find<W: Word, H: Hop>(
+    rows: &[WordRow<W, H>],
     next: usize,
     rising: usize,
     places: &Places<W>,
@@ -275,14 +315,18 @@ fn find<W: Word>(
 }
 
 /// Whether this is the key's place among the rows.
-pub(crate) fn has_key<W: Word>(rows: &[WordRow<W>], place: usize, key: &CompactKey<W>) -> bool
+pub(crate) fn has_key<W: Word, H: Hop>(
+    rows: &[WordRow<W, H>],
+    place: usize,
+    key: &CompactKey<W>,
+) -> bool
     ensures { IsTrue result ↔ IsPlace (keys_of rows.now) key.now place }
 {
     place < rows.len() && rows[place].0 == *key
 }
 
 /// Whether the key is greater than all of the rows.
-fn is_past<W: Word>(rows: &[WordRow<W>], key: &CompactKey<W>) -> bool
+fn is_past<W: Word, H: Hop>(rows: &[WordRow<W, H>], key: &CompactKey<W>) -> bool
     requires { IsRising rows.now }
     ensures { IsTrue result ↔ AreAbove key.now rows.now }
 {
@@ -293,7 +337,10 @@ fn is_past<W: Word>(rows: &[WordRow<W>], key: &CompactKey<W>) -> bool
 }
 
 /// Adds a row.
-fn push<W: Word>(rows: &mut Vec<WordRow<W>>, row: WordRow<W>) -> Result<(), AllocError>
+fn push<W: Word, H: Hop>(
+    rows: &mut Vec<WordRow<W, H>>,
+    row: WordRow<W, H>,
+) -> Result<(), AllocError>
     ensures items { MatchResult result (λ _. rows.new.items ≡ rows.old.items ++ row ∷ [])
         (λ _. rows.new.items ≡ rows.old.items) }
 {
@@ -302,13 +349,13 @@ fn push<W: Word>(rows: &mut Vec<WordRow<W>>, row: WordRow<W>) -> Result<(), Allo
 }
 
 /// Adds a row, and lists its place.
-fn push_placed<W: Word>(
+fn push_placed<W: Word, H: Hop>(
     alloc: Global,
-    rows: &mut Vec<WordRow<W>>,
+    rows: &mut Vec<WordRow<W, H>>,
     rising: usize,
     places: &mut Places<W>,
     key: CompactKey<W>,
-    stored: Stored<W>,
+    stored: Stored<H>,
 ) -> Result<(), AllocError>
     requires indexed { AreIndexed (keys_of rows.old.items) rising places.old }
     requires new { lookup (is_at (key_cmp key)) rows.old.items ≡ None }

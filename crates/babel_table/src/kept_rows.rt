@@ -13,6 +13,7 @@ use crate::family_rows::FamilyRows;
 use crate::halves::Halves;
 use crate::nested_rows::NestedRows;
 use crate::sorted_rows::SortedRows;
+use crate::v4_rows::V4Rows;
 use babel_prefix::{Addr, Family};
 use babel_tlv::{Fault, Held, Key};
 use std::alloc::{AllocError, Global};
@@ -21,8 +22,8 @@ use std::marker::Model;
 /// What is kept for each key: of IPv4, then of IPv6.
 #[derive(Drop)]
 pub struct KeptRows {
-    v4: FamilyRows<u32>,
-    v6: FamilyRows<Halves>,
+    v4: V4Rows,
+    v6: FamilyRows<Halves, Halves>,
 }
 
 impl Model for KeptRows {
@@ -45,7 +46,7 @@ impl KeptRows {
         ensures { result ≡ [] }
     {
         KeptRows {
-            v4: FamilyRows::new(alloc, seed),
+            v4: V4Rows::new(alloc, seed),
             v6: FamilyRows::new(alloc, seed),
         }
     }
@@ -110,12 +111,8 @@ impl KeptRows {
     {
         let v4 = self.v4.listed(alloc, wipes)?;
         let v6 = self.v6.listed(alloc, wipes)?;
-        let nested_v4 = NestedRows::of(alloc, v4)?;
         let nested_v6 = NestedRows::of(alloc, v6)?;
-        Ok(SortedRows {
-            v4: nested_v4,
-            v6: nested_v6,
-        })
+        Ok(SortedRows { v4, v6: nested_v6 })
     }
 
     /// What the best matching row stands for after so many wipes, for two addresses of one family.

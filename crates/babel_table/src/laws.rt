@@ -1,6 +1,6 @@
 //! Laws of the definitions.
 ghost use Rattle.babel_table.specs.OneOutcome.{FaultIsOne, FaultIsOfOctets, FaultStays, TableIsOne};
-ghost use Rattle.babel_table.specs.OneOutcome.{RoutesNeedMemory, KeysNeedMemory};
+ghost use Rattle.babel_table.specs.OneOutcome.{HopsFit, KeysNeedMemory, RoutesNeedMemory};
 
 /// A dump has at most one fault.
 pub fn fault_is_one()
@@ -10,6 +10,12 @@ pub fn fault_is_one()
 /// A dump has at most one table, rows and report.
 pub fn table_is_one()
     ensures { TableIsOne }
+{}
+
+/// In a dump's table each route has a next hop of its key's family, or, where address encoding 4 is
+/// read, of IPv6 for a key of IPv4.
+pub fn hops_fit()
+    ensures { HopsFit }
 {}
 
 /// A dump's fault is never `TooManyPairs`, which is about a canonical form, nor `Memory`, which is

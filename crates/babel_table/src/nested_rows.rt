@@ -1,9 +1,10 @@
 //! The rows of one family in rising order, and how far the rows around each of them reach. So a
 //! lookup (RFC 9079, 4) is one search and one walk up for the destination, and one of each for the
 //! sources of each destination that matches, however deep prefixes are nested.
-ghost use Rattle.std.specs.Prelude.{◌≡◌, ◌≢◌, ◌<◌, ◌≤◌, ◌-◌, ◌^◌, IfOk, HoldsAt, length};
+ghost use Rattle.std.specs.Prelude.{◌≡◌, ◌≢◌, ◌<◌, ◌≤◌, ◌-◌, ◌^◌, [], IfOk, HoldsAt, length};
 ghost use Rattle.std.specs.List.{AllWithin};
 ghost use Rattle.std.specs.Map.{keys_of};
+ghost use Rattle.babel_tlv.specs.Views.{no_address};
 ghost use Rattle.babel_table.specs.BestMatch.{IsBestMatch};
 ghost use Rattle.babel_table.specs.Compact.{AreOf};
 ghost use Rattle.babel_table.specs.Nested.{AreUpTo, ArePast, IsNested, IsNestedAt, NoneWithin};
@@ -15,6 +16,7 @@ ghost use Rattle.babel_table.specs.TableRows.{AreRows};
 use crate::compact_key::CompactKey;
 use crate::compact_prefix::CompactPrefix;
 use crate::compact_row::CompactRow;
+use crate::hop::Hop;
 use crate::word::Word;
 use babel_prefix::Addr;
 use babel_tlv::{Held, View};
@@ -31,12 +33,12 @@ pub struct Around {
 
 /// Rows of one family in rising order.
 #[derive(Drop)]
-pub struct NestedRows<W: Word> {
-    rows: Vec<CompactRow<W>>,
+pub struct NestedRows<W: Word, H: Hop> {
+    rows: Vec<CompactRow<W, H>>,
     around: Vec<Around>,
 }
 
-impl<W: Word> Model for NestedRows<W> {
+impl<W: Word, H: Hop> Model for NestedRows<W, H> {
     ghost use Rattle.std.specs.Prelude.{◌≡◌, List, length};
     ghost use Rattle.std.specs.Map.{keys_of};
     ghost use Rattle.babel_tlv.specs.Pair.{Pair};
@@ -50,9 +52,9 @@ impl<W: Word> Model for NestedRows<W> {
         × (length r.around.items ≡ length r.rows.items) };
 }
 
-impl<W: Word> NestedRows<W> {
+impl<W: Word, H: Hop> NestedRows<W, H> {
     /// The rows, of which there are fewer than 2^32; out of memory where there are more.
-    pub fn of(alloc: Global, rows: Vec<CompactRow<W>>) -> Result<NestedRows<W>, AllocError>
+    pub fn of(alloc: Global, rows: Vec<CompactRow<W, H>>) -> Result<NestedRows<W, H>, AllocError>
         requires rows { AreRows rows.items }
         requires family { AreOf W.family rows.items }
         ensures { IfOk result (λ nested. nested ≡ rows.items) }
@@ -68,8 +70,18 @@ impl<W: Word> NestedRows<W> {
         Ok(NestedRows { rows, around })
     }
 
+    /// No rows.
+    pub fn none(alloc: Global) -> NestedRows<W, H>
+        ensures { result ≡ [] }
+    {
+        NestedRows {
+            rows: Vec::new(alloc),
+            around: Vec::new(alloc),
+        }
+    }
+
     /// The rows in order.
-    pub fn as_slice(&self) -> &[CompactRow<W>]
+    pub fn as_slice(&self) -> &[CompactRow<W, H>]
         ensures { result.now ≡ self.now }
     {
         &self.rows
@@ -77,6 +89,7 @@ impl<W: Word> NestedRows<W> {
 
     /// Puts what the view sees in place of what each row holds.
     pub fn see(&mut self, view: View)
+        requires { H.fits (no_address W.family) }
         ensures { self.new ≡ seen_rows view self.old }
     {
         see_rows(&mut self.rows, view);
@@ -93,18 +106,19 @@ impl<W: Word> NestedRows<W> {
 }
 
 /// Puts what the view sees in place of what each row holds.
-fn see_rows<W: Word>(rows: &mut [CompactRow<W>], view: View)
+fn see_rows<W: Word, H: Hop>(rows: &mut [CompactRow<W, H>], view: View)
+    requires { H.fits (no_address W.family) }
     ensures { rows.new ≡ seen_rows view rows.old }
 {
     for row in rows.iter_mut() {
-        row.1.see(view);
+        row.1.see(view, row.0.family());
     }
 }
 
 /// What stands in the best matching row: among the rows from the source to the longest destination
 /// prefix that has one, the row of the longest source prefix.
-fn best_match<W: Word>(
-    rows: &[CompactRow<W>],
+fn best_match<W: Word, H: Hop>(
+    rows: &[CompactRow<W, H>],
     around: &[Around],
     dst: &Addr,
     src: &Addr,
@@ -132,7 +146,7 @@ fn best_match<W: Word>(
 }
 
 /// How far the rows around the next row reach.
-fn around_row<W: Word>(rows: &[CompactRow<W>], around: &[Around], place: usize) -> Around
+fn around_row<W: Word, H: Hop>(rows: &[CompactRow<W, H>], around: &[Around], place: usize) -> Around
     requires nested { IsNested W.family (keys_of rows.now) around.now }
     requires next { place ≡ length around.now }
     requires inside { place < length rows.now }
@@ -149,8 +163,8 @@ fn around_row<W: Word>(rows: &[CompactRow<W>], around: &[Around], place: usize) 
 }
 
 /// How many rows at the front have those to larger prefixes around the destination of the next row.
-fn dst_around<W: Word>(
-    rows: &[CompactRow<W>],
+fn dst_around<W: Word, H: Hop>(
+    rows: &[CompactRow<W, H>],
     around: &[Around],
     place: usize,
     key: &CompactKey<W>,
@@ -168,7 +182,7 @@ fn dst_around<W: Word>(
 }
 
 /// How many rows have keys up to this one.
-fn count_up_to<W: Word>(rows: &[CompactRow<W>], key: &CompactKey<W>) -> usize
+fn count_up_to<W: Word, H: Hop>(rows: &[CompactRow<W, H>], key: &CompactKey<W>) -> usize
     requires { IsRising rows.now }
     ensures within { result ≤ length rows.now }
     ensures up_to { AreUpTo (keys_of rows.now) result key.now }
@@ -179,8 +193,8 @@ fn count_up_to<W: Word>(rows: &[CompactRow<W>], key: &CompactKey<W>) -> usize
 
 /// Of the first rows, so many, how many there are up to the last that leads to a prefix with the
 /// address of the key's destination; none where no row does.
-fn end_to<W: Word>(
-    rows: &[CompactRow<W>],
+fn end_to<W: Word, H: Hop>(
+    rows: &[CompactRow<W, H>],
     around: &[Around],
     end: usize,
     key: &CompactKey<W>,
@@ -203,8 +217,8 @@ fn end_to<W: Word>(
 
 /// The same of the last that leads to the key's destination, from a prefix with the address of its
 /// source.
-fn end_from<W: Word>(
-    rows: &[CompactRow<W>],
+fn end_from<W: Word, H: Hop>(
+    rows: &[CompactRow<W, H>],
     around: &[Around],
     end: usize,
     key: &CompactKey<W>,

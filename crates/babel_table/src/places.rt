@@ -10,6 +10,7 @@ ghost use Rattle.babel_table.specs.Said.{IsFree, IsListed, IsPlace, IsUnlisted};
 
 use crate::compact_key::CompactKey;
 use crate::family_rows::{WordRow, has_key};
+use crate::hop::Hop;
 use crate::word::Word;
 use std::alloc::{AllocError, Global};
 use std::collections::BTreeMap;
@@ -59,10 +60,10 @@ impl<W: Word> Places<W> {
     }
 
     /// Of the rows from the first on, with slots for four times as many.
-    fn of(
+    fn of<H: Hop>(
         alloc: Global,
         seed: u128,
-        rows: &[WordRow<W>],
+        rows: &[WordRow<W, H>],
         first: usize,
     ) -> Result<Places<W>, AllocError>
         requires distinct { AreDistinct (keys_of rows.now) }
@@ -84,10 +85,10 @@ impl<W: Word> Places<W> {
     }
 
     /// Makes room for one more place, where the rows from the first on are listed.
-    pub fn make_room(
+    pub fn make_room<H: Hop>(
         &mut self,
         alloc: Global,
-        rows: &[WordRow<W>],
+        rows: &[WordRow<W, H>],
         first: usize,
     ) -> Result<(), AllocError>
         requires distinct { AreDistinct (keys_of rows.now) }
@@ -106,7 +107,7 @@ impl<W: Word> Places<W> {
     }
 
     /// The key's place among the rows.
-    pub fn find(&self, rows: &[WordRow<W>], key: &CompactKey<W>) -> Option<usize>
+    pub fn find<H: Hop>(&self, rows: &[WordRow<W, H>], key: &CompactKey<W>) -> Option<usize>
         ensures { MatchOption result (IsUnlisted (keys_of rows.now) self.now key.now)
             (IsPlace (keys_of rows.now) key.now) }
     {

@@ -10,8 +10,7 @@ ghost use Rattle.babel_tlv.specs.Frames.{tlv_value};
 
 use crate::live::LiveRows;
 use crate::report::Report;
-use babel_prefix::Addr;
-use babel_tlv::{Fault, Frame, Route, State, Tlv, Tlvs, Verdict, frame};
+use babel_tlv::{Fault, Frame, Route, Start, State, Tlv, Tlvs, Verdict, frame};
 
 /// The table so far. All was retracted at most as often as TLVs were seen.
 #[derive(Drop)]
@@ -65,7 +64,7 @@ impl SoFar {
 
     /// Takes the TLVs of a packet's body, whose first octet lies at this offset. If the body is not
     /// TLVs to its end, that is the fault, whatever TLV fails before: RFC 8966, 4.3.
-    pub fn take_body(&mut self, sender: Addr, body: &[u8], at: u64) -> Result<(), Fault>
+    pub fn take_body(&mut self, start: &Start, body: &[u8], at: u64) -> Result<(), Fault>
         requires fits { at + length body.now < 2 ^ 64 }
         requires room { self.old.report.tlvs + length body.now < 2 ^ 64 }
         ensures mode { self.new.rows.mode ≡ self.old.rows.mode }
@@ -75,10 +74,10 @@ impl SoFar {
         // The table after some TLVs is then that after these and those of the body.
         ensures whole { OnOk result (AreTlvs at body.now (tlvs_of at body.now)) }
         ensures ok { OnOk result
-            (TakesSayings self.old (sayings_behind sender [] (tlvs_of at body.now)) self.new) }
-        ensures fails { IfErr result (FailsInBody self.old sender at body.now) }
+            (TakesSayings self.old (sayings_behind start.now [] (tlvs_of at body.now)) self.new) }
+        ensures fails { IfErr result (FailsInBody self.old start.now at body.now) }
     {
-        let mut state = State::new(sender);
+        let mut state = State::at(*start);
         let mut route = Route::unwritten();
         let mut tlvs = Tlvs::new(body, at);
         while let Some(tlv) = tlvs.advance() {
@@ -92,24 +91,24 @@ impl SoFar {
 
     /// Takes the whole packets that the octets begin with, the first at this offset: how many
     /// octets they are.
-    pub fn take_packets(&mut self, sender: Addr, octets: &[u8], at: u64) -> Result<usize, Fault>
+    pub fn take_packets(&mut self, start: &Start, octets: &[u8], at: u64) -> Result<usize, Fault>
         requires fits { at + length octets.now < 2 ^ 64 }
         requires room { self.old.report.tlvs + length octets.now < 2 ^ 64 }
         ensures mode { self.new.rows.mode ≡ self.old.rows.mode }
         ensures entries { self.new.rows.entries ≡ self.old.rows.entries }
         ensures took { IfOk result (λ used. TakesPackets
-            self.old sender at octets.now self.new (drop used octets.now) (at + used)) }
+            self.old start.now at octets.now self.new (drop used octets.now) (at + used)) }
         ensures used { IfOk result (λ used. used ≤ length octets.now) }
         ensures tlvs { IfOk result (λ used. self.new.report.tlvs ≤ self.old.report.tlvs + used) }
         ensures partial { IfOk result (λ used. IsPartial (drop used octets.now)) }
-        ensures stops { IfErr result (StopsInPackets self.old sender at octets.now) }
+        ensures stops { IfErr result (StopsInPackets self.old start.now at octets.now) }
     {
         let mut rest = octets;
         let mut place = at;
         loop {
             match frame(rest, place) {
                 Frame::Whole { body, used } => {
-                    self.take_body(sender, body, place + 4)?;
+                    self.take_body(start, body, place + 4)?;
                     rest = &rest[used..];
                     place += used as u64;
                 }

@@ -6,6 +6,7 @@ ghost use Rattle.babel_table.specs.TableRows.{AreRows, family_rows};
 
 use crate::halves::Halves;
 use crate::nested_rows::NestedRows;
+use crate::nested_v4::NestedV4;
 use crate::table_rows::TableRows;
 use babel_prefix::{Addr, Family};
 use babel_tlv::{Held, View};
@@ -14,8 +15,8 @@ use std::marker::Model;
 /// Rows in rising order: of IPv4, then of IPv6.
 #[derive(Drop)]
 pub struct SortedRows {
-    pub v4: NestedRows<u32>,
-    pub v6: NestedRows<Halves>,
+    pub v4: NestedV4,
+    pub v6: NestedRows<Halves, Halves>,
 }
 
 impl Model for SortedRows {
@@ -39,8 +40,10 @@ impl SortedRows {
         ensures value { rows_left result ≡ self.now }
         ensures valid { AreRows self.now }
     {
+        let (v4, v4_any_hop) = self.v4.slices();
         TableRows {
-            v4: self.v4.as_slice(),
+            v4,
+            v4_any_hop,
             v6: self.v6.as_slice(),
         }
     }
@@ -51,12 +54,17 @@ impl SortedRows {
         ensures valid { AreRows self.now }
     {
         match family {
-            Family::V4 => TableRows {
-                v4: self.v4.as_slice(),
-                v6: &[],
-            },
+            Family::V4 => {
+                let (v4, v4_any_hop) = self.v4.slices();
+                TableRows {
+                    v4,
+                    v4_any_hop,
+                    v6: &[],
+                }
+            }
             Family::V6 => TableRows {
                 v4: &[],
+                v4_any_hop: &[],
                 v6: self.v6.as_slice(),
             },
         }

@@ -6,14 +6,13 @@ ghost use Rattle.babel_table.specs.Streams.{StopsInLimit, StopsInOctets};
 
 use crate::pending::Pending;
 use crate::so_far::SoFar;
-use babel_prefix::Addr;
-use babel_tlv::Fault;
+use babel_tlv::{Fault, Start};
 
 /// Packets end to end, as far as they were read.
 #[derive(Drop)]
 pub struct Stream {
-    /// Who sent the packets.
-    pub sender: Addr,
+    /// What each packet begins with.
+    pub start: Start,
     /// What the whole packets gave.
     pub so_far: SoFar,
     /// The offset of the packet that isn't whole.
@@ -34,7 +33,7 @@ impl Stream {
         ensures took { OnOk result (TakesOctets self.old octets.now self.new self.new.pending) }
         ensures stops { IfErr result (StopsInOctets self.old octets.now) }
     {
-        let used = self.so_far.take_packets(self.sender, octets, self.at)?;
+        let used = self.so_far.take_packets(&self.start, octets, self.at)?;
         self.at += used as u64;
         self.pending.add(&octets[used..]);
         Ok(())
@@ -58,7 +57,7 @@ impl Stream {
         let rest = self.pending.fill(octets);
         let used = self
             .so_far
-            .take_packets(self.sender, self.pending.octets(), self.at)?;
+            .take_packets(&self.start, self.pending.octets(), self.at)?;
         if used == 0 {
             return Ok(rest);
         }

@@ -4,21 +4,26 @@ ghost use Rattle.babel_tlv.specs.declared.held.Held.{Held};
 
 use crate::compact_row::CompactRow;
 use crate::halves::Halves;
+use crate::hop::Hop;
 use crate::word::Word;
+use babel_prefix::Addr;
 use babel_tlv::{Held, Key};
 
 /// The rows of a table in rising order, each once.
 #[derive(Clone, Copy)]
 pub struct TableRows<'a> {
-    pub(crate) v4: &'a [CompactRow<u32>],
-    pub(crate) v6: &'a [CompactRow<Halves>],
+    /// Of IPv4, with next hops of IPv4 alone.
+    pub(crate) v4: &'a [CompactRow<u32, u32>],
+    /// Of IPv4, with any next hops.
+    pub(crate) v4_any_hop: &'a [CompactRow<u32, Addr>],
+    pub(crate) v6: &'a [CompactRow<Halves, Halves>],
 }
 
 /// Both without the rows that both begin with and that are kept in the same octets.
-fn past_alike<'a, W: Word>(
-    rows: &'a [CompactRow<W>],
-    others: &'a [CompactRow<W>],
-) -> (&'a [CompactRow<W>], &'a [CompactRow<W>])
+fn past_alike<'a, W: Word, H: Hop>(
+    rows: &'a [CompactRow<W, H>],
+    others: &'a [CompactRow<W, H>],
+) -> (&'a [CompactRow<W, H>], &'a [CompactRow<W, H>])
     ensures { (alike : List Pair) × (rows.now ≡ alike ++ result.0.now)
         × (others.now ≡ alike ++ result.1.now) }
 {
@@ -43,7 +48,7 @@ impl<'a> TableRows<'a> {
     pub fn len(&self) -> usize
         ensures { result ≡ length (rows_left self.now) }
     {
-        self.v4.len() + self.v6.len()
+        self.v4.len() + self.v4_any_hop.len() + self.v6.len()
     }
 
     /// Passes by the rows that both have next and that are kept in the same octets, up to the first
@@ -53,7 +58,11 @@ impl<'a> TableRows<'a> {
             × (rows_left other.old ≡ alike ++ rows_left other.new) }
     {
         (self.v4, other.v4) = past_alike(self.v4, other.v4);
-        if self.v4.is_empty() && other.v4.is_empty() {
+        if !self.v4.is_empty() || !other.v4.is_empty() {
+            return;
+        }
+        (self.v4_any_hop, other.v4_any_hop) = past_alike(self.v4_any_hop, other.v4_any_hop);
+        if self.v4_any_hop.is_empty() && other.v4_any_hop.is_empty() {
             (self.v6, other.v6) = past_alike(self.v6, other.v6);
         }
     }
@@ -66,6 +75,10 @@ impl<'a> TableRows<'a> {
     {
         if let [(key, _), rest @ ..] = self.v4 {
             self.v4 = rest;
+            return Some(key.key());
+        }
+        if let [(key, _), rest @ ..] = self.v4_any_hop {
+            self.v4_any_hop = rest;
             return Some(key.key());
         }
         let [(key, _), rest @ ..] = self.v6 else {
@@ -89,6 +102,10 @@ impl<'a> Iterator for TableRows<'a> {
     fn next(&mut self) -> Option<(Key, Held)> {
         if let [(key, held), rest @ ..] = self.v4 {
             self.v4 = rest;
+            return Some((key.key(), held.held()));
+        }
+        if let [(key, held), rest @ ..] = self.v4_any_hop {
+            self.v4_any_hop = rest;
             return Some((key.key(), held.held()));
         }
         let [(key, held), rest @ ..] = self.v6 else {

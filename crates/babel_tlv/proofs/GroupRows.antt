@@ -81,3 +81,11 @@ pub omitted_behind_unreachable :
     ≡ 8 ∷ 13 ∷ 1 ∷ 128 ∷ 24 ∷ 0 ∷ 6 ∷ 64 ∷ 0 ∷ 0 ∷ 255 ∷ 255 ∷ 10 ∷ 1 ∷ 0 ∷ 6 ∷ 10 ∷ 0 ∷ 0 ∷ 2 ∷ 0 ∷ 0 ∷ 0 ∷ 0 ∷ 0 ∷ 0 ∷ 1 ∷ 7 ∷ 6 ∷ 1 ∷ 0 ∷ 192 ∷ 0 ∷ 2 ∷ 1 ∷ 8 ∷ 11 ∷ 1 ∷ 128 ∷ 24 ∷ 2
     ∷ 6 ∷ 64 ∷ 0 ∷ 1 ∷ 2 ∷ 0 ∷ 2 ∷ []
 omitted_behind_unreachable = refl
+
+-- a route of IPv4 with a next hop of IPv6 is of encoding 4, whose omitted octets are those of its own last Update
+pub v4_via_v6 :
+    body_of ((key V4 167837696 24, link_local_route) ∷ (key V4 167837952 24, route 256) ∷ (key V4 167838208 24, link_local_route) ∷ [])
+    ≡ 6 ∷ 10 ∷ 0 ∷ 0 ∷ 2 ∷ 0 ∷ 0 ∷ 0 ∷ 0 ∷ 0 ∷ 0 ∷ 7 ∷ 7 ∷ 10 ∷ 3 ∷ 0 ∷ 0 ∷ 0 ∷ 0 ∷ 0 ∷ 0 ∷ 0 ∷ 0 ∷ 1 ∷ 8 ∷ 13 ∷ 4 ∷ 128 ∷ 24 ∷ 0 ∷ 6 ∷ 64 ∷ 0 ∷ 1 ∷ 1 ∷ 0 ∷ 10 ∷ 1 ∷ 0
+    ∷ 6 ∷ 10 ∷ 0 ∷ 0 ∷ 2 ∷ 0 ∷ 0 ∷ 0 ∷ 0 ∷ 0 ∷ 0 ∷ 1 ∷ 7 ∷ 6 ∷ 1 ∷ 0 ∷ 192 ∷ 0 ∷ 2 ∷ 1 ∷ 8 ∷ 13 ∷ 1 ∷ 128 ∷ 24 ∷ 0 ∷ 6 ∷ 64 ∷ 0 ∷ 1 ∷ 1 ∷ 0 ∷ 10 ∷ 1 ∷ 1
+    ∷ 6 ∷ 10 ∷ 0 ∷ 0 ∷ 2 ∷ 0 ∷ 0 ∷ 0 ∷ 0 ∷ 0 ∷ 0 ∷ 7 ∷ 8 ∷ 11 ∷ 4 ∷ 128 ∷ 24 ∷ 2 ∷ 6 ∷ 64 ∷ 0 ∷ 1 ∷ 1 ∷ 0 ∷ 2 ∷ []
+v4_via_v6 = refl

@@ -6,9 +6,10 @@ use Rattle.std.proofs.lemmas.List.{append-nil}
 use Rattle.babel_prefix.specs.declared.family.Family.{Family}
 use Rattle.babel_prefix.specs.declared.family.Family.TheVariants.{V4, V6}
 use Rattle.babel_prefix.specs.Address.{Address}
+use Rattle.babel_tlv.specs.declared.prefix_encoding.PrefixEncoding.{PrefixEncoding}
+use Rattle.babel_tlv.specs.declared.prefix_encoding.PrefixEncoding.TheVariants.{Ipv4, Ipv6, Ipv4ViaIpv6}
 use Rattle.babel_tlv.specs.Framing.{TlvAt}
-use Rattle.babel_tlv.specs.Context.{context_after, given_default, given_next_hop, given_router_id, next_hop_in_context, of_family}
-use Rattle.babel_tlv.specs.Updating.{default_in}
+use Rattle.babel_tlv.specs.Context.{context_after, default_in, given_default, given_next_hop, given_router_id, next_hop_in_context, of_family}
 use Rattle.babel_tlv.specs.Nearest.{SetsNone, IsSetTo, IsNearest, DefaultIsNearest, NextHopIsNearest, RouterIdIsNearest}
 
 module _ (X : Type 0) (sets : List TlvAt → TlvAt → Option X) where
@@ -53,34 +54,37 @@ module _ (X : Type 0) (sets : List TlvAt → TlvAt → Option X) where
       (on_by begins (stands earlier) tlv earlier (nearest begins stands at_first on earlier) (sets earlier tlv) refl)
 
 pub default_is_nearest : DefaultIsNearest
-default_is_nearest sender family = nearest Address (λ before tlv. given_default family (default_in family (context_after sender before)) tlv) None
-    (λ earlier. default_in family (context_after sender earlier)) (first family) (on family)
+default_is_nearest start encoding = nearest Address (λ before tlv. given_default start.via_v6 encoding (default_in encoding (context_after start before)) tlv) None
+    (λ earlier. default_in encoding (context_after start earlier)) (first encoding) (on encoding)
   where
-    first : (family : Family) → default_in family (context_after sender []) ≡ None
-    first V4 = refl
-    first V6 = refl
+    first : (encoding : PrefixEncoding) → default_in encoding (context_after start []) ≡ None
+    first Ipv4 = refl
+    first Ipv6 = refl
+    first Ipv4ViaIpv6 = refl
 
-    on : (family : Family) (tlv : TlvAt) (earlier : List TlvAt) → default_in family (context_after sender (tlv ∷ earlier))
-        ≡ option_or (given_default family (default_in family (context_after sender earlier)) tlv) (default_in family (context_after sender earlier))
-    on V4 tlv earlier = refl
-    on V6 tlv earlier = refl
+    on : (encoding : PrefixEncoding) (tlv : TlvAt) (earlier : List TlvAt) → default_in encoding (context_after start (tlv ∷ earlier))
+        ≡ option_or (given_default start.via_v6 encoding (default_in encoding (context_after start earlier)) tlv) (default_in encoding (context_after start earlier))
+    on Ipv4 tlv earlier = refl
+    on Ipv6 tlv earlier = refl
+    on Ipv4ViaIpv6 tlv earlier = refl
 
 pub next_hop_is_nearest : NextHopIsNearest
-next_hop_is_nearest sender family = nearest Address (λ before tlv. given_next_hop family tlv) (of_family family sender)
-    (λ earlier. next_hop_in_context family (context_after sender earlier)) (first family) (on family)
+next_hop_is_nearest start family = nearest Address (λ before tlv. given_next_hop family tlv) (of_family family start.sender)
+    (λ earlier. next_hop_in_context family (context_after start earlier)) (first family) (on family)
   where
-    first : (family : Family) → next_hop_in_context family (context_after sender []) ≡ of_family family sender
+    first : (family : Family) → next_hop_in_context family (context_after start []) ≡ of_family family start.sender
     first V4 = refl
     first V6 = refl
 
-    on : (family : Family) (tlv : TlvAt) (earlier : List TlvAt) → next_hop_in_context family (context_after sender (tlv ∷ earlier))
-        ≡ option_or (given_next_hop family tlv) (next_hop_in_context family (context_after sender earlier))
+    on : (family : Family) (tlv : TlvAt) (earlier : List TlvAt) → next_hop_in_context family (context_after start (tlv ∷ earlier))
+        ≡ option_or (given_next_hop family tlv) (next_hop_in_context family (context_after start earlier))
     on V4 tlv earlier = refl
     on V6 tlv earlier = refl
 
 pub ruleset of_a_family = (default_is_nearest, next_hop_is_nearest)
 
 pub router_id_is_nearest : RouterIdIsNearest
-router_id_is_nearest sender = nearest (List ℕ)
-    (λ before tlv. given_router_id (default_in V4 (context_after sender before)) (default_in V6 (context_after sender before)) tlv) None
-    (λ earlier. (context_after sender earlier).router_id) refl (λ tlv earlier. refl)
+router_id_is_nearest start = nearest (List ℕ)
+    (λ before tlv. given_router_id start.via_v6 (default_in Ipv4 (context_after start before)) (default_in Ipv6 (context_after start before))
+    (default_in Ipv4ViaIpv6 (context_after start before)) tlv) None
+    (λ earlier. (context_after start earlier).router_id) refl (λ tlv earlier. refl)

@@ -3,7 +3,7 @@ use Rattle.std.proofs.Common.{◌≡◌, ℕ, ◌+◌, List, [], ◌∷◌, ◌+
 use Rattle.std.specs.List.{flat_map}
 use Rattle.std.proofs.lemmas.List.{length-append, append-nil}
 use Rattle.std.proofs.lemmas.List.Concat.{flat_map-append}
-use Rattle.babel_prefix.specs.Address.{Address}
+use Rattle.babel_tlv.specs.declared.start.Start.{Start}
 use Rattle.babel_tlv.specs.declared.event.Event.{Event}
 use Rattle.babel_tlv.specs.declared.event.Event.TheVariants as events
 use Rattle.babel_tlv.specs.declared.fault.Fault.{Fault}
@@ -105,7 +105,7 @@ Tells-append context middle behind at front back first later one_told other_told
 abbrev pub what_of : Saying → Result Event Fault
 what_of saying = saying.what
 
-pub sayings_behind-says_in : (sender : Address) (earlier tlvs : List TlvAt) → map what_of (sayings_behind sender earlier tlvs) ≡ says_in (context_after sender earlier) tlvs
-sayings_behind-says_in sender earlier [] = refl
-sayings_behind-says_in sender earlier (tlv ∷ tlvs) =
-    ap (λ (rs : List (Result Event Fault)). said (context_after sender earlier) tlv ∷ rs) (sayings_behind-says_in sender (tlv ∷ earlier) tlvs)
+pub sayings_behind-says_in : (start : Start) (earlier tlvs : List TlvAt) → map what_of (sayings_behind start earlier tlvs) ≡ says_in (context_after start earlier) tlvs
+sayings_behind-says_in start earlier [] = refl
+sayings_behind-says_in start earlier (tlv ∷ tlvs) =
+    ap (λ (rs : List (Result Event Fault)). said (context_after start earlier) tlv ∷ rs) (sayings_behind-says_in start (tlv ∷ earlier) tlvs)

@@ -1,9 +1,12 @@
--- What a parser keeps between two TLVs, and an address of each family, if one is known: RFC 8966,
--- 4.5.
+-- What a parser keeps between two TLVs, and an address of each family and a prefix of each
+-- encoding, if one is known: RFC 8966, 4.5; RFC 9229, 4.1.
 use Rattle.std.specs.Prelude.{◌≡◌, ◌^◌, ◌<◌, ℕ, List, length, slice_index, IfSome, Option, Some}
 use Rattle.babel_prefix.specs.declared.family.Family.{Family}
 use Rattle.babel_prefix.specs.declared.family.Family.TheVariants.{V4, V6}
 use Rattle.babel_prefix.specs.Address.{Address, IsAddress}
+use Rattle.babel_tlv.specs.declared.prefix_encoding.PrefixEncoding.{PrefixEncoding}
+use Rattle.babel_tlv.specs.declared.prefix_encoding.PrefixEncoding.TheVariants.{Ipv4, Ipv6}
+use Rattle.babel_tlv.specs.declared.prefix_encoding.PrefixEncoding.TheVariants.{Ipv4ViaIpv6}
 use Rattle.babel_tlv.specs.Context.{Context}
 
 -- an address of the family, if there is one
@@ -18,6 +21,7 @@ IsRouterId id = (length id ≡ 8) × ((i : ℕ) → slice_index id i < 2 ^ 8)
 pub record IsContext (context : Context) : Type 0 where
   pub default_v4 : IsOfFamily V4 context.default_v4
   pub default_v6 : IsOfFamily V6 context.default_v6
+  pub default_v4_via_v6 : IsOfFamily V4 context.default_v4_via_v6
   pub router_id : IfSome context.router_id IsRouterId
   pub next_hop_v4 : IsOfFamily V4 context.next_hop_v4
   pub next_hop_v6 : IsOfFamily V6 context.next_hop_v6
@@ -37,3 +41,24 @@ kept_for V6 kept = kept.v6
 abbrev pub kept_with : Family → Address → Kept → Kept
 kept_with V4 a kept = record kept { v4 = Some a }
 kept_with V6 a kept = record kept { v6 = Some a }
+
+-- a prefix of each encoding, if one is known, as its address
+pub record KeptPrefixes : Type 0 where
+  pub v4 : Option Address
+  pub v6 : Option Address
+  pub v4_via_v6 : Option Address
+
+pub record ArePrefixes (kept : KeptPrefixes) : Type 0 where
+  pub v4 : IsOfFamily V4 kept.v4
+  pub v6 : IsOfFamily V6 kept.v6
+  pub v4_via_v6 : IsOfFamily V4 kept.v4_via_v6
+
+abbrev pub prefix_for : PrefixEncoding → KeptPrefixes → Option Address
+prefix_for Ipv4 kept = kept.v4
+prefix_for Ipv6 kept = kept.v6
+prefix_for Ipv4ViaIpv6 kept = kept.v4_via_v6
+
+abbrev pub prefix_with : PrefixEncoding → Address → KeptPrefixes → KeptPrefixes
+prefix_with Ipv4 a kept = record kept { v4 = Some a }
+prefix_with Ipv6 a kept = record kept { v6 = Some a }
+prefix_with Ipv4ViaIpv6 a kept = record kept { v4_via_v6 = Some a }

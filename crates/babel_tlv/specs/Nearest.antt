@@ -2,12 +2,14 @@
 -- nearest earlier TLV set that sets it, or else what a packet begins with.
 use Rattle.std.specs.Prelude.{◌≡◌, ℕ, List, [], ◌∷◌, ◌++◌, Option, Some, None, ◌⊎◌}
 use Rattle.babel_prefix.specs.declared.family.Family.{Family}
-use Rattle.babel_prefix.specs.declared.family.Family.TheVariants.{V4, V6}
 use Rattle.babel_prefix.specs.Address.{Address}
+use Rattle.babel_tlv.specs.declared.prefix_encoding.PrefixEncoding.{PrefixEncoding}
+use Rattle.babel_tlv.specs.declared.prefix_encoding.PrefixEncoding.TheVariants.{Ipv4, Ipv6}
+use Rattle.babel_tlv.specs.declared.prefix_encoding.PrefixEncoding.TheVariants.{Ipv4ViaIpv6}
+use Rattle.babel_tlv.specs.declared.start.Start.{Start}
 use Rattle.babel_tlv.specs.Framing.{TlvAt}
 use Rattle.babel_tlv.specs.Context.{context_after, given_default, given_next_hop, given_router_id}
-use Rattle.babel_tlv.specs.Context.{next_hop_in_context, of_family}
-use Rattle.babel_tlv.specs.Updating.{default_in}
+use Rattle.babel_tlv.specs.Context.{default_in, next_hop_in_context, of_family}
 
 -- `sets before tlv` is what a TLV sets where these TLVs came before it in its packet, if it sets
 -- any. All lists of TLVs have the latest first.
@@ -36,23 +38,26 @@ IsNearest X sets begins earlier stands =
     ((value : X) × IsSetTo X sets earlier value × (stands ≡ Some value))
     ⊎ (SetsNone X sets earlier [] × (stands ≡ begins))
 
--- the default prefix of a family, which a packet begins without
+-- the default prefix of an encoding, which a packet begins without
 abbrev pub DefaultIsNearest : Type 0
-DefaultIsNearest = (sender : Address) (family : Family) (earlier : List TlvAt)
+DefaultIsNearest = (start : Start) (encoding : PrefixEncoding) (earlier : List TlvAt)
     → IsNearest Address
-    (λ before tlv. given_default family (default_in family (context_after sender before)) tlv)
-    None earlier (default_in family (context_after sender earlier))
+    (λ before tlv. given_default start.via_v6 encoding
+    (default_in encoding (context_after start before)) tlv)
+    None earlier (default_in encoding (context_after start earlier))
 
 -- the next hop of a family; a packet begins with the sender as that of its family
 abbrev pub NextHopIsNearest : Type 0
-NextHopIsNearest = (sender : Address) (family : Family) (earlier : List TlvAt)
+NextHopIsNearest = (start : Start) (family : Family) (earlier : List TlvAt)
     → IsNearest Address (λ before tlv. given_next_hop family tlv)
-    (of_family family sender) earlier (next_hop_in_context family (context_after sender earlier))
+    (of_family family start.sender) earlier
+    (next_hop_in_context family (context_after start earlier))
 
 -- the router-id, which a packet begins without
 abbrev pub RouterIdIsNearest : Type 0
-RouterIdIsNearest = (sender : Address) (earlier : List TlvAt)
+RouterIdIsNearest = (start : Start) (earlier : List TlvAt)
     → IsNearest (List ℕ)
-    (λ before tlv. given_router_id (default_in V4 (context_after sender before))
-    (default_in V6 (context_after sender before)) tlv)
-    None earlier (context_after sender earlier).router_id
+    (λ before tlv. given_router_id start.via_v6 (default_in Ipv4 (context_after start before))
+    (default_in Ipv6 (context_after start before))
+    (default_in Ipv4ViaIpv6 (context_after start before)) tlv)
+    None earlier (context_after start earlier).router_id

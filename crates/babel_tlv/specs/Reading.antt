@@ -12,13 +12,10 @@ use Rattle.babel_tlv.specs.declared.reason.Reason.{Reason}
 use Rattle.babel_tlv.specs.declared.route.Route.{Route}
 use Rattle.babel_tlv.specs.declared.router_id.RouterId.{RouterId}
 use Rattle.babel_tlv.specs.declared.verdict.Verdict.{Verdict}
-use Rattle.babel_tlv.specs.Context.{Context}
-use Rattle.babel_tlv.specs.Updating.{default_in}
-use Rattle.babel_tlv.specs.Forming.{default_octets, field_len, formed, hop_len}
+use Rattle.babel_tlv.specs.Forming.{default_octets, field_len, hop_len}
 use Rattle.babel_tlv.specs.Forming.{next_hop_in, omitted, router_id_in}
 use Rattle.babel_tlv.specs.Framing.{TlvAt}
 use Rattle.babel_tlv.specs.Route.{Announcement}
-use Rattle.babel_tlv.specs.Says.{prefix_event}
 use Rattle.babel_tlv.specs.SubTlv.{is_source, source_prefix}
 use Rattle.babel_tlv.specs.Verdicts.{event_of}
 
@@ -41,11 +38,6 @@ source_in family items = option_map (λ item. source_prefix family item.body) (f
 abbrev pub joined_octets : Option Address → List ℕ → List ℕ
 joined_octets default body =
     take (omitted body) (default_octets default) ++ take (field_len body) (drop 10 body)
-
--- what an Update of the family says
-abbrev pub family_event : Family → Context → List ℕ → Event
-family_event family context body =
-    prefix_event family context body (formed family (default_in family context) body)
 
 -- a route by the fields of its announcement
 abbrev pub announcement_of : List ℕ → ℕ → ℕ → Address → Announcement

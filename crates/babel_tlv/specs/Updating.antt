@@ -4,29 +4,32 @@ use Rattle.std.specs.Option.{option_or}
 use Rattle.babel_prefix.specs.declared.family.Family.{Family}
 use Rattle.babel_prefix.specs.declared.family.Family.TheVariants.{V4, V6}
 use Rattle.babel_prefix.specs.Address.{Address}
+use Rattle.babel_tlv.specs.declared.prefix_encoding.PrefixEncoding.{PrefixEncoding}
+use Rattle.babel_tlv.specs.declared.prefix_encoding.PrefixEncoding.TheVariants.{Ipv4, Ipv6}
+use Rattle.babel_tlv.specs.declared.prefix_encoding.PrefixEncoding.TheVariants.{Ipv4ViaIpv6}
 use Rattle.babel_tlv.specs.Framing.{TlvAt}
 use Rattle.babel_tlv.specs.Context.{Context, given_default, given_next_hop, given_router_id}
-
--- the default prefix of a family
-abbrev pub default_in : Family → Context → Option Address
-default_in V4 context = context.default_v4
-default_in V6 context = context.default_v6
 
 -- what a TLV gives, over what stood before it
 abbrev pub updated : Context → TlvAt → Context
 updated old tlv = record {
-  default_v4 = option_or (given_default V4 old.default_v4 tlv) old.default_v4;
-  default_v6 = option_or (given_default V6 old.default_v6 tlv) old.default_v6;
-  router_id = option_or (given_router_id old.default_v4 old.default_v6 tlv) old.router_id;
+  via_v6 = old.via_v6;
+  default_v4 = option_or (given_default old.via_v6 Ipv4 old.default_v4 tlv) old.default_v4;
+  default_v6 = option_or (given_default old.via_v6 Ipv6 old.default_v6 tlv) old.default_v6;
+  default_v4_via_v6 = option_or (given_default old.via_v6 Ipv4ViaIpv6 old.default_v4_via_v6 tlv)
+      old.default_v4_via_v6;
+  router_id = option_or (given_router_id old.via_v6 old.default_v4 old.default_v6
+      old.default_v4_via_v6 tlv) old.router_id;
   next_hop_v4 = option_or (given_next_hop V4 tlv) old.next_hop_v4;
   next_hop_v6 = option_or (given_next_hop V6 tlv) old.next_hop_v6;
 }
 
--- a context with the default prefix of a family set, if it is to be
-abbrev pub with_default : Bool → Family → Address → Context → Context
-with_default false family a context = context
-with_default true V4 a context = record context { default_v4 = Some a }
-with_default true V6 a context = record context { default_v6 = Some a }
+-- a context with the default prefix of an encoding set, if it is to be
+abbrev pub with_default : Bool → PrefixEncoding → Address → Context → Context
+with_default false encoding a context = context
+with_default true Ipv4 a context = record context { default_v4 = Some a }
+with_default true Ipv6 a context = record context { default_v6 = Some a }
+with_default true Ipv4ViaIpv6 a context = record context { default_v4_via_v6 = Some a }
 
 -- a context with the router-id set, if it is to be
 abbrev pub with_router_id : Bool → List ℕ → Context → Context

@@ -31,7 +31,7 @@ SameUnder view None None = Unit {0}
 SameUnder view (Some held) (Some other) = HeldSameUnder view held other
 SameUnder view answer other = ⊥
 
--- what stands for a next hop that is ignored: 0.0.0.0 or ::
+-- what stands for a next hop that is ignored, by the key's family: 0.0.0.0 or ::
 abbrev pub no_address : Family → Address
 no_address family = record { family = family; bits = 0 }
 
@@ -39,16 +39,17 @@ no_address family = record { family = family; bits = 0 }
 abbrev pub stated_id : List ℕ
 stated_id = 0 ∷ 0 ∷ 0 ∷ 0 ∷ 0 ∷ 0 ∷ 0 ∷ 1 ∷ []
 
--- the announcement, with a stated value for each field that the view ignores
-abbrev pub seen_announcement : View → Announcement → Announcement
-seen_announcement view ann = record {
+-- the announcement for a key of the family, with a stated value for each field that the view
+-- ignores
+abbrev pub seen_announcement : View → Family → Announcement → Announcement
+seen_announcement view family ann = record {
   router_id = if view.router_id then ann.router_id else stated_id;
   seqno = if view.seqno then ann.seqno else 0;
   metric = if view.metric then ann.metric else 0;
-  next_hop = if view.next_hop then ann.next_hop else no_address ann.next_hop.family;
+  next_hop = if view.next_hop then ann.next_hop else no_address family;
 }
 
--- what is seen of what is held
-abbrev pub seen : View → Held → Held
-seen view (helds.Route ann) = helds.Route (seen_announcement view ann)
-seen view helds.Unreachable = helds.Unreachable
+-- what is seen of what is held for a key of the family
+abbrev pub seen : View → Family → Held → Held
+seen view family (helds.Route ann) = helds.Route (seen_announcement view family ann)
+seen view family helds.Unreachable = helds.Unreachable

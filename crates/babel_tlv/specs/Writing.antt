@@ -1,24 +1,29 @@
 -- What a packet being written keeps of the pairs that are in it, and how it goes on by a pair:
--- RFC 8966, 4.5.
+-- RFC 8966, 4.5; RFC 9229, 4.1.
 use Rattle.std.specs.Prelude.{ℕ, List, ◌++◌, Option, Some}
 use Rattle.babel_prefix.specs.declared.family.Family.{Family}
 use Rattle.babel_prefix.specs.declared.family.Family.TheVariants.{V4, V6}
 use Rattle.babel_prefix.specs.Address.{Address}
+use Rattle.babel_tlv.specs.declared.prefix_encoding.PrefixEncoding.{PrefixEncoding}
+use Rattle.babel_tlv.specs.declared.prefix_encoding.PrefixEncoding.TheVariants.{Ipv4, Ipv6}
+use Rattle.babel_tlv.specs.declared.prefix_encoding.PrefixEncoding.TheVariants.{Ipv4ViaIpv6}
 use Rattle.babel_tlv.specs.declared.held.Held.{Held}
 use Rattle.babel_tlv.specs.declared.held.Held.TheVariants as helds
+use Rattle.babel_tlv.specs.Encodings.{hop_family}
 use Rattle.babel_tlv.specs.Route.{Announcement}
 use Rattle.babel_tlv.specs.Pair.{Pair}
-use Rattle.babel_tlv.specs.Group.{pair_family, written_id, written_hop}
+use Rattle.babel_tlv.specs.Group.{pair_encoding, written_id, written_hop}
 use Rattle.babel_tlv.specs.Group.{written_dst, route_tlvs, update_tlv}
 use Rattle.babel_tlv.specs.Group.{shared_octets, held_seqno, held_metric}
 
--- what is current in the packet, for each family
+-- what is current in the packet, for each family and each encoding
 pub record Written : Type 0 where
   pub router_id : Option (List ℕ)
   pub next_hop_v4 : Option Address
   pub next_hop_v6 : Option Address
   pub dst_v4 : Option Address
   pub dst_v6 : Option Address
+  pub dst_v4_via_v6 : Option Address
 
 -- this stands for these pairs, the latest first
 abbrev pub written_after : List Pair → Written
@@ -26,17 +31,19 @@ written_after earlier = record {
   router_id = written_id earlier;
   next_hop_v4 = written_hop V4 earlier;
   next_hop_v6 = written_hop V6 earlier;
-  dst_v4 = written_dst V4 earlier;
-  dst_v6 = written_dst V6 earlier;
+  dst_v4 = written_dst Ipv4 earlier;
+  dst_v6 = written_dst Ipv6 earlier;
+  dst_v4_via_v6 = written_dst Ipv4ViaIpv6 earlier;
 }
 
 abbrev pub hop_in : Family → Written → Option Address
 hop_in V4 so_far = so_far.next_hop_v4
 hop_in V6 so_far = so_far.next_hop_v6
 
-abbrev pub dst_in : Family → Written → Option Address
-dst_in V4 so_far = so_far.dst_v4
-dst_in V6 so_far = so_far.dst_v6
+abbrev pub dst_in : PrefixEncoding → Written → Option Address
+dst_in Ipv4 so_far = so_far.dst_v4
+dst_in Ipv6 so_far = so_far.dst_v6
+dst_in Ipv4ViaIpv6 so_far = so_far.dst_v4_via_v6
 
 -- the group of a pair, by what is current
 abbrev pub route_in : Family → Written → Held → List ℕ
@@ -44,8 +51,9 @@ route_in family so_far held = route_tlvs so_far.router_id (hop_in family so_far)
 
 abbrev pub group_in : Written → Pair → List ℕ
 group_in so_far pair =
-    route_in (pair_family pair) so_far pair.1
-    ++ update_tlv (shared_octets (dst_in (pair_family pair) so_far) pair.0.dst) pair.0
+    let encoding = pair_encoding pair in
+    route_in (hop_family encoding) so_far pair.1
+    ++ update_tlv encoding (shared_octets (dst_in encoding so_far) pair.0.dst) pair.0
     (held_seqno pair.1) (held_metric pair.1)
 
 -- a route's Router-Id and Next Hop are current
@@ -60,11 +68,13 @@ abbrev pub with_held : Family → Held → Written → Written
 with_held family (helds.Route ann) old = with_route family ann old
 with_held family helds.Unreachable old = old
 
--- the last Update of the family has this destination address
-abbrev pub with_dst : Family → Address → Written → Written
-with_dst V4 dst old = record old { dst_v4 = Some dst }
-with_dst V6 dst old = record old { dst_v6 = Some dst }
+-- the last Update of the encoding has this destination address
+abbrev pub with_dst : PrefixEncoding → Address → Written → Written
+with_dst Ipv4 dst old = record old { dst_v4 = Some dst }
+with_dst Ipv6 dst old = record old { dst_v6 = Some dst }
+with_dst Ipv4ViaIpv6 dst old = record old { dst_v4_via_v6 = Some dst }
 
 abbrev pub with_pair : Pair → Written → Written
 with_pair pair old =
-    with_dst (pair_family pair) pair.0.dst.address (with_held (pair_family pair) pair.1 old)
+    let encoding = pair_encoding pair in
+    with_dst encoding pair.0.dst.address (with_held (hop_family encoding) pair.1 old)

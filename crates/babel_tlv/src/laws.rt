@@ -5,7 +5,8 @@ ghost use Rattle.std.specs.declared.cmp.Ordering.TheVariants.{Equal};
 ghost use Rattle.babel_tlv.specs.declared.held.Held.{Held as HeldValue};
 ghost use Rattle.babel_tlv.specs.Nearest.{DefaultIsNearest, NextHopIsNearest, RouterIdIsNearest};
 ghost use Rattle.babel_tlv.specs.Pairs.{held_cmp};
-ghost use Rattle.babel_tlv.specs.ViewsTell.{AllIsSeen, SeenFits, SeenTellsApart, SeenTwiceIsSeen};
+ghost use Rattle.babel_tlv.specs.ViewsTell.{AllIsSeen, SeenFits, SeenHopFits};
+ghost use Rattle.babel_tlv.specs.ViewsTell.{SeenTellsApart, SeenTwiceIsSeen};
 ghost use Rattle.babel_tlv.specs.Route.{RouteKey, Announcement};
 ghost use Rattle.babel_tlv.specs.Keys.{key_cmp, announcement_cmp};
 
@@ -45,15 +46,16 @@ pub fn equal_are_one()
     ensures held { (a b : HeldValue) → (held_cmp a b ≡ Equal) ↔ (a ≡ b) }
 {}
 
-/// What a view sees of two values with next hops of one family is equal exactly where these are
-/// both unreachable, or both routes whose kept fields are equal. The view that keeps every field
-/// changes nothing; what is seen is seen so again, and fits its key.
+/// What a view sees of two values for keys of one family is equal exactly where these are both
+/// unreachable, or both routes whose kept fields are equal. The view that keeps every field changes
+/// nothing; what is seen is seen so again, and fits its key.
 #[tactic(auto, using(crate::proofs::ViewLaws::views_tell))]
 pub fn views_tell()
     ensures tells_apart { SeenTellsApart }
     ensures all { AllIsSeen }
     ensures twice { SeenTwiceIsSeen }
     ensures fits { SeenFits }
+    ensures hop { SeenHopFits }
 {}
 
 /// What stands before a TLV of a packet is what the nearest earlier TLV of the packet set that sets

@@ -1,5 +1,5 @@
-//! Babel packets, RFC 8966 and RFC 9079: their framing and TLVs, the parser state, what each TLV
-//! says of routes, and the octets that say one route.
+//! Babel packets, RFC 8966, RFC 9079 and RFC 9229: their framing and TLVs, the parser state, what
+//! each TLV says of routes, and the octets that say one route.
 //!
 //! The crate reads octets that are in memory and keeps nothing of them but a parser state of a few
 //! addresses; no call takes memory. The faults of dumps are here, too, since later crates share
@@ -20,11 +20,14 @@ mod mode;
 mod next_hop;
 mod octets;
 mod packet;
+mod per_encoding;
 mod per_family;
 mod place;
+mod prefix_encoding;
 mod reason;
 mod route;
 mod router_id;
+mod start;
 mod state;
 mod step;
 mod sub_tlv;
@@ -47,6 +50,7 @@ pub use mode::Mode;
 pub use packet::Frame;
 pub use reason::Reason;
 pub use route::Route;
+pub use start::Start;
 pub use state::State;
 pub use tlv::{Tlv, check_body};
 pub use tlvs::Tlvs;

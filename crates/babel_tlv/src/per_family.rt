@@ -5,8 +5,7 @@ ghost use Rattle.babel_tlv.specs.Kept.{kept_for, kept_with};
 use babel_prefix::{Addr, Family};
 use std::marker::Model;
 
-/// An address of each family, if one is known: what a parser keeps for each encoding. RFC 8966,
-/// 4.5.
+/// An address of each family, if one is known: RFC 8966, 4.5.
 #[derive(Clone, Copy, Debug, PartialEq, Eq)]
 pub(crate) struct PerFamily {
     v4: Option<Addr>,

@@ -62,11 +62,11 @@ impl<'a> Update<'a> {
         })
     }
 
-    /// The encoding of the prefix.
-    pub fn encoding(&self) -> Encoding
-        ensures { IsNamedBy result (update_encoding self.now.body.now) }
+    /// The encoding of the prefix, where address encoding 4 is read or not.
+    pub fn encoding(&self, via_v6: bool) -> Encoding
+        ensures { IsNamedBy via_v6 result (update_encoding self.now.body.now) }
     {
-        Encoding::of(self.encoding)
+        Encoding::of(self.encoding, via_v6)
     }
 
     /// The prefix that the Update forms with the default prefix of its encoding.

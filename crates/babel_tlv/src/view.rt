@@ -24,7 +24,7 @@ pub struct View {
     pub metric: bool,
 }
 
-/// The address in place of a next hop that is ignored: `0.0.0.0` or `::`.
+/// The address in place of a next hop that is ignored, by the key's family: `0.0.0.0` or `::`.
 fn no_address(family: Family) -> Addr
     ensures { result ≡ no_address family }
 {
@@ -51,21 +51,21 @@ impl View {
         self.next_hop && self.router_id && self.seqno && self.metric
     }
 
-    /// What is held, with a stated value for each field that is ignored: next hop `0.0.0.0` or
-    /// `::`, router-id `0000000000000001`, seqno 0, metric 0. What is seen of a route can be
-    /// announced as a route.
-    pub fn seen(self, held: Held) -> Held
-        ensures { result ≡ seen self held }
+    /// What is held for a key of the family, with a stated value for each field that is ignored:
+    /// next hop `0.0.0.0` or `::`, router-id `0000000000000001`, seqno 0, metric 0. What is seen of
+    /// a route can be announced as a route.
+    pub fn seen(self, family: Family, held: Held) -> Held
+        ensures { result ≡ seen self family held }
     {
         match held {
-            Held::Route(ann) => Held::Route(self.seen_announcement(ann)),
+            Held::Route(ann) => Held::Route(self.seen_announcement(family, ann)),
             Held::Unreachable => Held::Unreachable,
         }
     }
 
-    /// An announcement, with these values.
-    fn seen_announcement(self, ann: Ann) -> Ann
-        ensures { result ≡ seen_announcement self ann }
+    /// An announcement for a key of the family, with these values.
+    fn seen_announcement(self, family: Family, ann: Ann) -> Ann
+        ensures { result ≡ seen_announcement self family ann }
     {
         let router_id = if self.router_id {
             ann.router_id()
@@ -75,7 +75,7 @@ impl View {
         let next_hop = if self.next_hop {
             ann.next_hop()
         } else {
-            no_address(ann.next_hop().family())
+            no_address(family)
         };
         let seqno = if self.seqno { ann.seqno() } else { 0 };
         let metric = if self.metric { ann.metric() } else { 0 };

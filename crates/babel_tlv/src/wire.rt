@@ -24,6 +24,9 @@ pub(crate) const AE_IPV6: u8 = 2;
 
 pub(crate) const AE_LINK_LOCAL: u8 = 3;
 
+/// The encoding of IPv4 prefixes of routes with IPv6 next hops: RFC 9229, 4.1.
+pub(crate) const AE_IPV4_VIA_IPV6: u8 = 4;
+
 /// Flags of an Update: RFC 8966, 4.6.9.
 pub(crate) const PREFIX_FLAG: u8 = 0x80;
 

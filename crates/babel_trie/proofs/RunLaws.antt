@@ -1,19 +1,24 @@
 -- What a list of changes says.
-use Rattle.std.proofs.Common.{◌≡◌, ◌≢◌, inl, inr, ℕ, suc, ◌-◌, ◌^◌, ◌<◌, ◌≤◌, true, false, cond, List, [], ◌∷◌, ◌++◌, nat_le, length, Option, Some, refl, sym, ◌∙◌, ap, subst, arith}
+use Rattle.std.proofs.Common.{◌≡◌, ◌≢◌, inl, inr, ℕ, suc, ◌-◌, ◌^◌, ◌<◌, ◌≤◌, true, false, cond, List, [], ◌∷◌, ◌++◌, nat_le, length, Option, Some, refl, sym, ◌∙◌, ap, subst, arith, ◌⊎◌, take}
 use Rattle.std.specs.List.{slice_get}
 use Rattle.std.proofs.lemmas.Bool.{cases_lt}
 use Rattle.babel_prefix.proofs.Members.{Listed}
 use Rattle.babel_trie.specs.Boxes.{Answers, SameAnswers}
-use Rattle.babel_trie.specs.Interned.{HasTrie}
+use Rattle.babel_trie.specs.Interned.{HalvesAt, HasTrie, Stands}
 use Rattle.babel_trie.specs.Pass.{IsFilled}
 use Rattle.babel_trie.specs.Runs.{said_at, AreRuns, StartBelow, HasRuns}
-use Rattle.babel_trie.specs.Shape.{value_at}
+use Rattle.babel_trie.specs.Shape.{Shape, leaf, fork, value_at}
 use Rattle.babel_trie.specs.Sound.{KeepsNodes}
 use Rattle.babel_trie.specs.declared.runs.Change.{Change}
+use Rattle.babel_trie.specs.declared.table.Loose.{Loose}
+use Rattle.babel_trie.specs.declared.table.Loose.TheVariants.{Same, Split}
 use Rattle.babel_trie.specs.declared.table.Node.{Node}
 use Rattle.babel_trie.specs.declared.table.Sources.{Sources}
+use Rattle.babel_trie.specs.declared.table.Sources.TheVariants.{Constant, Stored}
+use Rattle.std.proofs.Math.Seq.{take-length}
+use Rattle.std.proofs.lemmas.List.{length-take}
 use Rattle.babel_trie.proofs.HeldLaws.{sources_at-stands}
-use Rattle.babel_trie.proofs.NumberLaws.{Represents-grows}
+use Rattle.babel_trie.proofs.NumberLaws.{Represents-grows, slice_get-take, slice_get_in}
 use Rattle.babel_trie.proofs.FormLaws.{HasTrie-grows}
 
 module _ {F : Type 0} where
@@ -105,3 +110,50 @@ module _ {V : Type 0} where
         each = λ none d d_in. (says none d d_in).held;
         answers = λ none d s d_in s_in. ap (λ t. value_at t w s) (sources_at-stands w nodes (said_at none list d) (says none d d_in).held) ∙ (says none d d_in).values_are s s_in;
       }
+
+  -- ---- the nodes that are kept
+
+  keeps-taken : (kept : ℕ) (old new : List (Node (Option V))) → KeepsNodes (take kept old) new → KeepsNodes (take kept old) (take kept new)
+  keeps-taken kept old new keeps i node e =
+      slice_get-take new kept i node (omega (arith, slice_get_in (take kept old) i node e, length-take kept old)) (keeps i node e)
+
+  stands-constant : (nodes more : List (Node (Option V))) (v : Option V) (x : Loose (Option V)) (t : Shape (Option V)) → x ≡ Same v → Stands nodes x t → Stands more x t
+  stands-constant nodes more v x (leaf u) is p = p
+  stands-constant nodes more v x (fork low high) is p = absurd (subst (λ y. HalvesAt nodes y p.0 p.1) is p.2)
+
+  -- a constant has its values over whatever nodes
+  values-constant : (w : ℕ) (values : ℕ → Option V) (nodes more : List (Node (Option V))) (v : Option V) → HasValues w values nodes (Constant v) → HasValues w values more (Constant v)
+  values-constant w values nodes more v p =
+      let h = p.held in
+      let r = h.stands in
+      record {
+        held = record { trie = h.trie; stands = (r.0, r.1, stands-constant nodes more v r.0 h.trie r.1 r.2); fits = h.fits; reduced = h.reduced };
+        values_are = p.values_are;
+      }
+
+  pub says-grows : (w at : ℕ) (f : Answers V) (nodes more : List (Node (Option V))) (list : List (Change (Sources (Option V))))
+      → KeepsNodes nodes more → Says w at f nodes list → Says w at f more list
+  says-grows w at f nodes more list keeps says none d lt = values-grow w (f d) nodes more (said_at none list d) keeps (says none d lt)
+
+  -- as many nodes are kept as before where the sources are a constant, or all
+  abbrev pub IsKeptWith : ℕ → Sources (Option V) → List (Node (Option V)) → ℕ → Type 0
+  IsKeptWith kept s more after = ((v : Option V) × (s ≡ Constant v) × (after ≡ kept)) ⊎ (after ≡ length more)
+
+  pub keeps-kept : (kept after : ℕ) (first old more : List (Node (Option V))) (s : Sources (Option V)) → KeepsNodes first (take kept old) → KeepsNodes (take kept old) more
+      → IsKeptWith kept s more after → KeepsNodes first (take after more)
+  keeps-kept kept after first old more s before keeps (inl c) i node e =
+      subst (λ k. slice_get (take k more) i ≡ Some node) (sym c.2) (keeps-taken kept old more keeps i node (before i node e))
+  keeps-kept kept after first old more s before keeps (inr all) i node e =
+      subst (λ xs. slice_get xs i ≡ Some node) (sym (ap (λ k. take k more) all ∙ take-length more)) (keeps i node (before i node e))
+
+  -- one more change says it up to another address, by the nodes that are kept
+  pub says-kept : (w at to : ℕ) (f : Answers V) (kept later : ℕ) (old more : List (Node (Option V))) (list after : List (Change (Sources (Option V))))
+      (s : Sources (Option V)) → KeepsNodes (take kept old) more → IsFilled at to s list after → IsKeptWith kept s more later →
+      ((d : ℕ) → at ≤ d → d < to → HasValues w (f d) more s) → Says w at f (take kept old) list → Says w to f (take later more) after
+  says-kept w at to f kept later old more list after s keeps filled (inl c) here says =
+      subst (λ k. Says w to f (take k more) after) (sym c.2)
+      (says-more w at to f (take kept old) (take kept more) list after s (keeps-taken kept old more keeps) filled
+      (λ d le lt. subst (HasValues w (f d) (take kept more)) (sym c.1) (values-constant w (f d) more (take kept more) c.0 (subst (HasValues w (f d) more) c.1 (here d le lt)))) says)
+  says-kept w at to f kept later old more list after s keeps filled (inr all) here says =
+      subst (λ xs. Says w to f xs after) (sym (ap (λ k. take k more) all ∙ take-length more))
+      (says-more w at to f (take kept old) more list after s keeps filled here says)

@@ -1,6 +1,7 @@
 //! The addresses at which the answers change from one destination to the next, found in one pass
 //! over sorted rows.
-ghost use Rattle.std.specs.Prelude.{◌≡◌, ◌≢◌, ◌↔◌, ℕ, ◌+◌, ◌-◌, ◌*◌, ◌^◌, ◌<◌, ◌≤◌, ◌∷◌, ◌++◌};
+ghost use Rattle.std.specs.Prelude.{◌≡◌, ◌≢◌, ◌↔◌, ◌⊎◌, ℕ, ◌+◌, ◌-◌, ◌*◌, ◌^◌, ◌<◌, ◌≤◌, ◌∷◌};
+ghost use Rattle.std.specs.Prelude.{◌++◌};
 ghost use Rattle.std.specs.Prelude.{List, map, length, take, reverse, slice_get, Option, Some};
 ghost use Rattle.std.specs.Prelude.{true, false, IfOk, IfSome, IsSome, MatchOption, OnOk};
 ghost use Rattle.babel_prefix.specs.Address.{block_of};
@@ -19,6 +20,7 @@ ghost use Rattle.babel_trie.specs.Sound.{IsSound, KeepsNodes};
 ghost use Rattle.babel_trie.specs.declared.runs.Change.{Change};
 ghost use Rattle.babel_trie.specs.declared.table.Node.{Node};
 ghost use Rattle.babel_trie.specs.declared.table.Sources.{Sources};
+ghost use Rattle.babel_trie.specs.declared.table.Sources.TheVariants.{Constant};
 
 use crate::fit::last_address;
 use crate::lawful::{LawfulOrd, are_same};
@@ -310,12 +312,61 @@ impl<V: LawfulOrd, R: Rows<V>> Pass<V, R> {
         self.leave(at);
         Ok(self.next_start())
     }
+
+    /// The same, where nodes that are neither among so many at the front nor needed by the pass can
+    /// be given up first.
+    pub fn reach_keeping(
+        &mut self,
+        table: &mut Table<Option<V>>,
+        kept: usize,
+        width: u8,
+        at: u128,
+    ) -> Result<Option<u128>, AllocError>
+        requires sound { IsSound ⟦<Sources<Option<V>> as Ord>⟧.cmp
+            ⟦<Sources<Option<V>> as LawfulOrd>⟧.mark table.old.nodes.items table.old.numbers }
+        requires pass { (rows : List (Entry V))
+            × IsPassOver width R.rows rows table.old.nodes.items self.old }
+        requires order { self.old.now.start ≤ at }
+        requires rows { StartRowsFrom at (rows_left R.rows self.old) }
+        requires width { width ≤ 128 }
+        ensures sound { OnOk result (IsSound ⟦<Sources<Option<V>> as Ord>⟧.cmp
+            ⟦<Sources<Option<V>> as LawfulOrd>⟧.mark table.new.nodes.items table.new.numbers) }
+        ensures keeps { OnOk result
+            (KeepsNodes (take kept table.old.nodes.items) table.new.nodes.items) }
+        ensures pass { OnOk result ((rows : List (Entry V))
+            → IsPassOver width R.rows rows table.old.nodes.items self.old
+            → IsPassOver width R.rows rows table.new.nodes.items self.new) }
+        ensures reached { OnOk result (self.new.now.start ≤ at) }
+        ensures next { IfOk result (λ next. (to : ℕ) → IsQuietUpTo to R.rows self.new
+            ↔ IfSome next (λ start. to < start)) }
+        ensures behind { IfOk result (λ next. IfSome next (λ start. at < start)) }
+        ensures within { IfOk result (λ next. IfSome next (λ start. start < 2 ^ width)) }
+        ensures few { OnOk result (changes_left R.rows self.new ≤ changes_left R.rows self.old) }
+        ensures fewer { OnOk result ((IsQuietUpTo at R.rows self.old → ⊥)
+            → changes_left R.rows self.new < changes_left R.rows self.old) }
+    {
+        self.leave(at);
+        table.give_up_from(kept.max(self.made()));
+        let next = self.reach(table, width, at)?;
+        Ok(next)
+    }
+}
+
+/// How many nodes at the front are kept once these sources are said too: all, if they name one.
+fn kept_with<V: Copy>(kept: usize, sources: Sources<V>, all: usize) -> usize
+    ensures { ((v : V) × (sources ≡ Constant v) × (result ≡ kept)) ⊎ (result ≡ all) }
+{
+    match sources {
+        Sources::Constant(_) => kept,
+        Sources::Stored(_) => all,
+    }
 }
 
 impl<V: LawfulOrd> Table<Option<V>> {
     /// The changes of the answers of rows in order that are a table of this width, or `None` as
     /// soon as these are known to have more boxes than so many: where there are many nodes, boxes
-    /// are counted each time that there are twice as many changes.
+    /// are counted each time that there are twice as many changes. Nodes that were made for hidden
+    /// blocks are given up, unless what was said after them names one.
     pub fn table_runs<R: Rows<V>>(
         &mut self,
         alloc: Global,
@@ -344,6 +395,7 @@ impl<V: LawfulOrd> Table<Option<V>> {
         let mut list = Vec::with_capacity(alloc, room)?;
         let mut at = 0u128;
         let mut due = first_due(most);
+        let mut kept = self.nodes().len();
         loop {
             if due <= list.len() && FEW_NODES <= self.nodes().len() {
                 if self.early_count(alloc, &list)? > most {
@@ -351,9 +403,10 @@ impl<V: LawfulOrd> Table<Option<V>> {
                 }
                 due = list.len().saturating_mul(2);
             }
-            let next = pass.reach(self, width, at)?;
+            let next = pass.reach_keeping(self, kept, width, at)?;
             let sources = pass.sources();
             say(&mut list, Change { start: at, sources })?;
+            kept = kept_with(kept, sources, self.nodes().len());
             let Some(start) = next else {
                 return Ok(Some(list));
             };

@@ -1,7 +1,7 @@
 //! The program's words: jobs, refusals and help.
 use super::{address, one_job, split};
 use babel_dump::{
-    DiffStyle, DumpFile, Format, Job, Listed, Reading, Refusal, Spelling, read_words,
+    Asked, DiffStyle, DumpFile, Format, Job, Listed, Reading, Refusal, Spelling, read_words,
 };
 use babel_prefix::Addr;
 use babel_table::Limits;
@@ -195,7 +195,7 @@ fn words_of_jobs(rt: HostRuntime) -> Result<(), Fail> {
 #[test]
 fn words_of_a_job_for_each_file(rt: HostRuntime) -> Result<(), Fail> {
     let words = ["key", "a", "--from", "::", "-", "b"];
-    let Ok(jobs) = read_words(rt.alloc(), &words, false) else {
+    let Ok(Asked::Jobs(jobs)) = read_words(rt.alloc(), &words, false) else {
         return Err(Fail::from("no jobs"));
     };
     assert_eq!(rt; jobs.len(), 3);
@@ -229,7 +229,7 @@ fn words_of_styles(rt: HostRuntime) -> Result<(), Fail> {
     for (line, is_terminal, stat, coloured) in &STYLES {
         let (stat, coloured) = (*stat, *coloured);
         match read_words(rt.alloc(), &split(rt.alloc(), line)?, *is_terminal) {
-            Ok(jobs) => match jobs.first() {
+            Ok(Asked::Jobs(jobs)) => match jobs.first() {
                 Some(Job::Diff { style, .. }) => {
                     assert_eq!(rt;
                         *style,
@@ -243,7 +243,7 @@ fn words_of_styles(rt: HostRuntime) -> Result<(), Fail> {
                 }
                 _ => return Err(Fail::from("another job")),
             },
-            Err(_refusal) => return Err(Fail::from("no job")),
+            Ok(Asked::SenderKeys(_)) | Err(_) => return Err(Fail::from("no job")),
         }
     }
     Ok(())
@@ -463,7 +463,7 @@ fn usage(rt: &impl Abort, alloc: Global, line: &str) -> Result<String, Fail> {
 /// are refused with. Of several that are no addresses the first is named, in the order `--from`,
 /// `--other-from`, `--to`, `--src`.
 #[rattlefmt::skip]
-static NO_JOBS: [(&str, &str); 17] = [
+static NO_JOBS: [(&str, &str); 18] = [
     ("lookup --src v --to w --from q",
      "not an address: q\nhint: --from takes an IPv4 or IPv6 address\n"),
     ("lookup --src v --to w --from ::",
@@ -495,6 +495,7 @@ static NO_JOBS: [(&str, &str); 17] = [
       hint: 0.0.0.0 or :: will do for routes from any source\n"),
     ("compare --from :: --other-from :: - -", "both dumps are standard input\n"),
     ("key --from :: - a -", "two files are standard input\n"),
+    ("key - a -", "two files are standard input\n"),
     ("lookup --from :: --each - -", "the dump and the pairs cannot both be standard input\n"),
     ("show --from :: --max-octets 82 --max-routes 1",
      "--max-octets 82 is less than 83 for each of 1 routes\nhint: lower --max-routes too\n"),
@@ -514,7 +515,7 @@ const USAGE: &str = "Usage: babel-dump";
 const BODY: &str = "'--body <OCTETS>'";
 
 /// Words that are refused, and a part of the text.
-static REFUSED: [(&str, &str); 31] = [
+static REFUSED: [(&str, &str); 30] = [
     ("", USAGE),
     ("", "\n  show  "),
     ("shows", USAGE),
@@ -539,7 +540,6 @@ static REFUSED: [(&str, &str); 31] = [
     ("normalise --from :: --json", USAGE),
     ("key --from :: --json", USAGE),
     ("key --from :: --hex", USAGE),
-    ("key x", USAGE),
     ("pairs --from :: --body 128", USAGE),
     ("normalise --from :: --count", USAGE),
     ("normalise --from :: --body 127", BODY),

@@ -3,7 +3,8 @@
 //! refusal was answered with `Memory`.
 use super::{are, key, route, router, router_v6, v6};
 use crate::dumps::{
-    ALL_RETRACTED, NESTED_SOURCES, ROUTER_ID_BY_FLAG, TWO_ROUTES, TWO_ROUTES_FORM, octets,
+    ALL_RETRACTED, EITHER_ENCODING, NESTED_SOURCES, ROUTER_ID_BY_FLAG, TWO_ROUTES, TWO_ROUTES_FORM,
+    octets,
 };
 use babel_prefix::{Addr, Prefix};
 use babel_table::{Feeder, Limits, Table, read_dump};
@@ -159,4 +160,16 @@ fn refused_memory_of_many_rows(rt: HostRuntime) -> Result<(), Fail> {
         Ok(dump) => read_by_octet(rt.alloc(), router(), &dump, &many()),
         Err(_) => Err(Fail::from(REFUSED)),
     }
+}
+
+#[test]
+fn refused_memory_of_a_route_via_v6(rt: HostRuntime) -> Result<(), Fail> {
+    let Ok(dump) = octets(rt.alloc(), EITHER_ENCODING) else {
+        return Err(Fail::from(REFUSED));
+    };
+    let limits = Limits::usual().with_v4_via_v6(true);
+    let ann = Ann::new([2, 0, 0, 0, 0, 0, 0, 1], 1, 512, router_v6()).ok_or(OTHER)?;
+    let want = [(key(0x0a00_0000, 8, 0, 0), Some(Held::Route(ann)))];
+    let answer = read_dump(rt.alloc(), limits, Mode::Plain, router_v6(), &dump);
+    known(answer, &want)
 }

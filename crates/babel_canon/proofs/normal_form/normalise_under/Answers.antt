@@ -9,7 +9,7 @@ use Rattle.babel_canon.proofs.Normal.{of_dump_under, of_form_under}
 use Rattle.babel_canon.proofs.Fewest.{says_fewest}
 use Rattle.babel_canon.proofs.Views.{headline_under}
 use Rattle.babel_canon.proofs.normal_form.normalise_under.Goals as goal
-use Rattle.babel_canon.proofs.normal_form.normalise_under.Goals.{After-drop-seen-inside-5}
+use Rattle.babel_canon.proofs.normal_form.normalise_under.Goals.{After-drop-seen-inside-7}
 
 pub returns-in_err-table-clause-err : goal.returns-in_err-table-clause-err
 returns-in_err-table-clause-err c =
@@ -23,7 +23,7 @@ returns-in_err-octets-clause-err c =
     c.in_ok-table.ensures.ok.0 c.in_ok-table.ensures.ok.1 c.seen-seen.ensures c.in_err-octets.ensures.err)
 
 -- what is answered is the text of the boxes of what is seen of the dump's answers
-normal : (c : After-drop-seen-inside-5) → Normalises (seen_rows c.args.view) c.args.limits c.args.mode c.args.body (sent c.args.sender c.args.dump.now) c.in_ok-octets.octets.items
+normal : (c : After-drop-seen-inside-7) → Normalises (seen_rows c.args.view) c.args.limits c.args.mode c.args.body (sent c.args.sender c.args.dump.now) c.in_ok-octets.octets.items
 normal c = record {
   no_fault = c.in_ok-table.ensures.ok.0;
   table = c.in_ok-table.table;

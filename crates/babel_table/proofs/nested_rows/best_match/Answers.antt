@@ -1,5 +1,5 @@
 -- The last row from the source to the last destination is the best match; where there is none, the rows around that destination are next.
-use Rattle.std.proofs.Common.{◌≡◌, ◌≢◌, ℕ, ◌+◌, ◌-◌, ◌<◌, ◌≤◌, true, get_or, length, sym, ◌∙◌, ap, subst, arith}
+use Rattle.std.proofs.Common.{◌≡◌, ◌-◌, ◌<◌, true, get_or, length, sym, ◌∙◌, ap, subst, arith}
 use Rattle.std.specs.List.{HoldsAt}
 use Rattle.std.specs.Map.{keys_of}
 use Rattle.std.specs.Ordering.{is_le}
@@ -9,7 +9,7 @@ use Rattle.babel_prefix.specs.Covers.{Covers}
 use Rattle.babel_tlv.specs.Keys.{key_cmp}
 use Rattle.babel_tlv.specs.Route.{RouteKey}
 use Rattle.babel_table.specs.BestMatch.{ContainsBoth, HasBestMatch}
-use Rattle.babel_table.specs.Nested.{ArePast, LeadsFrom, LeadsTo, NoneWithin}
+use Rattle.babel_table.specs.Nested.{ArePast, LeadsFrom, LeadsTo}
 use Rattle.babel_table.specs.declared.nested_rows.Around.{Around}
 use Rattle.babel_table.proofs.EntryLaws.{key_of}
 use Rattle.babel_table.proofs.NestedLaws.{best_row, both_from, found_last, from_all, host_of, key_at, next_around, no_match, past_both}

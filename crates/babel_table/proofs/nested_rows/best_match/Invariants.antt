@@ -1,9 +1,9 @@
 -- The next row leads to a prefix with the destination, and no row past it has both addresses.
-use Rattle.std.proofs.Common.{◌≡◌, ◌≢◌, ◌≤◌, ◌-◌, length}
+use Rattle.std.proofs.Common.{◌≢◌, ◌≤◌, ◌-◌, length}
 use Rattle.std.specs.List.{HoldsAt}
 use Rattle.std.specs.Map.{keys_of}
 use Rattle.babel_table.specs.BestMatch.{ContainsBoth}
-use Rattle.babel_table.specs.Nested.{IsNested, LeadsFrom, LeadsTo, NoneWithin}
+use Rattle.babel_table.specs.Nested.{LeadsTo, NoneWithin}
 use Rattle.babel_table.proofs.nested_rows.best_match.Given as goal
 
 abbrev pub invariant-loop-end : goal.invariant-loop-end

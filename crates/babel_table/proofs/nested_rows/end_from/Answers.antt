@@ -6,7 +6,6 @@ use Rattle.std.proofs.lemmas.Map.Entries.{length-keys_of}
 use Rattle.babel_prefix.specs.Covers.{Covers}
 use Rattle.babel_prefix.specs.Order.{prefix_cmp}
 use Rattle.babel_tlv.specs.Route.{RouteKey}
-use Rattle.babel_table.specs.Nested.{LeadsFrom}
 use Rattle.babel_table.specs.declared.nested_rows.Around.{Around}
 use Rattle.babel_table.proofs.NestedLaws.{apart_of, covers_of, from_ends, from_skips, key_at, same_of}
 use Rattle.babel_table.proofs.nested_rows.end_from.Goals as goal

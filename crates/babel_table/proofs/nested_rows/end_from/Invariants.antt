@@ -1,9 +1,7 @@
 -- No row from the last one on leads to the destination from a prefix with the address.
-use Rattle.std.proofs.Common.{◌≡◌, ◌≢◌, ◌≤◌, ◌-◌, length}
-use Rattle.std.specs.List.{HoldsAt}
+use Rattle.std.proofs.Common.{◌≤◌}
 use Rattle.std.specs.Map.{keys_of}
-use Rattle.babel_table.specs.BestMatch.{ContainsBoth}
-use Rattle.babel_table.specs.Nested.{IsNested, LeadsFrom, LeadsTo, NoneWithin}
+use Rattle.babel_table.specs.Nested.{LeadsFrom, NoneWithin}
 use Rattle.babel_table.proofs.nested_rows.end_from.Given as goal
 
 abbrev pub invariant-loop-last : goal.invariant-loop-last

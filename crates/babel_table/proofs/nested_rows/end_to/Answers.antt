@@ -1,8 +1,7 @@
 -- A row that does not lead to the address is passed with all between it and those around it.
-use Rattle.std.proofs.Common.{◌-◌, ◌<◌, ◌≤◌, IsTrue, get_or, length, sym, ◌∙◌, ap, subst, arith, rules}
+use Rattle.std.proofs.Common.{◌-◌, ◌<◌, ◌≤◌, IsTrue, get_or, length, sym, subst, arith, rules}
 use Rattle.std.specs.Map.{keys_of}
 use Rattle.std.proofs.lemmas.Map.Entries.{length-keys_of}
-use Rattle.babel_prefix.specs.Covers.{Covers}
 use Rattle.babel_table.specs.Nested.{LeadsTo}
 use Rattle.babel_table.specs.declared.nested_rows.Around.{Around}
 use Rattle.babel_table.proofs.NestedLaws.{covers_of, key_at, to_skips}

@@ -1,9 +1,7 @@
 -- No row from the last one on leads to a prefix with the address.
-use Rattle.std.proofs.Common.{◌≡◌, ◌≢◌, ◌≤◌, ◌-◌, length}
-use Rattle.std.specs.List.{HoldsAt}
+use Rattle.std.proofs.Common.{◌≤◌}
 use Rattle.std.specs.Map.{keys_of}
-use Rattle.babel_table.specs.BestMatch.{ContainsBoth}
-use Rattle.babel_table.specs.Nested.{IsNested, LeadsFrom, LeadsTo, NoneWithin}
+use Rattle.babel_table.specs.Nested.{LeadsTo, NoneWithin}
 use Rattle.babel_table.proofs.nested_rows.end_to.Given as goal
 
 abbrev pub invariant-loop-last : goal.invariant-loop-last

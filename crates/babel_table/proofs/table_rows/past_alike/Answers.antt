@@ -1,5 +1,5 @@
 -- A row more that both have next is passed by.
-use Rattle.std.proofs.Common.{◌≡◌, ◌-◌, ◌≤◌, ◌∷◌, ◌++◌, ◌∙◌, [], List, Bool, false, refl, ap, sym, arith, append_assoc, get_or, length, take, drop}
+use Rattle.std.proofs.Common.{◌≡◌, ◌-◌, ◌≤◌, ◌∷◌, ◌++◌, ◌∙◌, [], List, false, refl, ap, sym, arith, append_assoc, get_or, length, take, drop}
 use Rattle.std.specs.Prelude.{not}
 use Rattle.std.specs.Ordering.{eq_by_cmp, is_eq}
 use Rattle.std.specs.declared.cmp.Ordering.{Ordering}

@@ -1,12 +1,15 @@
-use Rattle.std.proofs.Common.{◌+◌, ◌++◌, refl, ap, sym, ◌∙◌}
+use Rattle.std.proofs.Common.{ℕ, ◌+◌, ◌++◌, refl, ap, subst, sym, ◌∙◌, inl, inr}
 use Rattle.std.specs.Prelude.{None, Some}
-use Rattle.babel_capture.specs.Blocks.{sighting_of}
+use Rattle.babel_capture.specs.Blocks.{sight_in, sighting_of}
 use Rattle.babel_capture.specs.Contents.{captured_of}
 use Rattle.babel_capture.specs.Counting.{counted_with, packet_counted, short_counted}
-use Rattle.babel_capture.specs.Findings.{finding_of}
+use Rattle.babel_capture.specs.Counts.{Counts}
+use Rattle.babel_capture.specs.Findings.{Finds, finding_of, found, lacked}
+use Rattle.babel_capture.specs.Dumps.{dumps_by, dumps_with}
 use Rattle.babel_capture.specs.Gathering.{Gathering, dump_with, with_taken}
 use Rattle.babel_capture.specs.Tallies.{tallied}
-use Rattle.babel_capture.proofs.GatherLaws.{dump-after, found-added, on-ok, on-ok3, finds-at, passed-push, short-push, left-push, found-needs, found-push, lack-refused, too-many-refused}
+use Rattle.babel_capture.proofs.GatherLaws.{dump-after, each_wanted, finds-at, found-added, found-needs, found-push, if-err-all, on-ok, on-ok-all, on-ok4}
+use Rattle.babel_capture.proofs.GatherLaws.{lack-refused, lacked-push, left-push, passed-push, short-push, too-many-refused}
 use Rattle.babel_capture.proofs.MemoryLaws.{lack-other}
 use Rattle.babel_capture.proofs.gathered.Gathered.take_packet.Goals as goal
 
@@ -14,7 +17,7 @@ pub returns-in-Passed-clause-ok : goal.returns-in-Passed-clause-ok
 returns-in-Passed-clause-ok c taken before gathered =
     let wanted = ap (λ (g : Gathering). g.wanted) c.self.view_is in
     passed-push before (sighting_of (c.args.self.now.report.packets + 1) c.args.at (captured_of c.args.packet.now)) (with_taken taken c.args.self.now) _ _ (ap finding_of c.in-Passed.is) wanted
-    (ap (λ (g : Gathering). taken ++ g.dump) c.self.view_is)
+    (ap (λ (g : Gathering). taken ++ g.dump) c.self.view_is) (ap (λ (g : Gathering). g.dumps) c.self.view_is)
     (c.count.ensures ∙ ap (λ (g : Gathering). counted_with g.report None) c.self.view_is)
     (ap (λ (g : Gathering). g.senders) c.self.view_is)
     gathered refl (finds-at _ _ _ _ wanted c.finding.ensures)
@@ -23,7 +26,7 @@ pub returns-in-Short-clause-ok : goal.returns-in-Short-clause-ok
 returns-in-Short-clause-ok c taken before gathered =
     let wanted = ap (λ (g : Gathering). g.wanted) c.self.view_is in
     short-push before (sighting_of (c.args.self.now.report.packets + 1) c.args.at (captured_of c.args.packet.now)) (with_taken taken c.args.self.now) _ _ (ap finding_of c.in-Short.is) wanted
-    (ap (λ (g : Gathering). taken ++ g.dump) c.self.view_is)
+    (ap (λ (g : Gathering). taken ++ g.dump) c.self.view_is) (ap (λ (g : Gathering). g.dumps) c.self.view_is)
     (c.count_short.ensures ∙ ap (λ (g : Gathering). short_counted g.report) c.self.view_is)
     (ap (λ (g : Gathering). g.senders) c.self.view_is)
     gathered refl (finds-at _ _ _ _ wanted c.finding.ensures)
@@ -33,7 +36,7 @@ returns-in-Left-clause-ok c taken before gathered =
     let wanted = ap (λ (g : Gathering). g.wanted) c.self.view_is in
     left-push before (sighting_of (c.args.self.now.report.packets + 1) c.args.at (captured_of c.args.packet.now)) (with_taken taken c.args.self.now) _ _ c.in-Left.reason (ap finding_of c.in-Left.is)
     wanted
-    (ap (λ (g : Gathering). taken ++ g.dump) c.self.view_is)
+    (ap (λ (g : Gathering). taken ++ g.dump) c.self.view_is) (ap (λ (g : Gathering). g.dumps) c.self.view_is)
     (c.count-in-Left.ensures ∙ ap (λ (g : Gathering). counted_with g.report (Some c.in-Left.reason)) c.self.view_is)
     (ap (λ (g : Gathering). g.senders) c.self.view_is)
     gathered refl (finds-at _ _ _ _ wanted c.finding.ensures)
@@ -47,14 +50,17 @@ returns-in-Refused-clause-err c =
 pub returns-in-Packet-clause-ok : goal.returns-in-Packet-clause-ok
 returns-in-Packet-clause-ok c =
     let wanted = ap (λ (g : Gathering). g.wanted) c.self.view_is in
-    on-ok3 c.add.result (λ dump senders few taken before gathered.
+    on-ok4 c.add.result (λ dump dumps senders few taken before gathered.
     found-push before (sighting_of (c.args.self.now.report.packets + 1) c.args.at (captured_of c.args.packet.now)) (with_taken taken c.args.self.now) (with_taken taken c.add.new.self) _
     c.in-Packet.place c.in-Packet.sender c.in-Packet.packet.now (ap finding_of c.in-Packet.is)
     (c.add.ensures.wanted ∙ wanted)
     (ap (λ d. taken ++ d) (dump ∙ ap (λ (g : Gathering). dump_with g.wanted g.dump c.in-Packet.packet.now) c.self.view_is) ∙ dump-after c.args.self.now.wanted taken _ _)
+    (dumps ∙ ap (λ (n : ℕ). dumps_with c.self.inside.wanted c.self.inside.dumps n (found c.in-Packet.place c.in-Packet.sender c.in-Packet.packet.now))
+    (ap (λ (r : Counts). r.packets) c.count_packet.ensures)
+    ∙ ap (λ (g : Gathering). dumps_with g.wanted g.dumps (g.report.packets + 1) (found c.in-Packet.place c.in-Packet.sender c.in-Packet.packet.now)) c.self.view_is)
     (c.add.ensures.report ∙ c.count_packet.ensures ∙ ap (λ (g : Gathering). packet_counted g.report c.args.packet.now.link) c.self.view_is)
     (senders ∙ ap (λ (g : Gathering). tallied g.senders (record { place = c.in-Packet.place; sender = c.in-Packet.sender }) c.in-Packet.packet.now) c.self.view_is)
-    few gathered refl (finds-at _ _ _ _ wanted c.finding.ensures)) c.add.ensures.dump c.add.ensures.senders c.add.ensures.few
+    few gathered refl (finds-at _ _ _ _ wanted c.finding.ensures)) c.add.ensures.dump c.add.ensures.dumps c.add.ensures.senders c.add.ensures.few
 
 pub returns-in-Packet-clause-err : goal.returns-in-Packet-clause-err
 returns-in-Packet-clause-err c =
@@ -79,3 +85,31 @@ returns-in-Packet-clause-memory c =
     found-needs c.add.result _ c.args.self.now.wanted _ c.args.self.now.senders (captured_of c.args.packet.now) (record { place = c.in-Packet.place; sender = c.in-Packet.sender })
     c.in-Packet.packet.now _
     wanted (ap (λ (g : Gathering). g.senders) c.self.view_is) (ap finding_of c.in-Packet.is) (finds-at _ _ _ _ wanted c.finding.ensures) c.add.ensures.memory
+
+pub returns-in-Lacking-clause-ok : goal.returns-in-Lacking-clause-ok
+returns-in-Lacking-clause-ok c =
+    let wanted = ap (λ (g : Gathering). g.wanted) c.self.view_is in
+    let place = c.in-Lacking.place in
+    let sender = c.in-Lacking.sender in
+    let finds = subst (Finds c.args.self.now.wanted (sight_in (captured_of c.args.packet.now))) (ap finding_of c.in-Lacking.is) (finds-at _ _ _ _ wanted c.finding.ensures) in
+    on-ok c.add_lack.result (λ dumps taken before gathered.
+    lacked-push before (sighting_of (c.args.self.now.report.packets + 1) c.args.at (captured_of c.args.packet.now)) (with_taken taken c.args.self.now) (with_taken taken c.add_lack.new.self) _
+    place sender c.in-Lacking.lack (ap finding_of c.in-Lacking.is) (each_wanted _ _ _ _ _ finds) (c.add_lack.ensures.wanted ∙ wanted)
+    (ap (λ d. taken ++ d) (c.add_lack.ensures.dump ∙ ap (λ (g : Gathering). g.dump) c.self.view_is))
+    (dumps ∙ ap (λ (n : ℕ). dumps_by c.self.inside.dumps n (lacked place sender c.in-Lacking.lack)) (ap (λ (r : Counts). r.packets) c.count-in-Lacking.ensures)
+    ∙ ap (λ (g : Gathering). dumps_by g.dumps (g.report.packets + 1) (lacked place sender c.in-Lacking.lack)) c.self.view_is)
+    (c.add_lack.ensures.report ∙ c.count-in-Lacking.ensures ∙ ap (λ (g : Gathering). counted_with g.report None) c.self.view_is)
+    (c.add_lack.ensures.senders ∙ ap (λ (g : Gathering). g.senders) c.self.view_is)
+    gathered refl (finds-at _ _ _ _ wanted c.finding.ensures)) c.add_lack.ensures.dumps
+
+pub returns-in-Lacking-clause-added : goal.returns-in-Lacking-clause-added
+returns-in-Lacking-clause-added c = on-ok-all c.add_lack.result (inl (c.add_lack.ensures.dump ∙ ap (λ (g : Gathering). g.dump) c.self.view_is))
+
+pub returns-in-Lacking-clause-memory : goal.returns-in-Lacking-clause-memory
+returns-in-Lacking-clause-memory c =
+    let wanted = ap (λ (g : Gathering). g.wanted) c.self.view_is in
+    if-err-all c.add_lack.result (λ fault memory. inr (
+      record { place = c.in-Lacking.place; sender = c.in-Lacking.sender },
+      c.in-Lacking.lack,
+      subst (Finds c.args.self.now.wanted (sight_in (captured_of c.args.packet.now))) (ap finding_of c.in-Lacking.is) (finds-at _ _ _ _ wanted c.finding.ensures),
+    ))

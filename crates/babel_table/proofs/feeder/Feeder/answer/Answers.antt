@@ -1,11 +1,17 @@
 -- What was fed has no fault, and its table is that of the rows so far, in which the answer was looked up.
 use Rattle.std.proofs.Common.{◌≡◌, refl, subst}
+use Rattle.std.proofs.lemmas.Result.{err_from_is_err_and}
 use Rattle.babel_prefix.specs.Entries.{answer_for}
 use Rattle.babel_table.specs.BestMatch.{IsBestMatch}
 use Rattle.babel_table.specs.Feeding.{Progress}
 use Rattle.babel_table.specs.Rows.{entries_of}
 use Rattle.babel_table.proofs.FeedLaws.{answered}
 use Rattle.babel_table.proofs.feeder.Feeder.answer.Goals as goal
+
+pub returns-in_err-check_end-clause-fault : goal.returns-in_err-check_end-clause-fault
+returns-in_err-check_end-clause-fault c =
+    let exit = err_from_is_err_and c.from_residual.result c.from_residual.ensures.1 in
+    rw (exit.1, exit.2) c.in_err-check_end.ensures.fault
 
 pub returns-clause-ok : goal.returns-clause-ok
 returns-clause-ok c =

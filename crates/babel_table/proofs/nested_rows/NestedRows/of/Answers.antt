@@ -1,8 +1,8 @@
 -- One more row, and how far those around it reach.
-use Rattle.std.proofs.Common.{◌≡◌, ◌+◌, ◌<◌, ◌++◌, ◌∷◌, [], length, length-append, refl, sym, ◌∙◌, ap, subst, arith}
+use Rattle.std.proofs.Common.{◌<◌, ◌∷◌, [], length, length-append, refl, sym, ap, subst, arith}
 use Rattle.std.specs.Map.{keys_of}
 use Rattle.std.proofs.lemmas.Map.Entries.{length-keys_of}
-use Rattle.babel_table.specs.Nested.{IsNested, IsNestedAt}
+use Rattle.babel_table.specs.Nested.{IsNestedAt}
 use Rattle.babel_table.proofs.NestedLaws.{nested-none, nested-push}
 use Rattle.babel_table.proofs.nested_rows.NestedRows.of.Goals as goal
 

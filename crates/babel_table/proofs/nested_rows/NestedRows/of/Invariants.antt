@@ -1,9 +1,7 @@
 -- How far the rows around each row so far reach.
-use Rattle.std.proofs.Common.{◌≡◌, ◌≢◌, ◌≤◌, ◌-◌, length}
-use Rattle.std.specs.List.{HoldsAt}
+use Rattle.std.proofs.Common.{◌≡◌, length}
 use Rattle.std.specs.Map.{keys_of}
-use Rattle.babel_table.specs.BestMatch.{ContainsBoth}
-use Rattle.babel_table.specs.Nested.{IsNested, LeadsFrom, LeadsTo, NoneWithin}
+use Rattle.babel_table.specs.Nested.{IsNested}
 use Rattle.babel_table.proofs.nested_rows.NestedRows.of.Given as goal
 
 abbrev pub invariant-loop-place : goal.invariant-loop-place

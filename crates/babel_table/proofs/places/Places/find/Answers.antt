@@ -25,7 +25,8 @@ returns-then-place g c =
     let places = c.args.self.now in
     let keys = keys_of c.args.rows.now in
     let len : c.len-2.result ≡ length places.slots = c.len-2.ensures ∙ c.self.inside.slots.ok.0 ∙ ap (λ (p : Places). length p.slots) c.self.view_is in
-    let start : start_of places c.args.key.now ≡ c.tag-tag.result % (c.len-2.result - 8) = start_is places c.args.key.now c.tag-tag.result c.len-2.result (c.tag-tag.ensures ∙ ap (λ (p : Places). tag_of p.seed c.args.key.now) c.self.view_is) len in
+    let start : start_of places c.args.key.now ≡ c.tag-tag.result % (c.len-2.result - 8) =
+    start_is places c.args.key.now c.tag-tag.result c.len-2.result (c.tag-tag.ensures ∙ ap (λ (p : Places). tag_of p.seed c.args.key.now) c.self.view_is) len in
     let at : ℕ = c.tag-tag.result % (c.len-2.result - 8) + c.loop-step.step in
     let inside : at < length places.slots = omega (arith, len) in
     let slot : c.index.result.now ≡ get_or places.slots at c.index.result.now = c.index.ensures ∙ ap (λ (p : Places). get_or p.slots at c.index.result.now) c.self.view_is in
@@ -69,7 +70,8 @@ returns-in_err-place g c =
     let places = c.args.self.now in
     let keys = keys_of c.args.rows.now in
     let len : c.len-2.result ≡ length places.slots = c.len-2.ensures ∙ c.self.inside.slots.ok.0 ∙ ap (λ (p : Places). length p.slots) c.self.view_is in
-    let start : start_of places c.args.key.now ≡ c.tag-tag.result % (c.len-2.result - 8) = start_is places c.args.key.now c.tag-tag.result c.len-2.result (c.tag-tag.ensures ∙ ap (λ (p : Places). tag_of p.seed c.args.key.now) c.self.view_is) len in
+    let start : start_of places c.args.key.now ≡ c.tag-tag.result % (c.len-2.result - 8) =
+    start_is places c.args.key.now c.tag-tag.result c.len-2.result (c.tag-tag.ensures ∙ ap (λ (p : Places). tag_of p.seed c.args.key.now) c.self.view_is) len in
     let none : lookup (is_at (key_cmp c.args.key.now)) places.overflow ≡ None =
     ap (λ (p : Places). lookup (is_at (key_cmp c.args.key.now)) p.overflow) (sym c.self.view_is) ∙ sym c.in_err-place.ensures.value in
     rw c.from_residual.ensures
@@ -83,7 +85,8 @@ returns-else-has_key-2 g c =
     let places = c.args.self.now in
     let keys = keys_of c.args.rows.now in
     let len : c.len-2.result ≡ length places.slots = c.len-2.ensures ∙ c.self.inside.slots.ok.0 ∙ ap (λ (p : Places). length p.slots) c.self.view_is in
-    let start : start_of places c.args.key.now ≡ c.tag-tag.result % (c.len-2.result - 8) = start_is places c.args.key.now c.tag-tag.result c.len-2.result (c.tag-tag.ensures ∙ ap (λ (p : Places). tag_of p.seed c.args.key.now) c.self.view_is) len in
+    let start : start_of places c.args.key.now ≡ c.tag-tag.result % (c.len-2.result - 8) =
+    start_is places c.args.key.now c.tag-tag.result c.len-2.result (c.tag-tag.ensures ∙ ap (λ (p : Places). tag_of p.seed c.args.key.now) c.self.view_is) len in
     let some : lookup (is_at (key_cmp c.args.key.now)) places.overflow ≡ Some c.in_ok-place.field-0.now =
     ap (λ (p : Places). lookup (is_at (key_cmp c.args.key.now)) p.overflow) (sym c.self.view_is) ∙ sym c.in_ok-place.ensures.value in
     ends_at_other keys places c.args.key.now c.in_ok-place.field-0.now

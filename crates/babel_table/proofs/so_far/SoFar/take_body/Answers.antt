@@ -14,8 +14,8 @@ loop-tlv-init c = record {
   entries = refl;
   room = (let le : length (tlvs_left c.new-tlvs.result) ≤ length c.args.body.now = rw c.new-tlvs.ensures.left (length-tlvs_of c.args.at c.args.body.now) in omega arith);
   read = c.new-tlvs.ensures.start;
-  some = took-start c.args.self.now.rows.mode c.args.self.now.rows.entries c.args.sender (routes c.args.self.now.rows.rows c.args.self.now.report)
-      (tlvs_of c.args.at c.args.body.now) c.new-state.result _ c.new-state.ensures c.new-tlvs.ensures.left;
+  some = took-start c.args.self.now.rows.mode c.args.self.now.rows.entries c.args.start.now (routes c.args.self.now.rows.rows c.args.self.now.report)
+      (tlvs_of c.args.at c.args.body.now) c.at-state.result _ c.at-state.ensures c.new-tlvs.ensures.left;
 }
 
 pub returns-in_err-check_rest-clause-fails : goal.returns-in_err-check_rest-clause-fails
@@ -29,10 +29,10 @@ returns-in-Err-clause-fails c =
     let read = c.in-Some.ensures.read c.args.at c.args.body.now c.loop-tlv.invariant.read in
     inr (
       c.in_ok-check_rest.ensures.whole c.args.at c.args.body.now read,
-      body-failed c.args.self.now.rows.mode c.loop-tlv.self.rows.mode c.args.self.now.rows.entries c.loop-tlv.self.rows.entries c.loop-tlv.invariant.mode c.loop-tlv.invariant.entries c.args.sender _ _
-          (routes c.loop-tlv.self.rows.rows c.loop-tlv.self.report) c.loop-tlv.state (tlv_value c.in-Some.tlv) (tlvs_left c.loop-tlv.tlvs)
+      body-failed c.args.self.now.rows.mode c.loop-tlv.self.rows.mode c.args.self.now.rows.entries c.loop-tlv.self.rows.entries c.loop-tlv.invariant.mode
+          c.loop-tlv.invariant.entries c.args.start.now _ _ (routes c.loop-tlv.self.rows.rows c.loop-tlv.self.report) c.loop-tlv.state (tlv_value c.in-Some.tlv) (tlvs_left c.loop-tlv.tlvs)
           (tlvs_left c.advance.new.self) c.in-Some.ensures.next c.in-Err.fault c.loop-tlv.invariant.some
-          (c.in-Err.ensures.fails c.args.sender _ _ _),
+          (c.in-Err.ensures.fails c.args.start.now _ _ _),
     )
 
 pub loop-tlv-preserved : goal.loop-tlv-preserved
@@ -42,8 +42,8 @@ loop-tlv-preserved c = record {
   room = omega (arith, ap length c.in-Some.ensures.next, c.take_tlv.ensures.tlvs, c.loop-tlv.invariant.room);
   read = c.in-Some.ensures.read c.args.at c.args.body.now c.loop-tlv.invariant.read;
   some = body-taken c.args.self.now.rows.mode c.loop-tlv.self.rows.mode c.args.self.now.rows.entries c.loop-tlv.self.rows.entries
-      c.loop-tlv.invariant.mode c.loop-tlv.invariant.entries c.args.sender _ _
+      c.loop-tlv.invariant.mode c.loop-tlv.invariant.entries c.args.start.now _ _
       (routes c.loop-tlv.self.rows.rows c.loop-tlv.self.report) c.loop-tlv.state (tlv_value c.in-Some.tlv) (tlvs_left c.loop-tlv.tlvs)
       (tlvs_left c.advance.new.self) c.in-Some.ensures.next _ _ c.loop-tlv.invariant.some
-      (c.in_default-take_tlv.ensures.ok c.args.sender _ _ _);
+      (c.in_default-take_tlv.ensures.ok c.args.start.now _ _ _);
 }

@@ -19,6 +19,6 @@ returns-clause-fails c = tlv-failed c.args.self.now.rows.mode c.args.self.now.ro
 pub returns-in_err-verdict-clause-fails : goal.returns-in_err-verdict-clause-fails
 returns-in_err-verdict-clause-fails c =
     let exit = err_from_is_err_and c.from_residual.result c.from_residual.ensures.1 in
-    rw (exit.1, exit.2) (λ sender old all left some. took-refused c.args.self.now.rows.mode c.args.self.now.rows.entries sender old all
+    rw (exit.1, exit.2) (λ start old all left some. took-refused c.args.self.now.rows.mode c.args.self.now.rows.entries start old all
     (routes c.args.self.now.rows.rows c.args.self.now.report) c.args.state.now (tlv_value c.args.tlv.now) left
     c.in_err-verdict.field-0.0 some (sym c.in_err-verdict.ensures.said))

@@ -13,7 +13,7 @@ returns-in-V4-clause-value c =
     let v6 : List Pair = c.self.inside.v6 in
     let family : c.args.family ≡ V4 = search rules in
     let rows : c.args.self.now ≡ v4 ++ v6 = search rules in
-    ap (λ (rs : List Pair). rs ++ []) c.as_slice.ensures
+    ap (λ (rs : List Pair). rs ++ []) c.slices.ensures
     ∙ of_v4 v4 v6 c.self.invariant.0 c.self.invariant.1
     ∙ ap (family_rows V4) (sym rows)
     ∙ ap (λ (f : Family). family_rows f c.args.self.now) (sym family)
@@ -24,7 +24,7 @@ returns-in-V6-clause-value c =
     let v6 : List Pair = c.self.inside.v6 in
     let family : c.args.family ≡ V6 = search rules in
     let rows : c.args.self.now ≡ v4 ++ v6 = search rules in
-    c.as_slice-in-V6.ensures
+    c.as_slice.ensures
     ∙ of_v6 v4 v6 c.self.invariant.0 c.self.invariant.1
     ∙ ap (family_rows V6) (sym rows)
     ∙ ap (λ (f : Family). family_rows f c.args.self.now) (sym family)

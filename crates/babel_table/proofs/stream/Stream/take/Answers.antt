@@ -19,7 +19,7 @@ returns-then-not-is_empty-clause-took c =
     let pending = c.take_pending.new.self.pending in
     let some = subst (λ (t : List ℕ). t ≢ []) c.octets-2.ensures (is_some c.octets-2.result.now c.if-not-is_empty.ensures) in
     let none = none_left c.in_ok-rest.rest.now pending c.in_ok-rest.ensures.whole some in
-    subst (λ (t : List ℕ). TookPackets c.args.self.now.so_far.rows.mode c.args.self.now.so_far.rows.entries c.args.self.now.sender c.args.self.now.at (c.args.self.now.pending ++ c.args.octets.now)
+    subst (λ (t : List ℕ). TookPackets c.args.self.now.so_far.rows.mode c.args.self.now.so_far.rows.entries c.args.self.now.start c.args.self.now.at (c.args.self.now.pending ++ c.args.octets.now)
     (routes c.args.self.now.so_far.rows.rows c.args.self.now.so_far.report) (routes c.take_pending.new.self.so_far.rows.rows c.take_pending.new.self.so_far.report) t c.take_pending.new.self.at)
     (ap (λ (t : List ℕ). pending ++ t) none ∙ append-nil pending) c.in_ok-rest.ensures.took
 

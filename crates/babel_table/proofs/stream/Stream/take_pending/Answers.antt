@@ -49,7 +49,7 @@ returns-in_err-used-clause-stops c =
     let old = routes c.args.self.now.so_far.rows.rows c.args.self.now.so_far.report in
     let fault = c.in_err-used.field-0.0 in
     let exit = err_from_is_err_and c.from_residual.result c.from_residual.ensures.1 in
-    rw (exit.1, exit.2) (subst (λ (t : List ℕ). StopsBehind c.args.self.now.so_far.rows.mode c.args.self.now.so_far.rows.entries c.args.self.now.sender c.args.self.now.at t old fault)
+    rw (exit.1, exit.2) (subst (λ (t : List ℕ). StopsBehind c.args.self.now.so_far.rows.mode c.args.self.now.so_far.rows.entries c.args.self.now.start c.args.self.now.at t old fault)
     (ap (λ (t : List ℕ). t ++ rest) c.octets.ensures ∙ c.fill-rest.ensures.whole)
     (stops-more _ _ _ c.args.self.now.at c.octets.result.now rest old fault c.in_err-used.ensures.stops))
 
@@ -74,7 +74,7 @@ returns-clause-took c =
     let one = subst (λ (t : List ℕ). HasHeader t → length t ≤ 4 + body_len t) (sym c.octets.ensures) c.fill-rest.ensures.one in
     let none = one-taken _ _ _ at used packet (drop used packet) old new c.in_ok-used.ensures.took one c.if-used-eq0.false in
     let took = took-more _ _ _ at (at + used) packet (drop used packet) rest old new c.in_ok-used.ensures.took in
-    let left = subst (λ (t : List ℕ). TookPackets c.args.self.now.so_far.rows.mode c.args.self.now.so_far.rows.entries c.args.self.now.sender at (packet ++ rest) old new (t ++ rest) (at + used))
+    let left = subst (λ (t : List ℕ). TookPackets c.args.self.now.so_far.rows.mode c.args.self.now.so_far.rows.entries c.args.self.now.start at (packet ++ rest) old new (t ++ rest) (at + used))
     (none ∙ sym c.clear.ensures) took in
-    subst (λ (t : List ℕ). TookPackets c.args.self.now.so_far.rows.mode c.args.self.now.so_far.rows.entries c.args.self.now.sender at t old new (c.clear.new.self ++ rest) (at + used))
+    subst (λ (t : List ℕ). TookPackets c.args.self.now.so_far.rows.mode c.args.self.now.so_far.rows.entries c.args.self.now.start at t old new (c.clear.new.self ++ rest) (at + used))
     (ap (λ (t : List ℕ). t ++ rest) c.octets.ensures ∙ c.fill-rest.ensures.whole) left

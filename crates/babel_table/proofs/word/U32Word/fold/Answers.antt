@@ -1,5 +1,5 @@
 -- A number of 32 bits is its own rest.
-use Rattle.std.proofs.Common.{◌≡◌, ℕ, ◌/◌, ◌%◌, ◌^◌, ◌<◌, ◌∙◌, sym, refl, arith}
+use Rattle.std.proofs.Common.{◌≡◌, ℕ, ◌/◌, ◌%◌, ◌^◌, ◌<◌, sym, refl, arith}
 use Rattle.babel_table.specs.Said.{folded, mixed}
 use Rattle.babel_table.proofs.word.U32Word.fold.Goals as goal
 

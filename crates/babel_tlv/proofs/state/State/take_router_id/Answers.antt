@@ -14,8 +14,10 @@ use Rattle.babel_tlv.proofs.state.State.take_router_id.Goals as goal
 
 abbrev by_id : Bool → Option (List ℕ) → Context → Context
 by_id sets id old = record {
+  via_v6 = old.via_v6;
   default_v4 = option_or (cond sets None None) old.default_v4;
   default_v6 = option_or (cond sets None None) old.default_v6;
+  default_v4_via_v6 = option_or (cond sets None None) old.default_v4_via_v6;
   router_id = option_or id old.router_id;
   next_hop_v4 = old.next_hop_v4;
   next_hop_v6 = old.next_hop_v6;

@@ -1,12 +1,14 @@
 -- What the pass has come to is said up to the next change.
-use Rattle.std.proofs.Common.{◌≡◌, ℕ, ◌^◌, ◌<◌, inl, inr, List, [], ◌∷◌, length, map, Option, refl, sym, subst, arith}
+use Rattle.std.proofs.Common.{◌≡◌, ℕ, ◌^◌, ◌<◌, inl, inr, List, [], ◌∷◌, length, map, take, Option, Some, refl, sym, ◌∙◌, ap, subst, arith}
 use Rattle.std.proofs.lemmas.Nat.{pow_pos}
+use Rattle.std.proofs.Math.Seq.{take-length}
+use Rattle.std.specs.List.{slice_get}
 use Rattle.std.specs.Option.{IfSome}
 use Rattle.babel_prefix.specs.Best.{answer}
 use Rattle.babel_prefix.specs.Entries.{row_of}
 use Rattle.babel_trie.specs.Boxes.{Answers}
 use Rattle.babel_trie.specs.Early.{AgreeUpTo}
-use Rattle.babel_trie.specs.Pass.{IsQuietUpTo}
+use Rattle.babel_trie.specs.Pass.{IsQuietUpTo, ahead_of, rows_left}
 use Rattle.babel_trie.specs.Runs.{AreRuns, StartBelow, HasRuns}
 use Rattle.babel_trie.specs.declared.runs.Change.{Change}
 use Rattle.babel_trie.specs.declared.table.Node.{Node}
@@ -15,10 +17,19 @@ use Rattle.babel_trie.specs.declared.table.Sources.TheVariants.{Constant, Stored
 use Rattle.babel_trie.proofs.NodeLaws.{sound_by}
 use Rattle.babel_trie.proofs.BoxesExist.{boxes_exist, test_by}
 use Rattle.babel_trie.proofs.EarlyRuns.{agree_so_far, has_runs_so_far, so_far, some_below}
-use Rattle.babel_trie.proofs.PairLaws.{at-values, come}
-use Rattle.babel_trie.proofs.RunLaws.{Says, says-all, says-more}
+use Rattle.babel_trie.proofs.NumberLaws.{slice_get-taken}
+use Rattle.babel_trie.proofs.PairLaws.{at-values, come, rows_from}
+use Rattle.babel_trie.proofs.RunLaws.{Says, IsKeptWith, keeps-kept, says-all, says-grows, says-kept, says-more}
 use Rattle.babel_trie.proofs.pass.Table+Option+V.table_runs.Goals as goal
 use Rattle.babel_trie.proofs.pass.Table+Option+V.table_runs.Goals.{then-due-len+then-nodes-ge-FEW_NODES+in_ok-early_count+else-branch-most, else-due-len}
+
+all_taken : {A : Type 0} (xs ys : List A) → ys ≡ xs → take (length ys) xs ≡ xs
+all_taken {A = A} xs ys is = ap (λ (zs : List A). take (length zs) xs) is ∙ take-length xs
+
+kept_so : {V : Type 0} (kept : ℕ) (s : Sources (Option V)) (more nodes : List (Node (Option V))) (after : ℕ) → nodes ≡ more
+    → IsKeptWith kept s nodes after → IsKeptWith kept s more after
+kept_so kept s more nodes after is (inl one) = inl one
+kept_so kept s more nodes after is (inr all) = inr (all ∙ ap length is)
 
 -- nothing is said
 none_said : {V : Type 0} (w : ℕ) (f : Answers V) (nodes : List (Node (Option V))) (list : List (Change (Sources (Option V)))) → list ≡ []
@@ -31,12 +42,13 @@ loop-due-init g c =
     let a = c.args in
     let table = a.self.now in
     let rows = g.R.Rows.rows a.rows in
-    let none = none_said a.width (answer a.width (map row_of rows)) table.nodes.items c.in_ok-list.list.items c.in_ok-list.ensures.items in
+    let none = none_said a.width (answer a.width (map row_of rows)) (take (length c.nodes-kept.result.now) table.nodes.items) c.in_ok-list.list.items c.in_ok-list.ensures.items in
     record {
       sound = sound_by table.nodes.items table.numbers (elim [ Constant v ↦ elim [ Constant u ↦ refl | Stored m ↦ refl ] | Stored k ↦ elim [ Constant v ↦ refl | Stored m ↦ refl ] ]) c.requires.sound;
-      keeps = λ k node e. e;
+      keeps = λ k node e. subst (λ xs. slice_get xs k ≡ Some node) (sym (all_taken table.nodes.items c.nodes-kept.result.now c.nodes-kept.ensures)) e;
       pass = c.new-pass.ensures.pass a.width table.nodes.items c.requires.order c.requires.table;
       reached = omega (arith, c.new-pass.ensures.start);
+      rows = λ row t. omega arith;
       within = pow_pos a.width;
       runs = none.0;
       below = none.1;
@@ -61,7 +73,9 @@ early_count-requires-clause-runs g c =
     let some : 0 < length list = omega (arith, c.if-due-len.true, c.len.ensures, i.due) in
     let begun = some_below c.loop-due.at list i.below some in
     let h = so_far w c.loop-due.at (answer w (map row_of rows)) nodes list i.runs i.below in
-    let runs = has_runs_so_far w c.loop-due.at (answer w (map row_of rows)) nodes list i.runs i.below i.says begun (omega (arith, i.within)) in
+    let f = answer w (map row_of rows) in
+    let says = says-grows w c.loop-due.at f (take c.loop-due.kept nodes) nodes list (λ k n e. slice_get-taken nodes c.loop-due.kept k n e) i.says in
+    let runs = has_runs_so_far w c.loop-due.at f nodes list i.runs i.below says begun (omega (arith, i.within)) in
     (w, h, subst (λ (xs : List (Change (Sources (Option g.row.V.Denot)))). HasRuns w nodes xs h) (sym is) runs)
 
 pub returns-then-branch-most-clause-sound : goal.returns-then-branch-most-clause-sound
@@ -81,16 +95,20 @@ returns-then-branch-most-clause-runs g c =
     let f = answer w (map row_of rows) in
     let some : 0 < length list = omega (arith, c.if-due-len.true, c.len.ensures, i.due) in
     let begun = some_below c.loop-due.at list i.below some in
+    let says = says-grows w c.loop-due.at f (take c.loop-due.kept nodes) nodes list (λ k n e. slice_get-taken nodes c.loop-due.kept k n e) i.says in
     let h = so_far w c.loop-due.at f nodes list i.runs i.below in
     let runs = subst (λ (xs : List (Change (Sources (Option V)))). HasRuns w nodes xs h) (sym is)
-    (has_runs_so_far w c.loop-due.at f nodes list i.runs i.below i.says begun (omega (arith, i.within))) in
+    (has_runs_so_far w c.loop-due.at f nodes list i.runs i.below says begun (omega (arith, i.within))) in
     let agree = subst (λ (xs : List (Change (Sources (Option V)))). AgreeUpTo w xs f h) (sym is) (agree_so_far w c.loop-due.at f nodes list i.runs i.below) in
     let boxes = boxes_exist (test_by g.V.Ord.cmp g.met.V.Ord.total g.met.V.LawfulOrd.exact) w f in
     let few = c.in_ok-early_count.ensures w f h boxes.0 runs agree boxes.1 in
     (boxes.0, boxes.1, omega (arith, few, c.if-branch-most.true))
 
-pub reach-requires-clause-sound : goal.reach-requires-clause-sound
-reach-requires-clause-sound g c =
+pub returns-then-branch-most-clause-keeps : goal.returns-then-branch-most-clause-keeps
+returns-then-branch-most-clause-keeps g c k node e = slice_get-taken c.loop-due.self.nodes.items c.loop-due.kept k node (c.loop-due.invariant.keeps k node e)
+
+pub reach_keeping-requires-clause-sound : goal.reach_keeping-requires-clause-sound
+reach_keeping-requires-clause-sound g c =
     sound_by c.loop-due.self.nodes.items c.loop-due.self.numbers
     (elim [ Constant v ↦ elim [ Constant u ↦ refl | Stored m ↦ refl ] | Stored k ↦ elim [ Constant v ↦ refl | Stored m ↦ refl ] ]) c.loop-due.invariant.sound
 
@@ -105,14 +123,15 @@ returns-in_default-clause-runs g c =
     let i = c.loop-due.invariant in
     let at = c.loop-due.at in
     let reach = c.in_ok-next.ensures in
-    let new = c.reach.new.self in
-    let nodes = c.reach.new.table.nodes.items in
+    let new = c.reach_keeping.new.self in
+    let nodes = c.reach_keeping.new.table.nodes.items in
     let f = answer w (map row_of rows) in
     let list = c.say.new.out.items in
     let quiet : (d : ℕ) → IsQuietUpTo d g.R.Rows.rows new = λ d. (reach.next d).1 (subst (λ (o : Option ℕ). IfSome o (λ start. d < start)) (sym c.in_default.is) tt) in
     let filled = c.in_ok-say.ensures.filled (2 ^ w) i.within in
     let here = come (reach.pass rows i.pass) at reach.reached i.within (quiet at) c.sources-sources.result c.sources-sources.ensures in
-    let says = says-more w at (2 ^ w) f c.loop-due.self.nodes.items nodes c.loop-due.list.items list c.sources-sources.result reach.keeps filled (λ d le lt. at-values here d le lt (quiet d)) i.says in
+    let says = says-more w at (2 ^ w) f (take c.loop-due.kept c.loop-due.self.nodes.items) nodes c.loop-due.list.items list c.sources-sources.result reach.keeps filled
+    (λ d le lt. at-values here d le lt (quiet d)) i.says in
     says-all w f nodes list filled.runs filled.below says
 
 pub loop-due-preserved : goal.loop-due-preserved
@@ -124,21 +143,23 @@ loop-due-preserved g c =
     let at = c.loop-due.at in
     let start = c.in-Some.start in
     let reach = c.in_ok-next.ensures in
-    let new = c.reach.new.self in
-    let table = c.reach.new.table in
+    let new = c.reach_keeping.new.self in
+    let table = c.reach_keeping.new.table in
     let list = c.say.new.out.items in
     let behind : at < start = subst (λ (o : Option ℕ). IfSome o (λ next. at < next)) c.in-Some.is reach.behind in
     let within : start < 2 ^ w = subst (λ (o : Option ℕ). IfSome o (λ next. next < 2 ^ w)) c.in-Some.is reach.within in
     let quiet : (d : ℕ) → d < start → IsQuietUpTo d g.R.Rows.rows new = λ d lt. (reach.next d).1 (subst (λ (o : Option ℕ). IfSome o (λ next. d < next)) (sym c.in-Some.is) lt) in
     let filled = c.in_ok-say.ensures.filled start behind in
     let here = come (reach.pass rows i.pass) at reach.reached i.within (quiet at behind) c.sources-sources.result c.sources-sources.ensures in
+    let kept = kept_so c.loop-due.kept c.sources-sources.result table.nodes.items c.nodes-in-loop-due.result.now c.kept_with-kept.result c.nodes-in-loop-due.ensures c.kept_with-kept.ensures in
     let comes : IsQuietUpTo start g.R.Rows.rows new → ⊥ =
     λ q. let lt : start < start = subst (λ (o : Option ℕ). IfSome o (λ next. start < next)) c.in-Some.is ((reach.next start).0 q) in omega arith in
     record {
       sound = sound_by table.nodes.items table.numbers (elim [ Constant v ↦ elim [ Constant u ↦ refl | Stored m ↦ refl ] | Stored k ↦ elim [ Constant v ↦ refl | Stored m ↦ refl ] ]) reach.sound;
-      keeps = λ k node e. reach.keeps k node (i.keeps k node e);
+      keeps = keeps-kept c.loop-due.kept c.kept_with-kept.result c.args.self.now.nodes.items c.loop-due.self.nodes.items table.nodes.items c.sources-sources.result i.keeps reach.keeps kept;
       pass = reach.pass rows i.pass;
       reached = omega (arith, reach.reached);
+      rows = rows_from (ahead_of new) (rows_left g.R.Rows.rows new) start quiet;
       within = within;
       runs = filled.runs;
       below = filled.below;
@@ -147,7 +168,8 @@ loop-due-preserved g c =
             (arith, w.due-is, w.saturating_mul-due.ensures, w.len-then-nodes-ge-FEW_NODES.ensures, w.if-due-len.true, c.len.ensures, i.due)
         | else-due-len w ↦ omega (arith, w.due-is, i.due)
       ];
-      says = says-more w at start (answer w (map row_of rows)) c.loop-due.self.nodes.items table.nodes.items c.loop-due.list.items list c.sources-sources.result reach.keeps filled
+      says = says-kept w at start (answer w (map row_of rows)) c.loop-due.kept c.kept_with-kept.result c.loop-due.self.nodes.items table.nodes.items c.loop-due.list.items list
+          c.sources-sources.result reach.keeps filled kept
           (λ d le lt. at-values here d le (omega (arith, within)) (quiet d lt)) i.says;
       few = inr (
         comes,

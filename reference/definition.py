@@ -2,11 +2,13 @@
 """Runs a program over small random tables, and compares what it writes with what a slow program has
 from the definitions.
 
-    definition.py PROGRAM [--plain] [--all] [--tables N] [--seed N]
+    definition.py PROGRAM [--plain] [--all] [--tiny] [--tables N] [--seed N]
 
 Each table has a few routes of both families, with and without source prefixes, some retracted, in
-any order; half of them have prefixes within the first four bits alone, the others prefixes of any
-length that share long beginnings. `pairs`, with and without `--count` and `--hold`, `lookup`, and
+any order; half of them have prefixes within the first four bits alone, the others, unless it is
+said that all are tiny, prefixes of any length that share long beginnings, which may have 100,000
+pairs; half of them have IPv4 routes with IPv6 next hops too, and are read with `--v4-via-v6`.
+`pairs`, with and without `--count` and `--hold`, `lookup`, and
 `compare` with another table, which mostly differs in a few Updates, must write what the definitions
 say and end with the status of that; and, unless it is the plain program, `pairs` and `compare` with
 `--ignore metric`. With `--all` so must `compare --all`, with and without `--count`, `--json`,
@@ -14,9 +16,11 @@ say and end with the status of that; and, unless it is the plain program, `pairs
 """
 
 import argparse
+import concurrent.futures
 import functools
 import ipaddress
 import json
+import os
 import pathlib
 import random
 import struct
@@ -24,17 +28,26 @@ import subprocess
 import sys
 import tempfile
 
-from loads import INFINITY, NEXT_HOP, ROUTER_ID, WIDTH, WILDCARD
-
+WIDTH = {4: 32, 6: 128}
+INFINITY = 0xFFFF
+ROUTER_ID = bytes.fromhex("060a0000 02e0905949f30003")
+NEXT_HOP = bytes.fromhex("070a0300 0000000000000001")
+WILDCARD = bytes.fromhex("080a0000 0000 0640 0001 ffff")
 FROM = ["--from", "192.0.2.1"]
 ANY = (0, 0)
-VIA = {4: "192.0.2.1", 6: "fe80:0:0:0:0:0:0:1"}
+# The next hop in each address encoding.
+VIA = {1: "192.0.2.1", 2: "fe80:0:0:0:0:0:0:1", 4: "fe80:0:0:0:0:0:0:1"}
 # What the program, and not the plain one, says of dumps that are made of no Updates.
-NO_UPDATES = {"note: no Updates", "note: other: no Updates"}
+NO_UPDATES = {
+    "note: no Updates",
+    "note: other: no Updates",
+    '{"note":"no-updates"}',
+    '{"note":"no-updates","other":true}',
+}
 
 
-# ---- random Updates: (family, destination, source, metric), or None for a retraction of all; a
-# prefix is (bits, length)
+# ---- random Updates: (family, destination, source, metric, encoding), or None for a retraction of
+# all; a prefix is (bits, length)
 
 
 def short_prefix(rng, width):
@@ -57,7 +70,7 @@ def sibling(prefix, width):
     return (bits ^ 1 << width - length, length) if length else prefix
 
 
-def random_updates(rng):
+def random_updates(rng, tiny, via_v6):
     """Few sources and few values, so that functions of the source repeat."""
     updates = []
     for family, width in WIDTH.items():
@@ -65,13 +78,16 @@ def random_updates(rng):
         prefix = rng.choice(
             (lambda: short_prefix(rng, width), lambda: long_prefix(rng, width, stems))
         )
+        if tiny:
+            prefix = functools.partial(short_prefix, rng, width)
         sources = [ANY]
         for _ in range(rng.randrange(3)):
             source = prefix()
             sources += [source, sibling(source, width)]
         for _ in range(rng.randrange(7 if prefix()[1] > 4 else 16)):
             metric = rng.choice((256, 256, 256, 257, 257, INFINITY))
-            updates.append((family, prefix(), rng.choice(sources), metric))
+            encoding = 2 if family == 6 else rng.choice((1, 4)) if via_v6 else 1
+            updates.append((family, prefix(), rng.choice(sources), metric, encoding))
     rng.shuffle(updates)
     if rng.randrange(8) == 0:
         updates.insert(rng.randrange(len(updates) + 1), None)
@@ -86,7 +102,7 @@ def changed(rng, updates):
         updates.pop(rng.randrange(len(updates)))
     place = rng.randrange(len(updates)) if updates else None
     if place is not None and updates[place] is not None and rng.randrange(2):
-        updates[place] = (*updates[place][:3], 259)
+        updates[place] = (*updates[place][:3], 259, updates[place][4])
     return updates
 
 
@@ -101,10 +117,10 @@ def dump_of(updates):
         if update is None:
             body += WILDCARD
             continue
-        family, dst, src, metric = update
+        family, dst, src, metric, encoding = update
         source = field(family, src)
         sub = bytes((128, 1 + len(source), src[1])) + source if src[1] else b""
-        fixed = struct.pack(">BBBBHHH", 1 if family == 4 else 2, 0, dst[1], 0, 1_600, 1, metric)
+        fixed = struct.pack(">BBBBHHH", encoding, 0, dst[1], 0, 1_600, 1, metric)
         tlv = fixed + field(family, dst) + sub
         body += bytes((8, len(tlv))) + tlv
     return struct.pack(">BBH", 42, 2, len(body)) + body
@@ -119,13 +135,13 @@ def table_of(updates, hold):
     for place, update in enumerate(updates):
         if update is None:
             continue
-        family, dst, src, metric = update
+        family, dst, src, metric, encoding = update
         later = updates[place + 1 :]
         if any(other is not None and other[:3] == update[:3] for other in later):
             continue
         reachable = metric != INFINITY and None not in later
         if reachable or hold:
-            table[family, dst, src] = metric if reachable else "unreachable"
+            table[family, dst, src] = (encoding, metric) if reachable else "unreachable"
     return table
 
 
@@ -191,7 +207,8 @@ def canonical_pairs(table):
 
 
 def without_metrics(table):
-    return {key: value if value == "unreachable" else "-" for key, value in table.items()}
+    ignored = lambda value: value if value == "unreachable" else (value[0], "-")
+    return {key: ignored(value) for key, value in table.items()}
 
 
 def differences(left, right):
@@ -228,31 +245,34 @@ def text_of_prefix(family, prefix):
     return f"{text_of_address(family, prefix[0])}/{prefix[1]}"
 
 
-def text_of(family, value):
+def text_of(value):
     if value is None or value == "unreachable":
         return value or "none"
-    return f"via {VIA[family]} id {ROUTER_ID[4:].hex()} seqno 1 metric {value}"
+    encoding, metric = value
+    return f"via {VIA[encoding]} id {ROUTER_ID[4:].hex()} seqno 1 metric {metric}"
 
 
-def json_of(family, value):
+def json_of(value):
     if value is None or value == "unreachable":
         return value
-    metric = None if value == "-" else value
-    return {"next_hop": VIA[family], "router_id": ROUTER_ID[4:].hex(), "seqno": 1, "metric": metric}
+    encoding, metric = value
+    metric = None if metric == "-" else metric
+    via = VIA[encoding]
+    return {"next_hop": via, "router_id": ROUTER_ID[4:].hex(), "seqno": 1, "metric": metric}
 
 
 def text_of_pairs(table):
     return [
-        f"{text_of_prefix(family, dst)} from {text_of_prefix(family, src)} {text_of(family, value)}"
+        f"{text_of_prefix(family, dst)} from {text_of_prefix(family, src)} {text_of(value)}"
         for family, dst, src, value in canonical_pairs(table)
     ]
 
 
-def three_lines(family, dst, src, left, right):
+def three_lines(dst, src, left, right):
     return [
         f"differ {dst} from {src}",
-        f"left {text_of(family, left)}",
-        f"right {text_of(family, right)}",
+        f"left {text_of(left)}",
+        f"right {text_of(right)}",
     ]
 
 
@@ -260,14 +280,12 @@ def text_of_difference(found):
     if found is None:
         return ["same"]
     family, dst, src, left, right = found
-    return three_lines(
-        family, text_of_address(family, dst), text_of_address(family, src), left, right
-    )
+    return three_lines(text_of_address(family, dst), text_of_address(family, src), left, right)
 
 
 def text_of_differences(found):
     lines = [
-        three_lines(family, text_of_prefix(family, dst), text_of_prefix(family, src), *answers)
+        three_lines(text_of_prefix(family, dst), text_of_prefix(family, src), *answers)
         for family, dst, src, answers in found
     ]
     return sum(lines, []) or ["same"]
@@ -279,8 +297,8 @@ def json_of_differences(found):
             "same": False,
             "destination": text_of_prefix(family, dst),
             "source": text_of_prefix(family, src),
-            "left": json_of(family, left),
-            "right": json_of(family, right),
+            "left": json_of(left),
+            "right": json_of(right),
         }
         for family, dst, src, (left, right) in found
     ]
@@ -304,7 +322,7 @@ def lookup_run(rng, table, words, dump):
     asked = ["--to", text_of_address(family, dst), "--src", text_of_address(family, src)]
     found = answer(table, family, dst, src)
     status = 1 if found in (None, "unreachable") else 0
-    yield ["lookup", *words, *asked, dump], [text_of(family, found)], status, ""
+    yield ["lookup", *words, *asked, dump], [text_of(found)], status, ""
 
 
 def note_of_routes(left, right):
@@ -334,18 +352,51 @@ def compare_runs(left, right, words, dumps, every):
         yield ["compare", "--all", "--count", "--json", *words], count + as_json, *end
 
 
-def expected_runs(rng, updates, others, dumps, options):
+def expected_runs(rng, updates, others, dumps, read, plain, every):
     for hold in ([], ["--hold"]):
-        words = [*hold, *FROM]
+        words = [*hold, *read, *FROM]
         left, right = (table_of(each, bool(hold)) for each in (updates, others))
         yield from pair_runs(left, words, dumps[0])
         yield from lookup_run(rng, left, words, dumps[0])
-        yield from compare_runs(left, right, words, dumps, options.all)
-        if not options.plain:
+        yield from compare_runs(left, right, words, dumps, every)
+        if not plain:
             words = ["--ignore", "metric", *words]
             left, right = (without_metrics(table) for table in (left, right))
             yield from pair_runs(left, words, dumps[0])
-            yield from compare_runs(left, right, words, dumps, options.all)
+            yield from compare_runs(left, right, words, dumps, every)
+
+
+def checked(program, folder, tables, seed, plain, every, tiny):
+    """For each run over so many tables: its command, how many lines it must write, and how what it
+    did differs from the definitions, if it does."""
+
+    def check(turn):
+        rng = random.Random(f"{seed} {turn}")
+        read = ["--v4-via-v6"] if rng.randrange(2) else []
+        updates = random_updates(rng, tiny, read)
+        others = changed(rng, updates) if rng.randrange(8) else random_updates(rng, tiny, read)
+        dumps = [folder / f"table-{turn}{other}.dump" for other in ("", "-other")]
+        for dump, sent in zip(dumps, (updates, others)):
+            dump.write_bytes(dump_of(sent))
+        found = []
+        for words, *wanted, note in expected_runs(rng, updates, others, dumps, read, plain, every):
+            run = subprocess.run([program, *words], capture_output=True, text=True)
+            lines, told = (
+                [line for line in text.splitlines() if line not in NO_UPDATES]
+                for text in (run.stdout, run.stderr)
+            )
+            given = [lines, run.returncode], told
+            is_right = given == (wanted, [note] if note and not plain else [])
+            problem = f"table {turn}, {words}: {given} in place of {wanted} and {note!r}"
+            problem += f": {updates}, {others}"
+            found.append((words[0], len(wanted[0]), "" if is_right else problem))
+        for dump in dumps:
+            dump.unlink()
+        return found
+
+    with concurrent.futures.ThreadPoolExecutor(os.cpu_count()) as pool:
+        for found in pool.map(check, range(tables)):
+            yield from found
 
 
 def main():
@@ -359,29 +410,26 @@ def main():
         help="the program is the plain one, which lacks some options",
     )
     parser.add_argument("--all", action="store_true", help="run compare --all, too")
+    tiny = "prefixes within the first four bits alone"
+    parser.add_argument("--tiny", action="store_true", help=tiny)
     parser.add_argument("--tables", type=int, default=1_000)
     parser.add_argument("--seed", type=int, default=1)
     options = parser.parse_args()
-    program, rng = options.program.resolve(), random.Random(options.seed)
     runs, wrong, most = 0, 0, 0
     with tempfile.TemporaryDirectory() as folder:
-        dumps = [pathlib.Path(folder) / name for name in ("one.dump", "other.dump")]
-        for turn in range(options.tables):
-            updates = random_updates(rng)
-            others = changed(rng, updates) if rng.randrange(8) else random_updates(rng)
-            for dump, sent in zip(dumps, (updates, others)):
-                dump.write_bytes(dump_of(sent))
-            for words, lines, status, note in expected_runs(rng, updates, others, dumps, options):
-                run = subprocess.run([program, *words], capture_output=True, text=True)
-                runs += 1
-                most = max(most, len(lines))
-                told = set(run.stderr.splitlines()) - NO_UPDATES
-                is_told = told == ({note} if note and not options.plain else set())
-                if run.stdout.splitlines() != lines or not is_told or run.returncode != status:
-                    wrong += 1
-                    given = f"{run.stdout!r}, {run.stderr!r} and status {run.returncode}"
-                    given += f" in place of {lines!r}, {note!r} and status {status}"
-                    print(f"table {turn}, {words}: {given}: {updates}, {others}")
+        for _, lines, problem in checked(
+            options.program.resolve(),
+            pathlib.Path(folder),
+            options.tables,
+            options.seed,
+            options.plain,
+            options.all,
+            options.tiny,
+        ):
+            runs, most = runs + 1, max(most, lines)
+            if problem:
+                wrong += 1
+                print(problem)
     print(f"{wrong} of {runs} runs differ from the definitions; the longest text had {most} lines")
     return 1 if wrong else 0
 

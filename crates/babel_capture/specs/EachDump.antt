@@ -1,0 +1,31 @@
+-- Laws of the definitions: where the dumps of all senders are wanted, each is that of its sender.
+-- They are this project's own.
+use Rattle.std.specs.Prelude.{◌≡◌, ℕ, List, Option, None, Some}
+use Rattle.babel_capture.specs.Capture.{IsReadToCut}
+use Rattle.babel_capture.specs.Dumps.{dump_at}
+use Rattle.babel_capture.specs.Gathering.{Gathering}
+use Rattle.babel_capture.specs.declared.dumps.LackAt.{LackAt}
+use Rattle.babel_capture.specs.declared.tallies.Origin.{Origin}
+use Rattle.babel_capture.specs.declared.wanted.Wanted.{Wanted}
+use Rattle.babel_capture.specs.declared.wanted.Wanted.TheVariants as wanteds
+
+-- the datagrams of this sender alone, at this place
+abbrev pub only : Origin → Wanted
+only origin = wanteds.Sender origin.sender (Some origin.place)
+
+-- a dump that lacks nothing is the one that the same octets give where it alone is wanted
+abbrev pub EachIsOwn : Type 0
+EachIsOwn =
+    (limit : ℕ) (octets : List ℕ) (all : Gathering) (cut : Option ℕ) (origin : Origin)
+    → IsReadToCut limit octets all cut → all.wanted ≡ wanteds.Each
+    → (dump_at all.dumps origin).lack ≡ None
+    → (own : Gathering) × IsReadToCut limit octets own cut × (own.wanted ≡ only origin)
+    × (own.dump ≡ (dump_at all.dumps origin).octets)
+
+-- and where one lacks something, they give none
+abbrev pub LackingIsNone : Type 0
+LackingIsNone =
+    (limit : ℕ) (octets : List ℕ) (all own : Gathering) (cut own_cut : Option ℕ)
+    (origin : Origin) (lack : LackAt) → IsReadToCut limit octets all cut
+    → all.wanted ≡ wanteds.Each → (dump_at all.dumps origin).lack ≡ Some lack
+    → IsReadToCut limit octets own own_cut → own.wanted ≡ only origin → ⊥

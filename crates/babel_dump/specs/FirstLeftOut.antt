@@ -1,0 +1,42 @@
+-- Laws of the definitions: which datagram of a capture was left out first, by what is made of its
+-- packets. These are this project's own.
+use Rattle.std.specs.Prelude.{◌≡◌, ◌≢◌, ℕ, ◌≤◌, Bool, true, false, List, Contains, Option}
+use Rattle.babel_capture.specs.declared.reason.Reason.{Reason}
+use Rattle.babel_capture.specs.Counts.{Made, counts_of}
+use Rattle.babel_capture.specs.Findings.{left}
+use Rattle.babel_capture.specs.Gathering.{Gathering}
+use Rattle.babel_dump.specs.CaptureGiven.{CaptureInput, GaveLeftOut, IsReadSo}
+use Rattle.babel_dump.specs.LeftOut.{LeavesNoneOut}
+use Rattle.babel_dump.specs.declared.left_out.LeftOutDatagram.{LeftOutDatagram}
+
+-- what is made of the packets of a capture that is read so
+abbrev pub made_of : (accept_cut : Bool) → (limit : ℕ) → (octets : List ℕ)
+    → (gathering : Gathering) → (cut : Option ℕ)
+    → IsReadSo accept_cut limit octets gathering cut → List Made
+made_of false limit octets gathering cut read = read.0.gathered.made
+made_of true limit octets gathering cut read = read.is_read.gathered.made
+
+-- of these packets the one with the datagram's number was left out for its reason, and none with a
+-- lower number was left out
+pub record IsFirstLeftOut (made : List Made) (datagram : LeftOutDatagram) : Type 0 where
+  pub one : Made
+  pub listed : Contains made one
+  pub number : one.number ≡ datagram.packet
+  pub left_out : one.what ≡ left datagram.reason
+  pub first : (other : Made) (reason : Reason) → Contains made other → other.what ≡ left reason
+      → datagram.packet ≤ other.number
+
+-- where packets are counted of which none was left out, none of them was
+abbrev pub NoneIsLeftOut : Type 0
+NoneIsLeftOut =
+    (made : List Made) → LeavesNoneOut (counts_of made)
+    → (one : Made) (reason : Reason) → Contains made one → one.what ≢ left reason
+
+-- the datagram for which a capture that is read strictly is refused is the first of its packets
+-- that was left out
+abbrev pub RefusedIsFirst : Type 0
+RefusedIsFirst =
+    (reader : CaptureInput) (datagram : LeftOutDatagram) (gave : GaveLeftOut reader datagram)
+    → IsFirstLeftOut
+    (made_of reader.reading.accept_cut reader.reading.limit gave.given.octets gave.gathering
+    gave.cut gave.given.is_read) datagram
