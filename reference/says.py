@@ -458,7 +458,7 @@ def not_whole(table):
 
 
 def expected(dump, how, command, met):
-    """The lines, the status and what is told of a run; of `normalise` the pairs as lines."""
+    """The lines, the status and what is told of a run; of `normalise` the pairs in place of lines."""
     try:
         table = read(dump, how, met)
         if "--strict" in command and not_whole(table):
@@ -475,11 +475,15 @@ def expected(dump, how, command, met):
 
 
 def written(octets, how, command):
-    """What a run wrote: lines, or as pairs the rows of a dump that is read with any sender."""
+    """What a run wrote: the lines of `show`; of `normalise` the rows of what it wrote, which is
+    read with another sender and without limits."""
     if command[0] == "show":
         return octets.decode().splitlines()
     how = how._replace(family=10 - how.family, routes=ROUTES, octets=len(octets))
-    table = read(octets, how, collections.Counter())
+    try:
+        table = read(octets, how, collections.Counter())
+    except Refused as fault:
+        return str(fault)
     return table.ignored or table.rows
 
 
@@ -512,7 +516,7 @@ WANTED = {f"{name}: {answer}" for name, answers in ROWS.items() for answer in an
 
 
 def check(program, seed, turn):
-    """The commands of the runs over one dump, each with how it differs from the definitions, if it
+    """The commands of the runs over a dump, each with how it differs from the definitions, if it
     does; and what was met."""
     rng = random.Random(f"{seed} {turn}")
     dump, met, found = random_dump(rng), collections.Counter(), []
