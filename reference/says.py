@@ -458,7 +458,7 @@ def not_whole(table):
 
 
 def expected(dump, how, command, met):
-    """The lines, the status and what is told of a run; of `normalise` the pairs in place of lines."""
+    """The lines of a run, or of `normalise` the pairs, the status, and what is told."""
     try:
         table = read(dump, how, met)
         if "--strict" in command and not_whole(table):
