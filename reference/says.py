@@ -8,11 +8,11 @@ Each dump is a few packets of TLVs, made so that each row of the order of the ch
 each fault of octets or of a limit is met: TLVs too short, Omitted octets against the default prefix
 of each encoding, both flags, retractions of one key and of all, encodings that are not read,
 sub-TLVs of each kind, prefixes with bits past their length, trailers, packets cut. Each is read
-with and without `--hold` and `--v4-via-v6`, from a sender of each family, under some limits:
-`show`, also with `--json`, and `normalise`, also with `--strict`, must write what the definitions
-say and end with its status; and what `normalise` writes must be read as the rows that are its
-pairs. Exits 1 where they do not, or where a row or a fault was never met. The same seed makes the
-same dumps.
+four times, from a sender of each family, with and without `--v4-via-v6`, and as chance has it with
+`--hold` and under low limits. `show`, also with `--json`, and `normalise`, also with `--strict`,
+must write what the definitions say and end with the status of that; what `normalise` writes must be
+read as rows that are the pairs. Exits 1 where they do not, or where a row or a fault was never met.
+The same seed makes the same dumps.
 
 Not met is the fault `out of memory`, which no octets have: `./check memory` meets that.
 """
@@ -457,13 +457,13 @@ def not_whole(table):
     return "" if has_updates(table) else "no Updates"
 
 
-def expected(dump, how, command, met):
+def expected(dump, how, words, met):
     """The lines of a run, or of `normalise` the pairs, the status, and what is told."""
     try:
         table = read(dump, how, met)
-        if "--strict" in command and not_whole(table):
+        if "--strict" in words and not_whole(table):
             raise Refused(not_whole(table))
-        if command[0] == "normalise":
+        if words[0] == "normalise":
             pairs = {tuple(key): held for *key, held in canonical_pairs(table.rows)}
             if len(pairs) > how.routes:
                 raise Refused("too many pairs")
@@ -471,13 +471,13 @@ def expected(dump, how, command, met):
     except Refused as fault:
         met[str(fault).split(" at ")[0]] += 1
         return b"", 3, [str(fault)]
-    return lines_of(table, "--json" in command), 0, notes_of(table, "show")
+    return lines_of(table, "--json" in words), 0, notes_of(table, "show")
 
 
-def written(octets, how, command):
+def written(octets, how, words):
     """What a run wrote: the lines of `show`; of `normalise` the rows of what it wrote, which is
     read with another sender and without limits."""
-    if command[0] == "show":
+    if words[0] == "show":
         return octets.decode().splitlines()
     how = how._replace(family=10 - how.family, routes=ROUTES, octets=len(octets))
     try:
@@ -515,27 +515,36 @@ WANTED = {f"{name}: {answer}" for name, answers in ROWS.items() for answer in an
 }
 
 
+COMMANDS = ["show"], ["show"], ["show", "--json"], ["normalise"], ["normalise", "--strict"]
+
+
+def runs_over(rng):
+    """Runs with a sender of each family, with and without --v4-via-v6: the words, and how they have
+    a dump read."""
+    limits, *numbers = random_limits(rng)
+    for family, via_v6 in itertools.product(SENDERS, (False, True)):
+        how = How(family, via_v6, rng.choice((False, True)), *numbers)
+        words = [*rng.choice(COMMANDS), "--from", SENDERS[family], *limits]
+        yield words + ["--v4-via-v6"] * via_v6 + ["--hold"] * how.hold, how
+
+
+def difference(program, dump, words, how, met):
+    """How a run differs from the definitions, if it does."""
+    run = subprocess.run([program, *words], input=dump, capture_output=True)
+    told = [line for line in run.stderr.decode().splitlines() if not line.startswith("hint: ")]
+    lines = run.stdout if run.returncode else written(run.stdout, how, words)
+    given, wanted = (lines, run.returncode, told), expected(dump, how, words, met)
+    return "" if given == wanted else f"{words}: {given} in place of {wanted}"
+
+
 def check(program, seed, turn):
     """The commands of the runs over a dump, each with how it differs from the definitions, if it
     does; and what was met."""
     rng = random.Random(f"{seed} {turn}")
     dump, met, found = random_dump(rng), collections.Counter(), []
-    limits, *numbers = random_limits(rng)
-    hows = [How(*how, *numbers) for how in itertools.product(SENDERS, (False, True), (False, True))]
-    runs = [(["show"], how) for how in hows]
-    for command in ["show", "--json"], ["normalise"], ["normalise", "--strict"]:
-        runs.append((command, rng.choice(hows)))
-    for command, how in runs:
-        words = [*command, "--from", SENDERS[how.family], *limits]
-        words += ["--v4-via-v6"] * how.via_v6 + ["--hold"] * how.hold
-        run = subprocess.run([program, *words], input=dump, capture_output=True)
-        told = [line for line in run.stderr.decode().splitlines() if not line.startswith("hint: ")]
-        lines = run.stdout if run.returncode else written(run.stdout, how, command)
-        given, wanted = (lines, run.returncode, told), expected(dump, how, command, met)
-        problem = ""
-        if given != wanted:
-            problem = f"dump {turn}, {dump.hex()}, {words}: {given} in place of {wanted}"
-        found.append((command[0], problem))
+    for words, how in runs_over(rng):
+        problem = difference(program, dump, words, how, met)
+        found.append((words[0], problem and f"dump {turn}, {dump.hex()}, {problem}"))
     return found, met
 
 
