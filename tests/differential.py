@@ -1,6 +1,6 @@
 """The plain programs of reference/ beside the proved one: over dumps changed at random and the
 golden files; of captures, over those of extract.py. And both beside the definitions, over small
-random tables."""
+random tables; the proved one also over random dumps that meet each reason and each fault."""
 
 import pathlib
 import tempfile
@@ -10,6 +10,7 @@ import golden
 import transcript
 from checks import built_program, need
 
+import says
 from changed import compared
 from definition import checked
 from plain import PLAIN, PLAIN_OF_CAPTURES, build
@@ -19,6 +20,8 @@ DUMPS = 600
 DUMPS_LONG = 6_000
 TABLES = 300
 TABLES_LONG = 3_000
+RANDOM_DUMPS = 2_000
+RANDOM_DUMPS_LONG = 50_000
 
 
 def check(tally, long):
@@ -38,5 +41,8 @@ def check(tally, long):
                 side, folder, tables, SEED, is_plain, not is_plain, tiny=True
             ):
                 tally.check(f"the definitions beside {command} of {side.name}", problem)
+        dumps = RANDOM_DUMPS_LONG if long else RANDOM_DUMPS
+        for what, problem in says.checked(program, dumps, SEED):
+            tally.check(f"the definitions beside what a dump says: {what}", problem)
         plain = build(PLAIN_OF_CAPTURES, folder)
         extract.check_cases(plain, extract.cases_of(tally), tally, extract.without_notes)
