@@ -534,7 +534,7 @@ fn tells_what_is_seen(rt: HostRuntime) -> Result<(), Fail> {
 
 #[test]
 fn each_dump_is_that_of_its_sender(rt: HostRuntime) -> Result<(), Fail> {
-    let (mut dumps, mut lacking) = (0, 0);
+    let (mut gave_dump, mut told_lack) = (false, false);
     for (parts, _) in &SEEN {
         let octets = joined(rt.alloc(), parts)?;
         let Ok(all) = gathered_of(rt.alloc(), 4096, Wanted::Each, octets.as_slice(), 5) else {
@@ -549,15 +549,14 @@ fn each_dump_is_that_of_its_sender(rt: HostRuntime) -> Result<(), Fail> {
             match (all.dump_of(origin), &own) {
                 (Ok(dump), Ok(own)) => {
                     assert_eq!(rt; dump, own.dump());
-                    dumps += 1;
+                    gave_dump |= !dump.is_empty();
                 }
-                (Err(_lack), Err(_fault)) => lacking += 1,
+                (Err(_lack), Err(_fault)) => told_lack = true,
                 _ => return Err(Fail::from("another dump")),
             }
         }
     }
-    assert!(rt; dumps > 1);
-    assert!(rt; lacking > 0);
+    assert!(rt; gave_dump && told_lack);
     Ok(())
 }
 
