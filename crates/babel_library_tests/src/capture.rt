@@ -549,7 +549,7 @@ fn each_dump_is_that_of_its_sender(rt: HostRuntime) -> Result<(), Fail> {
             match (all.dump_of(origin), &own) {
                 (Ok(dump), Ok(own)) => {
                     assert_eq!(rt; dump, own.dump());
-                    gave_dump |= !dump.is_empty();
+                    gave_dump = gave_dump || !dump.is_empty();
                 }
                 (Err(_lack), Err(_fault)) => told_lack = true,
                 _ => return Err(Fail::from("another dump")),
