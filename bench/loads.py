@@ -311,9 +311,9 @@ def comb(rng):
 
 
 def write_hidden(path, rng, count):
-    """16 deep functions of the source at one network; in each of its blocks of two hosts the deepest
-    source of each has an announcement of its own, and both hosts hide that again. So many rows, 18
-    a block, of which nearly none is seen."""
+    """16 deep functions of the source at one network; in each of its blocks of two hosts the
+    deepest source of each has an announcement of its own, and both hosts hide that again. So many
+    rows, 18 a block, of which nearly none is seen."""
     anns = announcements(rng, 20)
     router_id, seqno, _ = anns[0]
     combs = [comb(rng) for _ in range(16)]

@@ -442,7 +442,7 @@ def random_dump(rng):
 
 
 def random_limits(rng):
-    """Words, how many routes there may be, and how many octets: few, so that there are few pairs."""
+    """Words, how many routes there may be, and how many octets: few, so there are few pairs."""
     routes = rng.choice((1, 2, 3, 5, 8, 300, 300, 300))
     octets = 83 * routes + rng.choice((0, rng.randrange(100), 10_000))
     return ["--max-routes", str(routes), "--max-octets", str(octets)], routes, octets

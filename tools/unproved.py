@@ -27,8 +27,8 @@ FAILED, CLOSED_PIPE, NO_ANSWER = 4, 141, 126
 
 # The options that no word follows.
 FLAGS = set(
-    "--hold --v4-via-v6 --strict --quiet --json --short --count --hex --all --routes --stat --accept-cut"
-    " --summary".split()
+    "--hold --v4-via-v6 --strict --quiet --json --short --count --hex --all --routes --stat"
+    " --accept-cut --summary".split()
 )
 
 # `rt try` takes no more octets of standard input.
