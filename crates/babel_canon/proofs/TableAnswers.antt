@@ -29,9 +29,8 @@ use Rattle.babel_canon.specs.AnswersAreTold.{TableAnswers, AnswerIsOne}
 use Rattle.babel_canon.proofs.BestKeys.{MostSpecific, NoneMatches, clean_one, key_one, none_or_most}
 use Rattle.babel_canon.proofs.Boxes.{FromPair, entry_of, pair_of_row, row_of_pair}
 use Rattle.babel_canon.proofs.CleanKeys.{AreClean, held-clean}
-use Rattle.babel_canon.proofs.Dumps.{dump-from_table, told-dump, told-table}
 use Rattle.babel_canon.proofs.HeldFor.{held_for-stands}
-use Rattle.babel_canon.proofs.Told.{quiet}
+use Rattle.babel_canon.proofs.Told.{quiet, table-refuses, told-dump, told-table}
 
 -- ---- rows that are held
 
@@ -238,11 +237,12 @@ table_answers limits mode one table is_table d s d_in s_in one_family answer =
     let is = answer_is mode (map quiet is_table.said) table.rows
     (table_held limits mode one.sender one.dump table is_table) d s one_family answer in (
       (λ answers. is.0 (subst (λ (es : List Event). IsAnswer mode es d s answer)
-          (told-dump limits mode one.sender one.dump table is_table answers.packets answers.is_dump)
+          (told-dump limits mode one.sender one.dump table is_table answers.packets answers.are_read)
           answers.answers)),
       (λ rows. record {
         packets = is_table.packets;
-        is_dump = dump-from_table limits mode one.sender one.dump table is_table;
+        are_read = is_table.reads;
+        none_refuses = table-refuses limits mode one.sender one.dump table is_table;
         answers = subst (λ (es : List Event). IsAnswer mode es d s answer)
             (sym (told-table limits mode one.sender one.dump table is_table)) (is.1 rows);
       }),

@@ -1,7 +1,8 @@
 -- What a dump answers for a destination and a source address, by what it tells: RFC 8966, 2.8,
 -- 3.5.3, 4.6.9; RFC 9079, 4.
 use Rattle.std.specs.Prelude.{◌≡◌, ◌↔◌, Bool, ◌&&◌, ◌==◌, if◌then◌else◌, is_none, List, fold}
-use Rattle.std.specs.Prelude.{Option, Some, None}
+use Rattle.std.specs.Prelude.{Option, Some, None, IsFalse}
+use Rattle.std.specs.List.{list_any}
 use Rattle.babel_prefix.specs.Width.{same_family}
 use Rattle.babel_prefix.specs.Address.{Address, AddressPrefix, IsAddress}
 use Rattle.babel_tlv.specs.declared.event.Event.{Event}
@@ -10,11 +11,11 @@ use Rattle.babel_tlv.specs.declared.held.Held.{Held}
 use Rattle.babel_tlv.specs.declared.held.Held.TheVariants as helds
 use Rattle.babel_tlv.specs.declared.mode.Mode.{Mode}
 use Rattle.babel_tlv.specs.declared.mode.Mode.TheVariants as modes
-use Rattle.babel_tlv.specs.Framing.{TlvAt}
+use Rattle.babel_tlv.specs.Framing.{TlvAt, Framed}
 use Rattle.babel_tlv.specs.Route.{RouteKey}
+use Rattle.babel_tlv.specs.Says.{refuses, told}
 use Rattle.babel_table.specs.BestMatch.{ContainsBoth, IsMoreSpecific}
 use Rattle.babel_canon.specs.Sent.{Sent}
-use Rattle.babel_canon.specs.Dumps.{IsDump, told}
 
 -- ---- what is held for a key
 
@@ -67,11 +68,14 @@ IsAnswer mode events d s None =
     (key : RouteKey) → ContainsBoth d s key → held_for mode events key ≡ None
 IsAnswer mode events d s (Some held) = HasBest mode events d s held
 
--- the dump answers this for a destination and a source address, where encoding 4 is read or not
+-- the dump, which is packets of which no TLV refuses it, answers this for a destination and a source
+-- address, where encoding 4 is read or not. (A router drops packets that are not so, and skips what
+-- is after a body; that both refuse the dump is this project's own.)
 pub record DumpAnswers (via_v6 : Bool) (mode : Mode) (one : Sent) (d s : Address)
     (answer : Option Held) : Type 0 where
   pub packets : List (List TlvAt)
-  pub is_dump : IsDump via_v6 one.dump packets
+  pub are_read : Framed one.dump packets
+  pub none_refuses : IsFalse (list_any (list_any (refuses via_v6)) packets)
   pub answers :
       IsAnswer mode (told (record { sender = one.sender; via_v6 = via_v6 }) packets) d s answer
 

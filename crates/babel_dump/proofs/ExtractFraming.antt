@@ -1,6 +1,6 @@
 -- What `extract` writes has no fault of framing but a TLV past the end of its packet.
-use Rattle.std.proofs.Common.{◌≡◌, ◌≢◌, ℕ, Bool, true, false, List, [], ◌∷◌, ◌++◌, length, take, drop, refl, sym, ap, subst, ◌∙◌, append_assoc, inl, inr, cond, nat_lt, ◌==◌}
-use Rattle.std.specs.Prelude.{Option, Result, Ok, Err, IfErr, ◌&&◌}
+use Rattle.std.proofs.Common.{◌≡◌, ◌≢◌, ℕ, Bool, true, false, List, [], ◌∷◌, ◌++◌, length, take, drop, refl, sym, ap, subst, ◌∙◌, append_assoc, inl, inr, cond}
+use Rattle.std.specs.Prelude.{Option, Result, Ok, Err, IfErr}
 use Rattle.std.specs.List.{AllByRecursion, flat_map}
 use Rattle.std.proofs.lemmas.List.{append_cancel_left, take-append-drop}
 use Rattle.babel_prefix.specs.Address.{Address}
@@ -10,10 +10,9 @@ use Rattle.babel_tlv.specs.declared.fault.Fault.TheVariants as faults
 use Rattle.babel_tlv.specs.declared.mode.Mode.{Mode}
 use Rattle.babel_tlv.specs.declared.start.Start.{Start}
 use Rattle.babel_tlv.specs.Context.{Context}
-use Rattle.babel_tlv.specs.Forming.{sets_router_id, update_encoding}
 use Rattle.babel_tlv.specs.FrameFaults.{PacketFault}
 use Rattle.babel_tlv.specs.Framing.{TlvAt, packet_octets}
-use Rattle.babel_tlv.specs.Says.{Saying, said, sayings, sayings_behind, update_said}
+use Rattle.babel_tlv.specs.Says.{Saying, refuses, said, sayings, sayings_behind}
 use Rattle.babel_table.specs.Bounds.{Bounds, start_of}
 use Rattle.babel_table.specs.DumpFault.{DumpFault, IsTruncated, RefusedBy, Refuses, StreamFault}
 use Rattle.babel_table.proofs.DumpLaws.{begins-more, header-more}
@@ -39,17 +38,8 @@ either_none false here there = there
 event_none : {event : Event} → NoFraming (Ok event)
 event_none = record { none = tt }
 
-update_none : (context : Context) (tlv : TlvAt) → NoFraming (update_said context tlv)
-update_none context tlv =
-    let encoding : ℕ = update_encoding tlv.body in
-    either_none (nat_lt (length tlv.body) 10) event_none (either_none (encoding == 0) event_none
-    (either_none (encoding == 1 && true) event_none (either_none (encoding == 2 && true) event_none (either_none (encoding == 4 && context.via_v6) event_none
-    (either_none (sets_router_id tlv.body) (record { none = λ framing. framing }) event_none)))))
-
 said_none : (context : Context) (tlv : TlvAt) → NoFraming (said context tlv)
-said_none context tlv =
-    either_none (tlv.kind == 6) event_none (either_none (tlv.kind == 7) event_none
-    (either_none (tlv.kind == 8) (update_none context tlv) event_none))
+said_none context tlv = either_none (refuses context.via_v6 tlv) (record { none = λ framing. framing }) event_none
 
 abbrev SaysNone : Saying → Type 0
 SaysNone saying = IfErr saying.what (λ fault. ¬ IsOfFraming fault)

@@ -9,11 +9,10 @@ pub mod Left
 pub mod Forming
 pub mod Encodings
 pub mod Fields
+pub mod Kept
 pub mod SubTlv
 pub mod Context
-pub mod Updating
 pub mod Nearest
-pub mod Kept
 pub mod Says
 pub mod Group
 pub mod Writing
