@@ -90,7 +90,7 @@ IsOk (Err fault) = ⊥
 
 -- a TLV that says an event does not refuse the dump
 said-read : (context : Context) (tlv : TlvAt) → IsOk (said context tlv) → IsFalse (refuses context.via_v6 tlv)
-said-read context tlv = by (refuses context.via_v6 tlv) _ _
+said-read context tlv = by (refuses context.via_v6 tlv) (faults.EncodingSetsRouterId tlv.at) (unless_ignored (ignored_for context tlv) (tells context tlv))
   where
     by : (refused : Bool) (fault : Fault) (event : Event) → IsOk (cond refused (Err fault) (Ok event)) → IsFalse refused
     by true fault event ok = absurd ok

@@ -14,7 +14,7 @@ use Rattle.babel_tlv.specs.declared.mode.Mode.TheVariants as modes
 use Rattle.babel_tlv.specs.Framing.{TlvAt, Framed}
 use Rattle.babel_tlv.specs.Route.{RouteKey}
 use Rattle.babel_tlv.specs.Says.{refuses, told}
-use Rattle.babel_table.specs.BestMatch.{ContainsBoth, IsMoreSpecific}
+use Rattle.babel_table.specs.BestMatch.{IsBestAmong}
 use Rattle.babel_canon.specs.Sent.{Sent}
 
 -- ---- what is held for a key
@@ -51,22 +51,12 @@ held_for mode events key = fold (held_after mode key) None events
 
 -- ---- answers
 
--- RFC 9079, 4: there is a key that contains both addresses, for which this is held, and nothing is
--- held for any more specific key that contains them. (There is one such key at most: nothing is
--- held for a key that no event names, and prefixes that Updates form have zeros past their length.
--- So there is one answer, which `settled` says.)
-pub record HasBest (mode : Mode) (events : List Event) (d s : Address) (held : Held) : Type 0 where
-  pub key : RouteKey
-  pub matching : ContainsBoth d s key
-  pub is_held : held_for mode events key ≡ Some held
-  pub best : (other : RouteKey) → ContainsBoth d s other → IsMoreSpecific other key
-      → held_for mode events other ≡ None
-
--- the answer of events for two addresses: none, if nothing is held for any key that contains both
+-- RFC 9079, 4: the answer of events for two addresses: what is held for the most specific key that
+-- contains both; none, if nothing is held for any that does. (There is one such key at most: nothing
+-- is held for a key that no event names, and prefixes that Updates form have zeros past their
+-- length. So there is one answer, which `settled` says.)
 abbrev pub IsAnswer : Mode → List Event → Address → Address → Option Held → Type 0
-IsAnswer mode events d s None =
-    (key : RouteKey) → ContainsBoth d s key → held_for mode events key ≡ None
-IsAnswer mode events d s (Some held) = HasBest mode events d s held
+IsAnswer mode events = IsBestAmong (λ pair. held_for mode events pair.0 ≡ Some pair.1)
 
 -- the dump, which is packets of which no TLV refuses it, answers this for a destination and a source
 -- address, where encoding 4 is read or not. (A router drops packets that are not so, and skips what

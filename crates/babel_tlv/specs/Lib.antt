@@ -17,7 +17,7 @@ pub mod Says
 pub mod Group
 pub mod Writing
 pub mod News
-pub mod Verdicts
+pub mod EventKinds
 pub mod Views
 pub mod ViewsTell
 pub mod Reading

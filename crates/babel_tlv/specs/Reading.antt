@@ -9,7 +9,7 @@ use Rattle.babel_tlv.specs.declared.prefix_encoding.PrefixEncoding.{PrefixEncodi
 use Rattle.babel_tlv.specs.declared.reason.Reason.{Reason}
 use Rattle.babel_tlv.specs.declared.route.Route.{Route}
 use Rattle.babel_tlv.specs.declared.router_id.RouterId.{RouterId}
-use Rattle.babel_tlv.specs.declared.verdict.Verdict.{Verdict}
+use Rattle.babel_tlv.specs.declared.event_kind.EventKind.{EventKind}
 use Rattle.babel_tlv.specs.Context.{Context}
 use Rattle.babel_tlv.specs.Forming.{default_octets, field_len, hop_len, id_of, next_hop_in}
 use Rattle.babel_tlv.specs.Forming.{omitted, router_id_in, sets_default, sets_router_id}
@@ -17,7 +17,7 @@ use Rattle.babel_tlv.specs.Framing.{TlvAt}
 use Rattle.babel_tlv.specs.Kept.{prefix_with}
 use Rattle.babel_tlv.specs.Route.{Announcement}
 use Rattle.babel_tlv.specs.Says.{key_of, key_reason, key_tells, unless_ignored}
-use Rattle.babel_tlv.specs.Verdicts.{event_of}
+use Rattle.babel_tlv.specs.EventKinds.{event_of}
 
 -- a TLV of this type, wherever it lies
 abbrev pub unplaced : ℕ → List ℕ → TlvAt
@@ -54,9 +54,9 @@ encoded_event encoding context body =
     unless_ignored (key_reason context encoding body key) (key_tells context encoding body key)
 
 -- a reading and a route say this, or it is the reason to ignore the TLV
-abbrev pub GivesEvent : Event → Route → Result Verdict Reason → Type 0
+abbrev pub GivesEvent : Event → Route → Result EventKind Reason → Type 0
 GivesEvent event route result =
-    MatchResult result (λ verdict. event ≡ event_of verdict route)
+    MatchResult result (λ kind. event ≡ event_of kind route)
     (λ reason. event ≡ events.Ignored reason)
 
 -- RFC 8966, 4.6.7: the router-id, and the sub-TLVs after it

@@ -8,15 +8,15 @@ ghost use Rattle.babel_tlv.specs.Says.{source_of, unless_ignored, wildcard_reaso
 ghost use Rattle.babel_tlv.specs.Encodings.{IsNamedBy};
 ghost use Rattle.babel_tlv.specs.Fields.{AreUpdateFields};
 ghost use Rattle.babel_tlv.specs.Reading.{joined_octets, update_sub_tlvs};
-ghost use Rattle.babel_tlv.specs.Verdicts.{event_of};
+ghost use Rattle.babel_tlv.specs.EventKinds.{event_of};
 ghost use Rattle.babel_tlv.specs.declared.route.Route.{Route};
 
 use crate::address::{completed, octet_count};
 use crate::encoding::Encoding;
+use crate::event_kind::EventKind;
 use crate::place::Place;
 use crate::reason::Reason;
 use crate::sub_tlv::{octets_needed, read_sub_tlvs};
-use crate::verdict::Verdict;
 use crate::wire::{INFINITY, PREFIX_FLAG, ROUTER_ID_FLAG};
 use babel_prefix::{Addr, Family, Prefix};
 use byteorder::{ByteOrder, NetworkEndian};
@@ -144,20 +144,20 @@ impl<'a> Update<'a> {
     }
 
     /// What an Update of the wildcard encoding says: RFC 8966, 4.6.9; RFC 9079, 5.2.
-    pub fn wildcard(&self) -> Verdict
+    pub fn wildcard(&self) -> EventKind
         ensures said { (route : Route) → event_of result route
             ≡ unless_ignored (wildcard_reason self.now.body.now) (wildcard_tells self.now.body.now) }
         ensures fits { (route : Route) → EventFits (event_of result route) }
     {
         if self.metric != INFINITY {
-            return Verdict::Ignored(Reason::WildcardFinite);
+            return EventKind::Ignored(Reason::WildcardFinite);
         }
         if self.plen > 0 || self.omitted > 0 {
-            return Verdict::Ignored(Reason::WildcardPrefix);
+            return EventKind::Ignored(Reason::WildcardPrefix);
         }
         match read_sub_tlvs(Place::InWildcard, self.sub_tlvs()) {
-            Ok(_) => Verdict::RetractAll,
-            Err(reason) => Verdict::Ignored(reason),
+            Ok(_) => EventKind::RetractAll,
+            Err(reason) => EventKind::Ignored(reason),
         }
     }
 }
