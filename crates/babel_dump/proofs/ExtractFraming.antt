@@ -2,7 +2,8 @@
 use Rattle.std.proofs.Common.{◌≡◌, ◌≢◌, ℕ, Bool, true, false, List, [], ◌∷◌, ◌++◌, length, take, drop, refl, sym, ap, subst, ◌∙◌, append_assoc, inl, inr, cond}
 use Rattle.std.specs.Prelude.{Option, Result, Ok, Err, IfErr}
 use Rattle.std.specs.List.{AllByRecursion, flat_map}
-use Rattle.std.proofs.lemmas.List.{append_cancel_left, take-append-drop}
+use Rattle.std.proofs.lemmas.Bool.{cases_lt}
+use Rattle.std.proofs.lemmas.List.{append_cancel_left, take-append-drop, take_all}
 use Rattle.babel_prefix.specs.Address.{Address}
 use Rattle.babel_tlv.specs.declared.event.Event.{Event}
 use Rattle.babel_tlv.specs.declared.fault.Fault.{Fault}
@@ -120,10 +121,14 @@ too_long_alone : (fault : Fault) → fault ≡ faults.TooLong → ¬ IsOfFraming
 too_long_alone fault is framing = subst IsOfFraming is framing
 
 dump_framed : (limits : Bounds) (mode : Mode) (sender : Address) (dump : List ℕ) → ArePackets dump → (fault : Fault) → DumpFault limits mode sender dump fault → ¬ IsOfFraming fault
-dump_framed limits mode sender dump are fault (inl (within, stream)) = stream_framed mode limits.entries (start_of limits sender) dump are fault stream
-dump_framed limits mode sender dump are fault (inr (inl (past, stream, whole))) =
-    front_framed mode limits.entries (start_of limits sender) dump are (take limits.bytes dump) (drop limits.bytes dump) (take-append-drop limits.bytes dump) fault stream whole
-dump_framed limits mode sender dump are fault (inr (inr (past, is, cut))) = too_long_alone fault is
+dump_framed limits mode sender dump are fault (inl (stream, whole)) = elim (cases_lt limits.bytes (length dump)) [
+  | inl past ↦
+      front_framed mode limits.entries (start_of limits sender) dump are (take limits.bytes dump) (drop limits.bytes dump) (take-append-drop limits.bytes dump) fault stream
+      (λ cut. omega (arith, past, whole cut))
+  | inr fits ↦ stream_framed mode limits.entries (start_of limits sender) dump are fault
+      (subst (λ (t : List ℕ). StreamFault mode limits.entries (start_of limits sender) t fault) (take_all limits.bytes dump fits) stream)
+]
+dump_framed limits mode sender dump are fault (inr (past, is, cut)) = too_long_alone fault is
 
 -- ---- what `extract` writes
 
