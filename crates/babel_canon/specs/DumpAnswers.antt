@@ -52,15 +52,15 @@ held_for mode events key = fold (held_after mode key) None events
 -- ---- answers
 
 -- RFC 9079, 4: the answer of events for two addresses: what is held for the most specific key that
--- contains both; none, if nothing is held for any that does. (There is one such key at most: nothing
--- is held for a key that no event names, and prefixes that Updates form have zeros past their
--- length. So there is one answer, which `settled` says.)
+-- contains both; none, if nothing is held for any that does. (There is one such key at most:
+-- nothing is held for a key that no event names, and prefixes that Updates form have zeros past
+-- their length. So there is one answer, which `settled` says.)
 abbrev pub IsAnswer : Mode → List Event → Address → Address → Option Held → Type 0
 IsAnswer mode events = IsBestAmong (λ pair. held_for mode events pair.0 ≡ Some pair.1)
 
--- the dump, which is packets of which no TLV refuses it, answers this for a destination and a source
--- address, where encoding 4 is read or not. (A router drops packets that are not so, and skips what
--- is after a body; that both refuse the dump is this project's own.)
+-- the dump, which is packets of which no TLV refuses it, answers this for a destination and a
+-- source address, where encoding 4 is read or not. (A router drops packets that are not so, and
+-- skips what is after a body; that both refuse the dump is this project's own.)
 pub record DumpAnswers (via_v6 : Bool) (mode : Mode) (one : Sent) (d s : Address)
     (answer : Option Held) : Type 0 where
   pub packets : List (List TlvAt)

@@ -22,7 +22,8 @@ IsMoreSpecific other key = (key.dst.len < other.dst.len)
 pub record HasNoMatch (Has : Pair → Type 0) (dst src : Address) : Type 0 where
   pub none : (pair : Pair) → Has pair → ¬ ContainsBoth dst src pair.0
 
--- this is held for a key that contains both addresses, and nothing for a more specific one that does
+-- this is held for a key that contains both addresses, and nothing for one that does and is more
+-- specific
 pub record HasBestMatch (Has : Pair → Type 0) (dst src : Address) (held : Held) : Type 0 where
   pub key : RouteKey
   pub listed : Has (key, held)

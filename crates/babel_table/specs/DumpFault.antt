@@ -50,9 +50,9 @@ abbrev pub IsTruncated : Fault → Type 0
 IsTruncated (faults.Truncated at) = Unit {0}
 IsTruncated fault = ⊥
 
--- The fault of a dump. Octets past the limit are never looked at: it is that of those before
--- (`seen`), unless these are cut off only by the limit; or TooLong, if there are octets past it, and
--- those before have no fault or are cut off.
+-- The fault of a dump. Octets past the limit are never looked at: it is that of the octets up to
+-- the limit (`seen`), unless only the limit cuts them off; or TooLong, if there are octets past it,
+-- and those up to it have no fault or are cut off.
 abbrev pub DumpFault : Bounds → Mode → Address → List ℕ → Fault → Type 0
 DumpFault limits mode sender dump fault =
     let start = start_of limits sender in

@@ -146,7 +146,8 @@ impl<'a> Update<'a> {
     /// What an Update of the wildcard encoding says: RFC 8966, 4.6.9; RFC 9079, 5.2.
     pub fn wildcard(&self) -> EventKind
         ensures said { (route : Route) → event_of result route
-            ≡ unless_ignored (wildcard_reason self.now.body.now) (wildcard_tells self.now.body.now) }
+            ≡ unless_ignored (wildcard_reason self.now.body.now)
+            (wildcard_tells self.now.body.now) }
         ensures fits { (route : Route) → EventFits (event_of result route) }
     {
         if self.metric != INFINITY {
