@@ -1,5 +1,5 @@
 -- Octets that a feeder takes, within the limit on all.
-use Rattle.std.proofs.Common.{◌≡◌, ◌≢◌, ℕ, zero, suc, ◌+◌, ◌-◌, ◌<◌, ◌≤◌, List, [], ◌∷◌, ◌++◌, length, take, drop, Option, Some, None, refl, sym, ap, subst, ◌∙◌, append_assoc, inl, inr, arith}
+use Rattle.std.proofs.Common.{◌≡◌, ◌≢◌, ℕ, ◌+◌, ◌-◌, ◌<◌, ◌≤◌, List, [], ◌∷◌, ◌++◌, length, take, drop, Option, Some, None, refl, sym, ap, subst, ◌∙◌, append_assoc, inl, inr, arith}
 use Rattle.std.specs.Prelude.{◌⊎◌, Result, Ok, Err, IfOk, IfErr}
 use Rattle.std.specs.List.{flat_map}
 use Rattle.std.proofs.Math.Seq.{take-append-add}
@@ -99,6 +99,14 @@ module _ (p : Progress) where
 
   pub no_fault : (fed : List ℕ) → HasTaken p fed → p.pending ≡ [] → HasNoFault p.limits p.mode p.sender fed
   no_fault fed taken none fault faulty = (only_cut fed taken fault faulty).1 none
+
+  -- octets that end within a packet are cut off
+  pub cut_off : (fed : List ℕ) → HasTaken p fed → p.pending ≢ [] → DumpFault p.limits p.mode p.sender fed (faults.Truncated p.at)
+  cut_off fed taken some = inl (
+    subst (λ (t : List ℕ). StreamFault p.mode p.limits.entries (start_of p.limits p.sender) t (faults.Truncated p.at)) (sym (take_all p.limits.bytes fed taken.in_limit))
+        (truncated p.mode p.limits.entries (start_of p.limits p.sender) p.table p.at p.pending fed (taken-to fed taken) some),
+    λ cut. taken.in_limit,
+  )
 
   pub table_of : (fed : List ℕ) → HasTaken p fed → p.pending ≡ [] → IsTableOf p.limits p.mode p.sender fed p.table
   table_of fed taken none = record {

@@ -1,5 +1,6 @@
 -- Sub-TLVs that are read from the left.
-use Rattle.std.proofs.Common.{◌≡◌, ◌≢◌, ℕ, zero, suc, ◌+◌, ◌-◌, ◌<◌, ◌≤◌, Bool, true, false, cond, ltb, eqb, List, [], ◌∷◌, length, Option, Some, None, Result, Ok, Err, refl, sym, ap, subst, ◌∙◌, arith}
+use Rattle.std.proofs.Common.{◌≡◌, ◌≢◌, ℕ, zero, suc, ◌+◌, ◌-◌, ◌<◌, ◌≤◌, Bool, true, false, cond, ltb, eqb, List, [], ◌∷◌, length}
+use Rattle.std.proofs.Common.{Option, Some, None, Result, Ok, Err, refl, ap, ◌∙◌, arith}
 use Rattle.std.specs.Prelude.{IfOk, IfSome, is_some, nat_le}
 use Rattle.std.specs.List.{flat_map}
 use Rattle.std.proofs.lemmas.Bool.Decides.{nat_tests}
@@ -138,7 +139,8 @@ module _ (Is : AddressPrefix → Type 0) (family : Family) (each : (body : List 
       by true false false = each item.body
       by false again bad = skipped_is (nat_le 128 item.kind) source is
 
-  on : (place : Place) (whole : Bool) (items : List TlvAt) (given : Given) → ((source : Option AddressPrefix) → IfSome source Is → IfOk (items_read place whole source items) (λ given. IfSome given Is))
+  on : (place : Place) (whole : Bool) (items : List TlvAt) (given : Given)
+      → ((source : Option AddressPrefix) → IfSome source Is → IfOk (items_read place whole source items) (λ given. IfSome given Is))
       → IfOk given (λ source. IfSome source Is) → IfOk (and_then given (λ source. items_read place whole source items)) (λ given. IfSome given Is)
   on place whole items (Ok source) later is = later source is
   on place whole items (Err reason) later is = tt

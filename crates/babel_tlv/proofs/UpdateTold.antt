@@ -1,5 +1,5 @@
 -- An Update that is written is read as what it announces.
-use Rattle.std.proofs.Common.{◌≡◌, ℕ, ◌+◌, ◌*◌, ◌/◌, ◌%◌, ◌<◌, ◌≤◌, ◌^◌, false, eqb, List, [], ◌∷◌, length, drop, Option, Some, None, Result, Ok, refl, ap, subst, sym, ◌∙◌, arith}
+use Rattle.std.proofs.Common.{◌≡◌, ℕ, ◌+◌, ◌*◌, ◌/◌, ◌%◌, ◌<◌, ◌≤◌, ◌^◌, false, eqb, List, [], ◌∷◌, length, drop, Option, Some, Result, Ok, refl, ap, subst, ◌∙◌, arith}
 use Rattle.std.specs.Prelude.{◌≢◌, IsFalse, unwrap_or, true}
 use Rattle.std.proofs.lemmas.Bool.{ne_eqb}
 use Rattle.std.proofs.lemmas.List.{length-append}
@@ -12,16 +12,15 @@ use Rattle.babel_tlv.specs.declared.fault.Fault.{Fault}
 use Rattle.babel_tlv.specs.declared.place.Place.TheVariants as places
 use Rattle.babel_tlv.specs.declared.prefix_encoding.PrefixEncoding.{PrefixEncoding}
 use Rattle.babel_tlv.specs.declared.reason.Reason.{Reason}
-use Rattle.babel_tlv.specs.Context.{Context, formed_by, updated}
+use Rattle.babel_tlv.specs.Context.{Context, formed_by}
 use Rattle.babel_tlv.specs.Encodings.{encoding_of, is_read, number_of, prefix_family}
 use Rattle.babel_tlv.specs.Forming.{formed, update_seqno, update_metric}
 use Rattle.babel_tlv.specs.Framing.{laid_out}
 use Rattle.babel_tlv.specs.Group.{prefix_octets, source_sub}
 use Rattle.babel_tlv.specs.Kept.{prefix_for, prefix_with}
 use Rattle.babel_tlv.specs.News.{spoken}
-use Rattle.babel_tlv.specs.Reading.{encoded_event}
 use Rattle.babel_tlv.specs.Route.{RouteKey, Announcement, is_reserved}
-use Rattle.babel_tlv.specs.Says.{current_next_hop, key_of, key_reason, key_tells, said, source_of, unless_ignored}
+use Rattle.babel_tlv.specs.Says.{current_next_hop, key_of, key_reason, key_tells, source_of, unless_ignored}
 use Rattle.babel_tlv.specs.SubTlv.{and_then, sub_tlvs}
 use Rattle.babel_tlv.proofs.Advance.{said-read, updated-flags}
 use Rattle.babel_tlv.proofs.EncodingLaws.{encoding_of-read}
@@ -105,9 +104,11 @@ update_told context at encoding dst src omit seqno metric event dst_fits src_fit
     let long : 10 ≤ length body = omega arith in
     let is : encoding_of context.via_v6 ae ≡ Some encoding = encoding_of-read context.via_v6 encoding read in
     let forms : formed_by context encoding body ≡ Ok dst =
-    subst (λ (f : Family). formed f (prefix_for encoding context.defaults) body ≡ Ok dst) family_is (formed_told (prefix_for encoding context.defaults) dst ae omit seqno metric (source_sub src) dst_fits omits) in
+    subst (λ (f : Family). formed f (prefix_for encoding context.defaults) body ≡ Ok dst) family_is
+    (formed_told (prefix_for encoding context.defaults) dst ae omit seqno metric (source_sub src) dst_fits omits) in
     let told : ReadsSource src (source_sub src) = source_told src src_fits in
-    let gives : source_from src.address.family (source_sub src) ≡ Ok src = ap (λ (r : Result (Option AddressPrefix) Reason). ended src.address.family r) told.read ∙ ap (λ (p : AddressPrefix). ok_prefix p) told.is in
+    let gives : source_from src.address.family (source_sub src) ≡ Ok src =
+    ap (λ (r : Result (Option AddressPrefix) Reason). ended src.address.family r) told.read ∙ ap (λ (p : AddressPrefix). ok_prefix p) told.is in
     let source : source_of family body ≡ Ok src =
     ap (λ (octets : List ℕ). source_from family octets) (behind_field dst ae omit seqno metric (source_sub src) dst_fits)
     ∙ subst (λ (f : Family). source_from f (source_sub src) ≡ Ok src) (one_family ∙ family_is) gives in

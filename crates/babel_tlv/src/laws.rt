@@ -69,7 +69,6 @@ pub fn state_is_nearest()
 {}
 
 /// A TLV that is ignored, or refuses the dump, tells nothing of routes: RFC 8966, 4.6.
-#[tactic(auto, using(crate::proofs::TellsLaws::ignored_tells_nothing))]
 pub fn ignored_tells_nothing()
     ensures { IgnoredTellsNothing }
 {}

@@ -1,5 +1,5 @@
 -- With a metric of 65535 and no prefix, the sub-TLVs decide.
-use Rattle.std.proofs.Common.{◌≡◌, ℕ, ◌+◌, List, drop, Option, Some, None, Result, Ok, Err, refl, sym, ap, ◌∙◌, arith}
+use Rattle.std.proofs.Common.{◌≡◌, ℕ, ◌+◌, List, drop, Option, Result, Ok, Err, refl, sym, ap, ◌∙◌, arith}
 use Rattle.std.specs.Result.{result_err}
 use Rattle.babel_prefix.specs.Address.{AddressPrefix}
 use Rattle.babel_tlv.specs.declared.event.Event.TheVariants as events
