@@ -13,7 +13,6 @@ use Rattle.babel_tlv.specs.declared.event.Event.TheVariants as events
 use Rattle.babel_tlv.specs.declared.held.Held.{Held}
 use Rattle.babel_tlv.specs.declared.held.Held.TheVariants as helds
 use Rattle.babel_tlv.specs.declared.mode.Mode.{Mode}
-use Rattle.babel_tlv.specs.declared.prefix_encoding.PrefixEncoding.{PrefixEncoding}
 use Rattle.babel_tlv.specs.declared.start.Start.{Start}
 use Rattle.babel_tlv.specs.Context.{Context, first_context, updated}
 use Rattle.babel_tlv.specs.Encodings.{prefix_family}
@@ -57,7 +56,7 @@ route-clean key body (Some id) (Some hop) clean = by (is_reserved id) _
 
 tells-clean : (context : Context) (tlv : TlvAt) → IsOfClean (tells context tlv)
 tells-clean context =
-    let clean : (encoding : PrefixEncoding) (body : List ℕ) (key : RouteKey) → IsToldIn context encoding body key → AreClean key = λ encoding body key told.
+    let clean : (encoding : _) (body : List ℕ) (key : RouteKey) → IsToldIn context encoding body key → AreClean key = λ encoding body key told.
     told_key-is IsClean context encoding body key (λ len octets. prefix_at-clean len _) (whole-clean (prefix_family encoding)) told in
     tells-holds IsOfClean context tt tt clean (λ encoding body key told id hop is. route-clean key body id hop (clean encoding body key told))
 
