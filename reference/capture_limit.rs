@@ -956,7 +956,7 @@ impl Found {
         match &mut self.sink {
             Sink::Tallies => Ok(()),
             Sink::Dump(dump) => Ok(dump.extend_from_slice(packet)),
-            Sink::Table(table) => table.take(time, origin, packet),
+            Sink::Table(table) => Ok(table.take(time, origin, packet)),
             Sink::Timeline(timeline) => timeline.take(time, origin, packet, names),
         }
     }
@@ -1432,15 +1432,20 @@ fn table(words: &Words) -> Result<u8, Failure> {
         words.has("v4-via-v6"),
         words.max_routes()?,
     );
-    let mut reader = words.read(words.wanted()?, Sink::Table(kept))?;
-    if only_place(&mut reader.found)?.is_none() {
-        return Err(Failure::Refused(format!("no packets from {sender}")));
-    }
+    let limit = words.number("max-octets")?.unwrap_or(USUAL_OCTETS);
+    let mut reader = words.reader(words.wanted()?, limit, Sink::Table(kept))?;
+    let read = words.read_into(&mut reader);
     let end = reader.end();
-    let Sink::Table(kept) = reader.found.sink else {
+    let place = only_place(&mut reader.found);
+    let Sink::Table(mut kept) = reader.found.sink else {
         unreachable!("it was made with a table");
     };
-    kept.write(end.unwrap_or(0), words.pair()?)
+    match (kept.fault.take(), read, place) {
+        (Some(fault), _, Ok(_)) => Err(fault.into()),
+        (_, Err(failure), _) | (_, _, Err(failure)) => Err(failure),
+        (_, _, Ok(None)) => Err(Failure::Refused(format!("no packets from {sender}"))),
+        (_, _, Ok(Some(_))) => kept.write(end.unwrap_or(0), words.pair()?),
+    }
 }
 
 /// `events`: what is told stands where the capture is refused later.

@@ -450,7 +450,8 @@ def table_of(octets, options):
     if fault is None:
         reader.only_place(found)
     said = []
-    for origin in found.packets:
+    if len(found.packets) == 1:
+        (origin,) = found.packets
         said = list(words_of(found, origin, options.v4_via_v6))
     if fault:
         raise fault

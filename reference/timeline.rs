@@ -667,6 +667,8 @@ pub struct Table {
     next: usize,
     octets: u64,
     origin: Option<Origin>,
+    /// Why the dump is refused, unless its sender is at several places.
+    pub fault: Option<Fault>,
     /// The retractions of all in mode hold: when, and when what they made unreachable is gone.
     all: Vec<(i128, i128)>,
 }
@@ -682,18 +684,22 @@ impl Table {
             next: 0,
             octets: 0,
             origin: None,
+            fault: None,
             all: Vec::new(),
         }
     }
 
-    pub fn take(&mut self, time: i128, origin: Origin, packet: &[u8]) -> Result<(), Fault> {
-        if *self.origin.get_or_insert(origin) != origin {
-            // It is refused at the end.
-            return Ok(());
+    pub fn take(&mut self, time: i128, origin: Origin, packet: &[u8]) {
+        // Of a sender at several places it is refused at the end.
+        if self.fault.is_none() && *self.origin.get_or_insert(origin) == origin {
+            self.fault = self.take_words(time, origin.sender, packet).err();
         }
+    }
+
+    fn take_words(&mut self, time: i128, sender: Addr, packet: &[u8]) -> Result<(), Fault> {
         let (before, via_v6) = (self.octets, self.via_v6);
         self.octets += packet.len() as u64;
-        read_words(packet, origin.sender, via_v6, before, |at, word, interval| {
+        read_words(packet, sender, via_v6, before, |at, word, interval| {
             let span = span_of(interval, self.factor);
             match word {
                 Word::All if self.hold => self.all.push((time, after(time, span))),
