@@ -1,4 +1,4 @@
-//! The limit that `babel-dump senders`, `extract` and `events`, and tables at a moment, are measured
+//! The limit that `babel-dump senders`, `extract`, `events` and tables at a moment are measured
 //! against: a plain Rust program of the same words and texts, as fast as we can write one. Std
 //! alone, safe, single-threaded.
 //!
@@ -1163,7 +1163,11 @@ fn read_words(mut words: impl Iterator<Item = String>) -> Option<Words> {
                 flags.push(flag.to_string());
             }
             Some(option) => {
-                options.insert(option.to_string(), words.next()?);
+                let (option, value) = match option.split_once('=') {
+                    Some((option, value)) => (option, value.to_string()),
+                    None => (option, words.next()?),
+                };
+                options.insert(option.to_string(), value);
             }
             None => file = Some(word),
         }
