@@ -310,7 +310,10 @@ impl Reader {
 
     /// The moment that is meant: the end of the window, or else the last record that was read.
     fn end(&self) -> Option<i128> {
-        let until = self.window.as_ref().and_then(|window| window.until.as_ref());
+        let until = self
+            .window
+            .as_ref()
+            .and_then(|window| window.until.as_ref());
         match until {
             Some(until) => Some(until.at(self.start?)),
             None => self.found.time,
@@ -459,7 +462,8 @@ impl Reader {
         }
         let seen = look(described.link, part);
         let seen = seen.map_err(|Unread| Fault::UnreadLink(at, described.link))?;
-        self.found.take(interface as u64, time, seen, &self.names, at)
+        self.found
+            .take(interface as u64, time, seen, &self.names, at)
     }
 }
 
@@ -1103,7 +1107,11 @@ fn read_some(input: &mut impl Read, buffer: &mut [u8]) -> Result<usize, Failure>
 }
 
 /// Reads a capture to its end, or to its last whole block where it may be cut.
-fn read_capture(mut input: impl Read, reader: &mut Reader, accept_cut: bool) -> Result<(), Failure> {
+fn read_capture(
+    mut input: impl Read,
+    reader: &mut Reader,
+    accept_cut: bool,
+) -> Result<(), Failure> {
     let mut octets = vec![0; BUFFER];
     let (mut at, mut start, mut end) = (0, 0, 0);
     loop {

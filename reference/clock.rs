@@ -56,13 +56,20 @@ pub struct Window {
 
 impl Window {
     pub fn has(&self, start: i128, time: i128) -> bool {
-        self.since.as_ref().is_none_or(|since| since.at(start) <= time)
-            && self.until.as_ref().is_none_or(|until| time <= until.at(start))
+        self.since
+            .as_ref()
+            .is_none_or(|since| since.at(start) <= time)
+            && self
+                .until
+                .as_ref()
+                .is_none_or(|until| time <= until.at(start))
     }
 }
 
 fn digits(text: &str) -> Option<i128> {
-    text.bytes().all(|octet| octet.is_ascii_digit()).then(|| text.parse().ok())?
+    text.bytes()
+        .all(|octet| octet.is_ascii_digit())
+        .then(|| text.parse().ok())?
 }
 
 /// The digits after a point, as so many of such a number of digits.
@@ -142,7 +149,20 @@ fn is_leap(year: i64) -> bool {
 
 /// Days since 1970 of a date of the Gregorian calendar.
 fn days_of(year: i64, month: i64, day: i64) -> Option<i64> {
-    let lengths = [31, 28 + i64::from(is_leap(year)), 31, 30, 31, 30, 31, 31, 30, 31, 30, 31];
+    let lengths = [
+        31,
+        28 + i64::from(is_leap(year)),
+        31,
+        30,
+        31,
+        30,
+        31,
+        31,
+        30,
+        31,
+        30,
+        31,
+    ];
     let length = *lengths.get(usize::try_from(month - 1).ok()?)?;
     if year < 1 || !(1..=length).contains(&day) {
         return None;
@@ -162,7 +182,11 @@ pub fn date_of(days: i64) -> (i64, u8, u8) {
     let month = (5 * of_year + 2) / 153;
     let day = of_year - (153 * month + 2) / 5 + 1;
     let month = if month < 10 { month + 3 } else { month - 9 };
-    (era * 400 + year + i64::from(month <= 2), month as u8, day as u8)
+    (
+        era * 400 + year + i64::from(month <= 2),
+        month as u8,
+        day as u8,
+    )
 }
 
 pub const TEXT: usize = 30;
@@ -190,7 +214,10 @@ pub fn octets(time: i128) -> [u8; TEXT] {
 }
 
 pub fn text(time: i128) -> String {
-    octets(time).iter().map(|octet| char::from(*octet)).collect()
+    octets(time)
+        .iter()
+        .map(|octet| char::from(*octet))
+        .collect()
 }
 
 /// Hundredths of a second, in seconds.
@@ -206,5 +233,7 @@ pub fn factor_of(word: &str) -> Option<u64> {
     };
     let whole = (!whole.is_empty()).then(|| digits(whole))??;
     let factor = whole.checked_mul(10_000_000)?.checked_add(part)?;
-    (1..=10_000_000_000).contains(&factor).then_some(factor as u64)
+    (1..=10_000_000_000)
+        .contains(&factor)
+        .then_some(factor as u64)
 }

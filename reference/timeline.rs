@@ -30,9 +30,10 @@ struct Prefix {
 const WHOLE: Prefix = Prefix { bits: 0, len: 0 };
 
 impl Prefix {
+    #[inline(always)]
     fn new(bits: u128, len: u8, width: u32) -> Prefix {
         let free = width - u32::from(len);
-        let kept = u128::MAX.checked_shl(free).unwrap_or(0);
+        let kept = if free == 128 { 0 } else { u128::MAX << free };
         Prefix {
             bits: bits & kept,
             len,
@@ -57,13 +58,19 @@ enum Word {
 }
 
 fn width_of(is_ipv6: bool) -> u32 {
-    if is_ipv6 { 128 } else { 32 }
+    if is_ipv6 {
+        128
+    } else {
+        32
+    }
 }
 
-/// The number in these octets, and zeros up to so many.
+/// The number in these octets, and zeros up to so many, 16 at most.
+#[inline(always)]
 fn number(octets: &[u8], size: usize) -> u128 {
-    let read = octets.iter().fold(0u128, |sum, octet| sum << 8 | u128::from(*octet));
-    read.checked_shl(8 * (size - octets.len()) as u32).unwrap_or(0)
+    let mut own = [0; 16];
+    own[..octets.len()].copy_from_slice(octets);
+    u128::from_be_bytes(own) >> (128 - 8 * size)
 }
 
 /// The body of the TLV that begins here, and where it ends.
@@ -134,7 +141,11 @@ impl Parser {
         match encoding {
             1 => self.hops[0] = first(4).map(|bits| Addr::V4(bits as u32)).or(self.hops[0]),
             2 => self.hops[1] = first(16).map(Addr::V6).or(self.hops[1]),
-            3 => self.hops[1] = first(8).map(|bits| Addr::V6(LINK_LOCAL | bits)).or(self.hops[1]),
+            3 => {
+                self.hops[1] = first(8)
+                    .map(|bits| Addr::V6(LINK_LOCAL | bits))
+                    .or(self.hops[1])
+            }
             _ => {}
         }
     }
@@ -145,7 +156,10 @@ impl Parser {
         let (interval, seqno, metric) = (u16_at(body, 4), u16_at(body, 6), u16_at(body, 8));
         if encoding > 4 || encoding == 3 || encoding == 4 && !self.via_v6 {
             if flags & 0x40 != 0 {
-                return Err(Fault::Dump("router-id flag in an unread address encoding", at));
+                return Err(Fault::Dump(
+                    "router-id flag in an unread address encoding",
+                    at,
+                ));
             }
             return Ok(None);
         }
@@ -165,9 +179,10 @@ impl Parser {
         let Some(field) = body.get(10..10 + count) else {
             return Ok(None);
         };
-        let mut bits = number(field, size).checked_shr(8 * omitted as u32).unwrap_or(0);
+        let mut bits = number(field, size);
         if omitted > 0 {
-            bits |= Prefix::new(default.unwrap_or(0), 8 * omitted as u8, width).bits;
+            let given = Prefix::new(default.unwrap_or(0), 8 * omitted as u8, width);
+            bits = given.bits | bits.checked_shr(8 * omitted as u32).unwrap_or(0);
         }
         let prefix = Prefix::new(bits, len, width);
         if flags & 0x80 != 0 {
@@ -191,7 +206,10 @@ impl Parser {
         }
         let owner = Owner { router_id, hop };
         let stated = u32::from(seqno) << 16 | u32::from(metric);
-        Ok(Some((Word::Announces(is_ipv6, prefix, source, owner, stated), interval)))
+        Ok(Some((
+            Word::Announces(is_ipv6, prefix, source, owner, stated),
+            interval,
+        )))
     }
 }
 
@@ -206,7 +224,11 @@ fn read_words(
 ) -> Result<(), Fault> {
     let mut at = 4;
     while let Some(&kind) = packet.get(at) {
-        let end = if kind == 0 { Some(at + 1) } else { item(packet, at).map(|(_, end)| end) };
+        let end = if kind == 0 {
+            Some(at + 1)
+        } else {
+            item(packet, at).map(|(_, end)| end)
+        };
         let fault = Fault::Dump("TLV past the end of its packet", before + at as u64);
         at = end.ok_or(fault)?;
     }
@@ -231,12 +253,12 @@ fn read_words(
 
 // ---- rows
 
-/// Things that have numbers, in the order in which they came; the last one asked for is tried
-/// first.
+/// Things that have numbers, in the order in which they came; the last one asked for, of the same
+/// family, is tried first.
 struct Numbered<T> {
     list: Vec<T>,
     numbers: HashMap<T, u32, Seed>,
-    last: usize,
+    last: [usize; 2],
 }
 
 impl<T: Copy + Eq + Hash> Numbered<T> {
@@ -244,20 +266,22 @@ impl<T: Copy + Eq + Hash> Numbered<T> {
         Numbered {
             list: Vec::new(),
             numbers: HashMap::with_hasher(Seed::new()),
-            last: 0,
+            last: [0; 2],
         }
     }
 
-    fn number(&mut self, item: T) -> u32 {
-        if self.list.get(self.last) != Some(&item) {
+    #[inline(always)]
+    fn number(&mut self, item: T, is_ipv6: bool) -> u32 {
+        let last = &mut self.last[usize::from(is_ipv6)];
+        if self.list.get(*last) != Some(&item) {
             let next = self.list.len() as u32;
             let number = *self.numbers.entry(item).or_insert(next);
             if number == next {
                 self.list.push(item);
             }
-            self.last = number as usize;
+            *last = number as usize;
         }
-        self.last as u32
+        *last as u32
     }
 }
 
@@ -331,7 +355,7 @@ impl Rows {
         Key {
             bits: dst.bits,
             tag: u32::from(is_ipv6) << 8 | u32::from(dst.len),
-            source: self.sources.number(source),
+            source: self.sources.number(source, is_ipv6),
             sender,
         }
     }
@@ -339,7 +363,9 @@ impl Rows {
     fn home(&self, key: &Key) -> usize {
         let mut hash = self.seed.mixed(0, (key.bits >> 64) as u64);
         hash = self.seed.mixed(hash, key.bits as u64);
-        hash = self.seed.mixed(hash, u64::from(key.tag) << 32 | u64::from(key.source));
+        hash = self
+            .seed
+            .mixed(hash, u64::from(key.tag) << 32 | u64::from(key.source));
         self.seed.mixed(hash, key.sender.into()) as usize & (self.slots.len() - 1)
     }
 
@@ -383,7 +409,12 @@ impl Rows {
     }
 
     fn grow(&mut self) {
-        let numbers: Vec<u32> = self.slots.iter().copied().filter(|slot| *slot != 0).collect();
+        let numbers: Vec<u32> = self
+            .slots
+            .iter()
+            .copied()
+            .filter(|slot| *slot != 0)
+            .collect();
         self.slots = vec![0; self.slots.len() * 2];
         for number in numbers {
             let slot = self.slot(&self.list[number as usize - 1].key);
@@ -423,8 +454,12 @@ impl Rows {
 
     fn live(&self) -> Vec<u32> {
         let mut live = vec![true; self.list.len()];
-        self.free.iter().for_each(|number| live[*number as usize] = false);
-        (0..live.len() as u32).filter(|number| live[*number as usize]).collect()
+        self.free
+            .iter()
+            .for_each(|number| live[*number as usize] = false);
+        (0..live.len() as u32)
+            .filter(|number| live[*number as usize])
+            .collect()
     }
 
     /// Numbers anew what rows have, where most of what has numbers is in none.
@@ -437,8 +472,9 @@ impl Rows {
         let (mut sources, mut owners) = (Numbered::new(), Numbered::new());
         for &number in &live {
             let row = &mut self.list[number as usize];
-            row.key.source = sources.number(self.sources.list[row.key.source as usize]);
-            row.owner = owners.number(self.owners.list[row.owner as usize]);
+            let is_ipv6 = row.is_ipv6();
+            row.key.source = sources.number(self.sources.list[row.key.source as usize], is_ipv6);
+            row.owner = owners.number(self.owners.list[row.owner as usize], is_ipv6);
         }
         (self.sources, self.owners) = (sources, owners);
         self.slots.fill(0);
@@ -456,7 +492,9 @@ impl Rows {
 }
 
 fn span_of(interval: u16, factor: Option<u64>) -> Option<u64> {
-    factor.filter(|_| interval > 0).map(|factor| u64::from(interval) * factor)
+    factor
+        .filter(|_| interval > 0)
+        .map(|factor| u64::from(interval) * factor)
 }
 
 fn after(time: i128, span: Option<u64>) -> i128 {
@@ -715,7 +753,7 @@ impl Table {
                 }
                 Word::Announces(is_ipv6, dst, source, owner, stated) => {
                     let key = self.rows.key(0, is_ipv6, dst, source);
-                    let owner = self.rows.owners.number(owner);
+                    let owner = self.rows.owners.number(owner, is_ipv6);
                     return self.set(at, key, owner, stated, time, span);
                 }
             }
@@ -834,7 +872,8 @@ impl Table {
             Some((_, false)) => out.put(b"unreachable"),
             Some((number, true)) => {
                 let row = &self.rows.list[number as usize];
-                view.sees(self.rows.owners.list[row.owner as usize], row.stated).text(out);
+                view.sees(self.rows.owners.list[row.owner as usize], row.stated)
+                    .text(out);
             }
         }
     }
@@ -847,9 +886,8 @@ fn is_of(rows: &Rows, number: u32, (to, src): (Addr, Addr)) -> bool {
 }
 
 fn is_key_of(is_ipv6: bool, dst: Prefix, source: Prefix, pair: (Addr, Addr)) -> bool {
-    let both = |to: u128, src: u128, width: u32| {
-        dst.contains(to, width) && source.contains(src, width)
-    };
+    let both =
+        |to: u128, src: u128, width: u32| dst.contains(to, width) && source.contains(src, width);
     match (is_ipv6, pair) {
         (true, (Addr::V6(to), Addr::V6(src))) => both(to, src, 128),
         (false, (Addr::V4(to), Addr::V4(src))) => both(to.into(), src.into(), 32),
@@ -859,7 +897,10 @@ fn is_key_of(is_ipv6: bool, dst: Prefix, source: Prefix, pair: (Addr, Addr)) -> 
 
 fn lengths(rows: &Rows, number: u32) -> (u8, u8) {
     let row = &rows.list[number as usize];
-    (row.dst().len, rows.sources.list[row.key.source as usize].len)
+    (
+        row.dst().len,
+        rows.sources.list[row.key.source as usize].len,
+    )
 }
 
 fn put_key(out: &mut Out, rows: &Rows, number: u32, between: &[u8]) {
@@ -943,9 +984,13 @@ impl Timeline {
         let number = self.sender(origin, names);
         let before = self.senders[number].octets;
         self.senders[number].octets += packet.len() as u64;
-        read_words(packet, origin.sender, self.via_v6, before, |at, word, interval| {
-            self.take_word(time, number as u32, at, word, interval)
-        })
+        read_words(
+            packet,
+            origin.sender,
+            self.via_v6,
+            before,
+            |at, word, interval| self.take_word(time, number as u32, at, word, interval),
+        )
     }
 
     /// The number of a sender, which is found or new.
@@ -1006,12 +1051,15 @@ impl Timeline {
                 let key = self.rows.key(sender, is_ipv6, dst, source);
                 let ends = after(time, span_of(interval, self.factor));
                 let found = self.find(&key);
-                let number = self.rows.owners.number(owner);
+                let number = self.rows.owners.number(owner, is_ipv6);
                 match found {
                     Ok(row) => self.renew(time, row, number, stated, ends),
                     Err(slot) => self.add(time, at, key, slot, number, stated, ends)?,
                 }
-                if self.pair.is_some_and(|pair| is_key_of(is_ipv6, dst, source, pair)) {
+                if self
+                    .pair
+                    .is_some_and(|pair| is_key_of(is_ipv6, dst, source, pair))
+                {
                     let row = self.rows.find(&key).unwrap_or(NONE);
                     let sent = &mut self.senders[sender as usize];
                     sent.matching.insert((dst.len, source.len), row);
@@ -1039,7 +1087,8 @@ impl Timeline {
         let row = &mut self.rows.list[number as usize];
         let is_same = (row.owner, row.stated) == (owner, stated) || {
             let seen = |owner: u32, stated| {
-                self.view.sees(self.rows.owners.list[owner as usize], stated)
+                self.view
+                    .sees(self.rows.owners.list[owner as usize], stated)
             };
             !self.sees_all && seen(row.owner, row.stated) == seen(owner, stated)
         };
@@ -1227,9 +1276,11 @@ impl Timeline {
         }
         let mut senders: Vec<u32> = Vec::new();
         if self.pair.is_some() {
-            senders.extend(expired.iter().map(|number| {
-                self.rows.list[*number as usize].key.sender
-            }));
+            senders.extend(
+                expired
+                    .iter()
+                    .map(|number| self.rows.list[*number as usize].key.sender),
+            );
             senders.sort_unstable_by_key(|sender| origin_of(*sender));
             senders.dedup();
         }
@@ -1260,7 +1311,8 @@ impl Timeline {
         let row = self.rows.list[number as usize];
         self.begin_line(time, row.key.sender, what);
         let seen = matches!(what, "announces" | "changes").then(|| {
-            self.view.sees(self.rows.owners.list[row.owner as usize], row.stated)
+            self.view
+                .sees(self.rows.owners.list[row.owner as usize], row.stated)
         });
         if self.json {
             self.out.put(b"\",\"destination\":\"");
@@ -1292,7 +1344,8 @@ impl Timeline {
         let best = self.senders[sender as usize].matching.last_key_value();
         let seen = best.map(|(_, number)| {
             let row = &self.rows.list[*number as usize];
-            self.view.sees(self.rows.owners.list[row.owner as usize], row.stated)
+            self.view
+                .sees(self.rows.owners.list[row.owner as usize], row.stated)
         });
         if seen == self.senders[sender as usize].told {
             return;

@@ -158,9 +158,15 @@ class Record:
         return number(len(self.frame), 4, order) + number(whole, 4, order)
 
 
+def at_times(records, times):
+    """The records at these times, counted as those of records without one."""
+    for record, place in zip(records, times):
+        yield Record(record.frame, record.interface, record.whole, record.time_at(place))
+
+
 def snapped(record, kept):
     """The record with so many of its octets."""
-    return Record(record.frame[:kept], record.interface, len(record.frame))
+    return Record(record.frame[:kept], record.interface, len(record.frame), record.time)
 
 
 def sliced(record, kept):
