@@ -17,6 +17,7 @@ whether it has expired. Events are made by a walk over all rows for each record.
 
 import argparse
 import ipaddress
+import itertools
 import pathlib
 import re
 import sys
@@ -209,8 +210,8 @@ def is_held(state, factor, moment, hold=True):
     if state is None:
         return False
     what, time, word = state
-    span = lasts(word, factor)
-    return span is None or not has_ended(time, span * (2 if what == "route" and hold else 1), moment)
+    span, times = lasts(word, factor), 2 if what == "route" and hold else 1
+    return span is None or not has_ended(time, times * span, moment)
 
 
 def table(said, factor, hold, moment):
@@ -282,7 +283,8 @@ def key_texts(key):
 
 def stale_note(count):
     if count:
-        texts = ("1 route was", "its", "it") if count == 1 else (f"{count} routes were", "their", "them")
+        texts = f"{count} routes were", "their", "them"
+        texts = ("1 route was", "its", "it") if count == 1 else texts
         text = "{} not announced again within 3.5 times {} Interval; --expiry 3.5 leaves {} out"
         yield text.format(*texts), {"note": "expired", "routes": count}
 
@@ -354,19 +356,19 @@ class Timeline:
     def expire(self, moment):
         """All that has expired at this moment, by its own time, key, sender and place."""
         due = [
-            (end, key.order(), origin[1:], reader.by_place(origin), origin, key)
+            (end, key, origin)
             for origin, rows in self.rows.items()
             for key, (_, end) in rows.items()
             if end is not None and end <= moment
         ]
-        for time in sorted({end for end, *_ in due}):
-            of_time = sorted(each[:-2] + (number,) for number, each in enumerate(due) if each[0] == time)
-            for *_, number in of_time:
-                *_, origin, key = due[number]
+        due.sort(key=lambda each: (each[0], each[1].order(), by_sender(each[2])))
+        for time, of_time in itertools.groupby(due, key=lambda each: each[0]):
+            origins = set()
+            for _, key, origin in of_time:
                 del self.rows[origin][key]
                 self.tell(time, origin, "expires", key)
-            origins = {due[number][-2] for *_, number in of_time}
-            for origin in sorted(origins, key=lambda each: (each[1:], reader.by_place(each))):
+                origins.add(origin)
+            for origin in sorted(origins, key=by_sender):
                 self.tell_answer(time, origin)
 
     def take(self, time, origin, at, word):
@@ -387,6 +389,10 @@ class Timeline:
             elif seen(before[0], self.ignored) != seen(word.route, self.ignored):
                 self.tell(time, origin, "changes", word.key, word.route)
         self.tell_answer(time, origin)
+
+
+def by_sender(origin):
+    return origin[1:], reader.by_place(origin)
 
 
 def str_of(address):
@@ -424,8 +430,8 @@ def end_of(found, window):
 def read(octets, options):
     """What the capture has of the senders that are asked for; and why it is refused, if it is."""
     sender = options.sender and ipaddress.ip_address(options.sender)
-    wanted, window, found = reader.Wanted(sender, options.interface), window_of(options), reader.Found()
-    fault = None
+    wanted, window = reader.Wanted(sender, options.interface), window_of(options)
+    found, fault = reader.Found(), None
     try:
         reader.find(octets, reader.USUAL_OCTETS, wanted, options.accept_cut, window, found)
     except Fault as cause:
@@ -556,9 +562,9 @@ def answer_of(words, octets):
     """What these words answer over a capture."""
     options = parser().parse_intermixed_args(list(map(str, words)))
     for word in options.since, options.until:
-        if word and not reader.moment_of(word):
+        if word is not None and not reader.moment_of(word):
             return Answer(2, errors=(f"not a time: {word}",))
-    if options.expiry and not factor_of(options.expiry):
+    if options.expiry is not None and not factor_of(options.expiry):
         return Answer(2, errors=(f"not a factor: {options.expiry}",))
     return run(octets, options)
 

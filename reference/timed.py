@@ -39,6 +39,7 @@ FACTORS = "3.5", "1", "0.5", "2", "1000", "0.0000001", "3.1415926"
 STEPS = (
     0, 0, 0, 1, 10_000_000, 20_000_000, 500_000_000, 1_000_000_000, 3_500_000_000, 14_000_000_000
 )
+OFFSETS = None, None, 0, 5, -1, -3_600
 POWERS = None, 0, 3, 6, 9, 12, 127, 128, 138, 160, 255
 # The notes that moments.py has, of those of a table.
 NOTES = re.compile(r"note: (the capture spans|times run backwards|[0-9]+ routes? w)")
@@ -121,7 +122,7 @@ def capture(rng):
         octets = made.pcap(records, 1, order, rng.randrange(2) == 1)
     else:
         octets = made.section(order)
-        clocks = [(rng.choice(POWERS), rng.choice((None, None, 0, 5, -1, -3_600))) for _ in range(2)]
+        clocks = [(rng.choice(POWERS), rng.choice(OFFSETS)) for _ in range(2)]
         for place, (power, offset) in enumerate(clocks):
             options = made.option(2, b"eth%d" % place, order) if rng.randrange(2) else b""
             options += made.counted(power, offset, order)
@@ -159,7 +160,9 @@ def runs(rng, octets):
         pass
     times = [time for _, time in found.records if time is not None] or [0]
     start, end = times[0], max(max(times), times[0])
-    places = [(reader.text_of(*origin[1:]), reader.place_asked(origin[0])) for origin in found.packets]
+    places = [
+        (reader.text_of(*sender), reader.place_asked(place)) for place, *sender in found.packets
+    ]
     for _ in range(3):
         common = ["--accept-cut"] if rng.randrange(4) else []
         common += ["--v4-via-v6"] if rng.randrange(2) else []
@@ -175,9 +178,10 @@ def runs(rng, octets):
         yield ["show", "--from", sender, *at, *hold, *common]
         yield ["lookup", "--from", sender, *at, *hold, *pair, *common]
         common += ["--json"] if rng.randrange(2) else []
-        common += ["--ignore", rng.choice(("seqno", "metric,router-id"))] if rng.randrange(3) == 0 else []
+        ignored = rng.choice(("seqno", "metric,router-id"))
+        common += ["--ignore", ignored] if rng.randrange(3) == 0 else []
         common += ["--max-routes", rng.choice(("1", "3"))] if rng.randrange(10) == 0 else []
-        named = ["--from", sender, *at] if rng.randrange(3) == 0 else at if rng.randrange(3) == 0 else []
+        named = rng.choice((["--from", sender, *at], at, [], []))
         yield ["events", *named, *common]
         yield ["events", *pair, *named, *common]
 
@@ -207,8 +211,8 @@ def wanted_of(words, octets, plain):
 
 
 def checked(program, captures, seed, plain):
-    """For each run over so many captures: its command, how many lines it must write, and how what it
-    did differs from the definitions, if it does."""
+    """For each run over so many captures: its command, its status, and how what it did differs from
+    the definitions, if it does."""
 
     def check(turn):
         rng = random.Random(f"{seed} {turn}")

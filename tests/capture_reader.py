@@ -492,7 +492,9 @@ class Window:
 
 def window_of(since, until):
     """What is read by these words, where one is given."""
-    return Window(*(each and moment_of(each) for each in (since, until))) if since or until else None
+    if since is None and until is None:
+        return None
+    return Window(*(each and moment_of(each) for each in (since, until)))
 
 
 def span_of(found):

@@ -90,7 +90,7 @@ def find(octets, window, sender=None, place=None):
 
 
 def origins_of(found):
-    """Each sender at each place, as events and as words name them, with the times of its packets."""
+    """Each sender at each place, as events name them, with the times of its packets."""
     for origin in sorted(found.packets, key=reader.by_place):
         place, *sender = origin
         times = [found.records[at][1] for of, _, at in found.sent if of == origin]

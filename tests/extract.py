@@ -452,9 +452,8 @@ def window_cases():
             yield extract_of(what, capture, strict=True, **asked)
             yield extract_of(what, capture, as_hex=True, accept_cut=True, **asked)
     # What is skipped has no datagram that could refuse the dump, but an interface and a link type.
-    fragment = made.Record(
-        made.ethernet(made.ip(SENDER, made.udp(b"\x2a\2\0\0"), headers=[made.fragment_header(0, True)]))
-    )
+    first = made.ip(SENDER, made.udp(b"\x2a\2\0\0"), headers=[made.fragment_header(0, True)])
+    fragment = made.Record(made.ethernet(first))
     yield extract_of("a fragment", made.pcap([*records[:9], fragment]), until="+8.9")
     yield senders_of("a fragment", made.pcap([*records[:9], fragment]), strict=True, until="+8.9")
     other = made.pcapng([records[0], made.Record(fragment.frame, 1)], (1, 147))
