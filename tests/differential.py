@@ -1,6 +1,6 @@
 """The plain programs of reference/ beside the proved one: over dumps changed at random and the
-golden files; of captures, over those of extract.py. And both beside the definitions, over small
-random tables."""
+golden files; of captures, over those of extract.py. And all beside the definitions, over small
+random tables, and small random captures with times."""
 
 import pathlib
 import tempfile
@@ -13,12 +13,15 @@ from checks import built_program, need
 from changed import compared
 from definition import checked
 from plain import PLAIN, PLAIN_OF_CAPTURES, build
+from timed import checked as checked_captures
 
 SEED = 1
 DUMPS = 600
 DUMPS_LONG = 6_000
 TABLES = 300
 TABLES_LONG = 3_000
+CAPTURES = 300
+CAPTURES_LONG = 3_000
 
 
 def check(tally, long):
@@ -40,3 +43,7 @@ def check(tally, long):
                 tally.check(f"the definitions beside {command} of {side.name}", problem)
         plain = build(PLAIN_OF_CAPTURES, folder)
         extract.check_cases(plain, extract.cases_of(tally), tally, extract.without_notes)
+        captures = CAPTURES_LONG if long else CAPTURES
+        for side, is_plain in (program, False), (plain, True):
+            for command, _, problem in checked_captures(side, captures, SEED, is_plain):
+                tally.check(f"the moments beside {command} of {side.name}", problem)

@@ -15,19 +15,22 @@ import json
 import os
 import pathlib
 import random
+import re
 import subprocess
 import sys
 import tempfile
+import xml.etree.ElementTree
 
 import capture_files as made
 import capture_reader as reader
 import extract
-from checks import ROUTERS, Tally, built_program
+from checks import ROUTERS, TOP, Tally, built_program
 
 import moments
 import timed
 from agree import SENDERS
 
+TIMELINE = TOP / "examples/timeline"
 FACTORS = None, "3.5", "1"
 # Of a capture, factor and sender: so many moments and pairs of addresses, from among all.
 MOMENTS = 40
@@ -277,8 +280,24 @@ def check_captures(program, captures, tally, most, options=OPTIONS):
     return replayed_captures
 
 
+def check_picture(program, capture, tally):
+    """The picture of a capture's events has a bar for each time that a route was held, and one for
+    each next hop."""
+    words = ["--expiry", "1", "--ignore", "router-id,seqno,metric"]
+    events, problem = events_of(program, words, capture)
+    told = "".join(f"{json.dumps(event)}\n" for event in events)
+    run = subprocess.run([TIMELINE], input=told, capture_output=True, text=True)
+    held = [event["answer"]["next_hop"] for event in events if event["answer"]]
+    bars = len(re.findall(r'<rect class="c', run.stdout)), run.stderr
+    wanted = len(held) + len(set(held)), ""
+    problem = problem or ("" if bars == wanted else f"{bars} in place of {wanted}")
+    tally.check(f"the picture of {capture.name}", problem)
+    xml.etree.ElementTree.fromstring(run.stdout)
+
+
 def check(tally, long):
     program = built_program()
+    check_picture(program, ROUTERS / "babeld-basic-a.pcap", tally)
     with tempfile.TemporaryDirectory() as folder:
         most = 10 * MOMENTS if long else MOMENTS
         check_captures(program, captures_of(pathlib.Path(folder), long), tally, most)
