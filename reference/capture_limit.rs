@@ -444,6 +444,8 @@ impl Reader {
             whole: frame.len().max(whole as usize),
         };
         self.found.packets += 1;
+        let seen = look(described.link, part);
+        let seen = seen.map_err(|Unread| Fault::UnreadLink(at, described.link))?;
         let time = stamp.and_then(|stamp| described.clock.time(stamp));
         if let Some(window) = &self.window {
             let Some(time) = time else {
@@ -454,14 +456,9 @@ impl Reader {
             };
             let start = *self.start.get_or_insert(time);
             if !window.has(start, time) {
-                return match is_read(described.link) {
-                    true => Ok(()),
-                    false => Err(Fault::UnreadLink(at, described.link)),
-                };
+                return Ok(());
             }
         }
-        let seen = look(described.link, part);
-        let seen = seen.map_err(|Unread| Fault::UnreadLink(at, described.link))?;
         self.found
             .take(interface as u64, time, seen, &self.names, at)
     }
@@ -536,14 +533,6 @@ fn with_vlan(vlans: Vlans, number: u16) -> Vlans {
 
 /// The link type is not read.
 struct Unread;
-
-fn is_read(link: u32) -> bool {
-    let nothing = Part {
-        octets: &[],
-        whole: 0,
-    };
-    look(link, nothing).is_ok()
-}
 
 /// The datagram of Babel in a frame, if it has one: tcpdump.org/linktypes.html.
 #[inline(always)]

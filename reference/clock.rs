@@ -85,7 +85,8 @@ fn seconds(text: &str) -> Option<i128> {
         Some((whole, part)) => (whole, fraction(part, 9)?),
         None => (text, 0),
     };
-    Some(digits(whole)? * SECOND + part)
+    let whole = digits(whole)?;
+    (whole >> 64 == 0).then_some(whole * SECOND + part)
 }
 
 pub fn moment_of(word: &str) -> Option<Moment> {
@@ -94,10 +95,11 @@ pub fn moment_of(word: &str) -> Option<Moment> {
         ("+", rest) => (seconds(rest)?, true),
         _ => (date(word)?, false),
     };
-    Some(Moment {
+    let moment = Moment {
         nanoseconds,
         from_start,
-    })
+    };
+    (from_start || (0..END).contains(&nanoseconds)).then_some(moment)
 }
 
 /// `2026-11-25T13:30:22.5Z`, also without seconds, or with an offset: ISO 8601.

@@ -454,6 +454,10 @@ class Moment:
     nanoseconds: int
     from_start: bool = False
 
+    def is_one(self):
+        """It is later than the start, or can be told."""
+        return self.from_start or told(self.nanoseconds) is not None
+
     def at(self, start):
         return self.nanoseconds + (start if self.from_start else 0)
 
@@ -462,7 +466,8 @@ def moment_of(word):
     """The moment that a word says, if it says one."""
     if found := re.fullmatch(r"([@+])([0-9]+)" + FRACTION, word):
         sign, seconds, fraction = found.groups()
-        return Moment(nanoseconds(seconds, fraction), sign == "+")
+        moment = Moment(nanoseconds(seconds, fraction), sign == "+")
+        return moment if moment.is_one() and int(seconds) < 2**64 else None
     if found := re.fullmatch(DATE, word):
         *fields, second, fraction, sign, hours, minutes = found.groups()
         try:
@@ -473,7 +478,8 @@ def moment_of(word):
             return None
         offset = int(f"{sign or '+'}1") * (int(hours or 0) * 60 + int(minutes or 0)) * 60
         since = date - datetime.datetime(1970, 1, 1)
-        return Moment(nanoseconds(since.days * 86_400 + since.seconds - offset, fraction))
+        moment = Moment(nanoseconds(since.days * 86_400 + since.seconds - offset, fraction))
+        return moment if moment.is_one() else None
     return None
 
 
@@ -510,8 +516,13 @@ def hundredths(centiseconds):
 
 
 def time_notes(found, intervals, window):
-    """The notes on times: that less was read than the greatest of these Intervals, and that times
-    run backwards."""
+    """The notes on times: that they run backwards, and that less was read than the greatest of these
+    Intervals."""
+    for (_, before), (number, time) in zip(found.records, found.records[1:]):
+        if window and time < before:
+            text = f"times run backwards at packet {number}"
+            yield text, {"note": "backwards", "packet": number}
+            break
     interval = max((each for each in intervals if each is not None), default=None)
     span = span_of(found)
     if None not in (interval, span) and span < interval * CENTISECOND:
@@ -519,13 +530,8 @@ def time_notes(found, intervals, window):
         yield (
             f"the capture spans {hundredths(spans)} s, the Interval is {hundredths(interval)} s: "
             "routes may be missing",
-            {"note": "span", "span": spans, "interval": interval},
+            {"note": "short-span", "span": spans, "interval": interval},
         )
-    for (_, before), (number, time) in zip(found.records, found.records[1:]):
-        if window and time < before:
-            text = f"times run backwards at packet {number}"
-            yield text, {"note": "backwards", "packet": number}
-            break
 
 
 # ---- Babel packets
@@ -576,12 +582,12 @@ def find(octets, limit, wanted, accept_cut, window=None, found=None):
             found.cut = packet
             return found
         number += 1
+        if packet.link not in LINKS:
+            raise Fault(f"link type {packet.link} not read at {packet.at}")
         time = told(packet.time)
         if window and time is None:
             what = "packet without a time" if packet.time is None else "bad time"
             raise Fault(f"{what} at {packet.at}")
-        if packet.link not in LINKS:
-            raise Fault(f"link type {packet.link} not read at {packet.at}")
         found.start = time if found.start is None else found.start
         if window and not window.has(found.start, time):
             continue
@@ -776,7 +782,7 @@ def senders(
     lines = [sender_line(origin, found, as_json) for origin in origins]
     status, none = (0, ()) if lines else (1, ("no Babel packets",))
     intervals = [interval_of(found.packets[origin]) for origin in origins]
-    notes = [*notes_of(found), *short_note(found), *time_notes(found, intervals, window)]
+    notes = [*notes_of(found), *time_notes(found, intervals, window), *short_note(found)]
     lines += [json_line(says) for _, says in notes if as_json]
     return Answer(status, "".join(lines).encode(), none + texts_of(notes))
 
