@@ -34,6 +34,8 @@ FRAMES = (
     lambda packet: made.ethernet(packet, ((0x8100, 7),)),
     lambda packet: made.ethernet(packet, ((0x8100, 7), (0x8100, 9))),
 )
+# Of the Updates in a capture; 0 retracts all.
+ENCODINGS = (0, 1, 1, 1, 1, 2, 2, 4, 4), (0, 0, 1, 1), (0, 1, 1, 1, 1, 2)
 INTERVALS = 0, 1, 1, 2, 100, 100, 400, 1_600, 65_535
 FACTORS = "3.5", "1", "0.5", "2", "1000", "0.0000001", "3.1415926"
 STEPS = (
@@ -55,8 +57,8 @@ def prefix(rng, width):
     return bits >> width - length << width - length, length
 
 
-def update(rng):
-    encoding = rng.choice((0, 1, 1, 1, 1, 2, 2, 4, 4)) if rng.randrange(30) else 3
+def update(rng, encodings):
+    encoding = rng.choice(encodings) if rng.randrange(30) else 3
     width = 128 if encoding == 2 else 32
     bits, length = prefix(rng, width) if encoding else (0, 0)
     field = bits.to_bytes(width // 8, "big")[: (length + 7) // 8]
@@ -71,7 +73,7 @@ def update(rng):
     return bytes((8, len(body))) + body
 
 
-def packet(rng):
+def packet(rng, encodings):
     """A packet that mostly says something, and seldom can't be read."""
     body = bytes.fromhex("060a0000 0200000000000001")
     if rng.randrange(4):
@@ -79,7 +81,7 @@ def packet(rng):
     for _ in range(rng.choice((0, 1, 1, 2, 3, 6))):
         if rng.randrange(12) == 0:
             body += bytes.fromhex("060a0000") + rng.choice((b"\0", b"\2", b"\3")) * 8
-        body += update(rng)
+        body += update(rng, encodings)
     if rng.randrange(60) == 0:
         body += b"\4"
     return b"\x2a\2" + len(body).to_bytes(2, "big") + body
@@ -88,12 +90,12 @@ def packet(rng):
 # ---- random captures
 
 
-def frame(rng, senders):
+def frame(rng, senders, encodings):
     sender = rng.choice(senders)
     kind = rng.randrange(20)
     if kind == 0:
         return made.MACS + b"\x08\x06" + bytes(28)
-    datagram = made.udp(packet(rng), source=6_697 if kind == 1 else made.BABEL)
+    datagram = made.udp(packet(rng, encodings), source=6_697 if kind == 1 else made.BABEL)
     how = {"headers": [made.fragment_header(0, True)]} if kind == 2 and ":" in sender else {}
     whole = rng.choice(FRAMES if rng.randrange(2) else FRAMES[:1])(
         made.ip(sender, datagram, **how) if rng.randrange(40) else made.ip(sender, datagram[:12])
@@ -104,12 +106,13 @@ def frame(rng, senders):
 def records_of(rng):
     """Records whose times repeat, leap, and, in one capture of four, run backwards."""
     senders = rng.sample(SENDERS, rng.choice((1, 1, 2, 3)))
+    encodings = rng.choice(ENCODINGS)
     time = rng.choice((0, 999_999_999, 1_795_613_362_057_482_001))
     backwards = rng.randrange(4) == 0
     for _ in range(rng.choice((1, 3, 10, 30))):
         step = rng.choice(STEPS)
         time += -step if backwards and time > step and rng.randrange(4) == 0 else step
-        yield made.Record(frame(rng, senders), rng.randrange(2), time=time)
+        yield made.Record(frame(rng, senders, encodings), rng.randrange(2), time=time)
 
 
 def capture(rng):
@@ -140,9 +143,14 @@ def capture(rng):
 # ---- runs
 
 
-def time_word(rng, start, end):
-    """A word for a moment within the capture, or about."""
+def time_word(rng, times, factor):
+    """A word for a moment within the capture, or about: mostly one at which something is gone, or
+    one just before."""
+    start, end = times[0], max(times)
     time = rng.choice((start, end, rng.randint(start, end), rng.randint(start, end) + made.SECOND))
+    if rng.randrange(3):
+        spans = rng.choice((0, 1, 1, 2)) * rng.choice(INTERVALS[:-1]) * factor
+        time = max(rng.choice(times) + spans - rng.choice((0, 0, 1)), start)
     how = rng.randrange(3)
     if how == 0:
         return f"@{time // made.SECOND}.{time % made.SECOND:09}"
@@ -159,18 +167,21 @@ def runs(rng, octets):
     except reader.Fault:
         pass
     times = [time for _, time in found.records if time is not None] or [0]
-    start, end = times[0], max(max(times), times[0])
     places = [
         (reader.text_of(*sender), reader.place_asked(place)) for place, *sender in found.packets
     ]
     for _ in range(3):
+        factor = rng.choice(FACTORS)
         common = ["--accept-cut"] if rng.randrange(4) else []
         common += ["--v4-via-v6"] if rng.randrange(2) else []
-        common += ["--expiry", rng.choice(FACTORS)] if rng.randrange(4) else []
-        common += ["--since", time_word(rng, start, end)] if rng.randrange(5) == 0 else []
-        common += ["--until", time_word(rng, start, end)] if rng.randrange(2) else []
+        common += ["--expiry", factor] if rng.randrange(5) else []
+        word = lambda: time_word(rng, times, moments.factor_of(factor))
+        common += ["--since", word()] if rng.randrange(6) == 0 else []
         sender, place = rng.choice(places) if places else ("192.0.2.1", "0")
         at = ["--interface", place] if rng.randrange(8) else []
+        for hold in ["--hold"], ["--hold"], []:
+            yield ["show", "--from", sender, *at, *hold, *common, "--until", word()]
+        common += ["--until", word()] if rng.randrange(2) else []
         hold = ["--hold"] if rng.randrange(2) else []
         pair = ["--to", rng.choice(("0.0.0.1", "128.0.0.1")), "--src", "0.0.0.1"]
         if rng.randrange(2):
