@@ -561,9 +561,10 @@ def parser():
 def answer_of(words, octets):
     """What these words answer over a capture."""
     options = parser().parse_intermixed_args(list(map(str, words)))
-    for word in options.since, options.until:
-        if word is not None and not reader.moment_of(word):
-            return Answer(2, errors=(f"not a time: {word}",))
+    try:
+        reader.window_of(options.since, options.until)
+    except reader.NoTime as error:
+        return Answer(2, errors=(str(error),))
     if options.expiry is not None and not factor_of(options.expiry):
         return Answer(2, errors=(f"not a factor: {options.expiry}",))
     return run(octets, options)

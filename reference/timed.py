@@ -134,7 +134,7 @@ def capture(rng):
             power, offset = clocks[each.interface]
             seconds = max(each.time - (offset or 0) * made.SECOND, 0)
             units = made.units_of(seconds, 6 if power is None else power) % 2**64
-            octets += made.enhanced(each, order, units=units)
+            octets += made.enhanced(each, order, time=units)
         if rng.randrange(20) == 0:
             octets += made.simple(records[0], order)
     return octets[: -rng.randrange(1, 20)] if rng.randrange(20) == 0 else octets

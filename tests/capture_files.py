@@ -174,18 +174,20 @@ def sliced(record, kept):
     return Record(record.frame[:kept], record.interface)
 
 
-def pcap(records, link=1, order="little", nanoseconds=False, version=(2, 4)):
-    """draft-ietf-opsawg-pcap, 4 and 5."""
+def pcap(records, link=1, order="little", nanoseconds=False, version=(2, 4), times=None):
+    """draft-ietf-opsawg-pcap, 4 and 5; times have seconds and a fraction, and are those of the
+    records, if they are left out."""
     magic = 0xA1B23C4D if nanoseconds else 0xA1B2C3D4
     numbers = lambda *values: b"".join(number(value, 4, order) for value in values)
     head = numbers(magic) + number(version[0], 2, order) + number(version[1], 2, order) + numbers(
         0, 0, SNAP, link
     )
-    unit = 1 if nanoseconds else 1_000
-    times = [divmod(each.time_at(place), SECOND) for place, each in enumerate(records)]
+    if times is None:
+        unit = 1 if nanoseconds else 1_000
+        times = [divmod(each.time_at(place), SECOND) for place, each in enumerate(records)]
+        times = [(seconds, part // unit) for seconds, part in times]
     return head + b"".join(
-        numbers(seconds, part // unit) + each.lengths(order) + each.frame
-        for (seconds, part), each in zip(times, records)
+        numbers(*time) + each.lengths(order) + each.frame for time, each in zip(times, records)
     )
 
 
@@ -217,11 +219,11 @@ def units_of(time, power=6):
     return time * (2 ** (power - 128) if power >= 128 else 10**power) // SECOND
 
 
-def enhanced(record, order="little", options=b"", place=0, units=None):
-    """draft-ietf-opsawg-pcapng, 4.3."""
-    units = units_of(record.time_at(place)) if units is None else units
+def enhanced(record, order="little", options=b"", place=0, time=None):
+    """draft-ietf-opsawg-pcapng, 4.3; the record's time in microseconds, if no units are given."""
+    time = units_of(record.time_at(place)) if time is None else time
     head = b"".join(
-        number(value, 4, order) for value in (record.interface, units >> 32, units % 2**32)
+        number(value, 4, order) for value in (record.interface, time >> 32, time % 2**32)
     )
     return block(
         6,

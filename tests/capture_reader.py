@@ -52,6 +52,10 @@ class Fault(Exception):
     """Why a capture is refused: the line that says so."""
 
 
+class NoTime(Exception):
+    """A word that is no time."""
+
+
 @dataclass
 class Packet:
     """A captured packet: the offset of its block, its interface and link type, the octets kept, how
@@ -500,7 +504,11 @@ def window_of(since, until):
     """What is read by these words, where one is given."""
     if since is None and until is None:
         return None
-    return Window(*(each and moment_of(each) for each in (since, until)))
+    moments = [word if word is None else moment_of(word) for word in (since, until)]
+    for word, moment in zip((since, until), moments):
+        if word is not None and moment is None:
+            raise NoTime(f"not a time: {word}")
+    return Window(*moments)
 
 
 def span_of(found):
@@ -772,12 +780,12 @@ def senders(
     until=None,
 ):
     """What `senders` answers for a capture."""
-    window = window_of(since, until)
     try:
+        window = window_of(since, until)
         found = find(octets, limit, Wanted(), accept_cut, window)
         refuse_if_strict(found, strict)
-    except Fault as fault:
-        return Answer(3, errors=(str(fault),))
+    except (Fault, NoTime) as fault:
+        return Answer(2 if isinstance(fault, NoTime) else 3, errors=(str(fault),))
     origins = sorted(found.packets, key=by_place)
     lines = [sender_line(origin, found, as_json) for origin in origins]
     status, none = (0, ()) if lines else (1, ("no Babel packets",))
@@ -808,13 +816,14 @@ def extract(
     until=None,
 ):
     """What `extract` answers for a capture."""
-    sender, window = ipaddress.ip_address(sender), window_of(since, until)
+    sender = ipaddress.ip_address(sender)
     try:
+        window = window_of(since, until)
         found = find(octets, limit, Wanted(sender, interface), accept_cut, window)
         refuse_if_strict(found, strict)
         only_place(found)
-    except Fault as fault:
-        return Answer(3, errors=(str(fault),))
+    except (Fault, NoTime) as fault:
+        return Answer(2 if isinstance(fault, NoTime) else 3, errors=(str(fault),))
     sent = sum(found.packets.values(), [])
     notes = texts_of([*notes_of(found), *time_notes(found, [interval_of(sent)], window)])
     if not sent:

@@ -407,7 +407,7 @@ def clock_cases():
                 capture = head + made.interface(1, order, options=options)
                 for place, record in enumerate(records):
                     own = made.units_of(record.time_at(place), 6 if power is None else power)
-                    capture += made.enhanced(record, order, units=own % 2**64)
+                    capture += made.enhanced(record, order, time=own % 2**64)
                 what = f"resolution {power}, offset {offset}, {order}"
                 yield senders_of(what, capture)
                 yield senders_of(what, capture, since="@0")
@@ -415,7 +415,7 @@ def clock_cases():
             for units in UNITS:
                 options = made.counted(power, None, order)
                 capture = head + made.interface(1, order, options=options)
-                capture += made.enhanced(records[0], order, units=units)
+                capture += made.enhanced(records[0], order, time=units)
                 yield senders_of(f"resolution {power}, units {units}, {order}", capture)
         for what, options in (
             ("two resolutions", made.option(9, b"\3", order) + made.counted(9, 1, order)),
