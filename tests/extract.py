@@ -392,7 +392,7 @@ def name_cases():
 
 
 POWERS = None, 0, 1, 3, 6, 7, 9, 10, 12, 20, 28, 29, 127, 128, 129, 138, 157, 158, 160, 191, 255
-OFFSETS = None, 0, 1, -1, -3_600, -(2**63), 2**63 - 1, made.TIME // made.SECOND
+CLOCK_OFFSETS = None, 0, 1, -1, -3_600, -(2**63), 2**63 - 1, made.TIME // made.SECOND
 UNITS = 0, 1, 999_999, 2**32 - 1, 2**32, 2**63, 2**64 - 1
 
 
@@ -402,7 +402,7 @@ def clock_cases():
     for order in ORDERS:
         head = made.section(order)
         for power in POWERS:
-            for offset in OFFSETS:
+            for offset in CLOCK_OFFSETS:
                 options = made.counted(power, offset, order)
                 capture = head + made.interface(1, order, options=options)
                 for place, record in enumerate(records):
@@ -431,7 +431,7 @@ def clock_cases():
             yield from both_of(f"{what}, {order}", capture + made.enhanced(records[0], order))
 
 
-MOMENTS = "@0", "+0", "+1.000001", "+2.5", "+99", "2023-11-14T22:13:22Z", "2023-11-14T23:13+01:00"
+WINDOWS = "@0", "+0", "+1.000001", "+2.5", "+99", "2023-11-14T22:13:22Z", "2023-11-14T23:13+01:00"
 
 
 def window_cases():
@@ -445,7 +445,7 @@ def window_cases():
         ("without time", made.pcapng(records[:3]) + made.simple(records[3])),
         ("cut short", made.pcap(records)[:-1]),
     ):
-        for since, until in itertools.product((None, *MOMENTS), (None, *MOMENTS)):
+        for since, until in itertools.product((None, *WINDOWS), (None, *WINDOWS)):
             asked = {"since": since, "until": until}
             asked = {name: word for name, word in asked.items() if word}
             yield senders_of(what, capture, accept_cut=True, **asked)
