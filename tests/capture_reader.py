@@ -17,6 +17,8 @@ BABEL = 6_696
 UDP = 17
 UPDATE = 8
 LISTED_PLACES = 16
+# The lengths of the options that say how an interface's times count.
+TIME_OPTIONS = {9: 1, 14: 8}
 REASONS = (
     "truncated",
     "bad-magic",
@@ -130,7 +132,7 @@ def name_in(options, order, at):
         )
         if code == 0:
             break
-        if place + 4 + length > len(options):
+        if place + 4 + length > len(options) or length != TIME_OPTIONS.get(code, length):
             raise Fault(f"bad length at {at}")
         if code == 2 and not name:
             name = options[place + 4 : place + 4 + length]

@@ -374,6 +374,19 @@ def name_cases():
                 option(2, b"eth5") + made.number(1, 2, order) + made.number(9, 2, order) + b"long",
             ),
             (
+                "times in eighths of a second, an hour before",
+                option(9, b"\x83")
+                + option(14, (-3_600).to_bytes(8, order, signed=True))
+                + option(2, b"eth7")
+                + end,
+            ),
+            ("two resolutions of times", option(9, b"\6") + option(9, b"\x09") + end),
+            ("a resolution without an octet", option(9, b"") + option(2, b"eth8") + end),
+            ("a resolution of two octets", option(9, b"\6\6") + option(2, b"eth8") + end),
+            ("an offset of four octets", option(14, bytes(4)) + option(2, b"eth8") + end),
+            ("an offset of nine octets", option(14, bytes(9)) + option(2, b"eth8") + end),
+            ("a bad resolution after the end of options", end + option(9, b"")),
+            (
                 "an end of options with a length",
                 option(2, b"eth6") + end[:2] + made.number(9, 2, order),
             ),

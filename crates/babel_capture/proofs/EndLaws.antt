@@ -11,8 +11,8 @@ use Rattle.babel_capture.specs.declared.packet_end.PacketEnd.{PacketEnd}
 use Rattle.babel_capture.specs.declared.place.Place.{Place}
 use Rattle.babel_capture.specs.declared.wanted.Wanted.{Wanted}
 use Rattle.babel_capture.specs.declared.wanted.Wanted.TheVariants as wanteds
-use Rattle.babel_capture.specs.Blocks.{Sighting, sighting_of, sightings_in}
-use Rattle.babel_capture.specs.Contents.{Content, file, section, describes, holds, nothing}
+use Rattle.babel_capture.specs.Blocks.{Sighting, sighting_of, skipped_of, sightings_in}
+use Rattle.babel_capture.specs.Contents.{Content, file, section, describes, holds, skips, nothing}
 use Rattle.babel_capture.specs.Counts.{Made}
 use Rattle.babel_capture.specs.Findings.{Found, passed, untold, left, refused, lacked, found, Finds, PayloadIs, CarriedIs, LackIs}
 use Rattle.babel_capture.specs.Gathering.{AreMade, octets_found, dump_of}
@@ -169,6 +169,21 @@ none-more wanted taken dump more number before made others ends are are_too is i
     omega (arith, ap length is, ap length is_more, ap (λ (m : List Made). length (dump_of wanted m)) same, length-append taken dump, length-append taken more) in
     subst (AreEnds wanted taken others) (sym (same-noted (length dump) (length more) number ends none)) (subst (λ (m : List Made). AreEnds wanted taken m ends) same ended)
 
+-- a packet more
+packet-after : (wanted : Wanted) (taken dump more : List ℕ) (number count : ℕ) (here : Sighting) (before : List Sighting) (made others : List Made) (ends : List PacketEnd)
+    → here.number ≡ number → number ≡ length before + 1 → count ≡ length (before ++ here ∷ []) → AreMade wanted before made → AreMade wanted (before ++ here ∷ []) others
+    → taken ++ dump ≡ dump_of wanted made → taken ++ more ≡ dump_of wanted others → AreEnds wanted taken made ends → AreEnds wanted taken others (noted (length dump) (length more) count ends)
+packet-after wanted taken dump more number count here before made others ends numbered is_number is_count are are_too is is_more ended = by (last-made wanted before here others are_too)
+  where
+    by : IsLast wanted before here others → AreEnds wanted taken others (noted (length dump) (length more) count ends)
+    by last =
+        (let same : made ≡ last.front = made_one wanted before made last.front are last.are_front in
+        let whole : others ≡ made ++ last.one ∷ [] = last.whole ∙ ap (λ (m : List Made). m ++ last.one ∷ []) (sym same) in
+        let is_last : last.one.number ≡ count = last.number ∙ numbered ∙ omega (arith, is_number, is_count, length-append before (here ∷ [])) in
+        subst (λ (m : List Made). AreEnds wanted taken m (noted (length dump) (length more) count ends)) (sym whole)
+        (subst (λ (n : ℕ). AreEnds wanted taken (made ++ last.one ∷ []) (noted (length dump) (length more) n ends)) is_last
+        (one-more wanted taken dump more made last.one ends last.octets is (is_more ∙ ap (dump_of wanted) whole) ended)))
+
 -- a block more, after which there are so many packets
 pub ends-after : (wanted : Wanted) (taken dump more : List ℕ) (number count at : ℕ) (content : Content) (before : List Sighting) (made others : List Made) (ends : List PacketEnd)
     → number ≡ length before + 1 → count ≡ length (before ++ sightings_in number at content) → AreMade wanted before made → AreMade wanted (before ++ sightings_in number at content) others
@@ -181,19 +196,10 @@ ends-after wanted taken dump more number count at (describes interface name) bef
     none-more wanted taken dump more count before made others ends are are_too is is_more ended
 ends-after wanted taken dump more number count at nothing before made others ends is_number is_count are are_too is is_more ended =
     none-more wanted taken dump more count before made others ends are are_too is is_more ended
-ends-after wanted taken dump more number count at (holds packet) before made others ends is_number is_count are are_too is is_more ended = by (last-made wanted before here others are_too)
-  where
-    here : Sighting
-    here = sighting_of number at packet
-
-    by : IsLast wanted before here others → AreEnds wanted taken others (noted (length dump) (length more) count ends)
-    by last =
-        (let same : made ≡ last.front = made_one wanted before made last.front are last.are_front in
-        let whole : others ≡ made ++ last.one ∷ [] = last.whole ∙ ap (λ (m : List Made). m ++ last.one ∷ []) (sym same) in
-        let is_last : last.one.number ≡ count = last.number ∙ omega (arith, is_number, is_count, length-append before (here ∷ [])) in
-        subst (λ (m : List Made). AreEnds wanted taken m (noted (length dump) (length more) count ends)) (sym whole)
-        (subst (λ (n : ℕ). AreEnds wanted taken (made ++ last.one ∷ []) (noted (length dump) (length more) n ends)) is_last
-        (one-more wanted taken dump more made last.one ends last.octets is (is_more ∙ ap (dump_of wanted) whole) ended)))
+ends-after wanted taken dump more number count at (holds packet) before made others ends is_number is_count are are_too is is_more ended =
+    packet-after wanted taken dump more number count (sighting_of number at packet) before made others ends refl is_number is_count are are_too is is_more ended
+ends-after wanted taken dump more number count at (skips packet) before made others ends is_number is_count are are_too is is_more ended =
+    packet-after wanted taken dump more number count (skipped_of number at packet) before made others ends refl is_number is_count are are_too is is_more ended
 
 -- what the dump grew by needed memory
 pub grown-needs : (N : Type 0) (before old new : List ℕ) → before ≡ old → length before < length new → (new ≡ old) ⊎ N → N

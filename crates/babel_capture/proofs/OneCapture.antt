@@ -27,6 +27,7 @@ use Rattle.babel_capture.specs.Lengths.{block_len, header_len}
 use Rattle.babel_capture.specs.OneCapture.{CaptureIsOne, CutCaptureIsOne}
 use Rattle.babel_capture.specs.Sight.{Carried, Sight, datagram, lacking, not_link_local, other, other_port, too_short, carries}
 use Rattle.babel_capture.specs.Tallies.{Senders, senders_of}
+use Rattle.babel_capture.specs.Window.{Extent}
 
 -- ---- what is made of a packet
 
@@ -238,7 +239,7 @@ cut_capture_is_one limit octets one another place other_place is is_too wanted =
     )
 
 -- a whole capture is one that is cut nowhere
-pub uncut : (limit : ℕ) (octets : List ℕ) (gathering : Gathering) → IsRead limit octets gathering → IsReadToCut limit octets gathering None
+pub uncut : (limit : Extent) (octets : List ℕ) (gathering : Gathering) → IsRead limit octets gathering → IsReadToCut limit octets gathering None
 uncut limit octets gathering is = record {
   read = octets;
   rest = [];

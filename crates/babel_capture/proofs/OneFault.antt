@@ -10,7 +10,7 @@ use Rattle.babel_capture.specs.declared.wanted.Wanted.{Wanted}
 use Rattle.babel_capture.specs.Blocks.{AreBlocks, BeginsBlock, BlockAt, IsBlock, IsPartial, Sighting, context_behind, header_of, octets_of, sight_in, sightings_behind, sightings_in, sightings_of}
 use Rattle.babel_capture.specs.Blocks.{start}
 use Rattle.babel_capture.specs.Capture.{CaptureFault, EndsShort, IsShortBy}
-use Rattle.babel_capture.specs.Contents.{Content, block_said, context_after, describes, file, holds, nothing, section}
+use Rattle.babel_capture.specs.Contents.{Content, block_said, context_after, describes, file, holds, nothing, section, skips}
 use Rattle.babel_capture.specs.Context.{Before}
 use Rattle.babel_capture.specs.Counts.{Made}
 use Rattle.babel_capture.specs.Findings.{Found, found, lacked, left, passed, refused, untold}
@@ -22,6 +22,7 @@ use Rattle.babel_capture.specs.Reading.{BlockFails, Stops, StopsAt}
 use Rattle.babel_capture.specs.Tallies.{Senders, origin_cmp, senders_with, tallied}
 use Rattle.babel_capture.proofs.Entries.{insert-longer, insert-new}
 use Rattle.babel_capture.proofs.OneCapture.{block_one, blocks_one, content_or_none, finds_one, made_one, one_block, partial_none, uncut}
+use Rattle.babel_capture.specs.Window.{Extent}
 
 -- ---- senders
 
@@ -100,6 +101,7 @@ refused_none wanted senders number at (file order interface) fault later made re
 refused_none wanted senders number at (section order) fault later made refuses are few = refuses
 refused_none wanted senders number at (describes interface name) fault later made refuses are few = refuses
 refused_none wanted senders number at nothing fault later made refuses are few = refuses
+refused_none wanted senders number at (skips packet) fault later made refuses are few = refuses
 refused_none wanted senders number at (holds packet) fault later made (inl (lack, told, finds)) (one, others, is, numbered, link, finds_too, takes, are) few =
     subst IsTaken (finds_one wanted (sight_in packet) one.what (refused lack) finds_too finds) takes
 refused_none wanted senders number at (holds packet) fault later made (inr (told, (origin, octets, finds, many))) (one, others, is, numbered, link, finds_too, takes, are) few =
@@ -150,6 +152,7 @@ module _ (wanted : Wanted) (senders : Senders) (before : Before) (at : ℕ) wher
   refused_one (section order) one other refuses again = absurd refuses
   refused_one (describes interface name) one other refuses again = absurd refuses
   refused_one nothing one other refuses again = absurd refuses
+  refused_one (skips packet) one other refuses again = absurd refuses
   refused_one (holds packet) one other (inl (lack, told, finds)) (inl (lack_too, told_too, finds_too)) =
       let both : refused lack ≡ refused lack_too = finds_one wanted (sight_in packet) (refused lack) (refused lack_too) finds finds_too in
       let same : lack ≡ lack_too = cc in
@@ -318,7 +321,7 @@ stops_whole wanted senders count before at octets (block ∷ blocks) (another �
 -- ---- captures
 
 -- whole blocks that are taken, and then less than a block
-record Ends (limit : ℕ) (wanted : Wanted) (octets : List ℕ) : Type 0 where
+record Ends (limit : Extent) (wanted : Wanted) (octets : List ℕ) : Type 0 where
   blocks : List BlockAt
   rest : List ℕ
   made : List Made
@@ -327,7 +330,7 @@ record Ends (limit : ℕ) (wanted : Wanted) (octets : List ℕ) : Type 0 where
   taken : AreTaken wanted (sightings_of blocks) made
   partial : IsPartial (context_behind (start limit) blocks) (length (octets_of blocks)) rest
 
-module _ (limit : ℕ) (wanted : Wanted) (octets : List ℕ) where
+module _ (limit : Extent) (wanted : Wanted) (octets : List ℕ) where
   from_start : (blocks : List BlockAt) (rest : List ℕ) (made : List Made) → octets ≡ octets_of blocks ++ rest → AreBlocks (start limit) 0 blocks → AreTaken wanted (sightings_of blocks) made
       → AreRead wanted [] 0 (start limit) 0 octets blocks rest made
   from_start blocks rest made whole are_blocks taken = record { whole = whole; are_blocks = are_blocks; are_made = taken.are_made; few = taken.few }

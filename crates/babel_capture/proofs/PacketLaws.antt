@@ -17,6 +17,7 @@ use Rattle.babel_capture.specs.Findings.{Found, Finds, PayloadIs, CarriedIs, Lac
 use Rattle.babel_capture.specs.Gathering.{AreMade, Gathering, octets_found, dump_of}
 use Rattle.babel_capture.specs.Packets.{ArePackets}
 use Rattle.babel_capture.specs.Sight.{Sight, Carried, other, too_short, datagram, other_port, not_link_local, lacking, carries}
+use Rattle.babel_capture.specs.Window.{Extent}
 
 nothing_found : (octets : List ℕ) → octets ≡ [] → ArePackets octets
 nothing_found octets is = record { bodies = []; fit = All-nil IsBody; whole = is }
@@ -72,6 +73,6 @@ in_dump wanteds.Everyone sightings made are = nothing_found [] refl
 in_dump wanteds.Each sightings made are = nothing_found [] refl
 in_dump (wanteds.Sender sender place) sightings made are = in_made (wanteds.Sender sender place) sightings made are
 
-pub dump_packets : (limit : ℕ) (octets : List ℕ) (gathering : Gathering) → IsRead limit octets gathering → ArePackets gathering.dump
+pub dump_packets : (limit : Extent) (octets : List ℕ) (gathering : Gathering) → IsRead limit octets gathering → ArePackets gathering.dump
 dump_packets limit octets gathering read =
     subst ArePackets (sym read.gathered.dump) (in_dump gathering.wanted (sightings_of read.blocks) read.gathered.made read.gathered.taken.are_made)

@@ -18,6 +18,7 @@ use Rattle.babel_capture.specs.Tallies.{Senders, senders_of}
 use Rattle.babel_capture.specs.PacketEnds.{AreEnds}
 use Rattle.babel_capture.proofs.EndLaws.{ends-after, ends-gone, noted}
 use Rattle.babel_capture.proofs.NumberLaws.{rest_is}
+use Rattle.babel_capture.specs.Window.{Extent}
 
 -- ---- one block more
 
@@ -67,7 +68,7 @@ packets-are sightings gathering gathered =
     ap (λ (c : Counts). c.packets) gathered.report ∙ length-made gathering.wanted sightings gathered.made gathered.taken.are_made
 
 -- nothing was read yet
-pub lead-none : (limit : ℕ) (progress : Progress) → progress.context ≡ start limit → progress.at ≡ 0 → IsGathered [] progress.gathering → progress.gathering.names ≡ []
+pub lead-none : (limit : Extent) (progress : Progress) → progress.context ≡ start limit → progress.at ≡ 0 → IsGathered [] progress.gathering → progress.gathering.names ≡ []
     → progress.gathering.dump ≡ [] → progress.ends ≡ [] → LeadTo (record { limit = limit; taken = [] }) [] progress
 lead-none limit progress context place gathered names dump ends = record {
   blocks = [];

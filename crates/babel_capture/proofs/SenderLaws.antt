@@ -23,6 +23,7 @@ use Rattle.babel_capture.specs.Senders.{AreSenders, is_from, packets_from, tally
 use Rattle.babel_capture.specs.Tallies.{Senders, no_packets, one_more, origin_cmp, senders_of, senders_with, tallied, tally_of}
 use Rattle.babel_capture.proofs.TallyLaws.{origin_total}
 use Rattle.babel_prefix.proofs.Insertion.{equal_of, is_at-sym, lookup-insert, sorted-insert}
+use Rattle.babel_capture.specs.Window.{Extent}
 
 -- ---- one packet more
 
@@ -117,6 +118,6 @@ nobody = record { in_order = tt; tallies = λ origin. refl }
 pub senders_stand : (made : List Made) → AreSenders made (senders_of made)
 senders_stand made = with_all [] made [] nobody
 
-pub senders_read : (limit : ℕ) (octets : List ℕ) (gathering : Gathering) → (read : IsRead limit octets gathering) → AreSenders read.gathered.made gathering.senders
+pub senders_read : (limit : Extent) (octets : List ℕ) (gathering : Gathering) → (read : IsRead limit octets gathering) → AreSenders read.gathered.made gathering.senders
 senders_read limit octets gathering read =
     subst (AreSenders read.gathered.made) (sym read.gathered.senders) (senders_stand read.gathered.made)

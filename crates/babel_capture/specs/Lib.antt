@@ -36,5 +36,7 @@ pub mod Reading
 pub mod Senders
 pub mod Sight
 pub mod Tallies
+pub mod Times
 pub mod Udp
 pub mod Updates
+pub mod Window

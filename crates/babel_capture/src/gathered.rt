@@ -7,6 +7,7 @@ ghost use Rattle.babel_capture.specs.Gathering.{BlockNeedsMemory, IsGathered, Is
 ghost use Rattle.babel_capture.specs.Findings.{found};
 ghost use Rattle.babel_capture.specs.Dumps.{dump_added, dump_at, dumps_with};
 ghost use Rattle.babel_capture.specs.Gathering.{PacketNeedsMemory, dump_with, name_of, with_taken};
+ghost use Rattle.babel_capture.specs.Sight.{other};
 ghost use Rattle.babel_capture.specs.Tallies.{IsOneTooMany, tallied};
 
 use crate::block::{Block, Packet};
@@ -214,10 +215,28 @@ impl Gathered {
     {
         match said {
             Block::Packet(packet) => self.take_packet(at, packet),
+            Block::Skipped(_) => {
+                self.skip();
+                Ok(())
+            }
             Block::File { .. } => self.add_name(&[]),
             Block::Interface { name, .. } => self.add_name(name),
             Block::Section(_) | Block::Other => Ok(()),
         }
+    }
+
+    /// Skips a packet: it is one of the capture, and no more.
+    fn skip(&mut self)
+        requires { self.old.report.packets + 1 < 2 ^ 64 }
+        ensures others { (self.new.wanted ≡ self.old.wanted) × (self.new.names ≡ self.old.names)
+            × (self.new.dump ≡ self.old.dump)
+            × (self.new.report.packets ≡ self.old.report.packets + 1) }
+        ensures skipped { (taken : List ℕ) (before : List Sighting) (next : Sighting)
+            → next.number ≡ self.old.report.packets + 1 → next.what ≡ other
+            → IsGathered before (with_taken taken self.old)
+            → IsGathered (before ++ next ∷ []) (with_taken taken self.new) }
+    {
+        self.report.count(None);
     }
 
     /// Keeps the name of an interface.

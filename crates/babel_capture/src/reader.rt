@@ -16,6 +16,7 @@ use crate::gathered::Gathered;
 use crate::layout::Layout;
 use crate::packet_end::PacketEnd;
 use crate::wanted::Wanted;
+use crate::window::Window;
 use std::alloc::Global;
 use std::marker::Model;
 
@@ -46,15 +47,18 @@ impl Model for Reader {
 }
 
 impl Reader {
-    /// Nothing was read yet, of so many octets at most.
-    pub fn new(alloc: Global, limit: u64, wanted: Wanted) -> Reader
-        ensures none { LeadTo (record { limit = limit; taken = [] }) [] result }
-        ensures context { result.context ≡ start limit }
+    /// Nothing was read yet, of so many octets at most and of packets of this window.
+    pub fn new(alloc: Global, limit: u64, window: &Window, wanted: Wanted) -> Reader
+        ensures none { LeadTo (record {
+          limit = record { octets = limit; window = window.now };
+          taken = [];
+        }) [] result }
+        ensures context { result.context ≡ start (record { octets = limit; window = window.now }) }
         ensures wanted { result.gathering.wanted ≡ wanted }
         ensures dump { result.gathering.dump ≡ [] }
     {
         Reader {
-            context: Context::new(alloc, limit),
+            context: Context::new(alloc, limit, window),
             gathered: Gathered::new(alloc, wanted),
             ends: Vec::new(alloc),
             at: 0,

@@ -7,6 +7,7 @@ use Rattle.std.specs.Io.KnownBytes.{Consumes, IsAtEnd}
 use Rattle.babel_capture.specs.Capture.{EndsShort, HasGiven, IsReadToCut, State}
 use Rattle.babel_capture.specs.Gathering.{Gathering, with_taken}
 use Rattle.babel_capture.specs.Reading.{Stops}
+use Rattle.babel_capture.specs.Window.{all_times}
 use Rattle.babel_capture.specs.declared.fault.Fault.{Fault}
 use Rattle.babel_capture.specs.declared.fault.Fault.TheVariants as capture_faults
 use Rattle.babel_capture.specs.declared.wanted.Wanted.{Wanted}
@@ -109,7 +110,7 @@ pub record HasDrained (first : Option (List ℕ)) (source : CaptureSource)
   pub fed : List ℕ
   pub gave : Consumes first source.left fed
   pub read : HasGiven source.capture dump fed
-  pub limit : source.capture.limit ≡ capture_limit source.reading.limits.bytes
+  pub limit : source.capture.limit ≡ all_times (capture_limit source.reading.limits.bytes)
   pub wanted : source.capture.progress.gathering.wanted ≡ wanted_by source.reading
   pub no_more : source.capture.progress.gathering.dump ≡ []
   pub stands : Stands source fed dump source.end

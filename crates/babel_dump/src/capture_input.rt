@@ -1,6 +1,7 @@
 //! What a reader gives, as a capture.
 ghost use Rattle.std.specs.Prelude.{◌≡◌, ◌≢◌, ℕ, true, List, [], None, IfOk, IfErr, OnOk};
 ghost use Rattle.babel_capture.specs.Capture.{CaptureFault, HasRead};
+ghost use Rattle.babel_capture.specs.Window.{all_times};
 ghost use Rattle.babel_dump.specs.CaptureGiven.{GaveCapture, GaveSound, IsFedWhole};
 ghost use Rattle.babel_dump.specs.CaptureGiven.{IsReadSo, capture_from};
 ghost use Rattle.babel_dump.specs.CaptureRun.{CaptureCause, IsNoFault, capture_calls};
@@ -99,11 +100,11 @@ pub(crate) fn feed_all<R: ByteIn>(
     reader: &mut R,
 ) -> Result<(), InputFault>
     requires counts { HasRoomToCount (R.state reader.old) }
-    requires limit { capture.old.limit ≡ reading.limit }
+    requires limit { capture.old.limit ≡ all_times reading.limit }
     requires fresh { HasRead capture.old [] }
     requires no_fault { capture.old.fault ≡ None }
 
-    ensures limit { capture.new.limit ≡ reading.limit }
+    ensures limit { capture.new.limit ≡ all_times reading.limit }
     ensures wanted { capture.new.progress.gathering.wanted ≡ capture.old.progress.gathering.wanted }
     ensures sound { OnOk result (capture.new.fault ≡ None) }
     ensures gathered { let wanted = capture.old.progress.gathering.wanted in
