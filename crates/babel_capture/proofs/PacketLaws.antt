@@ -64,7 +64,7 @@ octets_made made = flat_map (λ one. octets_found one.what) made
 
 in_made : (wanted : Wanted) (sightings : List Sighting) (made : List Made) → AreMade wanted sightings made → ArePackets (octets_made made)
 in_made wanted [] made is = nothing_found (octets_made made) (ap octets_made is)
-in_made wanted (sighting ∷ later) made (one, others, is, number, link, finds, takes, are) =
+in_made wanted (sighting ∷ later) made (one, others, is, number, link, came, finds, takes, are) =
     subst ArePackets (ap octets_made (sym is))
     (joined (octets_found one.what) (octets_made others) (in_sight wanted sighting.what one.what finds) (in_made wanted later others are))
 

@@ -13,6 +13,7 @@ use Rattle.babel_capture.specs.Context.{Before}
 use Rattle.babel_capture.specs.Frame.{frame_sight}
 use Rattle.babel_capture.specs.Lengths.{header_len, block_len}
 use Rattle.babel_capture.specs.Sight.{Sight, other}
+use Rattle.babel_capture.specs.Times.{Came, kept, skipped, time_in}
 use Rattle.babel_capture.specs.Window.{Extent}
 
 -- ---- one block
@@ -89,6 +90,7 @@ pub record Sighting : Type 0 where
   pub number : ℕ
   pub at : ℕ
   pub link : Link
+  pub came : Came
   pub what : Sight
 
 -- what the frame of a packet is, which had at least the octets that were kept
@@ -102,6 +104,7 @@ sighting_of number at packet = record {
   number = number;
   at = at;
   link = packet.link;
+  came = kept (time_in packet.moment);
   what = sight_in packet;
 }
 
@@ -111,6 +114,7 @@ skipped_of number at packet = record {
   number = number;
   at = at;
   link = packet.link;
+  came = skipped;
   what = other;
 }
 

@@ -3,11 +3,10 @@ use Rattle.std.proofs.Common.{◌≡◌, ◌≢◌, ℕ, ◌+◌, ◌<◌, ◌�
 use Rattle.babel_capture.specs.Capture.{CaptureFault, account_of, HasGivenTo, HasRead, State}
 use Rattle.babel_capture.specs.Gathering.{Gathering}
 use Rattle.babel_capture.specs.Reading.{Stops}
-use Rattle.babel_capture.specs.Window.{all_times}
 use Rattle.babel_capture.specs.declared.fault.Fault.{Fault}
 use Rattle.babel_capture.specs.declared.fault.Fault.TheVariants as faults
 use Rattle.babel_capture.specs.declared.wanted.Wanted.{Wanted}
-use Rattle.babel_dump.specs.CaptureGiven.{CaptureInput, GaveCapture, IsFaultOfCapture, IsFedWhole, IsReadSo}
+use Rattle.babel_dump.specs.CaptureGiven.{extent_of, CaptureInput, GaveCapture, IsFaultOfCapture, IsFedWhole, IsReadSo}
 use Rattle.babel_dump.specs.declared.capture_reading.CaptureReading.{CaptureReading}
 use Rattle.babel_dump.proofs.CaptureLimits.{taken_within}
 use Rattle.babel_dump.specs.Device.{Gave, InputState, IsSpent}
@@ -52,7 +51,7 @@ pub ruleset feeding = (fed_more, fed_whole, fed_within)
 
 -- the capture is read so
 pub record IsReadFrom (f : State) (reading : CaptureReading) (whose : Wanted) : Type 0 where
-  pub limit : f.limit ≡ all_times reading.limit
+  pub limit : f.limit ≡ extent_of reading
   pub wanted : f.progress.gathering.wanted ≡ whose
 
 -- a fault that is kept is want of memory, or that of the octets however they go on
@@ -69,7 +68,7 @@ pub fed_fault : (reader : CaptureInput) (f h : State) (b : InputState) (turns n 
 fed_fault reader f h b turns n buf fault from so_far gave fed kept not_memory =
     let octets = so_far.octets ++ take n buf in
     let stops = kept_stops h fault octets not_memory kept (fed so_far.octets so_far.fed) in
-    let is : Stops (all_times reader.reading.limit) reader.wanted octets fault = rw (← from.limit, ← from.wanted) stops in
+    let is : Stops (extent_of reader.reading) reader.wanted octets fault = rw (← from.limit, ← from.wanted) stops in
     record {
       given = octets;
       gave = gave_more reader.old b reader.new _ _ so_far.gave gave;
@@ -81,7 +80,7 @@ pub given_capture : (reader : CaptureInput) (f : State) (gathering : Gathering) 
     → ((fed : List ℕ) → HasRead f fed → IsReadSo reader.reading.accept_cut f.limit fed gathering cut)
     → gathering.wanted ≡ f.progress.gathering.wanted → GaveCapture reader gathering cut
 given_capture reader f gathering cut from all answered wanted =
-    let read : IsReadSo reader.reading.accept_cut (all_times reader.reading.limit) all.given gathering cut = rw (← from.limit) (answered all.given all.fed) in
+    let read : IsReadSo reader.reading.accept_cut (extent_of reader.reading) all.given gathering cut = rw (← from.limit) (answered all.given all.fed) in
     record { octets = all.given; gave = all.gave; is_read = read; wanted = wanted ∙ from.wanted }
 
 -- the octets have a fault
@@ -89,7 +88,7 @@ pub given_fault : (reader : CaptureInput) (f : State) (fault : Fault) → IsRead
     → (reader.reading.accept_cut ≡ true → fault ≡ faults.NotCapture)
     → ((fed : List ℕ) → HasRead f fed → CaptureFault f.limit f.progress.gathering.wanted fed fault) → IsFaultOfCapture reader fault
 given_fault reader f fault from all not_accepted refused =
-    let is : CaptureFault (all_times reader.reading.limit) reader.wanted all.given fault = rw (← from.limit, ← from.wanted) (refused all.given all.fed) in
+    let is : CaptureFault (extent_of reader.reading) reader.wanted all.given fault = rw (← from.limit, ← from.wanted) (refused all.given all.fed) in
     record {
       given = all.given;
       gave = all.gave.gave;

@@ -197,16 +197,16 @@ rises_in wanted count (block ∷ blocks) made are = by (λ n m a. rises_in wante
     by again (section order) are = subst (λ (n : ℕ). RisesFrom n made) (omega arith) (again (count + 0) made are)
     by again (describes interface name) are = subst (λ (n : ℕ). RisesFrom n made) (omega arith) (again (count + 0) made are)
     by again nothing are = subst (λ (n : ℕ). RisesFrom n made) (omega arith) (again (count + 0) made are)
-    by again (holds packet) (one, others, is, number, link, finds, takes, later) =
+    by again (holds packet) (one, others, is, number, link, came, finds, takes, later) =
         let next : RisesFrom one.number others = subst (λ (n : ℕ). RisesFrom n others) (sym number) (again (count + 1) others later) in
         subst (RisesFrom count) (sym is) (omega (arith, number), next)
 
-rises_of : (accept_cut : Bool) (limit : ℕ) (octets : List ℕ) (gathering : Gathering) (cut : Option ℕ) (read : IsReadSo accept_cut limit octets gathering cut)
+rises_of : (accept_cut : Bool) (limit : Extent) (octets : List ℕ) (gathering : Gathering) (cut : Option ℕ) (read : IsReadSo accept_cut limit octets gathering cut)
     → RisesFrom 0 (made_of accept_cut limit octets gathering cut read)
 rises_of false limit octets gathering cut read = rises_in gathering.wanted 0 read.0.blocks read.0.gathered.made read.0.gathered.taken.are_made
 rises_of true limit octets gathering cut read = rises_in gathering.wanted 0 read.is_read.blocks read.is_read.gathered.made read.is_read.gathered.taken.are_made
 
-counted_in : (accept_cut : Bool) (limit : ℕ) (octets : List ℕ) (gathering : Gathering) (cut : Option ℕ) (read : IsReadSo accept_cut limit octets gathering cut)
+counted_in : (accept_cut : Bool) (limit : Extent) (octets : List ℕ) (gathering : Gathering) (cut : Option ℕ) (read : IsReadSo accept_cut limit octets gathering cut)
     → gathering.report ≡ counts_of (made_of accept_cut limit octets gathering cut read)
 counted_in false limit octets gathering cut read = read.0.gathered.report
 counted_in true limit octets gathering cut read = read.is_read.gathered.report
@@ -263,7 +263,7 @@ first_of made datagram rises least = by (find (tests_for least.reason) made) ref
 pub refused_is_first : RefusedIsFirst
 refused_is_first reader datagram gave =
     let read = gave.given.is_read in
-    let made = made_of reader.reading.accept_cut reader.reading.limit gave.given.octets gave.gathering gave.cut read in
-    let counted : gave.gathering.report ≡ counts_of made = counted_in reader.reading.accept_cut reader.reading.limit gave.given.octets gave.gathering gave.cut read in
+    let made = made_of reader.reading.accept_cut (extent_of reader.reading) gave.given.octets gave.gathering gave.cut read in
+    let counted : gave.gathering.report ≡ counts_of made = counted_in reader.reading.accept_cut (extent_of reader.reading) gave.given.octets gave.gathering gave.cut read in
     first_of made datagram (rises_of reader.reading.accept_cut reader.reading.limit gave.given.octets gave.gathering gave.cut read)
     (is_least (counts_of made) all_reasons datagram (sym (ap (λ (c : Counts). first_among c all_reasons) counted) ∙ gave.first))

@@ -7,10 +7,11 @@ use crate::capture_reading::CaptureReading;
 use crate::filter::Filter;
 use crate::format::Format;
 use crate::key_text::Named;
-use crate::reading::Reading;
+use crate::reading::{Reading, TimeOption};
+use crate::run_fault::Side;
 use crate::spelling::Spelling;
 use babel_canon::Body;
-use babel_capture::Place;
+use babel_capture::{Place, Window};
 use babel_prefix::Addr;
 use babel_table::Limits;
 use babel_tlv::View;
@@ -308,9 +309,9 @@ impl Job {
     /// are captures.
     pub fn misplaced(&self, is_capture: bool, other_is_capture: bool) -> Option<&'static str> {
         let reading = self.reading()?;
-        let other_place = match self.other_reading() {
-            Some(other) => other.place,
-            None => None,
+        let (other_place, other_option) = match self.other_reading() {
+            Some(other) => (other.place, other.time_option),
+            None => (None, None),
         };
         if reading.place.is_some() && !is_capture {
             return Some("--interface");
@@ -321,7 +322,28 @@ impl Job {
         if reading.accept_cut && !is_capture && !other_is_capture {
             return Some("--accept-cut");
         }
-        None
+        match reading.time_option {
+            Some(TimeOption::Since) if !is_capture && !other_is_capture => return Some("--since"),
+            Some(TimeOption::Until) if !is_capture && !other_is_capture => return Some("--until"),
+            _ => {}
+        }
+        match other_option {
+            Some(TimeOption::Since) if !other_is_capture => Some("--other-since"),
+            Some(TimeOption::Until) if !other_is_capture => Some("--other-until"),
+            _ => None,
+        }
+    }
+
+    /// Whether a time is asked for of the input on this side, if it is a capture.
+    pub(crate) fn is_timed(&self, side: Side) -> bool {
+        let window = match (self, side) {
+            (Job::Senders { reading, .. } | Job::Extract { reading, .. }, _) => reading.window,
+            (_, Side::First) => self.reading().map_or(Window::Whole, |reading| reading.window),
+            (_, Side::Other) => self
+                .other_reading()
+                .map_or(Window::Whole, |reading| reading.window),
+        };
+        matches!(window, Window::Between { .. })
     }
 
     /// How many octets of an input are read at most.

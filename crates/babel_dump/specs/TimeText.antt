@@ -1,0 +1,69 @@
+-- The text of a time: ISO 8601, in UTC, with nine digits after the point. Of the calendar it is known
+-- how many days after 1 January 1970 a date is.
+use Rattle.std.specs.Prelude.{ℕ, zero, suc, ◌+◌, ◌-◌, ◌*◌, ◌/◌, ◌%◌, pos, unsigned_abs, nat_le}
+use Rattle.std.specs.Prelude.{if◌then◌else◌, List, [], ◌∷◌, ◌++◌, map, codes, Option, None, Some}
+use Rattle.jiff_core.specs.Calendar.{days_from_civil}
+use Rattle.babel_dump.specs.JsonText.{quoted}
+
+-- how many days after 1 January 1970 the first of a month is
+abbrev pub first_day : (year month : ℕ) → ℕ
+first_day year month = unsigned_abs (days_from_civil (pos year) month 1)
+
+-- how many of so many years after 1970 have begun on this day, and of so many months after January
+abbrev pub years_begun : ℕ → (day : ℕ) → ℕ
+years_begun zero day = 0
+years_begun (suc years) day =
+    years_begun years day + (if nat_le (first_day (1971 + years) 1) day then 1 else 0)
+
+abbrev pub months_begun : ℕ → (year day : ℕ) → ℕ
+months_begun zero year day = 0
+months_begun (suc months) year day =
+    months_begun months year day + (if nat_le (first_day year (2 + months)) day then 1 else 0)
+
+-- the year of a day up to the year 9999, its month, and its day in that
+abbrev pub year_of : (day : ℕ) → ℕ
+year_of day = 1970 + years_begun 8029 day
+
+abbrev pub month_of : (day : ℕ) → ℕ
+month_of day = 1 + months_begun 11 (year_of day) day
+
+abbrev pub day_of_month : (day : ℕ) → ℕ
+day_of_month day = day - first_day (year_of day) (month_of day) + 1
+
+-- the digits of a number at these places
+abbrev pub digits : List ℕ → ℕ → List ℕ
+digits places number = map (λ place. 48 + number / place % 10) places
+
+abbrev pub two_digits : ℕ → List ℕ
+two_digits number = digits (10 ∷ 1 ∷ []) number
+
+-- `YYYY-MM-DD`
+abbrev pub date_text : (year month day : ℕ) → List ℕ
+date_text year month day =
+    digits (1000 ∷ 100 ∷ 10 ∷ 1 ∷ []) year ++ codes "-" ++ two_digits month ++ codes "-"
+    ++ two_digits day
+
+-- `HH:MM:SS.` and nine digits, of the nanoseconds since midnight
+abbrev pub clock_text : ℕ → List ℕ
+clock_text nanoseconds =
+    two_digits (nanoseconds / 3600000000000) ++ codes ":"
+    ++ two_digits (nanoseconds / 60000000000 % 60) ++ codes ":"
+    ++ two_digits (nanoseconds / 1000000000 % 60) ++ codes "."
+    ++ digits (100000000 ∷ 10000000 ∷ 1000000 ∷ 100000 ∷ 10000 ∷ 1000 ∷ 100 ∷ 10 ∷ 1 ∷ [])
+    (nanoseconds % 1000000000)
+
+-- `YYYY-MM-DDTHH:MM:SS.NNNNNNNNNZ`, of the nanoseconds since the start of 1970
+abbrev pub time_text : ℕ → List ℕ
+time_text time =
+    let day : ℕ = time / 86400000000000 in
+    date_text (year_of day) (month_of day) (day_of_month day) ++ codes "T"
+    ++ clock_text (time % 86400000000000) ++ codes "Z"
+
+-- the time, or `-` or `null` where there is none
+abbrev pub time_or : Option ℕ → List ℕ
+time_or None = codes "-"
+time_or (Some time) = time_text time
+
+abbrev pub time_json : Option ℕ → List ℕ
+time_json None = codes "null"
+time_json (Some time) = quoted (time_text time)
