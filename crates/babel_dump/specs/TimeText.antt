@@ -9,23 +9,18 @@ use Rattle.babel_dump.specs.JsonText.{quoted}
 abbrev pub first_day : (year month : ℕ) → ℕ
 first_day year month = unsigned_abs (days_from_civil (pos year) month 1)
 
--- how many of so many years after 1970 have begun on this day, and of so many months after January
-abbrev pub years_begun : ℕ → (day : ℕ) → ℕ
-years_begun zero day = 0
-years_begun (suc years) day =
-    years_begun years day + (if nat_le (first_day (1971 + years) 1) day then 1 else 0)
+-- how many of these have begun on a day, of so many that begin on these days
+abbrev pub begun : (first : ℕ → ℕ) → ℕ → (day : ℕ) → ℕ
+begun first zero day = 0
+begun first (suc n) day = begun first n day + (if nat_le (first n) day then 1 else 0)
 
-abbrev pub months_begun : ℕ → (year day : ℕ) → ℕ
-months_begun zero year day = 0
-months_begun (suc months) year day =
-    months_begun months year day + (if nat_le (first_day year (2 + months)) day then 1 else 0)
-
--- the year of a day up to the year 9999, its month, and its day in that
+-- the year of a day up to the year 9999, by the years after 1970 that have begun; its month, by the
+-- months after January; and its day in that
 abbrev pub year_of : (day : ℕ) → ℕ
-year_of day = 1970 + years_begun 8029 day
+year_of day = 1970 + begun (λ n. first_day (1971 + n) 1) 8029 day
 
 abbrev pub month_of : (day : ℕ) → ℕ
-month_of day = 1 + months_begun 11 (year_of day) day
+month_of day = 1 + begun (λ n. first_day (year_of day) (2 + n)) 11 day
 
 abbrev pub day_of_month : (day : ℕ) → ℕ
 day_of_month day = day - first_day (year_of day) (month_of day) + 1
