@@ -163,6 +163,36 @@ enum Layout {
 struct Interface {
     link: u32,
     snap_len: u32,
+    clock: Clock,
+}
+
+/// How the times of an interface count: units of a second, if these are less than 2^128, and the
+/// seconds that are added.
+#[derive(Clone, Copy)]
+struct Clock {
+    units: Option<u128>,
+    offset: i64,
+}
+
+/// The time of a record: seconds, and units.
+#[derive(Clone, Copy)]
+struct Stamp {
+    seconds: u32,
+    units: u64,
+}
+
+/// The nanoseconds of a second, and the start of the year 10000.
+const SECOND: i128 = 1_000_000_000;
+const END: i128 = 253_402_300_800 * SECOND;
+
+impl Clock {
+    /// Nanoseconds since 1970, of the years up to 9999.
+    fn time(self, stamp: Stamp) -> Option<i128> {
+        let second = u128::from(stamp.units) * SECOND as u128;
+        let units = self.units.map_or(0, |units| second / units);
+        let seconds = i128::from(stamp.seconds) + i128::from(self.offset);
+        Some(seconds * SECOND + units as i128).filter(|time| (0..END).contains(time))
+    }
 }
 
 /// What is read of a capture so far.
@@ -213,16 +243,28 @@ fn check_version(
     Ok(())
 }
 
-/// The name among the options of an interface, the first that is not empty; nothing if an option
-/// runs past their end.
-fn name_in(order: Order, mut options: &[u8]) -> Option<&[u8]> {
+/// The name among the options of an interface, the first that is not empty, and how its times
+/// count; nothing if an option runs past their end, or has a length that it can't have.
+fn options_in(order: Order, mut options: &[u8]) -> Option<(&[u8], Clock)> {
     let mut name: &[u8] = &[];
+    let (mut power, mut offset) = (None, None);
     while options.len() >= 4 {
         let len = usize::from(order.u16_at(options, 2));
         let value = options[4..].get(..len);
         match order.u16_at(options, 0) {
             0 => break,
             2 if name.is_empty() => name = value?,
+            9 => {
+                let [said] = value?.try_into().ok()?;
+                power.get_or_insert(said);
+            }
+            14 => {
+                let said = value?.try_into().ok()?;
+                offset.get_or_insert(match order {
+                    Order::Big => i64::from_be_bytes(said),
+                    Order::Little => i64::from_le_bytes(said),
+                });
+            }
             _ => {
                 value?;
             }
@@ -230,7 +272,12 @@ fn name_in(order: Order, mut options: &[u8]) -> Option<&[u8]> {
         let used = 4 + len.next_multiple_of(4);
         options = options.get(used..).unwrap_or_default();
     }
-    Some(name)
+    let units = match power.unwrap_or(6) {
+        power @ ..128 => 10u128.checked_pow(power.into()),
+        power => 2u128.checked_pow(u32::from(power) - 128),
+    };
+    let offset = offset.unwrap_or(0);
+    Some((name, Clock { units, offset }))
 }
 
 impl Reader {
@@ -267,8 +314,11 @@ impl Reader {
     fn take_block(&mut self, block: &[u8], at: u64) -> Result<(), Fault> {
         match self.layout {
             Layout::Pcap(order) => {
-                let frame = &block[16..];
-                self.take_packet(0, frame, order.u32_at(block, 12), at)
+                let stamp = Stamp {
+                    seconds: order.u32_at(block, 0),
+                    units: order.u32_at(block, 4).into(),
+                };
+                self.take_packet(0, Some(stamp), &block[16..], order.u32_at(block, 12), at)
             }
             Layout::Section(order) => self.take_pcapng(order, block, at),
             Layout::Start => {
@@ -281,6 +331,13 @@ impl Reader {
                 self.interfaces.push(Interface {
                     link: order.u32_at(block, 20) & 0xffff,
                     snap_len: order.u32_at(block, 16),
+                    clock: Clock {
+                        units: Some(match order.u32_at(block, 0) {
+                            NANOSECONDS => 1_000_000_000,
+                            _ => 1_000_000,
+                        }),
+                        offset: 0,
+                    },
                 });
                 Ok(())
             }
@@ -318,11 +375,13 @@ impl Reader {
         if self.interfaces.len() == MOST_INTERFACES {
             return Err(Fault::TooManyInterfaces(at));
         }
-        let name = name_in(order, &block[16..block.len() - 4]);
-        self.names.push(name.ok_or(Fault::BadLength(at))?.to_vec());
+        let options = options_in(order, &block[16..block.len() - 4]);
+        let (name, clock) = options.ok_or(Fault::BadLength(at))?;
+        self.names.push(name.to_vec());
         self.interfaces.push(Interface {
             link: order.u16_at(block, 8).into(),
             snap_len: order.u32_at(block, 12),
+            clock,
         });
         Ok(())
     }
@@ -342,7 +401,13 @@ impl Reader {
         let kept = order.u32_at(block, 20) as usize;
         let frame = block[28..block.len() - 4].get(..kept);
         let frame = frame.ok_or(Fault::BadLength(at))?;
-        self.take_packet(self.first + number, frame, order.u32_at(block, 24), at)
+        let high = u64::from(order.u32_at(block, 12));
+        let stamp = Stamp {
+            seconds: 0,
+            units: high << 32 | u64::from(order.u32_at(block, 16)),
+        };
+        let whole = order.u32_at(block, 24);
+        self.take_packet(self.first + number, Some(stamp), frame, whole, at)
     }
 
     fn take_simple(&mut self, order: Order, block: &[u8], at: u64) -> Result<(), Fault> {
@@ -358,12 +423,13 @@ impl Reader {
         };
         let frame = block[12..block.len() - 4].get(..kept as usize);
         let frame = frame.ok_or(Fault::BadLength(at))?;
-        self.take_packet(self.first, frame, whole, at)
+        self.take_packet(self.first, None, frame, whole, at)
     }
 
     fn take_packet(
         &mut self,
         interface: usize,
+        stamp: Option<Stamp>,
         frame: &[u8],
         whole: u32,
         at: u64,
@@ -375,9 +441,11 @@ impl Reader {
             whole: frame.len().max(whole as usize),
         };
         self.found.packets += 1;
+        let time = stamp.and_then(|stamp| described.clock.time(stamp));
+        self.found.has_untimed |= time.is_none();
         match look(described.link, part) {
             Ok(None) => Ok(()),
-            Ok(Some(seen)) => self.found.take(interface as u64, seen, at),
+            Ok(Some(seen)) => self.found.take(interface as u64, time, seen, at),
             Err(Unread) => Err(Fault::UnreadLink(at, described.link)),
         }
     }
@@ -687,7 +755,16 @@ struct Origin {
 struct Tally {
     packets: u64,
     octets: u64,
-    updates: u64,
+    updates: Updates,
+    /// The earliest and the latest time.
+    times: Option<(i128, i128)>,
+}
+
+/// The Updates of packets: how many, and the greatest Interval of those that announce.
+#[derive(Clone, Copy, Default)]
+struct Updates {
+    count: u64,
+    interval: Option<u16>,
 }
 
 #[derive(Clone, Copy)]
@@ -773,6 +850,8 @@ struct Found {
     wanted: Option<Wanted>,
     packets: u64,
     left_out: [Option<(u64, u64)>; 8],
+    /// Whether a packet has no time.
+    has_untimed: bool,
     dump: Vec<u8>,
     /// The sender found last, and its tally, which is not among the others yet.
     last: Option<(Origin, Tally)>,
@@ -786,13 +865,20 @@ impl Found {
             wanted,
             packets: 0,
             left_out: [None; 8],
+            has_untimed: false,
             dump: Vec::new(),
             last: None,
             tallies: HashMap::with_hasher(seed),
         }
     }
 
-    fn take(&mut self, interface: u64, seen: Seen<'_>, at: u64) -> Result<(), Fault> {
+    fn take(
+        &mut self,
+        interface: u64,
+        time: Option<i128>,
+        seen: Seen<'_>,
+        at: u64,
+    ) -> Result<(), Fault> {
         let sender = seen.sender;
         let place = Place {
             interface,
@@ -816,7 +902,8 @@ impl Found {
         let mut sent = Tally {
             packets: 1,
             octets: packet.len() as u64,
-            updates: 0,
+            updates: Updates::default(),
+            times: time.map(|time| (time, time)),
         };
         match self.wanted {
             Some(_) => self.dump.extend_from_slice(packet),
@@ -862,7 +949,12 @@ impl Tally {
     fn add(&mut self, sent: Tally) {
         self.packets += sent.packets;
         self.octets += sent.octets;
-        self.updates += sent.updates;
+        self.updates.count += sent.updates.count;
+        self.updates.interval = self.updates.interval.max(sent.updates.interval);
+        self.times = match (self.times, sent.times) {
+            (Some((first, last)), Some((one, other))) => Some((first.min(one), last.max(other))),
+            (times, sent) => times.or(sent),
+        };
     }
 }
 
@@ -881,21 +973,27 @@ fn packet_of(payload: &[u8]) -> Result<&[u8], Reason> {
     payload.get(..len).ok_or(Reason::Truncated)
 }
 
-/// How many Updates a packet has, whatever they hold; none if a TLV runs past its end: RFC 8966,
-/// 4.3, 4.6.9.
-fn updates_in(packet: &[u8]) -> u64 {
-    let (mut at, mut count) = (4, 0);
+/// The Updates of a packet; none if a TLV runs past its end: RFC 8966, 4.3, 4.6.9.
+fn updates_in(packet: &[u8]) -> Updates {
+    let (mut at, mut found) = (4, Updates::default());
     while let Some(&kind) = packet.get(at) {
-        at += match (kind, packet.get(at + 1)) {
+        let len = match (kind, packet.get(at + 1)) {
             (0, _) => 1,
             (_, Some(&len)) => 2 + usize::from(len),
-            (_, None) => return 0,
+            (_, None) => return Updates::default(),
         };
-        count += u64::from(kind == UPDATE);
+        if kind == UPDATE {
+            found.count += 1;
+            let body = packet.get(at + 2..at + len).filter(|body| body.len() >= 10);
+            if let Some(body) = body.filter(|body| u16_at(body, 8) != u16::MAX) {
+                found.interval = found.interval.max(Some(u16_at(body, 4)));
+            }
+        }
+        at += len;
     }
     match at == packet.len() {
-        true => count,
-        false => 0,
+        true => found,
+        false => Updates::default(),
     }
 }
 
@@ -1120,29 +1218,57 @@ fn place_json(place: Place, name: &[u8]) -> String {
     format!("\"interface\":{interface},\"link\":{link},\"vlans\":[{vlans}],\"name\":{name}")
 }
 
+/// `YYYY-MM-DDTHH:MM:SS.NNNNNNNNNZ`. Of the calendar: 400 years from a first of March on have
+/// 146,097 days.
+fn time_text(time: i128) -> String {
+    let (day, clock) = ((time / (86_400 * SECOND)) as u64, time % (86_400 * SECOND));
+    let day = day + 719_468;
+    let (era, day) = (day / 146_097, day % 146_097);
+    let year = (day - day / 1_460 + day / 36_524 - day / 146_096) / 365;
+    let day = day - (365 * year + year / 4 - year / 100);
+    let month = (5 * day + 2) / 153;
+    let day = day - (153 * month + 2) / 5 + 1;
+    let month = if month < 10 { month + 3 } else { month - 9 };
+    let year = era * 400 + year + u64::from(month < 3);
+    let (seconds, rest) = (clock / SECOND, clock % SECOND);
+    let (hour, minute, second) = (seconds / 3_600, seconds / 60 % 60, seconds % 60);
+    format!("{year:04}-{month:02}-{day:02}T{hour:02}:{minute:02}:{second:02}.{rest:09}Z")
+}
+
 fn senders(words: &Words) -> Result<u8, Failure> {
     let mut reader = words.read(None)?;
     let senders = reader.found.senders();
+    let has_untimed = reader.found.has_untimed;
     let mut out = io::BufWriter::with_capacity(1 << 16, io::stdout().lock());
     for (Origin { place, sender }, tally) in &senders {
         let Tally {
             packets,
             octets,
-            updates,
+            updates: Updates { count, interval },
+            times,
         } = tally;
+        let times = times.filter(|_| !has_untimed);
+        let times = times.map(|(first, last)| (time_text(first), time_text(last)));
         let name = &reader.names[place.interface as usize];
         if words.has("json") {
             let place = place_json(*place, name);
             writeln!(
                 out,
                 "{{\"address\":\"{sender}\",{place},\"packets\":{packets},\"octets\":{octets},\
-                 \"updates\":{updates}}}"
+                 \"updates\":{count},\"interval\":{},\"first\":{},\"last\":{}}}",
+                interval.map_or("null".into(), |interval| interval.to_string()),
+                times.as_ref().map_or("null".into(), |(first, _)| format!("\"{first}\"")),
+                times.as_ref().map_or("null".into(), |(_, last)| format!("\"{last}\""))
             )?;
         } else {
             let place = place_text(*place, name);
             writeln!(
                 out,
-                "{sender} {place} packets {packets} octets {octets} updates {updates}"
+                "{sender} {place} packets {packets} octets {octets} updates {count} interval {} \
+                 first {} last {}",
+                interval.map_or("-".into(), |all| format!("{}.{:02}", all / 100, all % 100)),
+                times.as_ref().map_or("-", |(first, _)| first),
+                times.as_ref().map_or("-", |(_, last)| last)
             )?;
         }
     }

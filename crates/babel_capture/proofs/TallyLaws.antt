@@ -15,7 +15,6 @@ use Rattle.babel_capture.specs.declared.place.Place.{Place}
 use Rattle.babel_capture.specs.declared.place.Vlans.{Vlans}
 use Rattle.babel_capture.specs.declared.tallies.Origin.{Origin}
 use Rattle.babel_capture.specs.declared.tallies.Tally.{Tally}
-use Rattle.babel_capture.specs.declared.updates.Updates.{Updates}
 use Rattle.babel_capture.specs.Updates.{interval_in, updates_in}
 use Rattle.babel_capture.specs.Tallies.{Senders, no_packets, one_more, origin_cmp, place_cmp, vlans_cmp, tallied, tally_of}
 use Rattle.babel_capture.proofs.Entries.{set_value-insert}
@@ -39,18 +38,18 @@ pub unknown-by : (senders : Senders) (origin : Origin) → lookup (is_at (ghosts
 unknown-by senders origin = ap (λ (k : Origin → Origin → Ordering). lookup (is_at (k origin)) senders) origin_order
 
 -- the first packet of a sender
-pub first_by : (senders after : Senders) (origin : Origin) (time : Option ℕ) (packet : List ℕ) (updates : Updates) → tally_of senders origin ≡ None
-    → updates.count ≡ updates_in packet → updates.interval ≡ interval_in packet
-    → after ≡ insert_entry ghosts.cmp senders origin (record { packets = 1; octets = length packet; updates = updates.count; interval = updates.interval; first = time; last = time })
+pub first_by : (senders after : Senders) (origin : Origin) (time : Option ℕ) (packet : List ℕ) (count : ℕ) (interval : Option ℕ) → tally_of senders origin ≡ None
+    → count ≡ updates_in packet → interval ≡ interval_in packet
+    → after ≡ insert_entry ghosts.cmp senders origin (record { packets = 1; octets = length packet; updates = count; interval = interval; first = time; last = time })
     → after ≡ tallied senders origin time packet
-first_by senders after origin time packet updates none count interval entries =
+first_by senders after origin time packet count interval none is_count is_interval entries =
     let of : ℕ → ℕ → Option ℕ → Tally = λ o u i. record { packets = 1; octets = o; updates = u; interval = i; first = time; last = time } in
-    let is : of (length packet) updates.count updates.interval ≡ one_more (unwrap_or (lookup (is_at (ghosts.cmp origin)) senders) no_packets) time packet =
-    ap (λ (n : ℕ). of n updates.count updates.interval) (omega arith)
-    ∙ ap (λ (n : ℕ). of (0 + length packet) n updates.interval) (omega (arith, count))
-    ∙ ap (of (0 + length packet) (0 + updates_in packet)) interval
+    let is : of (length packet) count interval ≡ one_more (unwrap_or (lookup (is_at (ghosts.cmp origin)) senders) no_packets) time packet =
+    ap (λ (n : ℕ). of n count interval) (omega arith)
+    ∙ ap (λ (n : ℕ). of (0 + length packet) n interval) (omega (arith, is_count))
+    ∙ ap (of (0 + length packet) (0 + updates_in packet)) is_interval
     ∙ ap (λ (t : Option Tally). one_more (unwrap_or t no_packets) time packet) (sym (unknown-by senders origin ∙ none)) in
-    tallied-by senders after origin time packet (of (length packet) updates.count updates.interval) is entries
+    tallied-by senders after origin time packet (of (length packet) count interval) is entries
 
 vlans_total : IsTotalOrder vlans_cmp
 vlans_total =

@@ -31,7 +31,7 @@ overflow_add-count c =
     )
 
 pub returns-then-len-body : goal.returns-then-len-body
-unfolding updates_in, interval_in
+unfolding updates_in interval_in
 returns-then-len-body c =
     let none : tlvs_left c.loop-tlv.tlvs ≡ [] = search rules in
     record {
