@@ -10,11 +10,12 @@ use Rattle.babel_capture.specs.declared.reason.Reason.{Reason}
 use Rattle.babel_capture.specs.declared.reason.Reason.TheVariants as reasons
 use Rattle.babel_capture.specs.declared.wanted.Wanted.{Wanted}
 use Rattle.babel_capture.specs.Blocks.{BlockAt, sightings_behind, sightings_in}
-use Rattle.babel_capture.specs.Contents.{Content, file, section, describes, holds, nothing}
+use Rattle.babel_capture.specs.Contents.{Content, file, section, describes, holds, skips, nothing}
 use Rattle.babel_capture.specs.Counts.{Counts, Made, all_reasons, count_at, counts_of, is_left_for, left_for, reason_place}
 use Rattle.babel_capture.specs.Findings.{Found, passed, untold, left, refused, lacked, found}
 use Rattle.babel_capture.specs.Gathering.{AreMade, Gathering}
-use Rattle.babel_dump.specs.CaptureGiven.{IsReadSo}
+use Rattle.babel_capture.specs.Window.{Extent}
+use Rattle.babel_dump.specs.CaptureGiven.{IsReadSo, extent_of}
 use Rattle.babel_dump.specs.FirstLeftOut.{IsFirstLeftOut, NoneIsLeftOut, RefusedIsFirst, made_of}
 use Rattle.babel_dump.specs.LeftOut.{first_among, first_counted, left_out_for, sooner}
 use Rattle.babel_dump.specs.declared.left_out.LeftOutDatagram.{LeftOutDatagram}
@@ -198,6 +199,9 @@ rises_in wanted count (block ∷ blocks) made are = by (λ n m a. rises_in wante
     by again (describes interface name) are = subst (λ (n : ℕ). RisesFrom n made) (omega arith) (again (count + 0) made are)
     by again nothing are = subst (λ (n : ℕ). RisesFrom n made) (omega arith) (again (count + 0) made are)
     by again (holds packet) (one, others, is, number, link, came, finds, takes, later) =
+        let next : RisesFrom one.number others = subst (λ (n : ℕ). RisesFrom n others) (sym number) (again (count + 1) others later) in
+        subst (RisesFrom count) (sym is) (omega (arith, number), next)
+    by again (skips packet) (one, others, is, number, link, came, finds, takes, later) =
         let next : RisesFrom one.number others = subst (λ (n : ℕ). RisesFrom n others) (sym number) (again (count + 1) others later) in
         subst (RisesFrom count) (sym is) (omega (arith, number), next)
 

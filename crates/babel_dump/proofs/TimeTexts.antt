@@ -1,5 +1,5 @@
 -- The date of a day is the stated one.
-use Rattle.std.proofs.Common.{◌≡◌, ℕ, zero, suc, ◌+◌, ◌-◌, ◌<◌, ◌≤◌, Bool, true, false, refl, sym, ap, ◌∙◌, subst, arith, ℤ, pos, negsuc, ◌<ℤ◌, ◌≤ℤ◌, unsigned_abs}
+use Rattle.std.proofs.Common.{◌≡◌, ℕ, zero, suc, ◌+◌, ◌-◌, ◌<◌, ◌≤◌, Bool, true, false, refl, sym, ap, ◌∙◌, subst, arith, ℤ, pos, negsuc, ◌+ℤ◌, ◌<ℤ◌, ◌≤ℤ◌, unsigned_abs}
 use Rattle.std.specs.Prelude.{nat_le}
 use Rattle.std.proofs.lemmas.Bool.Decides.{nat_tests}
 use Rattle.std.proofs.lemmas.Int.{by_lt_z}
@@ -123,3 +123,17 @@ dated d day is =
     let from : 1970 ≤ y = omega (arith, signed_arith, low) in
     let to : y ≤ 9999 = omega (arith, signed_arith, low, d.year_in.1) in
     (is_year d day y is is_y from to, is_month d day y is is_y from to, is_day d day y is is_y from to)
+
+-- as the date's call says it, by the first date of the calendar
+module _ (d : Date) (day : ℕ) (is : epoch_day d +ℤ pos 4371587 ≡ pos (day + 4371587)) where
+  from_epoch_is : epoch_day d ≡ pos day
+  from_epoch_is = omega (arith, signed_arith, is)
+
+  pub year_by : unsigned_abs d.year ≡ year_of day
+  year_by = (dated d day from_epoch_is).0
+
+  pub month_by : d.month ≡ month_of day
+  month_by = (dated d day from_epoch_is).1
+
+  pub day_by : d.day ≡ day_of_month day
+  day_by = (dated d day from_epoch_is).2

@@ -138,7 +138,7 @@ pub(crate) fn push_sender_end_json(buffer: &mut Vec<u8>, tally: Tally)
     push_text(buffer, r#","updates":"#);
     push_decimal(buffer, tally.updates);
     push_text(buffer, r#","interval":"#);
-    push_number_json(buffer, tally.interval.map(u32::from));
+    push_interval_json(buffer, tally.interval);
     push_text(buffer, r#","first":"#);
     push_time_json(buffer, tally.first);
     push_text(buffer, r#","last":"#);
@@ -156,6 +156,18 @@ fn push_vlans_json(buffer: &mut Vec<u8>, vlans: Vlans)
     push_text(buffer, "[");
     push_marked(buffer, "", ",", &vlans.numbers());
     push_text(buffer, "]");
+}
+
+/// Appends an Interval, or `null`.
+fn push_interval_json(buffer: &mut Vec<u8>, interval: Option<u16>)
+    requires { HasRoom buffer.old 5 }
+    ensures text { buffer.new.items ≡ buffer.old.items ++ number_json interval }
+    ensures room { TookRoom buffer.old buffer.new 5 }
+{
+    match interval {
+        Some(interval) => push_decimal(buffer, interval),
+        None => push_text(buffer, "null"),
+    }
 }
 
 /// Appends a number, or `null`.

@@ -1,7 +1,6 @@
 //! The text of a time, appended to a buffer that has room for it.
-ghost use Rattle.std.specs.Prelude.{◌≡◌, ◌+◌, ◌++◌, ◌/◌, ◌≤◌, ◌<◌, ◌*◌, length, pos};
+ghost use Rattle.std.specs.Prelude.{◌≡◌, ◌+◌, ◌++◌, ◌/◌, ◌≤◌, ◌<◌, length, unsigned_abs};
 ghost use Rattle.std.specs.List.{All};
-ghost use Rattle.jiff_core.specs.Date.{epoch_day};
 ghost use Rattle.babel_dump.specs.Slices.{HasRoom, TookRoom};
 ghost use Rattle.babel_dump.specs.TimeText.{clock_text, date_text, day_of_month, digits, month_of};
 ghost use Rattle.babel_dump.specs.TimeText.{time_json, time_or, time_text, two_digits};
@@ -61,12 +60,23 @@ fn push_day(buffer: &mut Vec<u8>, day: u32)
         ≡ buffer.old.items ++ date_text (year_of day) (month_of day) (day_of_month day) }
     ensures room { TookRoom buffer.old buffer.new 10 }
 {
-    let date = Date::from_days_since_min(day + EPOCH);
+    let date = date_of(day);
     push_digits(buffer, date.year.unsigned_abs().into(), &OF_FOUR);
     push_text(buffer, "-");
     push_digits(buffer, date.month.into(), &OF_TWO);
     push_text(buffer, "-");
     push_digits(buffer, date.day.into(), &OF_TWO);
+}
+
+/// The date so many days after 1 January 1970.
+#[tactic(auto, using(crate::proofs::TimeTexts::year_by, crate::proofs::TimeTexts::month_by, crate::proofs::TimeTexts::day_by))]
+fn date_of(day: u32) -> Date
+    requires { day < 2932897 }
+    ensures year { unsigned_abs result.year ≡ year_of day }
+    ensures month { result.month ≡ month_of day }
+    ensures day { result.day ≡ day_of_month day }
+{
+    Date::from_days_since_min(day + EPOCH)
 }
 
 /// Appends the time of day, so many nanoseconds after midnight.

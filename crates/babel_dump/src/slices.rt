@@ -254,20 +254,19 @@ fn write_senders<W: ByteOut>(
     ensures { WroteFront (output (W.state writer.old) (W.state writer.new))
         (senders_in format gathered.now) buffer.new.items result }
 {
-    let has_untimed = gathered.report().timing().has_untimed;
     for (origin, tally) in gathered.senders().iter() {
         let name = gathered.name(origin.place.interface);
-        let tally = with_times(has_untimed, tally);
+        let tally = told(gathered, tally);
         write_sender(writer, format, origin, &tally, name, buffer)?;
     }
     Ok(())
 }
 
 /// What is told of a sender: its times, unless a packet of the capture has none.
-fn with_times(has_untimed: bool, tally: &Tally) -> Tally
-    ensures { result ≡ with_times has_untimed tally.now }
+fn told(gathered: &Gathered, tally: &Tally) -> Tally
+    ensures { result ≡ with_times gathered.now.report.timing.has_untimed tally.now }
 {
-    if has_untimed {
+    if gathered.report().timing().has_untimed {
         Tally {
             first: None,
             last: None,
