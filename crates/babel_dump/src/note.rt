@@ -78,10 +78,11 @@ struct Hundredths(u64);
 impl fmt::Display for Hundredths {
     fn fmt<W: fmt::Write>(&self, f: &mut fmt::Formatter<W>) -> fmt::Result {
         let (seconds, rest) = (self.0 / 100, self.0 % 100);
-        match (rest, rest % 10) {
-            (0, _) => write!(f, "{seconds}"),
-            (_, 0) => write!(f, "{seconds}.{}", rest / 10),
-            _ => write!(f, "{seconds}.{rest:02}"),
+        let (tenths, hundredths) = (rest / 10, rest % 10);
+        match (tenths, hundredths) {
+            (0, 0) => write!(f, "{seconds}"),
+            (_, 0) => write!(f, "{seconds}.{tenths}"),
+            _ => write!(f, "{seconds}.{tenths}{hundredths}"),
         }
     }
 }

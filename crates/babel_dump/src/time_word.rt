@@ -1,9 +1,12 @@
 //! Times, as `--since` and `--until` name them.
 ghost use Rattle.std.specs.Prelude.{◌<◌, IfSome};
+ghost use Rattle.jiff_core.specs.Calendar.{IsEpochDay};
 
 use crate::place_word::parse_number;
 use babel_capture::{Moment, Time};
 use jiff_core::civil::Date;
+use std::num::ParseIntError;
+use std::str::FromStr;
 
 /// The nanoseconds of a second.
 const SECOND: u128 = 1_000_000_000;
@@ -75,18 +78,16 @@ fn parse_date_time(word: &str) -> Option<u128> {
 }
 
 /// How many days after the start of 1970 a date is: `YYYY-MM-DD`.
-fn parse_day(word: &str) -> Option<i64> {
+fn parse_day(word: &str) -> Option<i64>
+    ensures { IfSome result IsEpochDay }
+{
     let (year, word) = word.split_once('-')?;
     let (month, day) = word.split_once('-')?;
     if year.len() != 4 {
         return None;
     }
-    let date = Date::new(
-        parse_number(year)?,
-        i8::try_from(two_digits(month)?).ok()?,
-        i8::try_from(two_digits(day)?).ok()?,
-    );
-    Some(i64::from(date.ok()?.to_unix_epoch_day()))
+    let date = Date::new(parse_number(year)?, two_digits(month)?, two_digits(day)?).ok()?;
+    Some(i64::from(date.to_unix_epoch_day()))
 }
 
 /// The minute of a day, and the seconds after it: `HH:MM`, `HH:MM:SS`, or `HH:MM:SS.FRACTION`.
@@ -108,7 +109,7 @@ fn parse_time(word: &str) -> Option<(u16, Seconds)> {
 /// The seconds of a minute: `SS`, or `SS.FRACTION`.
 fn parse_second(word: &str) -> Option<Seconds> {
     let (digits, _) = word.split_once('.').unwrap_or((word, ""));
-    if two_digits(digits)? > 59 {
+    if two_digits::<u8>(digits)? > 59 {
         return None;
     }
     parse_seconds(word)
@@ -135,7 +136,7 @@ fn parse_offset(word: &str) -> Option<(&str, i16)> {
 fn minutes_of(hours: &str, minutes: &str) -> Option<u16>
     ensures { IfSome result (λ all. all < 1440) }
 {
-    let (hours, minutes) = (two_digits(hours)?, two_digits(minutes)?);
+    let (hours, minutes): (u16, u16) = (two_digits(hours)?, two_digits(minutes)?);
     if hours > 23 || minutes > 59 {
         return None;
     }
@@ -143,7 +144,7 @@ fn minutes_of(hours: &str, minutes: &str) -> Option<u16>
 }
 
 /// A number of two digits.
-fn two_digits(word: &str) -> Option<u16> {
+fn two_digits<N: FromStr<Err = ParseIntError>>(word: &str) -> Option<N> {
     if word.len() != 2 {
         return None;
     }
