@@ -29,7 +29,8 @@ _babel_dump_senders() {
 # The options that a word follows.
 _babel_dump_valued="--from --other-from --interface --other-interface --to --src --each --ignore"
 _babel_dump_valued="$_babel_dump_valued --color --body --max-routes --max-octets --within --match"
-_babel_dump_valued="$_babel_dump_valued --source --id --since --until --other-since --other-until"
+_babel_dump_valued="$_babel_dump_valued --source --id --since --until --other-since"
+_babel_dump_valued="$_babel_dump_valued --other-until"
 
 # The options of a command.
 _babel_dump_options() {
@@ -50,7 +51,8 @@ _babel_dump_options() {
             options="${options/ --json/} $other --ignore --stat --color"
             ;;
         senders)
-            options="--accept-cut --strict --quiet --json --short --max-octets --since --until --help"
+            options="--accept-cut --strict --quiet --json --short --max-octets --since"
+            options="$options --until --help"
             ;;
         extract)
             options="--from --interface --hex --accept-cut --strict --quiet --max-octets --since"

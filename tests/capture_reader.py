@@ -131,8 +131,8 @@ def refuse_version(block, begin, place, order, read):
 
 
 def options_in(options, order, at):
-    """draft-ietf-opsawg-pcapng, 3.5, 4.2: the name among the options of an interface, how many units
-    of time a second has, and the seconds that are added; the first if there are several."""
+    """draft-ietf-opsawg-pcapng, 3.5, 4.2: the name among the options of an interface, how many
+    units of time a second has, and the seconds that are added; the first if there are several."""
     name, place, found = b"", 0, {}
     while place + 4 <= len(options):
         code, length = (
@@ -443,8 +443,8 @@ def updates_in(packet):
 
 
 def interval_in(packet):
-    """The greatest Interval of a packet's Updates that announce: RFC 8966, 4.6.9; none if a TLV runs
-    past its end."""
+    """The greatest Interval of a packet's Updates that announce: RFC 8966, 4.6.9; none if a TLV
+    runs past its end."""
     greatest, at = None, 4
     while at < len(packet):
         if packet[at] == 0:
@@ -460,7 +460,8 @@ def interval_in(packet):
 
 
 TIME_WORD = re.compile(
-    r"(\d{4}-\d\d-\d\d)T(\d\d):(\d\d)(?::(\d\d)(?:\.(\d{1,9}))?)?(?:Z|([+-])(\d\d):(\d\d))", re.ASCII
+    r"(\d{4}-\d\d-\d\d)T(\d\d):(\d\d)(?::(\d\d)(?:\.(\d{1,9}))?)?(?:Z|([+-])(\d\d):(\d\d))",
+    re.ASCII,
 )
 SECONDS_WORD = re.compile(r"([+@])(\d+)(?:\.(\d{1,9}))?", re.ASCII)
 
@@ -480,7 +481,7 @@ def moment_of(word):
             int(each or 0) for each in (hour, minute, second, hours, minutes)
         )
         try:
-            day = datetime.date.fromisoformat(date).toordinal() - datetime.date(1970, 1, 1).toordinal()
+            day = (datetime.date.fromisoformat(date) - datetime.date(1970, 1, 1)).days
         except ValueError:
             day = None
         if day is not None and max(hour, hours) < 24 and max(minute, second, minutes) < 60:
@@ -616,7 +617,7 @@ def time_text(time):
 
 def interval_of(packets):
     """The greatest Interval of packets."""
-    return max((each for packet in packets if (each := interval_in(packet)) is not None), default=None)
+    return max((each for each in map(interval_in, packets) if each is not None), default=None)
 
 
 def sender_line(origin, packets, found, as_json):
@@ -661,8 +662,8 @@ def short_note(found):
 
 
 def notes_of(found, asks):
-    """The notes on a capture, as text and as an object: what was left out, where it is cut, and what
-    there is to know of its times."""
+    """The notes on a capture, as text and as an object: what was left out, where it is cut, and
+    what there is to know of its times."""
     reasons = [
         {"reason": reason, "count": len(numbers), "first": numbers[0]}
         for reason in REASONS
@@ -727,7 +728,13 @@ def refuse_if_strict(found, strict):
 
 
 def senders(
-    octets, as_json=False, strict=False, accept_cut=False, limit=USUAL_OCTETS, since=None, until=None
+    octets,
+    as_json=False,
+    strict=False,
+    accept_cut=False,
+    limit=USUAL_OCTETS,
+    since=None,
+    until=None,
 ):
     """What `senders` answers for a capture."""
     try:

@@ -92,7 +92,8 @@ module _ (old : Counts) (link : Link) where
       ∙ ap (more left_out old.short old.cooked) (no_interval old.interval)
 
   by_what : (what : Found)
-      → more (left_with old.left_out (reason_of what) (old.packets + 1)) (old.short + cond (is_short what) 1 0) (old.cooked + cond (is_cooked link what) 1 0) (greatest old.interval (interval_found what))
+      → more (left_with old.left_out (reason_of what) (old.packets + 1)) (old.short + cond (is_short what) 1 0) (old.cooked + cond (is_cooked link what) 1 0)
+      (greatest old.interval (interval_found what))
       ≡ counted old link what
   by_what passed = left_so old.left_out
   by_what untold =

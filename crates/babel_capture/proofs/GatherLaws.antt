@@ -118,13 +118,15 @@ module _ (before : List Sighting) (next : Sighting) (old new : Gathering) (findi
   abbrev Goes : Type 0
   Goes = IsGathered before old → next.number ≡ old.report.packets + 1 → Finds old.wanted next.what finding → IsGathered (before ++ next ∷ []) new
 
-  pub passed-push : finding ≡ passed → new.wanted ≡ old.wanted → new.dump ≡ old.dump → new.dumps ≡ old.dumps → new.report ≡ counted_with (counted_at old.report next.came) None → new.senders ≡ old.senders → Goes
+  pub passed-push : finding ≡ passed → new.wanted ≡ old.wanted → new.dump ≡ old.dump → new.dumps ≡ old.dumps → new.report ≡ counted_with (counted_at old.report next.came) None
+      → new.senders ≡ old.senders → Goes
   passed-push is same dump dumps report senders gathered number finds =
       gathered-push before next old new passed same (dump ∙ dump-stays old.wanted old.dump) (dumps ∙ dumps-stay old.wanted old.dumps next.number passed refl) report senders
       (few_kept before old new senders gathered) tt gathered number
       (subst (Finds old.wanted next.what) is finds)
 
-  pub short-push : finding ≡ untold → new.wanted ≡ old.wanted → new.dump ≡ old.dump → new.dumps ≡ old.dumps → new.report ≡ short_counted (counted_at old.report next.came) → new.senders ≡ old.senders → Goes
+  pub short-push : finding ≡ untold → new.wanted ≡ old.wanted → new.dump ≡ old.dump → new.dumps ≡ old.dumps → new.report ≡ short_counted (counted_at old.report next.came)
+      → new.senders ≡ old.senders → Goes
   short-push is same dump dumps report senders gathered number finds =
       gathered-push before next old new untold same (dump ∙ dump-stays old.wanted old.dump) (dumps ∙ dumps-stay old.wanted old.dumps next.number untold refl) report senders
       (few_kept before old new senders gathered) tt gathered number
@@ -147,7 +149,8 @@ module _ (before : List Sighting) (next : Sighting) (old new : Gathering) (findi
 
   -- where the dump of each is wanted
   pub lacked-push : (place : Place) (sender : Address) (lack : Lack) → finding ≡ lacked place sender lack → old.wanted ≡ wanteds.Each → new.wanted ≡ old.wanted → new.dump ≡ old.dump
-      → new.dumps ≡ dumps_by old.dumps next.number (lacked place sender lack) → new.report ≡ counted_with (counted_at old.report next.came) None → new.senders ≡ old.senders → Goes
+      → new.dumps ≡ dumps_by old.dumps next.number (lacked place sender lack) → new.report ≡ counted_with (counted_at old.report next.came) None
+      → new.senders ≡ old.senders → Goes
   lacked-push place sender lack is each same dump dumps report senders gathered number finds =
       let what = lacked place sender lack in
       gathered-push before next old new what same (dump ∙ dump-stays old.wanted old.dump) (dumps ∙ ap (λ (w : Wanted). dumps_with w old.dumps next.number what) (sym each)) report senders

@@ -21,9 +21,9 @@ pub record Made : Type 0 where
   pub what : Found
 
 -- how many packets there are, and for each reason, in the order of the reasons, how many datagrams
--- were left out for it and the number of the first; how many frames were too short to tell; how many
--- Babel packets came in frames of Linux cooked, version 1, which name no interface; the times of the
--- packets; and the greatest Interval of the Updates that announce
+-- were left out for it and the number of the first; how many frames were too short to tell; how
+-- many Babel packets came in frames of Linux cooked, version 1, which name no interface; the times
+-- of the packets; and the greatest Interval of the Updates that announce
 pub record Counts : Type 0 where
   pub packets : ℕ
   pub left_out : List (Option (ℕ × ℕ))

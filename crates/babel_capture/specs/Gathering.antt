@@ -32,8 +32,8 @@ abbrev pub AreMade : Wanted → List Sighting → List Made → Type 0
 AreMade wanted [] made = made ≡ []
 AreMade wanted (sighting ∷ later) made =
     (one : Made) × (others : List Made) × (made ≡ one ∷ others) × (one.number ≡ sighting.number)
-    × (one.link ≡ sighting.link) × (one.came ≡ sighting.came) × Finds wanted sighting.what one.what × IsTaken one.what
-    × AreMade wanted later others
+    × (one.link ≡ sighting.link) × (one.came ≡ sighting.came)
+    × Finds wanted sighting.what one.what × IsTaken one.what × AreMade wanted later others
 
 -- What is made of packets that are taken, each of them: at most 65,536 senders are kept, each
 -- counted at each place where it occurs.

@@ -1,5 +1,5 @@
--- Where each packet of a dump ends, which packet of the capture it came from, and when that came. It
--- is this project's own.
+-- Where each packet of a dump ends, which packet of the capture it came from, and when that came.
+-- It is this project's own.
 use Rattle.std.specs.Prelude.{◌≡◌, ℕ, ◌+◌, List, [], ◌∷◌, ◌++◌, length, Option, None}
 use Rattle.babel_capture.specs.declared.packet_end.PacketEnd.{PacketEnd}
 use Rattle.babel_capture.specs.declared.wanted.Wanted.{Wanted}

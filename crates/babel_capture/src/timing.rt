@@ -60,7 +60,11 @@ pub(crate) fn earlier(one: Option<Time>, other: Option<Time>) -> Option<Time>
     ensures { result ≡ least one other }
 {
     match (one, other) {
-        (Some(one), Some(other)) => Some(if other.nanoseconds() < one.nanoseconds() { other } else { one }),
+        (Some(one), Some(other)) => Some(if other.nanoseconds() < one.nanoseconds() {
+            other
+        } else {
+            one
+        }),
         (one, other) => one.or(other),
     }
 }
@@ -70,7 +74,11 @@ pub(crate) fn later(one: Option<Time>, other: Option<Time>) -> Option<Time>
     ensures { result ≡ greatest one other }
 {
     match (one, other) {
-        (Some(one), Some(other)) => Some(if one.nanoseconds() < other.nanoseconds() { other } else { one }),
+        (Some(one), Some(other)) => Some(if one.nanoseconds() < other.nanoseconds() {
+            other
+        } else {
+            one
+        }),
         (one, other) => one.or(other),
     }
 }

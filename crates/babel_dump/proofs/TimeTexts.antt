@@ -66,8 +66,13 @@ module _ (d : Date) (day y : ℕ) (is : epoch_day d ≡ pos day) (is_y : d.year 
 
   year_begun : (n : ℕ) → n < y - 1970 → first_day (1971 + n) 1 ≤ day
   year_begun n few = by_lt_z (pos (1971 + n)) (pos y)
-      (λ earlier. omega (arith, count, first, day_count-lt_year (pos (1971 + n)) 1 1 (pos y) d.month d.day (civil_first (1971 + n) 1 (omega arith) (omega (arith, few, high)) (omega arith) (omega arith))
-      is_civil.2.0 earlier))
+      (λ earlier. omega (
+        arith,
+        count,
+        first,
+        day_count-lt_year (pos (1971 + n)) 1 1 (pos y) d.month d.day (civil_first (1971 + n) 1 (omega arith) (omega (arith, few, high)) (omega arith) (omega arith))
+            is_civil.2.0 earlier,
+      ))
       (λ no. let same : 1971 + n ≡ y = omega (arith, signed_arith, no, few) in
       omega (arith, count, first, in_year (pos y) d.month d.day is_civil.2.0, ap (λ (z : ℕ). day_count (pos z) 1 1) same))
     where
@@ -84,8 +89,13 @@ module _ (d : Date) (day y : ℕ) (is : epoch_day d ≡ pos day) (is_y : d.year 
 
   month_begun : (n : ℕ) → n < d.month - 1 → first_day y (2 + n) ≤ day
   month_begun n few = by_lt_z (pos (2 + n)) (pos d.month)
-      (λ earlier. omega (arith, count, first, day_count-lt_month (pos y) (2 + n) 1 d.month d.day (civil_first y (2 + n) low high (omega arith) (omega (arith, few, is_civil.1.1)))
-      is_civil.2.0 (omega (arith, signed_arith, earlier))))
+      (λ earlier. omega (
+        arith,
+        count,
+        first,
+        day_count-lt_month (pos y) (2 + n) 1 d.month d.day (civil_first y (2 + n) low high (omega arith) (omega (arith, few, is_civil.1.1)))
+            is_civil.2.0 (omega (arith, signed_arith, earlier)),
+      ))
       (λ no. let same : 2 + n ≡ d.month = omega (arith, signed_arith, no, few) in
       omega (arith, count, first, is_civil.2.0, day_count-day (pos y) d.month 1 d.day (omega arith) is_civil.2.0, ap (λ (m : ℕ). day_count (pos y) m 1) same))
     where
@@ -137,3 +147,5 @@ module _ (d : Date) (day : ℕ) (is : epoch_day d +ℤ pos 4371587 ≡ pos (day 
 
   pub day_by : d.day ≡ day_of_month day
   day_by = (dated d day from_epoch_is).2
+
+pub ruleset date_by = (year_by, month_by, day_by)

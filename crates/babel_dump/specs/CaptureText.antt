@@ -88,8 +88,8 @@ abbrev pub with_times : (has_untimed : Bool) → Tally → Tally
 with_times true tally = record tally { first = None; last = None }
 with_times false tally = tally
 
--- `ADDRESS interface N`, and ` link N vlan N.N packets N octets N updates N interval N.NN first TIME
--- last TIME`
+-- `ADDRESS interface N`, and ` link N vlan N.N packets N octets N updates N interval N.NN first
+-- TIME last TIME`
 abbrev pub sender_front : Spelling → Origin → List ℕ
 sender_front spelling origin =
     address_text spelling origin.sender ++ codes " interface " ++ decimal origin.place.interface

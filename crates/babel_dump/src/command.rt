@@ -476,8 +476,8 @@ fn with_reading<'a>(alloc: Global, command: Command<'a>) -> Result<Command<'a>, 
     with_settings(alloc, command.arg(from)?.arg(interface(alloc))?)
 }
 
-/// The command with what each command has that reads a dump: when its packets came, how retractions and IPv4 routes with
-/// IPv6 next hops are read, whether there are notes, and the limits.
+/// The command with what each command has that reads a dump: when its packets came, how retractions
+/// and IPv4 routes with IPv6 next hops are read, whether there are notes, and the limits.
 fn with_settings<'a>(alloc: Global, command: Command<'a>) -> Result<Command<'a>, AllocError> {
     with_times(alloc, command)?
         .arg(hold(alloc))?

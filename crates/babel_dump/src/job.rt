@@ -338,7 +338,9 @@ impl Job {
     pub(crate) fn is_timed(&self, side: Side) -> bool {
         let window = match (self, side) {
             (Job::Senders { reading, .. } | Job::Extract { reading, .. }, _) => reading.window,
-            (_, Side::First) => self.reading().map_or(Window::Whole, |reading| reading.window),
+            (_, Side::First) => self
+                .reading()
+                .map_or(Window::Whole, |reading| reading.window),
             (_, Side::Other) => self
                 .other_reading()
                 .map_or(Window::Whole, |reading| reading.window),

@@ -210,7 +210,10 @@ fn short_span(report: &CaptureReport) -> Option<Note> {
     if timing.has_untimed {
         return None;
     }
-    let span = timing.latest?.nanoseconds().checked_sub(timing.earliest?.nanoseconds())?;
+    let span = timing
+        .latest?
+        .nanoseconds()
+        .checked_sub(timing.earliest?.nanoseconds())?;
     if span >= u128::from(interval) * HUNDREDTH {
         return None;
     }

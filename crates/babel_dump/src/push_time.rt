@@ -69,7 +69,7 @@ fn push_day(buffer: &mut Vec<u8>, day: u32)
 }
 
 /// The date so many days after 1 January 1970.
-#[tactic(auto, using(crate::proofs::TimeTexts::year_by, crate::proofs::TimeTexts::month_by, crate::proofs::TimeTexts::day_by))]
+#[tactic(auto, using(crate::proofs::TimeTexts::date_by))]
 fn date_of(day: u32) -> Date
     requires { day < 2932897 }
     ensures year { unsigned_abs result.year ≡ year_of day }
