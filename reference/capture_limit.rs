@@ -121,6 +121,8 @@ enum Fault {
     Lacking(u64, Lack),
     TooManySenders(u64),
     TooLong(u64),
+    BadTime(u64),
+    NoTime(u64),
 }
 
 impl fmt::Display for Fault {
@@ -143,6 +145,8 @@ impl fmt::Display for Fault {
             }
             Fault::TooManySenders(at) => write!(f, "too many senders at {at}"),
             Fault::TooLong(at) => write!(f, "capture too long at {at}"),
+            Fault::BadTime(at) => write!(f, "bad time at {at}"),
+            Fault::NoTime(at) => write!(f, "packet without a time at {at}"),
         }
     }
 }
@@ -195,9 +199,120 @@ impl Clock {
     }
 }
 
+/// A moment in nanoseconds, since 1970 or since the capture's first packet.
+#[derive(Clone, Copy)]
+enum Moment {
+    At(i128),
+    After(i128),
+}
+
+impl Moment {
+    fn from(self, first: i128) -> i128 {
+        match self {
+            Moment::At(time) => time,
+            Moment::After(later) => first + later,
+        }
+    }
+
+    fn parse(word: &str) -> Option<Moment> {
+        if let Some(word) = word.strip_prefix('+') {
+            return Some(Moment::After(seconds_of(word)?));
+        }
+        let time = match word.strip_prefix('@') {
+            Some(word) => seconds_of(word)?,
+            None => date_time_of(word)?,
+        };
+        (0..END).contains(&time).then_some(Moment::At(time))
+    }
+}
+
+fn number_of(digits: &str) -> Option<u64> {
+    let is_number = digits.bytes().all(|octet| octet.is_ascii_digit());
+    is_number.then(|| digits.parse().ok()).flatten()
+}
+
+/// Seconds, and a fraction of one to nine digits if there is a point.
+fn seconds_of(word: &str) -> Option<i128> {
+    let (seconds, fraction) = match word.split_once('.') {
+        Some((_, "")) => return None,
+        Some((seconds, digits)) if digits.len() <= 9 => {
+            (seconds, number_of(digits)? * 10u64.pow(9 - digits.len() as u32))
+        }
+        Some(_) => return None,
+        None => (word, 0),
+    };
+    Some(i128::from(number_of(seconds)?) * SECOND + i128::from(fraction))
+}
+
+fn two_digits(word: &str, least: u64, most: u64) -> Option<u64> {
+    let number = number_of(word).filter(|_| word.len() == 2)?;
+    (least..=most).contains(&number).then_some(number)
+}
+
+fn date_time_of(word: &str) -> Option<i128> {
+    let (date, word) = word.split_once('T')?;
+    let (time, offset) = if let Some(time) = word.strip_suffix('Z') {
+        (time, 0)
+    } else {
+        let at = word.find(['+', '-'])?;
+        let (hours, minutes) = word[at + 1..].split_once(':')?;
+        let minutes = 60 * two_digits(hours, 0, 23)? + two_digits(minutes, 0, 59)?;
+        let sign = if word[at..].starts_with('-') { -1 } else { 1 };
+        (&word[..at], sign * i128::from(minutes))
+    };
+    let parts: Vec<_> = time.split(':').collect();
+    let (hour, minute, second) = match parts[..] {
+        [hour, minute] => (hour, minute, "00"),
+        [hour, minute, second] => (hour, minute, second),
+        _ => return None,
+    };
+    two_digits(second.split('.').next()?, 0, 59)?;
+    let minutes = 60 * two_digits(hour, 0, 23)? + two_digits(minute, 0, 59)?;
+    let [year, month, day] = date.split('-').collect::<Vec<_>>()[..] else {
+        return None;
+    };
+    let year = number_of(year).filter(|_| year.len() == 4)?;
+    let (month, day) = (two_digits(month, 1, 12)?, two_digits(day, 1, 31)?);
+    let is_leap = year % 4 == 0 && (year % 100 != 0 || year % 400 == 0);
+    let days = [31, 28 + u64::from(is_leap), 31, 30, 31, 30, 31, 31, 30, 31, 30, 31];
+    if day > days[month as usize - 1] || year == 0 {
+        return None;
+    }
+    let before = year - 1;
+    let day = 365 * before + before / 4 - before / 100 + before / 400
+        + days[..month as usize - 1].iter().sum::<u64>()
+        + day;
+    // The first of January 1970 is day 719,163 from the year 1 on.
+    let minutes = (i128::from(day) - 719_163) * 1_440 + i128::from(minutes) - offset;
+    Some(minutes * 60 * SECOND + seconds_of(second)?)
+}
+
+/// Which packets are read, by when they came.
+struct Window {
+    since: Option<Moment>,
+    until: Option<Moment>,
+    first: Option<i128>,
+}
+
+impl Window {
+    fn reads(&mut self, stamp: Option<Stamp>, time: Option<i128>, at: u64) -> Result<bool, Fault> {
+        if self.since.is_none() && self.until.is_none() {
+            return Ok(true);
+        }
+        if stamp.is_none() {
+            return Err(Fault::NoTime(at));
+        }
+        let time = time.ok_or(Fault::BadTime(at))?;
+        let first = *self.first.get_or_insert(time);
+        let is_since = self.since.is_none_or(|since| since.from(first) <= time);
+        Ok(is_since && self.until.is_none_or(|until| time <= until.from(first)))
+    }
+}
+
 /// What is read of a capture so far.
 struct Reader {
     limit: u64,
+    window: Window,
     layout: Layout,
     first: usize,
     interfaces: Vec<Interface>,
@@ -442,11 +557,15 @@ impl Reader {
         };
         self.found.packets += 1;
         let time = stamp.and_then(|stamp| described.clock.time(stamp));
+        let seen = look(described.link, part);
+        let seen = seen.map_err(|Unread| Fault::UnreadLink(at, described.link))?;
+        if !self.window.reads(stamp, time, at)? {
+            return Ok(());
+        }
         self.found.has_untimed |= time.is_none();
-        match look(described.link, part) {
-            Ok(None) => Ok(()),
-            Ok(Some(seen)) => self.found.take(interface as u64, time, seen, at),
-            Err(Unread) => Err(Fault::UnreadLink(at, described.link)),
+        match seen {
+            None => Ok(()),
+            Some(seen) => self.found.take(interface as u64, time, seen, at),
         }
     }
 }
@@ -1036,11 +1155,13 @@ fn read_some(input: &mut impl Read, buffer: &mut [u8]) -> Result<usize, Failure>
 fn read_capture(
     mut input: impl Read,
     limit: u64,
+    window: Window,
     wanted: Option<Wanted>,
     accept_cut: bool,
 ) -> Result<Reader, Failure> {
     let mut reader = Reader {
         limit,
+        window,
         layout: Layout::Start,
         first: 0,
         interfaces: Vec::new(),
@@ -1129,6 +1250,16 @@ impl Words {
         }
     }
 
+    fn moment(&self, option: &str) -> Result<Option<Moment>, Failure> {
+        let Some(word) = self.options.get(option) else {
+            return Ok(None);
+        };
+        match Moment::parse(word) {
+            Some(moment) => Ok(Some(moment)),
+            None => Err(Failure::Usage(format!("not a time: {word}"))),
+        }
+    }
+
     fn place(&self) -> Result<Option<Place>, Failure> {
         let Some(word) = self.options.get("interface") else {
             return Ok(None);
@@ -1148,13 +1279,18 @@ impl Words {
     fn read(&self, wanted: Option<Wanted>) -> Result<Reader, Failure> {
         let limit = self.number("max-octets")?.unwrap_or(USUAL_OCTETS);
         let accept_cut = self.has("accept-cut");
+        let window = Window {
+            since: self.moment("since")?,
+            until: self.moment("until")?,
+            first: None,
+        };
         let reader = match &self.file {
-            None => read_capture(io::stdin().lock(), limit, wanted, accept_cut),
+            None => read_capture(io::stdin().lock(), limit, window, wanted, accept_cut),
             Some(name) if name == "-" => {
-                read_capture(io::stdin().lock(), limit, wanted, accept_cut)
+                read_capture(io::stdin().lock(), limit, window, wanted, accept_cut)
             }
             Some(name) => match File::open(name) {
-                Ok(file) => read_capture(file, limit, wanted, accept_cut),
+                Ok(file) => read_capture(file, limit, window, wanted, accept_cut),
                 Err(_) => Err(Failure::Open(name.clone())),
             },
         }?;
