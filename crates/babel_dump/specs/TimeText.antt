@@ -1,7 +1,7 @@
 -- The text of a time: ISO 8601, in UTC, with nine digits after the point. Of the calendar it is
 -- known how many days after 1 January 1970 a date is.
 use Rattle.std.specs.Prelude.{ℕ, zero, suc, ◌+◌, ◌-◌, ◌*◌, ◌/◌, ◌%◌, pos, unsigned_abs, nat_le}
-use Rattle.std.specs.Prelude.{if◌then◌else◌, List, [], ◌∷◌, ◌++◌, map, codes, Option, None, Some}
+use Rattle.std.specs.Prelude.{if◌then◌else◌, List, [], ◌∷◌, ◌++◌, codes, Option, None, Some}
 use Rattle.jiff_core.specs.Calendar.{days_from_civil}
 use Rattle.babel_dump.specs.JsonText.{quoted}
 
@@ -25,18 +25,27 @@ month_of day = 1 + begun (λ n. first_day (year_of day) (2 + n)) 11 day
 abbrev pub day_of_month : (day : ℕ) → ℕ
 day_of_month day = day - first_day (year_of day) (month_of day) + 1
 
--- the digits of a number at these places
-abbrev pub digits : List ℕ → ℕ → List ℕ
-digits places number = map (λ place. 48 + number / place % 10) places
+-- the last digits of a number
+abbrev pub digit : ℕ → ℕ
+digit number = 48 + number % 10
 
 abbrev pub two_digits : ℕ → List ℕ
-two_digits number = digits (10 ∷ 1 ∷ []) number
+two_digits number = digit (number / 10) ∷ digit number ∷ []
+
+abbrev pub four_digits : ℕ → List ℕ
+four_digits number =
+    digit (number / 1000) ∷ digit (number / 100) ∷ digit (number / 10) ∷ digit number ∷ []
+
+abbrev pub nine_digits : ℕ → List ℕ
+nine_digits number =
+    digit (number / 100000000) ∷ digit (number / 10000000) ∷ digit (number / 1000000)
+    ∷ digit (number / 100000) ∷ digit (number / 10000) ∷ digit (number / 1000)
+    ∷ digit (number / 100) ∷ digit (number / 10) ∷ digit number ∷ []
 
 -- `YYYY-MM-DD`
 abbrev pub date_text : (year month day : ℕ) → List ℕ
 date_text year month day =
-    digits (1000 ∷ 100 ∷ 10 ∷ 1 ∷ []) year ++ codes "-" ++ two_digits month ++ codes "-"
-    ++ two_digits day
+    four_digits year ++ codes "-" ++ two_digits month ++ codes "-" ++ two_digits day
 
 -- `HH:MM:SS.` and nine digits, of the nanoseconds since midnight
 abbrev pub clock_text : ℕ → List ℕ
@@ -44,8 +53,7 @@ clock_text nanoseconds =
     two_digits (nanoseconds / 3600000000000) ++ codes ":"
     ++ two_digits (nanoseconds / 60000000000 % 60) ++ codes ":"
     ++ two_digits (nanoseconds / 1000000000 % 60) ++ codes "."
-    ++ digits (100000000 ∷ 10000000 ∷ 1000000 ∷ 100000 ∷ 10000 ∷ 1000 ∷ 100 ∷ 10 ∷ 1 ∷ [])
-    (nanoseconds % 1000000000)
+    ++ nine_digits (nanoseconds % 1000000000)
 
 -- `YYYY-MM-DDTHH:MM:SS.NNNNNNNNNZ`, of the nanoseconds since the start of 1970
 abbrev pub time_text : ℕ → List ℕ

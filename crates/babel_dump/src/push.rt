@@ -176,7 +176,7 @@ fn push_interval(buffer: &mut Vec<u8>, interval: Option<u16>)
         Some(interval) => {
             push_decimal(buffer, interval / 100);
             push_text(buffer, ".");
-            push_two_digits(buffer, interval % 100);
+            push_two_digits(buffer, u32::from(interval % 100));
         }
         None => push_text(buffer, "-"),
     }

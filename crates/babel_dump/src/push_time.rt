@@ -1,14 +1,13 @@
 //! The text of a time, appended to a buffer that has room for it.
-ghost use Rattle.std.specs.Prelude.{◌≡◌, ◌+◌, ◌++◌, ◌/◌, ◌≤◌, ◌<◌, length, unsigned_abs};
-ghost use Rattle.std.specs.List.{All};
+ghost use Rattle.std.specs.Prelude.{◌≡◌, ◌+◌, ◌++◌, ◌<◌};
 ghost use Rattle.babel_dump.specs.Slices.{HasRoom, TookRoom};
-ghost use Rattle.babel_dump.specs.TimeText.{clock_text, date_text, day_of_month, digits, month_of};
-ghost use Rattle.babel_dump.specs.TimeText.{time_json, time_or, time_text, two_digits};
-ghost use Rattle.babel_dump.specs.TimeText.{year_of};
+ghost use Rattle.babel_dump.specs.TimeText.{clock_text, date_text, day_of_month, digit};
+ghost use Rattle.babel_dump.specs.TimeText.{four_digits, month_of, nine_digits, time_json, time_or};
+ghost use Rattle.babel_dump.specs.TimeText.{time_text, two_digits, year_of};
 
 use crate::push::{push_octet, push_text};
 use babel_capture::Time;
-use jiff_core::civil::Date;
+use jiff_core::civil;
 
 /// The nanoseconds of a day, an hour, a minute, and a second.
 const DAY: u64 = 86_400_000_000_000;
@@ -22,22 +21,13 @@ const SECOND: u64 = 1_000_000_000;
 /// How many days after the first date of the calendar's crate 1 January 1970 is.
 const EPOCH: u32 = 4_371_587;
 
-/// The places of digits, from the highest.
-static OF_FOUR: [u32; 4] = [1_000, 100, 10, 1];
-
-static OF_TWO: [u32; 2] = [10, 1];
-
-static OF_NINE: [u32; 9] = [
-    100_000_000,
-    10_000_000,
-    1_000_000,
-    100_000,
-    10_000,
-    1_000,
-    100,
-    10,
-    1,
-];
+/// A date, in numbers.
+#[derive(Clone, Copy)]
+struct Date {
+    year: u32,
+    month: u32,
+    day: u32,
+}
 
 /// Appends a time.
 pub(crate) fn push_time(buffer: &mut Vec<u8>, time: Time)
@@ -61,22 +51,27 @@ fn push_day(buffer: &mut Vec<u8>, day: u32)
     ensures room { TookRoom buffer.old buffer.new 10 }
 {
     let date = date_of(day);
-    push_digits(buffer, date.year.unsigned_abs().into(), &OF_FOUR);
+    push_four_digits(buffer, date.year);
     push_text(buffer, "-");
-    push_digits(buffer, date.month.into(), &OF_TWO);
+    push_two_digits(buffer, date.month);
     push_text(buffer, "-");
-    push_digits(buffer, date.day.into(), &OF_TWO);
+    push_two_digits(buffer, date.day);
 }
 
 /// The date so many days after 1 January 1970.
 #[tactic(auto, using(crate::proofs::TimeTexts::date_by))]
 fn date_of(day: u32) -> Date
     requires { day < 2932897 }
-    ensures year { unsigned_abs result.year ≡ year_of day }
+    ensures year { result.year ≡ year_of day }
     ensures month { result.month ≡ month_of day }
     ensures day { result.day ≡ day_of_month day }
 {
-    Date::from_days_since_min(day + EPOCH)
+    let date = civil::Date::from_days_since_min(day + EPOCH);
+    Date {
+        year: u32::from(date.year.unsigned_abs()),
+        month: u32::from(date.month),
+        day: u32::from(date.day),
+    }
 }
 
 /// Appends the time of day, so many nanoseconds after midnight.
@@ -86,34 +81,59 @@ fn push_clock(buffer: &mut Vec<u8>, nanoseconds: u64)
     ensures text { buffer.new.items ≡ buffer.old.items ++ clock_text nanoseconds }
     ensures room { TookRoom buffer.old buffer.new 18 }
 {
-    push_digits(buffer, (nanoseconds / HOUR) as u32, &OF_TWO);
+    push_two_digits(buffer, (nanoseconds / HOUR) as u32);
     push_text(buffer, ":");
-    push_digits(buffer, (nanoseconds / MINUTE % 60) as u32, &OF_TWO);
+    push_two_digits(buffer, (nanoseconds / MINUTE % 60) as u32);
     push_text(buffer, ":");
-    push_digits(buffer, (nanoseconds / SECOND % 60) as u32, &OF_TWO);
+    push_two_digits(buffer, (nanoseconds / SECOND % 60) as u32);
     push_text(buffer, ".");
-    push_digits(buffer, (nanoseconds % SECOND) as u32, &OF_NINE);
+    push_nine_digits(buffer, (nanoseconds % SECOND) as u32);
 }
 
-/// Appends the digits of a number at these places.
-fn push_digits(buffer: &mut Vec<u8>, number: u32, places: &[u32])
-    requires room { HasRoom buffer.old (length places.now) }
-    requires places { All (λ place. 1 ≤ place) places.now }
-    ensures text { buffer.new.items ≡ buffer.old.items ++ digits places.now number }
-    ensures room { TookRoom buffer.old buffer.new (length places.now) }
+/// The last digit of a number.
+fn digit(number: u32) -> u8
+    ensures { result ≡ digit number }
 {
-    for place in places {
-        push_octet(buffer, b'0' + (number / *place % 10) as u8);
-    }
+    b'0' + (number % 10) as u8
 }
 
-/// Appends a number of two digits.
-pub(crate) fn push_two_digits(buffer: &mut Vec<u8>, number: u16)
+/// Appends the last two digits of a number.
+pub(crate) fn push_two_digits(buffer: &mut Vec<u8>, number: u32)
     requires { HasRoom buffer.old 2 }
     ensures text { buffer.new.items ≡ buffer.old.items ++ two_digits number }
     ensures room { TookRoom buffer.old buffer.new 2 }
 {
-    push_digits(buffer, number.into(), &OF_TWO);
+    push_octet(buffer, digit(number / 10));
+    push_octet(buffer, digit(number));
+}
+
+/// Appends the last four digits of a number.
+fn push_four_digits(buffer: &mut Vec<u8>, number: u32)
+    requires { HasRoom buffer.old 4 }
+    ensures text { buffer.new.items ≡ buffer.old.items ++ four_digits number }
+    ensures room { TookRoom buffer.old buffer.new 4 }
+{
+    push_octet(buffer, digit(number / 1_000));
+    push_octet(buffer, digit(number / 100));
+    push_octet(buffer, digit(number / 10));
+    push_octet(buffer, digit(number));
+}
+
+/// Appends the last nine digits of a number.
+fn push_nine_digits(buffer: &mut Vec<u8>, number: u32)
+    requires { HasRoom buffer.old 9 }
+    ensures text { buffer.new.items ≡ buffer.old.items ++ nine_digits number }
+    ensures room { TookRoom buffer.old buffer.new 9 }
+{
+    push_octet(buffer, digit(number / 100_000_000));
+    push_octet(buffer, digit(number / 10_000_000));
+    push_octet(buffer, digit(number / 1_000_000));
+    push_octet(buffer, digit(number / 100_000));
+    push_octet(buffer, digit(number / 10_000));
+    push_octet(buffer, digit(number / 1_000));
+    push_octet(buffer, digit(number / 100));
+    push_octet(buffer, digit(number / 10));
+    push_octet(buffer, digit(number));
 }
 
 /// Appends a time, or `-` where there is none.
