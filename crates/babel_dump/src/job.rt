@@ -11,7 +11,7 @@ use crate::reading::{Reading, TimeOption};
 use crate::run_fault::Side;
 use crate::spelling::Spelling;
 use babel_canon::Body;
-use babel_capture::{Place, Window};
+use babel_capture::Place;
 use babel_prefix::Addr;
 use babel_table::Limits;
 use babel_tlv::View;
@@ -336,16 +336,17 @@ impl Job {
 
     /// Whether a time is asked for of the input on this side, if it is a capture.
     pub(crate) fn is_timed(&self, side: Side) -> bool {
-        let window = match (self, side) {
-            (Job::Senders { reading, .. } | Job::Extract { reading, .. }, _) => reading.window,
-            (_, Side::First) => self
-                .reading()
-                .map_or(Window::Whole, |reading| reading.window),
-            (_, Side::Other) => self
-                .other_reading()
-                .map_or(Window::Whole, |reading| reading.window),
+        if let Job::Senders { reading, .. } | Job::Extract { reading, .. } = self {
+            return reading.is_timed();
+        }
+        let reading = match side {
+            Side::First => self.reading(),
+            Side::Other => self.other_reading(),
         };
-        matches!(window, Window::Between { .. })
+        match reading {
+            Some(reading) => reading.of_capture().is_timed(),
+            None => false,
+        }
     }
 
     /// How many octets of an input are read at most.
