@@ -524,8 +524,8 @@ def hundredths(centiseconds):
 
 
 def time_notes(found, intervals, window):
-    """The notes on times: that they run backwards, and that less was read than the greatest of these
-    Intervals."""
+    """The notes on times: that they run backwards, and that what was read spans less than the
+    greatest of these Intervals."""
     for (_, before), (number, time) in zip(found.records, found.records[1:]):
         if window and time < before:
             text = f"times run backwards at packet {number}"
