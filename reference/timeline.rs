@@ -506,17 +506,51 @@ fn after(time: i128, span: Option<u64>) -> i128 {
 struct Out {
     text: Vec<u8>,
     failed: Option<io::Error>,
+    /// The time written last, and its text.
+    time: (i128, [u8; clock::TEXT]),
 }
 
 const ROOM: usize = 1 << 16;
 const HEX: &[u8; 16] = b"0123456789abcdef";
+
+/// The digits of an octet and a point, and how many these are.
+static OCTETS: [([u8; 4], usize); 256] = {
+    let mut texts = [([b'.'; 4], 0); 256];
+    let mut octet = 0;
+    while octet < 256 {
+        let digits = [octet / 100, octet / 10 % 10, octet % 10];
+        let (text, len) = &mut texts[octet];
+        let mut place = match octet {
+            0..10 => 2,
+            10..100 => 1,
+            _ => 0,
+        };
+        while place < 3 {
+            text[*len] = b'0' + digits[place] as u8;
+            *len += 1;
+            place += 1;
+        }
+        text[*len] = b'.';
+        *len += 1;
+        octet += 1;
+    }
+    texts
+};
 
 impl Out {
     fn new() -> Out {
         Out {
             text: Vec::with_capacity(ROOM + 4_096),
             failed: None,
+            time: (0, clock::octets(0)),
         }
+    }
+
+    fn time(&mut self, time: i128) {
+        if self.time.0 != time {
+            self.time = (time, clock::octets(time));
+        }
+        self.text.extend_from_slice(&self.time.1);
     }
 
     fn put(&mut self, text: &[u8]) {
@@ -539,23 +573,27 @@ impl Out {
     fn address(&mut self, addr: Addr) {
         match addr {
             Addr::V4(bits) => {
-                for (place, octet) in bits.to_be_bytes().into_iter().enumerate() {
-                    if place > 0 {
-                        self.text.push(b'.');
-                    }
-                    self.decimal(octet.into());
+                let (mut text, mut end) = ([0; 16], 0);
+                for octet in bits.to_be_bytes() {
+                    let (digits, len) = OCTETS[usize::from(octet)];
+                    text[end..end + 4].copy_from_slice(&digits);
+                    end += len;
                 }
+                self.put(&text[..end - 1]);
             }
             Addr::V6(bits) => {
+                let (mut text, mut end) = ([0; 40], 0);
                 for place in 0..8 {
-                    if place > 0 {
-                        self.text.push(b':');
-                    }
                     let group = (bits >> (112 - 16 * place)) as u16;
-                    let digits = [12, 8, 4, 0].map(|shift| HEX[usize::from(group >> shift & 15)]);
-                    let zeros = (group.leading_zeros() / 4).min(3) as usize;
-                    self.put(&digits[zeros..]);
+                    let zeros = (group.leading_zeros() / 4).min(3);
+                    for shift in [12, 8, 4, 0].into_iter().skip(zeros as usize) {
+                        text[end] = HEX[usize::from(group >> shift & 15)];
+                        end += 1;
+                    }
+                    text[end] = b':';
+                    end += 1;
                 }
+                self.put(&text[..end - 1]);
             }
         }
     }
@@ -1299,7 +1337,7 @@ impl Timeline {
         if self.json {
             self.out.put(b"{\"time\":\"");
         }
-        self.out.put(&clock::octets(time));
+        self.out.time(time);
         self.out.put(&self.senders[sender as usize].text);
         self.out.put(what.as_bytes());
     }
