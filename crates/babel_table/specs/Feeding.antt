@@ -224,7 +224,6 @@ pub record HasHeardAll (progress : Progress) (given : List (ℕ × List ℕ)) : 
   pub none : progress.pending ≡ []
   pub all : List Heard
   pub heard : AreHeard given all
-  pub place : progress.at ≡ length (dump_of given)
   pub words : progress.words ≡ after_all (told_of (start_of progress.limits progress.sender) all) []
 
 -- the feeder stands where these packets, each with the time when it came, have led it

@@ -38,9 +38,13 @@ passed_count stamps factor moment words =
     count_by (λ word. is_passed stamps factor moment word.1) words
 
 -- nothing is said any more where what was said has passed
+abbrev pub unless_passed : List When → ℕ → ℕ → Option Kept → Option Kept
+unless_passed stamps factor moment said =
+    if is_passed stamps factor moment said then None else said
+
 abbrev pub unpassed : List When → ℕ → ℕ → Words → Words
 unpassed stamps factor moment words =
-    map (λ word. (word.0, if is_passed stamps factor moment word.1 then None else word.1)) words
+    map (λ word. (word.0, unless_passed stamps factor moment word.1)) words
 
 abbrev pub AreDistinct : List RouteKey → Type 0
 AreDistinct keys = IsDistinct (eq_by_cmp key_cmp) keys

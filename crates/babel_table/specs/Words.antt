@@ -13,7 +13,7 @@ use Rattle.babel_tlv.specs.declared.start.Start.{Start}
 use Rattle.babel_tlv.specs.Framing.{TlvAt, ArePackets, packet_octets}
 use Rattle.babel_tlv.specs.Route.{RouteKey}
 use Rattle.babel_tlv.specs.Keys.{key_cmp}
-use Rattle.babel_table.specs.Moments.{Told, When, told_in, update_interval}
+use Rattle.babel_table.specs.Moments.{AreRowsAt, Told, When, told_in, update_interval}
 
 -- ---- stamps
 
@@ -100,3 +100,8 @@ has_passed factor moment when =
 abbrev pub lasting_words : ℕ → ℕ → TimedRows → TimedRows
 lasting_words factor moment words =
     filter (λ row. not (has_passed factor moment row.1.when)) words
+
+-- the words after all that was told, but for those that have passed, are what is held at the moment
+abbrev pub WordsAreHeld : Type 0
+WordsAreHeld = (factor moment : ℕ) (told : List Told)
+    → AreRowsAt factor moment told (rows_of (lasting_words factor moment (after_all told [])))

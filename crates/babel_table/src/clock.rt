@@ -14,12 +14,14 @@ pub struct Clock {
     is_running: bool,
     time: u128,
     interval: u16,
+    /// Whether the last stamp is of this time and this Interval.
+    is_stamped: bool,
     stamps: Vec<Stamp>,
 }
 
 impl Model for Clock {
-    ghost use Rattle.std.specs.Prelude.{◌<◌, ◌^◌};
-    ghost use Rattle.babel_table.specs.Words.{Timing};
+    ghost use Rattle.std.specs.Prelude.{◌≡◌, ◌<◌, ◌^◌, true, length};
+    ghost use Rattle.babel_table.specs.Words.{Timing, when_at};
 
     ghost Value = { Timing };
 
@@ -29,7 +31,9 @@ impl Model for Clock {
       stamps = c.stamps.items;
     } };
 
-    ghost invariant = { λ c. c.time < 2 ^ 96 };
+    ghost invariant = { λ c. (c.time < 2 ^ 96) × (c.is_stamped ≡ true
+        → when_at c.stamps.items (length c.stamps.items)
+        ≡ record { time = c.time; interval = c.interval }) };
 }
 
 impl Clock {
@@ -41,6 +45,7 @@ impl Clock {
             is_running,
             time: 0,
             interval: 0,
+            is_stamped: false,
             stamps: Vec::new(alloc),
         }
     }
@@ -53,6 +58,7 @@ impl Clock {
         } }
     {
         self.time = time;
+        self.is_stamped = false;
     }
 
     /// What is said next has the Interval of this body of an Update: RFC 8966, 4.6.9.
@@ -61,7 +67,11 @@ impl Clock {
           when = record { time = self.old.when.time; interval = update_interval body.now };
         } }
     {
-        self.interval = octet(body, 4) as u16 * 256 + octet(body, 5) as u16;
+        let interval = octet(body, 4) as u16 * 256 + octet(body, 5) as u16;
+        if interval != self.interval {
+            self.interval = interval;
+            self.is_stamped = false;
+        }
     }
 
     /// The mark of a word that comes now, where that of the word before is the last.
@@ -71,16 +81,11 @@ impl Clock {
         ensures ok { IfOk result (IsMark self.old self.new last) }
         ensures err { OnErr result (self.new ≡ self.old) }
     {
-        if !self.is_running {
+        if !self.is_running || self.is_stamped {
             return Ok(last);
         }
-        let now = Stamp::new(self.time, self.interval);
-        if let Some(stamp) = self.stamps.last() {
-            if stamp.is(&now) {
-                return Ok(last);
-            }
-        }
-        self.stamps.push(now)?;
+        self.stamps.push(Stamp::new(self.time, self.interval))?;
+        self.is_stamped = true;
         Ok(last + 1)
     }
 

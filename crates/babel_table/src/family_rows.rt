@@ -11,7 +11,7 @@ ghost use Rattle.babel_table.specs.Live.{kept, lasting, live_rows};
 ghost use Rattle.babel_table.specs.Lookup.{IsBetter};
 ghost use Rattle.babel_table.specs.Rows.{IsRising};
 ghost use Rattle.babel_table.specs.Said.{AreAbove, AreDistinct, AreIndexed, IsPlace, is_passed};
-ghost use Rattle.babel_table.specs.Said.{passed_count, standing, unpassed};
+ghost use Rattle.babel_table.specs.Said.{passed_count, standing, unless_passed, unpassed};
 
 use crate::compact_held::CompactHeld;
 use crate::compact_key::CompactKey;
@@ -226,8 +226,9 @@ impl<W: Word, H: Hop> FamilyRows<W, H> {
 
     /// For how many keys there is something that has passed at the moment.
     pub fn count_passed(&self, moment: &Moment<'_>) -> usize
-        ensures { result + length (lasting moment.now.stamps.now moment.now.factor
+        ensures count { result + length (lasting moment.now.stamps.now moment.now.factor
             moment.now.time self.now) ≡ length self.now }
+        ensures small { result < 2 ^ 63 }
     {
         count_passed(&self.rows, moment)
     }
@@ -299,9 +300,7 @@ fn count_passed<W: Word, H: Hop>(rows: &[WordRow<W, H>], moment: &Moment<'_>) ->
 {
     let mut count = 0;
     for row in rows {
-        if has_passed(row, moment) {
-            count += 1;
-        }
+        count += usize::from(has_passed(&row.1, moment));
     }
     count
 }
@@ -312,18 +311,25 @@ fn forget_passed<W: Word, H: Hop>(rows: &mut [WordRow<W, H>], moment: &Moment<'_
         rows.old }
 {
     for row in rows.iter_mut() {
-        if has_passed(row, moment) {
-            row.1 = None;
-        }
+        forget_if_passed(&mut row.1, moment);
     }
 }
 
-/// Whether something was said in the row, and has passed at the moment.
-fn has_passed<W: Word, H: Hop>(row: &WordRow<W, H>, moment: &Moment<'_>) -> bool
-    ensures { result ≡ is_passed moment.now.stamps.now moment.now.factor moment.now.time
-        row.now.1 }
+/// Keeps nothing where what was said has passed at the moment.
+fn forget_if_passed<H: Hop>(said: &mut Option<Stored<H>>, moment: &Moment<'_>)
+    ensures { said.new ≡ unless_passed moment.now.stamps.now moment.now.factor moment.now.time
+        said.old }
 {
-    match &row.1 {
+    if has_passed(said, moment) {
+        *said = None;
+    }
+}
+
+/// Whether something was said, and has passed at the moment.
+fn has_passed<H: Hop>(said: &Option<Stored<H>>, moment: &Moment<'_>) -> bool
+    ensures { result ≡ is_passed moment.now.stamps.now moment.now.factor moment.now.time said.now }
+{
+    match said {
         Some(stored) => moment.has_passed(stored.mark),
         None => false,
     }

@@ -137,8 +137,9 @@ impl LiveRows {
         } else {
             Some(Fault::TooManyRoutes { at })
         };
-        self.last = self.clock.mark(self.last)?;
-        self.kept.put(key, held, self.last, refusal)
+        let last = self.clock.mark(self.last)?;
+        self.last = last;
+        self.kept.put(key, held, last, refusal)
     }
 
     /// Holds nothing for the key.
@@ -206,6 +207,7 @@ impl LiveRows {
     /// Holds nothing for the keys whose rows have passed at the moment.
     pub fn forget_passed(&mut self, factor: u64, time: u128)
         ensures settings { KeepsAllButRows self.old self.new }
+        ensures last { self.new.last ≡ self.old.last }
         ensures words { self.new.words ≡ lasting_words factor time self.old.words }
     {
         self.kept.forget_passed(&Moment {
@@ -239,7 +241,7 @@ impl LiveRows {
             (Follows self.old.mode (events.Retract key.now) self.old.rows self.new.rows) }
         ensures refused { IfErr result (IsRefused self.old.mode self.old.entries at
             (events.Retract key.now) self.old.rows) }
-        ensures words { self.old.mode ≡ Plain → self.new.words
+        ensures words { self.old.runs ≡ true → self.new.words
             ≡ after_event self.old.when (events.Retract key.now) self.old.words }
     {
         match self.mode {
@@ -256,7 +258,7 @@ impl LiveRows {
         requires { self.old.last + 1 < 2 ^ 64 }
         ensures settings { KeepsAllButRows self.old self.new }
         ensures rows { Follows self.old.mode events.RetractAll self.old.rows self.new.rows }
-        ensures words { self.old.mode ≡ Plain → self.new.words ≡ [] }
+        ensures words { self.old.runs ≡ true → self.new.words ≡ [] }
     {
         match self.mode {
             Mode::Plain => self.clear(),

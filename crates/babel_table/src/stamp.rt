@@ -1,7 +1,10 @@
-ghost use Rattle.std.specs.Prelude.{◌≡◌, ◌<◌, ◌^◌, IsTrue};
+ghost use Rattle.std.specs.Prelude.{◌≡◌, ◌<◌, ◌^◌};
 ghost use Rattle.babel_table.specs.Words.{has_passed};
 
 use std::marker::Model;
+
+/// How many numbers the low part of a time can be.
+const LOW: u128 = 1 << 64;
 
 /// When something was said, and the Interval that was said with it (RFC 8966, 4.6.9), in 16 octets.
 #[derive(Drop)]
@@ -27,24 +30,17 @@ impl Stamp {
         ensures { result ≡ record { time = time; interval = interval } }
     {
         Stamp {
-            low: (time % (1 << 64)) as u64,
-            high: (time / (1 << 64)) as u32,
+            low: (time % LOW) as u64,
+            high: (time / LOW) as u32,
             interval,
         }
-    }
-
-    /// Whether both are the same.
-    pub fn is(&self, other: &Stamp) -> bool
-        ensures { IsTrue result → self.now ≡ other.now }
-    {
-        self.low == other.low && self.high == other.high && self.interval == other.interval
     }
 
     /// Whether at the moment so many times the Interval have passed: RFC 8966, appendix B.
     pub fn has_passed(&self, factor: u64, moment: u128) -> bool
         ensures { result ≡ has_passed factor moment self.now }
     {
-        let time = u128::from(self.high) * (1 << 64) + u128::from(self.low);
+        let time = u128::from(self.high) * LOW + u128::from(self.low);
         let wait = u128::from(factor) * u128::from(self.interval);
         self.interval > 0 && time + wait <= moment
     }

@@ -141,8 +141,9 @@ impl V4Rows {
 
     /// For how many keys there is something that has passed at the moment.
     pub fn count_passed(&self, moment: &Moment<'_>) -> usize
-        ensures { result + length (lasting moment.now.stamps.now moment.now.factor
+        ensures count { result + length (lasting moment.now.stamps.now moment.now.factor
             moment.now.time self.now) ≡ length self.now }
+        ensures small { result < 2 ^ 63 }
     {
         if self.is_wide {
             self.wide.count_passed(moment)
