@@ -5,6 +5,7 @@ use Rattle.std.specs.Prelude.{not, count_by}
 use Rattle.std.proofs.Common.{◌<◌, get_or, slice_set, slice_index_or}
 use Rattle.std.proofs.lemmas.List.Sums.{count_by_more_no, count_by_more_yes}
 use Rattle.std.proofs.lemmas.List.{length-map}
+use Rattle.std.proofs.lemmas.List.Recursion.{is_count_by}
 use Rattle.std.proofs.Math.Seq.{take-append_seam}
 use Rattle.std.specs.List.{AllByRecursion, IsDistinct, filter}
 use Rattle.std.specs.List.Sorted.{IsStrictlySortedBy}
@@ -106,19 +107,16 @@ module _ (stamps : List When) (factor moment : ℕ) where
   length-standing : (ws : Words) → AreDistinct (keys_of ws) → length (standing ws) ≡ said_count ws
   unfolding IsDistinct said_count
   length-standing [] distinct = refl
-  length-standing (w ∷ ws) distinct = by w.1
+  length-standing (w ∷ ws) distinct = by (length-standing ws distinct.1) w.1
     where
-      again : length (standing ws) ≡ said_count ws
-      again = length-standing ws distinct.1
-
       none : found w.0 (standing ws) ≡ None
       none = found-standing w.0 ws ∙ ap word_of (absent-found w.0 ws distinct.0)
 
-      by : (o : Option Kept) → length (say w.0 o (standing ws)) ≡ cond (is_some o) 1 0 + said_count ws
-      by (Some v) =
+      by : length (standing ws) ≡ said_count ws → (o : Option Kept) → length (say w.0 o (standing ws)) ≡ cond (is_some o) 1 0 + said_count ws
+      by again (Some v) =
           let one : cond (is_some (found w.0 (standing ws))) 0 1 ≡ 1 = ap (λ (t : Option Kept). cond (is_some t) 0 1) none in
           omega (arith, length-said w.0 v (standing ws) (sorted-standing ws), one, again)
-      by None =
+      by again None =
           let one : cond (is_some (found w.0 (standing ws))) 1 0 ≡ 0 = ap (λ (t : Option Kept). cond (is_some t) 1 0) none in
           omega (arith, length-unsaid w.0 (standing ws), one, again)
 
@@ -129,29 +127,25 @@ module _ (stamps : List When) (factor moment : ℕ) where
   split-count : (ws : Words) → passed_first ws + said_count (unpassed stamps factor moment ws) ≡ said_count ws
   unfolding said_count passed_first
   split-count [] = refl
-  split-count (w ∷ ws) = by w.1
+  split-count (w ∷ ws) = by (split-count ws) w.1
     where
-      again : passed_first ws + said_count (unpassed stamps factor moment ws) ≡ said_count ws
-      again = split-count ws
-
-      at_test : (b : Bool) (v : Kept)
+      at_test : passed_first ws + said_count (unpassed stamps factor moment ws) ≡ said_count ws → (b : Bool) (v : Kept)
           → (cond b 1 0 + passed_first ws) + (cond (is_some (cond b None (Some v))) 1 0 + said_count (unpassed stamps factor moment ws)) ≡ 1 + said_count ws
-      at_test true v = omega (arith, again)
-      at_test false v = omega (arith, again)
+      at_test again true v = omega (arith, again)
+      at_test again false v = omega (arith, again)
 
-      by : (o : Option Kept) → (cond (is_passed stamps factor moment o) 1 0 + passed_first ws)
+      by : passed_first ws + said_count (unpassed stamps factor moment ws) ≡ said_count ws → (o : Option Kept) → (cond (is_passed stamps factor moment o) 1 0 + passed_first ws)
           + (cond (is_some (unless_passed stamps factor moment o)) 1 0 + said_count (unpassed stamps factor moment ws)) ≡ cond (is_some o) 1 0 + said_count ws
-      by None = again
-      by (Some v) = at_test (has_passed factor moment (when_at stamps v.mark)) v
+      by again None = omega (arith, again)
+      by again (Some v) = at_test again (has_passed factor moment (when_at stamps v.mark)) v
 
   passed-first : (ws : Words) → passed_count stamps factor moment ws ≡ passed_first ws
   unfolding passed_first
-  passed-first [] = refl
-  passed-first (w ∷ ws) = by (passed-first ws) (is_passed stamps factor moment w.1)
+  passed-first ws = sym (is_count_by passed_first (λ (w : RouteKey × Option Kept). is_passed stamps factor moment w.1) refl (λ w later. by (is_passed stamps factor moment w.1) (passed_first later)) ws)
     where
-      by : passed_count stamps factor moment ws ≡ passed_first ws → (b : Bool) → cond b (1 + passed_count stamps factor moment ws) (passed_count stamps factor moment ws) ≡ cond b 1 0 + passed_first ws
-      by again true = omega (arith, again)
-      by again false = omega (arith, again)
+      by : (b : Bool) (n : ℕ) → cond b 1 0 + n ≡ cond b (1 + n) n
+      by true n = omega arith
+      by false n = omega arith
 
   module _ (ws : Words) (distinct : AreDistinct (keys_of ws)) where
     keys-unpassed : keys_of (unpassed stamps factor moment ws) ≡ keys_of ws
