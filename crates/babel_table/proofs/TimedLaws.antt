@@ -1,15 +1,16 @@
 -- A feeder that keeps times: what it has heard, and its table at a moment.
 use Rattle.std.proofs.Common.{◌≡◌, ℕ, ◌+◌, true, List, [], ◌∷◌, ◌++◌, length, Option, Some, None, Result, Ok, Err, refl, sym, ap, subst, ◌∙◌, arith, length-append}
-use Rattle.std.specs.Prelude.{IfOk}
+use Rattle.std.specs.Prelude.{◌≢◌, IfErr, IfOk, OnOk}
 use Rattle.std.specs.List.{flat_map}
 use Rattle.babel_tlv.specs.declared.fault.Fault.{Fault}
+use Rattle.babel_tlv.specs.declared.fault.Fault.TheVariants as faults
 use Rattle.babel_tlv.specs.declared.held.Held.{Held}
 use Rattle.babel_tlv.specs.declared.mode.Mode.{Mode}
 use Rattle.babel_tlv.specs.declared.start.Start.{Start}
 use Rattle.babel_tlv.specs.Framing.{packet_octets}
 use Rattle.babel_tlv.specs.Route.{RouteKey}
 use Rattle.babel_table.specs.Bounds.{start_of}
-use Rattle.babel_table.specs.DumpFault.{HasNoFault}
+use Rattle.babel_table.specs.DumpFault.{DumpFault, HasNoFault, IsTruncated}
 use Rattle.babel_table.specs.Feeding.{HasHeard, HasHeardAll, HasRead, HasReadTo, HasTaken, Progress, routes}
 use Rattle.babel_table.specs.Moments.{AreRowsAt, IsTableAt, dump_of, told_of}
 use Rattle.babel_table.specs.Rows.{Routes}
@@ -84,6 +85,37 @@ module _ (p q : Progress) (same_limits : q.limits ≡ p.limits) (same_mode : q.m
               ∙ ap (λ (s : Start). after_all (told_of s (heard_then given was.all was.heard start p.at p.time octets p.words q.words here was.words whole)) []) same;
         };
       }
+
+-- ---- as the code feeds them
+
+-- the time is set, and then packets are fed
+module _ (old p q : Progress) (time : ℕ) (set : p ≡ timed old time) (given : List (ℕ × List ℕ)) (heard : HasHeard old given) (octets : List ℕ) where
+  heard-set : HasHeard p given
+  heard-set = subst (λ (x : Progress). HasHeard x given) (sym set) (heard-timed old time given heard)
+
+  at-time : HasHeard q (given ++ (p.time, octets) ∷ []) → HasHeard q (given ++ (time, octets) ∷ [])
+  at-time here = subst (λ (t : ℕ). HasHeard q (given ++ (t, octets) ∷ [])) (ap (λ (x : Progress). x.time) set) here
+
+  module _ (same_limits : q.limits ≡ p.limits) (same_mode : q.mode ≡ p.mode) (same_sender : q.sender ≡ p.sender) (same_runs : q.runs ≡ p.runs)
+      (read : (fed : List ℕ) → HasRead p fed → HasRead q (fed ++ octets)) where
+    pub fed-failed : (fault : Fault) → q.fault ≡ Some fault → HasHeard q (given ++ (time, octets) ∷ [])
+    fed-failed fault failed = at-time (heard-failed p q same_limits same_mode same_sender same_runs octets read given heard-set fault failed)
+
+    pub fed-checked : {T : Type 0} (r : Result T Fault) → p.fault ≡ None
+        → (p.runs ≡ true → p.pending ≡ [] → HearsPackets p.time (start_of p.limits p.sender) p.at octets p.words q.words q.pending)
+        → OnOk r ((q.fault ≡ None) × (q.pending ≡ [])) → IfErr r IsTruncated → IfErr r (λ fault. ¬ IsTruncated fault) → HasHeard q (given ++ (time, octets) ∷ [])
+    fed-checked (Ok x) none hears end truncated not =
+        at-time (heard-more p q same_limits same_mode same_sender same_runs octets read given heard-set none end.1 (hears heard-set.runs (heard-set.told none).none))
+    fed-checked (Err fault) none hears end truncated not = absurd (not truncated)
+
+pub read-at : (old p : Progress) (time : ℕ) → p ≡ timed old time → (fed octets more : List ℕ) (fault : Fault)
+    → (HasRead p fed → DumpFault p.limits p.mode p.sender ((fed ++ octets) ++ more) fault) → HasRead old fed → DumpFault old.limits old.mode old.sender ((fed ++ octets) ++ more) fault
+read-at old p time set fed octets more fault fails read =
+    subst (λ (x : Progress). HasRead x fed → DumpFault x.limits x.mode x.sender ((fed ++ octets) ++ more) fault) set fails (read-timed old time old.fault fed read)
+
+pub truncated-none : {T : Type 0} {P : Fault → Type 0} (r : Result T Fault) → IfErr r IsTruncated → IfErr r (λ fault. fault ≢ faults.Memory → ¬ IsTruncated fault → P fault)
+truncated-none (Ok x) truncated = tt
+truncated-none (Err fault) truncated = λ not_memory not. absurd (not truncated)
 
 -- ---- the table at a moment
 
