@@ -119,22 +119,21 @@ truncated-none (Err fault) truncated = λ not_memory not. absurd (not truncated)
 
 -- ---- the table at a moment
 
-pub finished-at : (p : Progress) → p.fault ≡ None → p.pending ≡ [] → (factor moment : ℕ) (r : Result Routes Fault) (rows : List (RouteKey × Held))
-    → IfOk r (λ table. table ≡ routes rows p.table.report) → (p.runs ≡ true → rows ≡ rows_of (lasting_words factor moment p.words))
+pub finished-at : (p : Progress) → p.fault ≡ None → p.pending ≡ [] → (factor moment : ℕ) (r : Result Routes Fault)
+    → IfOk r (λ table. table.report ≡ p.table.report) → (p.runs ≡ true → IfOk r (λ table. table.rows ≡ rows_of (lasting_words factor moment p.words)))
     → IfOk r (λ table. (given : List (ℕ × List ℕ)) → HasHeard p given → HasNoFault p.limits p.mode p.sender (dump_of given) × IsTableAt p.limits p.sender given factor moment table)
-finished-at p none empty factor moment (Err fault) rows is are = tt
-finished-at p none empty factor moment (Ok table) rows is are = λ given heard.
+finished-at p none empty factor moment (Err fault) is are = tt
+finished-at p none empty factor moment (Ok table) is are = λ given heard.
     let told = heard.told none in
     let taken = read-taken p (dump_of given) none heard.read in
     let words = told_of (start_of p.limits p.sender) told.all in (
       no_fault p (dump_of given) taken empty,
-      subst (λ (t : Routes). IsTableAt p.limits p.sender given factor moment t) (sym is)
-          (record {
-            all = told.all;
-            heard = told.heard;
-            rows = subst (AreRowsAt factor moment words) (sym (are heard.runs)) (rows-at factor moment words p.words told.words);
-            whole = p.table;
-            is_whole = subst (λ (m : Mode). IsTableOf p.limits m p.sender (dump_of given) p.table) heard.mode (table_of p (dump_of given) taken empty);
-            report = refl;
-          }),
+      record {
+        all = told.all;
+        heard = told.heard;
+        rows = subst (AreRowsAt factor moment words) (sym (are heard.runs)) (rows-at factor moment words p.words told.words);
+        whole = p.table;
+        is_whole = subst (λ (m : Mode). IsTableOf p.limits m p.sender (dump_of given) p.table) heard.mode (table_of p (dump_of given) taken empty);
+        report = is;
+      },
     )

@@ -1,10 +1,10 @@
 -- What was heard has no fault, and its table at the moment has the words that have not passed.
-use Rattle.std.proofs.Common.{◌≡◌, true, ap, sym, subst, ◌∙◌}
+use Rattle.std.proofs.Common.{◌≡◌, true, subst}
 use Rattle.std.specs.Prelude.{IfOk}
 use Rattle.std.proofs.lemmas.Result.{err_from_is_err_and}
-use Rattle.babel_table.specs.Feeding.{HasHeard, Progress, routes}
+use Rattle.babel_table.specs.Feeding.{Progress}
 use Rattle.babel_table.specs.Moments.{dump_of}
-use Rattle.babel_table.specs.Words.{TimedRows, lasting_words, rows_of}
+use Rattle.babel_table.specs.Words.{lasting_words, rows_of}
 use Rattle.babel_table.proofs.TimedLaws.{finished-at}
 use Rattle.babel_table.proofs.feeder.Feeder.finish_at.Goals as goal
 
@@ -15,9 +15,6 @@ returns-in_err-check_end-clause-fault c =
 
 pub returns-clause-ok : goal.returns-clause-ok
 returns-clause-ok c =
-    let rows = c.forget_passed.new.self.rows in
-    let report = c.self.inside.stream.so_far.report in
-    finished-at c.args.self c.in_ok-check_end.ensures.ok.0 c.in_ok-check_end.ensures.ok.1 c.args.factor c.args.moment c.of.result rows
-    (subst (λ (p : Progress). IfOk c.of.result (λ table. table ≡ routes rows p.table.report)) c.self.view_is c.of.ensures.ok)
-    (subst (λ (p : Progress). p.runs ≡ true → rows ≡ rows_of (lasting_words c.args.factor c.args.moment p.words)) c.self.view_is
-    (λ runs. c.are_words.ensures (c.forget_passed.ensures.settings.3 ∙ runs) ∙ ap (λ (t : TimedRows). rows_of t) c.forget_passed.ensures.words))
+    finished-at c.args.self c.in_ok-check_end.ensures.ok.0 c.in_ok-check_end.ensures.ok.1 c.args.factor c.args.moment c.at.result
+    (subst (λ (p : Progress). IfOk c.at.result (λ table. table.report ≡ p.table.report)) c.self.view_is c.at.ensures.report)
+    (subst (λ (p : Progress). p.runs ≡ true → IfOk c.at.result (λ table. table.rows ≡ rows_of (lasting_words c.args.factor c.args.moment p.words))) c.self.view_is c.at.ensures.rows)
