@@ -104,6 +104,12 @@ module _ (stamps : List When) (factor moment : ℕ) where
   absent-found k [] apart = refl
   absent-found k (w ∷ ws) apart = rw apart.0 (absent-found k ws apart.1)
 
+  one-said : (o : Option Kept) (n m : ℕ) → o ≡ None → n ≡ m + cond (is_some o) 0 1 → n ≡ m + 1
+  one-said o n m none is = is ∙ ap (λ (t : Option Kept). m + cond (is_some t) 0 1) none
+
+  none-unsaid : (o : Option Kept) (n m : ℕ) → o ≡ None → n + cond (is_some o) 1 0 ≡ m → n + 0 ≡ m
+  none-unsaid o n m none is = ap (λ (t : Option Kept). n + cond (is_some t) 1 0) (sym none) ∙ is
+
   length-standing : (ws : Words) → AreDistinct (keys_of ws) → length (standing ws) ≡ said_count ws
   unfolding IsDistinct said_count
   length-standing [] distinct = refl
@@ -114,11 +120,11 @@ module _ (stamps : List When) (factor moment : ℕ) where
 
       by : length (standing ws) ≡ said_count ws → (o : Option Kept) → length (say w.0 o (standing ws)) ≡ cond (is_some o) 1 0 + said_count ws
       by again (Some v) =
-          let one : cond (is_some (found w.0 (standing ws))) 0 1 ≡ 1 = ap (λ (t : Option Kept). cond (is_some t) 0 1) none in
-          omega (arith, length-said w.0 v (standing ws) (sorted-standing ws), one, again)
+          let one = one-said (found w.0 (standing ws)) (length (say w.0 (Some v) (standing ws))) (length (standing ws)) none (length-said w.0 v (standing ws) (sorted-standing ws)) in
+          omega (arith, one, again)
       by again None =
-          let one : cond (is_some (found w.0 (standing ws))) 1 0 ≡ 0 = ap (λ (t : Option Kept). cond (is_some t) 1 0) none in
-          omega (arith, length-unsaid w.0 (standing ws), one, again)
+          let same = none-unsaid (found w.0 (standing ws)) (length (say w.0 None (standing ws))) (length (standing ws)) none (length-unsaid w.0 (standing ws)) in
+          omega (arith, same, again)
 
   passed_first : Words → ℕ
   passed_first [] = 0

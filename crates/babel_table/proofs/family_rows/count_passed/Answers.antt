@@ -10,11 +10,11 @@ pub loop-row-preserved : goal.loop-row-preserved
 loop-row-preserved g c =
     let at = c.args.moment.now in
     record {
-      count = passed-more (λ word. is_passed at.stamps.now at.factor at.time word.1) c.args.rows.now c.loop-row.row-index c.loop-row.count c.from.result c.loop-row-item.result
+      count = passed-more (λ word. is_passed at.stamps.now at.factor at.time word.1) c.args.rows.now c.loop-row.row-index c.loop-row.count c.from-count.result c.row-item.result
           c.loop-row-test.true c.loop-row.invariant.count
-          (c.from.ensures ∙ ap bool_byte (c.has_passed.ensures ∙ ap (λ word. is_passed at.stamps.now at.factor at.time word.1) c.loop-row-item.is));
-      few = omega (arith, c.loop-row.invariant.few, byte_small _ c.from.result c.from.ensures);
+          (c.from-count.ensures ∙ ap bool_byte (c.has_passed.ensures ∙ ap (λ word. is_passed at.stamps.now at.factor at.time word.1) c.row-item.is));
+      few = omega (arith, c.loop-row.invariant.few, byte_small _ c.from-count.result c.from-count.ensures);
     }
 
 pub overflow_add-count : goal.overflow_add-count
-overflow_add-count g c = omega (arith, c.loop-row.invariant.few, byte_small _ c.from.result c.from.ensures)
+overflow_add-count g c = omega (arith, c.loop-row.invariant.few, byte_small _ c.from-count.result c.from-count.ensures)
