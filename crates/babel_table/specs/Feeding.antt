@@ -1,7 +1,8 @@
 -- What a feeder has made of the octets that it was fed. Reading in pieces is this project's own:
 -- RFC 8966, 4 has each packet come whole, in a datagram. Where packets and TLVs end is that of RFC
 -- 8966, 4.2 and 4.3.
-use Rattle.std.specs.Prelude.{◌≡◌, ℕ, ◌+◌, ◌-◌, ◌<◌, ◌≤◌, Bool, true, List, [], ◌∷◌, ◌++◌, length, take, Option}
+use Rattle.std.specs.Prelude.{◌≡◌, ℕ, ◌+◌, ◌-◌, ◌<◌, ◌≤◌, Bool}
+use Rattle.std.specs.Prelude.{true, List, [], ◌∷◌, ◌++◌, length, take, Option}
 use Rattle.std.specs.Prelude.{Some, None, Result, Ok, Err, ◌⊎◌}
 use Rattle.std.specs.List.{flat_map, Contains}
 use Rattle.babel_prefix.specs.Address.{Address}

@@ -1,5 +1,5 @@
--- What was said when, and what is held at a moment: RFC 8966, 3.5.4, 4.6.9 and appendix B. A time is
--- in nanoseconds since the start of 1970. Who uses no times needs none of this page.
+-- What was said when, and what is held at a moment: RFC 8966, 3.5.4, 4.6.9 and appendix B. A time
+-- is in nanoseconds since the start of 1970. Who uses no times needs none of this page.
 use Rattle.std.specs.Prelude.{◌≡◌, ℕ, ◌<◌, ◌≤◌, ◌+◌, ◌*◌, List, [], ◌∷◌, ◌++◌, map, length, Result}
 use Rattle.std.specs.Prelude.{Ok, Err}
 use Rattle.std.specs.List.{AllByRecursion, Contains, flat_map}

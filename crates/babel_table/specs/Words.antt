@@ -1,6 +1,7 @@
 -- How rows keep when their words came: this project's own. Each row has the mark of its word, which
 -- is how many stamps there were once it was put; the last of them is its own.
-use Rattle.std.specs.Prelude.{◌≡◌, ℕ, zero, suc, ◌≤◌, ◌+◌, ◌*◌, Bool, true, not, ◌&&◌, nat_lt, nat_le}
+use Rattle.std.specs.Prelude.{◌≡◌, ℕ, zero, suc, ◌≤◌, ◌+◌, ◌*◌, Bool, true, not, ◌&&◌, nat_lt}
+use Rattle.std.specs.Prelude.{nat_le}
 use Rattle.std.specs.Prelude.{List, [], ◌∷◌, ◌++◌, map, length, slice_index_or}
 use Rattle.std.specs.List.{filter, flat_map}
 use Rattle.std.specs.BTreeMap.{insert_entry, is_at}

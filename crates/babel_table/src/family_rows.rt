@@ -91,8 +91,8 @@ impl<W: Word, H: Hop> FamilyRows<W, H> {
         self.count
     }
 
-    /// Keeps this for the key, with its mark. Where there is nothing for it, the refusal is answered, if there is
-    /// one.
+    /// Keeps this for the key, with its mark. Where there is nothing for it, the refusal is
+    /// answered, if there is one.
     pub fn put(
         &mut self,
         key: &Key,

@@ -60,8 +60,8 @@ impl KeptRows {
         self.v4.len() + self.v6.len()
     }
 
-    /// Keeps this for the key, with its mark. Where there is nothing for it, the refusal is answered, if there is
-    /// one.
+    /// Keeps this for the key, with its mark. Where there is nothing for it, the refusal is
+    /// answered, if there is one.
     pub fn put(
         &mut self,
         key: &Key,

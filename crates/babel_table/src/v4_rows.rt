@@ -80,8 +80,8 @@ impl V4Rows {
         }
     }
 
-    /// Keeps this for the key, with its mark. Where there is nothing for it, the refusal is answered, if there is
-    /// one.
+    /// Keeps this for the key, with its mark. Where there is nothing for it, the refusal is
+    /// answered, if there is one.
     pub fn put(
         &mut self,
         key: &Key,
