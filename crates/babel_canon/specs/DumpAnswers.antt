@@ -1,7 +1,8 @@
 -- What a dump answers for a destination and a source address, by what it tells: RFC 8966, 2.8,
 -- 3.5.3, 4.6.9; RFC 9079, 4.
 use Rattle.std.specs.Prelude.{◌≡◌, ◌↔◌, Bool, ◌&&◌, ◌==◌, if◌then◌else◌, is_none, List, fold}
-use Rattle.std.specs.Prelude.{Option, Some, None}
+use Rattle.std.specs.Prelude.{Option, Some, None, IsFalse}
+use Rattle.std.specs.List.{list_any}
 use Rattle.babel_prefix.specs.Width.{same_family}
 use Rattle.babel_prefix.specs.Address.{Address, AddressPrefix, IsAddress}
 use Rattle.babel_tlv.specs.declared.event.Event.{Event}
@@ -10,11 +11,11 @@ use Rattle.babel_tlv.specs.declared.held.Held.{Held}
 use Rattle.babel_tlv.specs.declared.held.Held.TheVariants as helds
 use Rattle.babel_tlv.specs.declared.mode.Mode.{Mode}
 use Rattle.babel_tlv.specs.declared.mode.Mode.TheVariants as modes
-use Rattle.babel_tlv.specs.Framing.{TlvAt}
+use Rattle.babel_tlv.specs.Framing.{TlvAt, Framed}
 use Rattle.babel_tlv.specs.Route.{RouteKey}
-use Rattle.babel_table.specs.BestMatch.{ContainsBoth, IsMoreSpecific}
+use Rattle.babel_tlv.specs.Says.{refuses, told}
+use Rattle.babel_table.specs.BestMatch.{IsBestAmong}
 use Rattle.babel_canon.specs.Sent.{Sent}
-use Rattle.babel_canon.specs.Dumps.{IsDump, told}
 
 -- ---- what is held for a key
 
@@ -50,28 +51,21 @@ held_for mode events key = fold (held_after mode key) None events
 
 -- ---- answers
 
--- RFC 9079, 4: there is a key that contains both addresses, for which this is held, and nothing is
--- held for any more specific key that contains them. (There is one such key at most: nothing is
--- held for a key that no event names, and prefixes that Updates form have zeros past their length.
--- So there is one answer, which `settled` says.)
-pub record HasBest (mode : Mode) (events : List Event) (d s : Address) (held : Held) : Type 0 where
-  pub key : RouteKey
-  pub matching : ContainsBoth d s key
-  pub is_held : held_for mode events key ≡ Some held
-  pub best : (other : RouteKey) → ContainsBoth d s other → IsMoreSpecific other key
-      → held_for mode events other ≡ None
-
--- the answer of events for two addresses: none, if nothing is held for any key that contains both
+-- RFC 9079, 4: the answer of events for two addresses: what is held for the most specific key that
+-- contains both; none, if nothing is held for any that does. (There is one such key at most:
+-- nothing is held for a key that no event names, and prefixes that Updates form have zeros past
+-- their length. So there is one answer, which `settled` says.)
 abbrev pub IsAnswer : Mode → List Event → Address → Address → Option Held → Type 0
-IsAnswer mode events d s None =
-    (key : RouteKey) → ContainsBoth d s key → held_for mode events key ≡ None
-IsAnswer mode events d s (Some held) = HasBest mode events d s held
+IsAnswer mode events = IsBestAmong (λ pair. held_for mode events pair.0 ≡ Some pair.1)
 
--- the dump answers this for a destination and a source address, where encoding 4 is read or not
+-- the dump, which is packets of which no TLV refuses it, answers this for a destination and a
+-- source address, where encoding 4 is read or not. (A router drops packets that are not so, and
+-- skips what is after a body; that both refuse the dump is this project's own.)
 pub record DumpAnswers (via_v6 : Bool) (mode : Mode) (one : Sent) (d s : Address)
     (answer : Option Held) : Type 0 where
   pub packets : List (List TlvAt)
-  pub is_dump : IsDump via_v6 one.dump packets
+  pub are_read : Framed one.dump packets
+  pub none_refuses : IsFalse (list_any (list_any (refuses via_v6)) packets)
   pub answers :
       IsAnswer mode (told (record { sender = one.sender; via_v6 = via_v6 }) packets) d s answer
 
