@@ -14,11 +14,15 @@ use Rattle.babel_tlv.specs.declared.reason.Reason.TheVariants as reasons
 use Rattle.babel_tlv.specs.FrameFaults.{BeginsNoTlv}
 use Rattle.babel_tlv.specs.Framing.{TlvAt, laid_out, tlv_octets, tlvs_of}
 use Rattle.babel_tlv.specs.Left.{BeginsTlv}
-use Rattle.babel_tlv.specs.SubTlv.{and_then, are_all_of, is_bad_source, item_read, items_read, skipped, source_prefix, sub_tlvs}
+use Rattle.babel_tlv.specs.SubTlv.{and_then, is_bad_source, item_read, items_read, skipped, sub_tlvs}
+use Rattle.babel_tlv.specs.Reading.{source_prefix}
 use Rattle.babel_tlv.proofs.Reading.{one, tlvs_of-begins}
 
 abbrev Given : Type 0
 Given = Result (Option AddressPrefix) Reason
+
+abbrev are_all_of : List ℕ → List TlvAt → Bool
+are_all_of octets items = eqb (length (flat_map tlv_octets items)) (length octets)
 
 -- nothing is read where no TLV begins
 pub tlvs_of-stuck : (at : ℕ) (octets : List ℕ) → BeginsNoTlv octets → tlvs_of at octets ≡ []
