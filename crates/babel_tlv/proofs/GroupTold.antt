@@ -9,6 +9,7 @@ use Rattle.babel_prefix.specs.declared.family.Family.{Family}
 use Rattle.babel_prefix.specs.declared.family.Family.TheVariants.{V4, V6}
 use Rattle.babel_prefix.specs.Width.{same_family}
 use Rattle.babel_prefix.specs.Address.{Address, IsAddress}
+use Rattle.babel_prefix.proofs.EntryLaws.{same_family-is}
 use Rattle.babel_tlv.specs.declared.event.Event.{Event}
 use Rattle.babel_tlv.specs.declared.held.Held.{Held}
 use Rattle.babel_tlv.specs.declared.held.Held.TheVariants as helds
@@ -138,12 +139,6 @@ kept V6 context hop known = ap (λ (h : Option Address). record context { next_h
 and_true : (a b : Bool) → (a && b) ≡ true → (a ≡ true) × (b ≡ true)
 and_true true b e = (refl, e)
 and_true false b e = absurd cc
-
-same_family-is : (a b : Family) → same_family a b ≡ true → a ≡ b
-same_family-is V4 V4 e = refl
-same_family-is V4 V6 e = absurd cc
-same_family-is V6 V4 e = absurd cc
-same_family-is V6 V6 e = refl
 
 same_hop : (one other : Address) → (same_family one.family other.family && (one.bits == other.bits)) ≡ true → one ≡ other
 same_hop one other e =
