@@ -1,6 +1,6 @@
 -- What a dump answers for a destination and a source address, by what it tells: RFC 8966, 2.8,
 -- 3.5.3, 4.6.9; RFC 9079, 4.
-use Rattle.std.specs.Prelude.{◌≡◌, ◌↔◌, Bool, ◌&&◌, ◌==◌, if◌then◌else◌, is_none, List, fold}
+use Rattle.std.specs.Prelude.{◌≡◌, ◌↔◌, Bool, ◌&&◌, ◌==◌, if◌then◌else◌, is_none, List, [], fold}
 use Rattle.std.specs.Prelude.{Option, Some, None, IsFalse}
 use Rattle.std.specs.List.{list_any}
 use Rattle.babel_prefix.specs.Width.{same_family}
@@ -11,7 +11,7 @@ use Rattle.babel_tlv.specs.declared.held.Held.{Held}
 use Rattle.babel_tlv.specs.declared.held.Held.TheVariants as helds
 use Rattle.babel_tlv.specs.declared.mode.Mode.{Mode}
 use Rattle.babel_tlv.specs.declared.mode.Mode.TheVariants as modes
-use Rattle.babel_tlv.specs.Framing.{TlvAt, Framed}
+use Rattle.babel_tlv.specs.Framing.{TlvAt, ReadsAs}
 use Rattle.babel_tlv.specs.Route.{RouteKey}
 use Rattle.babel_tlv.specs.Says.{refuses, told}
 use Rattle.babel_table.specs.BestMatch.{IsBestAmong}
@@ -64,7 +64,7 @@ IsAnswer mode events = IsBestAmong (λ pair. held_for mode events pair.0 ≡ Som
 pub record DumpAnswers (via_v6 : Bool) (mode : Mode) (one : Sent) (d s : Address)
     (answer : Option Held) : Type 0 where
   pub packets : List (List TlvAt)
-  pub are_read : Framed one.dump packets
+  pub are_read : ReadsAs one.dump packets []
   pub none_refuses : IsFalse (list_any (list_any (refuses via_v6)) packets)
   pub answers :
       IsAnswer mode (told (record { sender = one.sender; via_v6 = via_v6 }) packets) d s answer

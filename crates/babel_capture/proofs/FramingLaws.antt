@@ -5,7 +5,7 @@ use Rattle.std.proofs.lemmas.List.{length-append}
 use Rattle.std.proofs.lemmas.List.Elements.{All-head, All-tail}
 use Rattle.babel_tlv.specs.declared.fault.Fault.{Fault}
 use Rattle.babel_tlv.specs.declared.fault.Fault.TheVariants as faults
-use Rattle.babel_tlv.specs.Framing.{TlvAt, ArePackets as ArePlacedPackets, IsBody, body_octets, framed, packet_octets}
+use Rattle.babel_tlv.specs.Framing.{TlvAt, ArePackets as ArePlacedPackets, IsBody, tlv_octets, framed, packet_octets}
 use Rattle.babel_tlv.specs.FrameFaults.{FrameFault, HeaderFault, LacksBody, PacketFault}
 use Rattle.babel_tlv.proofs.OneReading.{framed_one}
 use Rattle.babel_capture.specs.Packets.{ArePackets, IsPastEnd}
@@ -43,7 +43,7 @@ after at place (body ∷ bodies) [] rest fault fit placed same some faulty =
 after at place [] (tlvs ∷ packets) rest fault fit placed same some faulty =
     absurd (omega (arith, ap length same))
 after at place (body ∷ bodies) (tlvs ∷ packets) rest fault fit placed same some faulty =
-    let first = framed_one body (body_octets tlvs) (flat_map framed bodies) (flat_map packet_octets packets ++ rest) (All-head IsBody body bodies fit) placed.0
+    let first = framed_one body (flat_map tlv_octets tlvs) (flat_map framed bodies) (flat_map packet_octets packets ++ rest) (All-head IsBody body bodies fit) placed.0
     (same ∙ append_assoc (packet_octets tlvs) (flat_map packet_octets packets) rest) in
     after (at + length (packet_octets tlvs)) place bodies packets rest fault (All-tail IsBody body bodies fit) placed.2 first.1 some faulty
 

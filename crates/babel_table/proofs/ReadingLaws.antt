@@ -4,7 +4,7 @@ use Rattle.std.specs.Prelude.{◌⊎◌}
 use Rattle.std.specs.List.{flat_map}
 use Rattle.std.proofs.lemmas.Bool.{lt-ltb}
 use Rattle.std.proofs.lemmas.List.{append-nil, append_cancel_left, length-append, take_at, drop_at}
-use Rattle.babel_tlv.specs.Framing.{TlvAt, ArePlaced, ArePackets, ReadsAs, Framed, IsBody, body_octets, framed, packet_octets, tlv_octets, tlvs_of}
+use Rattle.babel_tlv.specs.Framing.{TlvAt, ArePlaced, ArePackets, ReadsAs, IsBody, framed, packet_octets, tlv_octets, tlvs_of}
 use Rattle.babel_tlv.specs.FrameFaults.{AreTlvs, BeginsNoTlv, HasNoTlvAt, BeginsPacket, body_len}
 use Rattle.babel_tlv.proofs.Reading.{tlvs_of-append, tlvs_of-AreTlvs}
 use Rattle.babel_table.specs.Feeding.{IsPartial}
@@ -64,27 +64,27 @@ stop_one at place other body stops other_stops =
     stops.5 ∙ ap (λ (t : List TlvAt). at + length (flat_map tlv_octets t)) (sym (stopped-read at place body stops) ∙ stopped-read at other body other_stops) ∙ sym other_stops.5
 
 -- in octets that are TLVs there is no place where none begins
-pub placed-no_stop : (at place : ℕ) (tlvs : List TlvAt) → ArePlaced at tlvs → HasNoTlvAt at (body_octets tlvs) place → ⊥
+pub placed-no_stop : (at place : ℕ) (tlvs : List TlvAt) → ArePlaced at tlvs → HasNoTlvAt at (flat_map tlv_octets tlvs) place → ⊥
 placed-no_stop at place tlvs placed stops =
-    let parts : AreTlvs at (body_octets tlvs) tlvs = record { whole = refl; placed = placed } in
-    let read : tlvs ≡ stops.0 = sym (tlvs_of-AreTlvs at (body_octets tlvs) tlvs parts) ∙ stopped-read at place (body_octets tlvs) stops in
-    let none : stops.1 ≡ [] = sym (append_cancel_left (body_octets tlvs) [] stops.1 (append-nil (body_octets tlvs) ∙ stops.2 ∙ ap (λ (t : List TlvAt). flat_map tlv_octets t ++ stops.1) (sym read))) in
+    let parts : AreTlvs at (flat_map tlv_octets tlvs) tlvs = record { whole = refl; placed = placed } in
+    let read : tlvs ≡ stops.0 = sym (tlvs_of-AreTlvs at (flat_map tlv_octets tlvs) tlvs parts) ∙ stopped-read at place (flat_map tlv_octets tlvs) stops in
+    let none : stops.1 ≡ [] = sym (append_cancel_left (flat_map tlv_octets tlvs) [] stops.1 (append-nil (flat_map tlv_octets tlvs) ∙ stops.2 ∙ ap (λ (t : List TlvAt). flat_map tlv_octets t ++ stops.1) (sym read))) in
     subst BeginsNoTlv none stops.4
 
 -- TLVs in one place that have the same octets are the same
-pub one_list : (at : ℕ) (tlvs others : List TlvAt) → ArePlaced at tlvs → ArePlaced at others → body_octets tlvs ≡ body_octets others → tlvs ≡ others
+pub one_list : (at : ℕ) (tlvs others : List TlvAt) → ArePlaced at tlvs → ArePlaced at others → flat_map tlv_octets tlvs ≡ flat_map tlv_octets others → tlvs ≡ others
 one_list at tlvs others placed others_placed same =
-    sym (tlvs_of-AreTlvs at (body_octets tlvs) tlvs (record { whole = refl; placed = placed }))
-    ∙ tlvs_of-AreTlvs at (body_octets tlvs) others (record { whole = same; placed = others_placed })
+    sym (tlvs_of-AreTlvs at (flat_map tlv_octets tlvs) tlvs (record { whole = refl; placed = placed }))
+    ∙ tlvs_of-AreTlvs at (flat_map tlv_octets tlvs) others (record { whole = same; placed = others_placed })
 
 -- ---- packets
 
 -- octets at this place that don't begin with a packet whose body is TLVs
 abbrev pub BeginsNoPacket : ℕ → List ℕ → Type 0
-BeginsNoPacket place rest = (tlvs : List TlvAt) (behind : List ℕ) → IsBody (body_octets tlvs) → ArePlaced (place + 4) tlvs → rest ≡ packet_octets tlvs ++ behind → ⊥
+BeginsNoPacket place rest = (tlvs : List TlvAt) (behind : List ℕ) → IsBody (flat_map tlv_octets tlvs) → ArePlaced (place + 4) tlvs → rest ≡ packet_octets tlvs ++ behind → ⊥
 
 pub partial-stuck : (place : ℕ) (rest : List ℕ) → IsPartial rest → BeginsNoPacket place rest
-partial-stuck place rest partial tlvs behind fits placed is = partial-no_packet rest (body_octets tlvs) partial (fits, behind, is)
+partial-stuck place rest partial tlvs behind fits placed is = partial-no_packet rest (flat_map tlv_octets tlvs) partial (fits, behind, is)
 
 pub placed-drop : (at : ℕ) (a b : List (List TlvAt)) → ArePackets at (a ++ b) → ArePackets (at + length (flat_map packet_octets a)) b
 placed-drop at [] b placed = subst (λ (n : ℕ). ArePackets n b) (omega arith) placed
@@ -102,7 +102,7 @@ pub either_on : (at : ℕ) (packets others : List (List TlvAt)) (rest behind : L
 either_on at packets [] rest behind placed others_placed same = inl (packets, refl, sym same)
 either_on at [] (other ∷ others) rest behind placed others_placed same = inr (other ∷ others, refl, same)
 either_on at (tlvs ∷ packets) (other ∷ others) rest behind placed others_placed same =
-    let both = one_body (body_octets tlvs) (body_octets other) (flat_map packet_octets packets ++ rest) (flat_map packet_octets others ++ behind) placed.0 others_placed.0
+    let both = one_body (flat_map tlv_octets tlvs) (flat_map tlv_octets other) (flat_map packet_octets packets ++ rest) (flat_map packet_octets others ++ behind) placed.0 others_placed.0
     (sym (append_assoc (packet_octets tlvs) (flat_map packet_octets packets) rest) ∙ same ∙ append_assoc (packet_octets other) (flat_map packet_octets others) behind) in
     let one : tlvs ≡ other = one_list (at + 4) tlvs other placed.1 others_placed.1 both.0 in
     elim (either_on (at + length (packet_octets tlvs)) packets others rest behind placed.2
@@ -141,7 +141,7 @@ readings_one octets rest behind packets others reads other_reads stuck other_stu
         absurd (other_stuck tlvs (flat_map packet_octets more ++ rest) later.0 later.1 (is_behind ∙ append_assoc (packet_octets tlvs) (flat_map packet_octets more) rest))
 
 -- octets are whole packets in one way
-pub framed_one : (octets : List ℕ) (packets others : List (List TlvAt)) → Framed octets packets → Framed octets others → packets ≡ others
+pub framed_one : (octets : List ℕ) (packets others : List (List TlvAt)) → ReadsAs octets packets [] → ReadsAs octets others [] → packets ≡ others
 framed_one octets packets others reads other_reads =
     (readings_one octets [] [] packets others reads other_reads (none (length (flat_map packet_octets packets))) (none (length (flat_map packet_octets others)))).0
   where
