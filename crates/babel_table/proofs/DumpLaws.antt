@@ -19,7 +19,8 @@ use Rattle.babel_table.specs.Feeding.{StandsBehind, Takes, Fails, TookPackets, S
 use Rattle.babel_table.specs.Rows.{Routes}
 use Rattle.babel_table.specs.TableOf.{AreFine}
 use Rattle.babel_table.proofs.FineLaws.{fine-not-refused}
-use Rattle.babel_table.proofs.ReadingLaws.{body_len-framed, length-framed, partial-no_packet, partial-stuck, placed-drop, one_body, placed-no_stop, packets_one}
+use Rattle.babel_table.proofs.ReadingLaws.{body_len-framed, length-framed, partial-no_packet, partial-stuck, placed-drop, one_body, packets_one}
+use Rattle.babel_tlv.proofs.OneReading.{whole-no_stop}
 
 -- ---- packets behind packets
 
@@ -360,7 +361,7 @@ packet-no_fault place rest behind tlvs fault fits placed is (inr (inl header)) =
     header-good place rest fault header (ap (λ (t : List ℕ). slice_index t 0) is) (ap (λ (t : List ℕ). slice_index t 1) is)
 packet-no_fault place rest behind tlvs fault fits placed is (inr (inr (body, begins, past))) =
     let same : body ≡ flat_map tlv_octets tlvs = (one_body body (flat_map tlv_octets tlvs) begins.1 behind begins.0 fits (sym begins.2 ∙ is)).0 in
-    placed-no_stop (place + 4) past.0 tlvs placed (subst (λ (b : List ℕ). HasNoTlvAt (place + 4) b past.0) same past.1)
+    whole-no_stop (place + 4) past.0 tlvs placed (subst (λ (b : List ℕ). HasNoTlvAt (place + 4) b past.0) same past.1)
 
 module _ (mode : Mode) (entries : ℕ) (start : Start) (table : Routes) (at : ℕ) (pending octets : List ℕ) (taken : HasTakenTo mode entries start table at pending octets) where
   pub only_truncated : (fault : Fault) → StreamFault mode entries start octets fault → IsTruncated fault × (pending ≢ [])
