@@ -1,11 +1,9 @@
 -- What is held for a key, event by event, is what stands for it.
-use Rattle.std.proofs.Common.{◌≡◌, ℕ, Bool, true, cond, List, [], ◌∷◌, map}
+use Rattle.std.proofs.Common.{◌≡◌, Bool, true, cond, List, [], ◌∷◌, map}
 use Rattle.std.proofs.Common.{Option, Some, None, refl, ap, subst, ◌∙◌, eqb-true, eq-eqb}
 use Rattle.std.specs.Prelude.{fold}
 use Rattle.std.proofs.lemmas.Bool.{and_parts, and_from}
 use Rattle.std.specs.Bool.{Decides, one_answer}
-use Rattle.babel_prefix.specs.declared.family.Family.{Family}
-use Rattle.babel_prefix.specs.Width.{same_family}
 use Rattle.babel_prefix.specs.Address.{AddressPrefix}
 use Rattle.babel_prefix.proofs.EntryLaws.{same_family-is, same_family-refl}
 use Rattle.babel_tlv.specs.declared.event.Event.{Event}
@@ -18,6 +16,7 @@ use Rattle.babel_tlv.specs.Route.{RouteKey}
 use Rattle.babel_table.proofs.HoldsLaws.{same, same-is, same-of, gone, next, stands, stands_from}
 use Rattle.babel_table.proofs.EntryLaws.{same_key as key_is}
 use Rattle.babel_canon.specs.DumpAnswers.{same_prefix, same_key, retracted, held_after, held_for}
+use Rattle.babel_canon.proofs.Boxes.{prefix_is}
 use Rattle.babel_canon.proofs.Told.{quiet}
 
 -- ---- tests of keys
@@ -26,21 +25,11 @@ same_prefix-decides : (p q : AddressPrefix) → Decides (same_prefix p q) (p ≡
 same_prefix-decides p q = (
   (λ h. let parts = and_parts _ _ h in
       let front = and_parts _ _ parts.0 in
-      let families = same_family-is p.address.family q.address.family front.0 in
-      ap (λ (f : Family). record {
-        address = record { family = f; bits = p.address.bits };
-        len =
-            p.len;
-      }) families
-      ∙ ap (λ (n : ℕ).
-      record { address = record { family = q.address.family; bits = n }; len = p.len })
-      (eqb-true _ _ front.1)
-      ∙ ap (λ (n : ℕ). record { address = q.address; len = n }) (eqb-true _ _ parts.1)),
-  (λ e. and_from _ _ (and_from _ _
-      (subst (λ (f : AddressPrefix). same_family p.address.family f.address.family ≡ true) e
-      (same_family-refl p.address.family))
-      (eq-eqb _ _ (ap (λ (f : AddressPrefix). f.address.bits) e)))
-      (eq-eqb _ _ (ap (λ (f : AddressPrefix). f.len) e))),
+      let bits : p.address.bits ≡ q.address.bits = eqb-true _ _ front.1 in
+      let len : p.len ≡ q.len = eqb-true _ _ parts.1 in
+      prefix_is p q (same_family-is p.address.family q.address.family front.0) (rw (bits, len) refl)),
+  (λ e. subst (λ (r : AddressPrefix). same_prefix p r ≡ true) e
+      (and_from _ _ (and_from _ _ (same_family-refl p.address.family) (eq-eqb p.address.bits p.address.bits refl)) (eq-eqb p.len p.len refl))),
 )
 
 pub same_key-decides : (a b : RouteKey) → Decides (same_key a b) (a ≡ b)
@@ -48,8 +37,7 @@ same_key-decides a b = (
   (λ h. let parts = and_parts _ _ h in
       key_is a b ((same_prefix-decides a.dst b.dst).0 parts.0)
       ((same_prefix-decides a.src b.src).0 parts.1)),
-  (λ e. and_from _ _ ((same_prefix-decides a.dst b.dst).1 (ap (λ (k : RouteKey). k.dst) e))
-      ((same_prefix-decides a.src b.src).1 (ap (λ (k : RouteKey). k.src) e))),
+  (λ e. subst (λ (k : RouteKey). same_key a k ≡ true) e (and_from _ _ ((same_prefix-decides a.dst a.dst).1 refl) ((same_prefix-decides a.src a.src).1 refl))),
 )
 
 same_key-is : (a b : RouteKey) → same_key a b ≡ same a b
