@@ -20,8 +20,9 @@ use Rattle.babel_tlv.specs.Framing.{TlvAt}
 use Rattle.babel_tlv.specs.Route.{RouteKey}
 use Rattle.babel_tlv.specs.Says.{tells, told, told_by}
 use Rattle.babel_tlv.proofs.TellsLaws.{IsToldIn, tells-holds, told_key-is}
-use Rattle.babel_canon.specs.DumpAnswers.{same_key, retracted, held_after, held_for}
-use Rattle.babel_canon.proofs.HeldFor.{same_key-decides}
+use Rattle.babel_table.specs.Holds.{same_key, retracted, held_after}
+use Rattle.babel_table.proofs.HoldsLaws.{same_key-decides}
+use Rattle.babel_canon.proofs.HeldFor.{held_for}
 use Rattle.babel_canon.proofs.Told.{route_holds}
 
 -- the bits past the length are zero

@@ -1,5 +1,6 @@
 -- The headline, from what the boxes of rows answer and what their text is read as.
-use Rattle.std.proofs.Common.{◌≡◌, ◌↔◌, ℕ, Bool, true, List, [], ◌∷◌, map, refl, sym, ap, subst, ◌∙◌, arith, Contains}
+use Rattle.std.proofs.Common.{◌≡◌, ◌↔◌, ℕ, Bool, true, Option, None, List, [], ◌∷◌, map, refl, sym, ap, subst, ◌∙◌, arith, Contains}
+use Rattle.std.specs.Prelude.{IfSome}
 use Rattle.std.specs.List.{AllByRecursion}
 use Rattle.babel_prefix.specs.declared.family.Family.{Family}
 use Rattle.babel_prefix.specs.declared.family.Family.TheVariants.{V4}
@@ -37,6 +38,7 @@ use Rattle.babel_canon.proofs.RoundTrip.{text_reads_back}
 use Rattle.babel_canon.proofs.Boxes.{each_is, same_back, same_on, boxes_one, boxes_answer, boxes_each, boxes_too}
 use Rattle.babel_table.proofs.ReadingLaws.{framed_one}
 use Rattle.babel_canon.proofs.Tables.{table_of_pairs}
+use Rattle.babel_canon.proofs.HeldFor.{plain_held}
 use Rattle.babel_canon.proofs.OneOutcome.{on_tables, texts_one, form_is_one, form_has_no_fault}
 
 -- ---- boxes can be read in the mode of their rows
@@ -47,8 +49,7 @@ rows_readable limits modes.Hold sender dump table is_table = tt
 rows_readable limits modes.Plain sender dump table is_table = each_is (λ (pair : Pair). IsRoute pair.1) table.rows (λ row at. route row.1 row.0 (Contains-from_Listed table.rows row at))
   where
     route : (held : Held) (key : RouteKey) → Contains table.rows (key, held) → IsRoute held
-    route (helds.Route ann) key c = tt
-    route helds.Unreachable key c = is_table.rows.held key helds.Unreachable c
+    route held key c = subst (λ (o : Option Held). IfSome o IsRoute) (is_table.rows.held key held c) (plain_held key None is_table.said tt)
 
 readable : (mode : Mode) (rows boxes : List Pair) → AreReadableIn mode rows → AreBoxes rows boxes → AreReadableIn mode boxes
 readable modes.Hold rows boxes reads are = tt

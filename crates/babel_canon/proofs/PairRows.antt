@@ -1,12 +1,12 @@
 -- Where the events are what pairs say, what stands behind them is the pairs.
 use Rattle.std.proofs.Common.{◌≡◌, ℕ, ◌≤◌, Bool, true, false, cond, List, [], ◌∷◌, ◌++◌, length, map, Option, Some, None, refl, sym, ap, subst, ◌∙◌, arith, inl, inr, Contains}
-use Rattle.std.specs.Prelude.{◌↔◌}
+use Rattle.std.specs.Prelude.{◌↔◌, ◌⊎◌, IsSome, fold}
 use Rattle.std.specs.List.{AllByRecursion, IsDistinct}
 use Rattle.std.specs.Map.{keys_of}
 use Rattle.std.specs.Option.{option_or}
 use Rattle.std.specs.Ordering.{eq_by_cmp}
 use Rattle.std.proofs.lemmas.Cmp.{eq_by_cmp_equiv}
-use Rattle.std.proofs.lemmas.List.Elements.{Contains-append_left, Contains-append_right}
+use Rattle.std.proofs.lemmas.List.Elements.{Contains-append_left}
 use Rattle.std.proofs.lemmas.Map.Entries.{length-keys_of}
 use Rattle.std.proofs.lemmas.Map.Keys.{IsDistinct-from_sorted, IsDistinct-head, IsDistinct-tail}
 use Rattle.std.proofs.lemmas.Map.Made.{IsDistinct-from_AllPairs, AllPairs-from_IsDistinct}
@@ -24,11 +24,11 @@ use Rattle.babel_tlv.specs.Route.{RouteKey}
 use Rattle.babel_tlv.specs.Keys.{key_cmp}
 use Rattle.babel_tlv.specs.Pair.{Pair}
 use Rattle.babel_tlv.specs.News.{spoken, held_event, pair_event}
-use Rattle.babel_table.specs.Holds.{Names, Holds}
+use Rattle.babel_table.specs.Holds.{Names, Holds, held_after, retracted, same_key}
 use Rattle.babel_table.specs.DumpFault.{HoldsMoreThan}
 use Rattle.babel_table.specs.Rows.{IsRising}
 use Rattle.babel_tlv.proofs.OrderLaws.{key_total}
-use Rattle.babel_table.proofs.HoldsLaws.{same, same-is, same-of, next, stands, stands_from, Holds-stands, stands-Holds}
+use Rattle.babel_table.proofs.HoldsLaws.{same, same-is, same-of, same_key-decides, next, stands, stands_from, Holds-stands, stands-Holds}
 use Rattle.babel_table.proofs.RowsLaws.{row_at}
 use Rattle.babel_canon.specs.RoundTrip.{HaveDistinctKeys, IsRoute, AreReadableIn}
 
@@ -123,17 +123,43 @@ record IsNamed (said : List Event) (key : RouteKey) : Type 0 where
   is_said : Contains said event
   names : Names key event
 
-said_here : (before after : List Event) (event : Event) → Contains (before ++ event ∷ after) event
-said_here before after event = Contains-append_right before (event ∷ after) event (0, omega arith, refl)
+abbrev NamedIn : List Event → RouteKey → Type 0
+NamedIn said key = (event : Event) × Listed said event × Names key event
+
+after-named : (mode : Mode) (key : RouteKey) (old : Option Held) (event : Event) → IsSome (held_after mode key old event) → IsSome old ⊎ Names key event
+after-named mode key old (events.Announce other ann) some = by (same_key other key) refl some
+  where
+    by : (b : Bool) → same_key other key ≡ b → IsSome (cond b (Some (helds.Route ann)) old) → IsSome old ⊎ (other ≡ key)
+    by true is some = inr ((same_key-decides other key).0 is)
+    by false is some = inl some
+after-named mode key old (events.Retract other) some = by (same_key other key) refl some
+  where
+    by : (b : Bool) → same_key other key ≡ b → IsSome (cond b (retracted mode) old) → IsSome old ⊎ (other ≡ key)
+    by true is some = inr ((same_key-decides other key).0 is)
+    by false is some = inl some
+after-named mode key None events.RetractAll some = absurd cc
+after-named mode key (Some held) events.RetractAll some = inl refl
+after-named mode key old events.Nothing some = inl some
+after-named mode key old (events.Ignored reason) some = inl some
+
+named_from : (mode : Mode) (key : RouteKey) (old : Option Held) (said : List Event) → IsSome (fold (held_after mode key) old said) → IsSome old ⊎ NamedIn said key
+named_from mode key old [] some = inl some
+named_from mode key old (event ∷ later) some = by (named_from mode key (held_after mode key old event) later some)
+  where
+    here : IsSome old ⊎ Names key event → IsSome old ⊎ NamedIn (event ∷ later) key
+    here (inl before) = inl before
+    here (inr names) = inr (event, inl refl, names)
+
+    by : IsSome (held_after mode key old event) ⊎ NamedIn later key → IsSome old ⊎ NamedIn (event ∷ later) key
+    by (inl after) = here (after-named mode key old event after)
+    by (inr (named, at, names)) = inr (named, inr at, names)
 
 holds-named : (mode : Mode) (said : List Event) (key : RouteKey) (held : Held) → Holds mode said key held → IsNamed said key
-holds-named mode said key (helds.Route ann) holds = record {
-  event = events.Announce key ann;
-  is_said = subst (λ (es : List Event). Contains es (events.Announce key ann)) (sym holds.whole) (said_here holds.before holds.after (events.Announce key ann));
-  names = refl;
-}
-holds-named modes.Plain said key helds.Unreachable holds = absurd holds
-holds-named modes.Hold said key helds.Unreachable holds = record { event = holds.named; is_said = holds.is_said; names = holds.names }
+holds-named mode said key held holds = by (named_from mode key None said (subst IsSome (sym holds) refl))
+  where
+    by : IsSome {T = Held} None ⊎ NamedIn said key → IsNamed said key
+    by (inl none) = absurd cc
+    by (inr (event, at, names)) = record { event = event; is_said = Contains-from_Listed said event at; names = names }
 
 -- an event that names a key is no silence
 listed-spoken : (told : List Event) (key : RouteKey) (event : Event) → Names key event → Listed told event → Listed (spoken told) event

@@ -12,7 +12,7 @@ use Rattle.babel_tlv.specs.declared.mode.Mode.{Mode}
 use Rattle.babel_tlv.specs.declared.reason.Reason.{Reason}
 use Rattle.babel_tlv.specs.declared.start.Start.{Start}
 use Rattle.babel_tlv.specs.Context.{Context, context_after, first_context, updated}
-use Rattle.babel_tlv.specs.Framing.{TlvAt, Framed}
+use Rattle.babel_tlv.specs.Framing.{TlvAt, ReadsAs}
 use Rattle.babel_tlv.specs.Route.{RouteKey, Announcement, is_reserved}
 use Rattle.babel_tlv.specs.Says.{ignored_for, refuses, route_tells, said, sayings, sayings_behind, tells, told, told_by, unless_ignored}
 use Rattle.babel_tlv.proofs.HopsFit.{via_after}
@@ -134,5 +134,5 @@ module _ (limits : Bounds) (mode : Mode) (sender : Address) (dump : List ℕ) (t
       told-sayings (start_of limits sender) is_table.packets ∙ ap (map quiet_of) said.whats ∙ quiet_oks said.told ∙ ap (map quiet) (sym said.parts)
 
   -- so does any reading of it
-  pub told-dump : (packets : List (List TlvAt)) → Framed dump packets → told (start_of limits sender) packets ≡ map quiet is_table.said
+  pub told-dump : (packets : List (List TlvAt)) → ReadsAs dump packets [] → told (start_of limits sender) packets ≡ map quiet is_table.said
   told-dump packets reads = ap (told (start_of limits sender)) (framed_one dump packets is_table.packets reads is_table.reads) ∙ told-table
