@@ -6,12 +6,13 @@ use Rattle.std.specs.Map.{keys_of}
 use Rattle.std.specs.Option.{option_or}
 use Rattle.std.specs.Ordering.{eq_by_cmp}
 use Rattle.std.proofs.lemmas.Cmp.{eq_by_cmp_equiv}
-use Rattle.std.proofs.lemmas.List.Elements.{Contains-append_left, Contains-append_right}
+use Rattle.std.proofs.lemmas.List.Elements.{Contains-append_left}
 use Rattle.std.proofs.lemmas.Map.Entries.{length-keys_of}
 use Rattle.std.proofs.lemmas.Map.Keys.{IsDistinct-from_sorted, IsDistinct-head, IsDistinct-tail}
 use Rattle.std.proofs.lemmas.Map.Made.{IsDistinct-from_AllPairs, AllPairs-from_IsDistinct}
 use Rattle.std.proofs.lemmas.Map.Steps.{length-le_from_keys}
 use Rattle.std.proofs.lemmas.Map.Views.{Contains-from_any, Contains-from_lookup, lookup-from_Contains, IsSome-lookup_from_Contains}
+use Rattle.babel_prefix.proofs.EntryLaws.{Listed-map}
 use Rattle.babel_prefix.proofs.Members.{Listed, Listed-from_Contains, Contains-from_Listed}
 use Rattle.babel_tlv.specs.declared.event.Event.{Event}
 use Rattle.babel_tlv.specs.declared.event.Event.TheVariants as events
@@ -193,27 +194,13 @@ held_key mode told behind first pairs key held news parts holds =
     (listed-spoken told key named.event named.names (Listed-from_Contains told named.event in_told)) in
     Contains-from_Listed (keys_of pairs) key (listed-key pairs key named.event named.names heard)
 
--- a key of a list is a pair's
-record HasKey (rows : List Pair) (key : RouteKey) : Type 0 where
-  held : Held
-  member : Contains rows (key, held)
-
-abbrev pair_of : RouteKey → Held → Pair
-pair_of k h = (k, h)
-
-has_key : (rows : List Pair) (key : RouteKey) → Listed (keys_of rows) key → HasKey rows key
-has_key [] key none = elim none [ ]
-has_key (row ∷ rows) key (inl e) = record { held = row.1; member = (0, omega arith, ap (λ (k : RouteKey). pair_of k row.1) e) }
-has_key (row ∷ rows) key (inr at) =
-    let later = has_key rows key at in
-    record { held = later.held; member = Contains-append_right (row ∷ []) rows (key, later.held) later.member }
-
 pub few_hold : (mode : Mode) (entries : ℕ) (told behind first : List Event) (pairs : List Pair) → spoken told ≡ map pair_event pairs → told ≡ first ++ behind → length pairs ≤ entries
     → HoldsMoreThan mode entries first → ⊥
 few_hold mode entries told behind first pairs news parts room more =
     let rows = more.0 in
     let laws = eq_by_cmp_equiv key_total in
     let few = length-le_from_keys laws (keys_of rows) pairs (IsDistinct-from_sorted key_cmp (keys_of rows) more.1.rising) (λ q in_rows.
-    let at = has_key rows q (Listed-from_Contains (keys_of rows) q (Contains-from_any same-is q (keys_of rows) in_rows)) in
-    IsSome-lookup_from_Contains laws q pairs (held_key mode told behind first pairs q at.held news parts (more.1.held q at.held at.member))) in
+    let from = Listed-map (λ (pair : Pair). pair.0) rows q (Listed-from_Contains (keys_of rows) q (Contains-from_any same-is q (keys_of rows) in_rows)) in
+    let member : Contains rows (q, from.0.1) = subst (λ (k : RouteKey). Contains rows (k, from.0.1)) from.2 (Contains-from_Listed rows from.0 from.1) in
+    IsSome-lookup_from_Contains laws q pairs (held_key mode told behind first pairs q from.0.1 news parts (more.1.held q from.0.1 member))) in
     omega (arith, more.2, room, few, length-keys_of rows)

@@ -91,17 +91,10 @@ module _ (mode : Mode) (said : List Event) (rows : List Pair) (are : AreHeld mod
       elim (cases_order pair.0.dst.len best.0.dst.len) [
         | inl same ↦ elim (cases_lt best.0.src.len pair.0.src.len) [
           | inl longer ↦ absurd (not_more (inr (same, longer)))
-          | inr ge ↦ inr (
-            ap block_of (clean_one pair.0.dst best.0.dst d (clean_row pair c).0
-                (clean_row best best_c).0 both.0 best_both.0 same),
-            ge,
-          )
+          | inr ge ↦ inr (ap block_of (clean_one pair.0.dst best.0.dst d (clean_row pair c).0 (clean_row best best_c).0 both.0 best_both.0 same), ge)
         ]
-        | inr other ↦ elim other [
-          | inl shorter ↦ inl shorter
-          | inr longer ↦
-              absurd (not_more (inl longer))
-        ]
+        | inr (inl shorter) ↦ inl shorter
+        | inr (inr longer) ↦ absurd (not_more (inl longer))
       ]
 
   not_more-specific : (pair best : Pair) → IsNoLonger (row_of (entry_of pair))

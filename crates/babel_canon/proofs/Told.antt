@@ -41,18 +41,20 @@ quiet_of (Err fault) = events.Nothing
 abbrev IsQuiet : Event → Type 0
 IsQuiet event = quiet event ≡ event
 
-route_quiet : (key : RouteKey) (body : List ℕ) (id : Option (List ℕ)) (hop : Option Address) → IsQuiet (route_tells key body id hop)
-route_quiet key body None hop = refl
-route_quiet key body (Some id) None = refl
-route_quiet key body (Some id) (Some hop) = by (is_reserved id) _
+-- what holds of nothing and of each announcement of a key holds of what is told of a route
+pub route_holds : (Holds : Event → Type 0) (key : RouteKey) (body : List ℕ) (id : Option (List ℕ)) (hop : Option Address)
+    → Holds events.Nothing → ((ann : Announcement) → Holds (events.Announce key ann)) → Holds (route_tells key body id hop)
+route_holds Holds key body None hop nothing each = nothing
+route_holds Holds key body (Some id) None nothing each = nothing
+route_holds Holds key body (Some id) (Some hop) nothing each = by (is_reserved id) _ (each _)
   where
-    by : (reserved : Bool) (ann : Announcement) → IsQuiet (cond reserved events.Nothing (events.Announce key ann))
-    by true ann = refl
-    by false ann = refl
+    by : (reserved : Bool) (ann : Announcement) → Holds (events.Announce key ann) → Holds (cond reserved events.Nothing (events.Announce key ann))
+    by true ann holds = nothing
+    by false ann holds = holds
 
 tells_quiet : (context : Context) (tlv : TlvAt) → IsQuiet (tells context tlv)
-tells_quiet context tlv =
-    tells-holds IsQuiet context refl refl (λ encoding body key told. refl) (λ encoding body key told id hop is. route_quiet key body id hop) tlv
+tells_quiet context =
+    tells-holds IsQuiet context refl refl (λ encoding body key told. refl) (λ encoding body key told id hop is. route_holds IsQuiet key body id hop refl (λ ann. refl))
 
 -- what a TLV tells is what it says, without the reasons
 tells-said : (context : Context) (tlv : TlvAt) → tells context tlv ≡ quiet_of (said context tlv)
