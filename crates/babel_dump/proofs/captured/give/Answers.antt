@@ -1,6 +1,5 @@
 -- Octets of the part were given; or nothing is left of it, and there is another, or none.
 use Rattle.std.proofs.Common.{rules, arith, ◌≡◌, ◌<◌, ◌≤◌, ◌+◌, ◌++◌, ap, drop, length, length-append, sym, take, ◌∙◌, [], refl, true, false}
-use Rattle.std.proofs.lemmas.List.{length-take-le}
 use Rattle.babel_dump.specs.Drained.{held_of, part_of, source_of}
 use Rattle.babel_dump.proofs.Drains.{handed_on, hands_end, hands_part, hands_trans, nothing_left}
 use Rattle.babel_dump.proofs.captured.give.Goals as goal
@@ -8,12 +7,12 @@ use Rattle.babel_dump.proofs.captured.give.Goals.{then-len-gt0-via-then-len-gt0,
 
 pub overflow_add-given : goal.overflow_add-given
 overflow_add-given g c =
-    let size : length (take c.in_ok-len.len c.read.new.buf) ≡ c.in_ok-len.len = length-take-le c.in_ok-len.len c.read.new.buf c.in_ok-len.ensures.bound in
+    let size : length (take c.in_ok-len.len c.read.new.buf) ≡ c.in_ok-len.len = sym c.in_ok-len.ensures.bound.1 in
     omega (arith, size, ap length c.in_ok-len.ensures.bytes.0, length-append (take c.in_ok-len.len c.read.new.buf) c.read.new.self.now, c.part_after-next.ensures.fits)
 
 pub returns-then-len-gt0-clause-octets : goal.returns-then-len-gt0-clause-octets
 returns-then-len-gt0-clause-octets g c =
-    let size : length (take c.in_ok-len.len c.read.new.buf) ≡ c.in_ok-len.len = length-take-le c.in_ok-len.len c.read.new.buf c.in_ok-len.ensures.bound in
+    let size : length (take c.in_ok-len.len c.read.new.buf) ≡ c.in_ok-len.len = sym c.in_ok-len.ensures.bound.1 in
     (hands_trans _ _ _ [] (take c.in_ok-len.len c.read.new.buf) c.parts.invariant.hands
     (handed_on (source_of g.R.Read.remaining c.parts.source) c.parts.given (c.parts.given + c.in_ok-len.len) (take c.in_ok-len.len c.read.new.buf) c.read.new.self.now
     (sym c.part_after-next.ensures.octets ∙ c.in_ok-len.ensures.bytes.0) (ap (λ n. c.parts.given + n) (sym size))),
