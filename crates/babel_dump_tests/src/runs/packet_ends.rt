@@ -20,7 +20,11 @@ fn told(
     let Ok(first) = device.read(&mut part) else {
         return Err(Fail::from("the first read failed"));
     };
-    push(&mut ends, first.saturating_sub(device.given()), device.ends())?;
+    push(
+        &mut ends,
+        first.saturating_sub(device.given()),
+        device.ends(),
+    )?;
     let Ok(second) = device.read(&mut part) else {
         return Err(Fail::from("the second read failed"));
     };

@@ -1,6 +1,6 @@
 -- Octets of the part were given; or nothing is left of it, and there is another, or none.
-use Rattle.std.proofs.Common.{rules, arith, ◌≡◌, ◌<◌, ◌≤◌, ◌+◌, ◌++◌, ap, drop, length, length-append, sym, take, ◌∙◌, [], refl, true, false}
-use Rattle.babel_dump.specs.Drained.{held_of, part_of, source_of}
+use Rattle.std.proofs.Common.{rules, arith, ◌≡◌, ◌<◌, ◌+◌, ap, length, length-append, sym, take, ◌∙◌, [], refl, true, false}
+use Rattle.babel_dump.specs.Drained.{held_of, source_of}
 use Rattle.babel_dump.proofs.Drains.{handed_on, hands_end, hands_part, hands_trans, nothing_left}
 use Rattle.babel_dump.proofs.captured.give.Goals as goal
 use Rattle.babel_dump.proofs.captured.give.Goals.{then-len-gt0-via-then-len-gt0, then-len-gt0-via-else-len-gt0+then-is_empty}
@@ -12,14 +12,15 @@ overflow_add-given g c =
 
 pub returns-then-len-gt0-clause-octets : goal.returns-then-len-gt0-clause-octets
 returns-then-len-gt0-clause-octets g c =
-    let size : length (take c.in_ok-len.len c.read.new.buf) ≡ c.in_ok-len.len = sym c.in_ok-len.ensures.bound.1 in
-    (hands_trans _ _ _ [] (take c.in_ok-len.len c.read.new.buf) c.parts.invariant.hands
-    (handed_on (source_of g.R.Read.remaining c.parts.source) c.parts.given (c.parts.given + c.in_ok-len.len) (take c.in_ok-len.len c.read.new.buf) c.read.new.self.now
-    (sym c.part_after-next.ensures.octets ∙ c.in_ok-len.ensures.bytes.0) (ap (λ n. c.parts.given + n) (sym size))),
-    λ zero room. absurd (elim c.then-len-gt0.branch [
-      | then-len-gt0-via-then-len-gt0 w ↦ search rules
-      | then-len-gt0-via-else-len-gt0+then-is_empty w ↦ search rules
-    ]))
+    let size : length (take c.in_ok-len.len c.read.new.buf) ≡ c.in_ok-len.len = sym c.in_ok-len.ensures.bound.1 in (
+      hands_trans _ _ _ [] (take c.in_ok-len.len c.read.new.buf) c.parts.invariant.hands
+          (handed_on (source_of g.R.Read.remaining c.parts.source) c.parts.given (c.parts.given + c.in_ok-len.len) (take c.in_ok-len.len c.read.new.buf) c.read.new.self.now
+          (sym c.part_after-next.ensures.octets ∙ c.in_ok-len.ensures.bytes.0) (ap (λ n. c.parts.given + n) (sym size))),
+      λ zero room. absurd (elim c.then-len-gt0.branch [
+        | then-len-gt0-via-then-len-gt0 w ↦ search rules
+        | then-len-gt0-via-else-len-gt0+then-is_empty w ↦ search rules
+      ]),
+    )
 
 pub returns-then-not-next_part-clause-octets : goal.returns-then-not-next_part-clause-octets
 returns-then-not-next_part-clause-octets g c =

@@ -5,15 +5,18 @@ use Rattle.babel_dump.proofs.Drains.{drained_end, drained_more, none_given_of, s
 use Rattle.babel_dump.proofs.captured.Source.next_part.Goals as goal
 
 pub returns-in-Ok-eq0-clause-end : goal.returns-in-Ok-eq0-clause-end
-returns-in-Ok-eq0-clause-end g c _ = (refl, λ first taken drained.
-    let source = source_of g.R.Read.remaining c.args.self.now in
-    let open_yet : c.args.self.now.end ≡ None = search rules in
-    let sound = subst (Stands source drained.fed taken) open_yet drained.stands in
-    let room : 0 < length c.read.new.buf = search rules in
-    let none : c.in-Ok-eq0.field-0 ≡ 0 = search rules in
-    drained_end first source _ taken refl refl (none_given_of _ _ c.in-Ok-eq0.field-0 c.read.new.buf none c.in-Ok-eq0.ensures.bytes.0)
-    (λ fed taken given. stands_ended _ fed taken (Some c.end_here.result) c.end_here.result
-    (c.end_here.ensures (c.in-Ok-eq0.ensures.bytes.1 none room) sound fed taken given)) drained)
+returns-in-Ok-eq0-clause-end g c _ = (
+  refl,
+  λ first taken drained.
+      let source = source_of g.R.Read.remaining c.args.self.now in
+      let open_yet : c.args.self.now.end ≡ None = search rules in
+      let sound = subst (Stands source drained.fed taken) open_yet drained.stands in
+      let room : 0 < length c.read.new.buf = search rules in
+      let none : c.in-Ok-eq0.field-0 ≡ 0 = search rules in
+      drained_end first source _ taken refl refl (none_given_of _ _ c.in-Ok-eq0.field-0 c.read.new.buf none c.in-Ok-eq0.ensures.bytes.0)
+      (λ fed taken given. stands_ended _ fed taken (Some c.end_here.result) c.end_here.result
+      (c.end_here.ensures (c.in-Ok-eq0.ensures.bytes.1 none room) sound fed taken given)) drained,
+)
 
 pub returns-in-Ok-feed-clause-more : goal.returns-in-Ok-feed-clause-more
 returns-in-Ok-feed-clause-more g c _ first taken drained =
