@@ -1,22 +1,22 @@
 -- The most specific of the keys that contain two addresses.
-use Rattle.std.proofs.Common.{◌≡◌, ◌⊎◌, inl, inr, ℕ, ◌-◌, ◌*◌, ◌/◌, ◌^◌, Bool}
-use Rattle.std.proofs.Common.{true, List, [], ◌∷◌, refl, sym, ap, subst, ◌∙◌, arith, eqb}
-use Rattle.std.proofs.Common.{eqb-true, eq-eqb}
-use Rattle.std.proofs.lemmas.Bool.{and_parts, and_from, cases_Bool, cases_lt, cases_order}
-use Rattle.std.proofs.lemmas.Bool.{false≢true}
+use Rattle.std.proofs.Common.{◌≡◌, ◌⊎◌, inl, inr, ℕ, ◌-◌, ◌*◌, ◌/◌, ◌^◌}
+use Rattle.std.proofs.Common.{List, [], ◌∷◌, ◌++◌, Option, Some, None, sym, ap, subst, ◌∙◌}
+use Rattle.std.proofs.Common.{arith, append_assoc}
+use Rattle.std.proofs.lemmas.Bool.{cases_lt, cases_order}
+use Rattle.std.proofs.lemmas.List.{append-nil}
 use Rattle.std.proofs.Math.Nat.{div-add-mod'}
-use Rattle.std.specs.Prelude.{◌&&◌}
 use Rattle.babel_prefix.specs.declared.family.Family.{Family}
-use Rattle.babel_prefix.specs.Width.{width_of, same_family}
+use Rattle.babel_prefix.specs.Width.{width_of}
 use Rattle.babel_prefix.specs.Block.{block_at, leading_bits}
 use Rattle.babel_prefix.specs.Address.{Address, AddressPrefix, prefix_of, prefix_at}
 use Rattle.babel_prefix.specs.Covers.{Covers}
-use Rattle.babel_prefix.proofs.EntryLaws.{same_family-is, same_family-refl}
-use Rattle.babel_prefix.proofs.Members.{Listed}
 use Rattle.babel_tlv.specs.Pair.{Pair}
 use Rattle.babel_tlv.specs.Route.{RouteKey}
 use Rattle.babel_table.specs.BestMatch.{ContainsBoth, IsMoreSpecific}
+use Rattle.babel_table.specs.Lookup.{IsBetter}
 use Rattle.babel_table.proofs.EntryLaws.{same_key as key_is}
+use Rattle.babel_table.proofs.StandingLaws.{IsBestOf, better, no_better}
+use Rattle.babel_canon.proofs.Boxes.{same_or_not}
 use Rattle.babel_canon.proofs.CleanKeys.{IsClean, AreClean}
 
 -- ---- clean prefixes
@@ -41,35 +41,14 @@ clean_one p q a p_clean q_clean p_covers q_covers same =
 
 -- ---- more specific keys
 
-specific-trans : (a b c : RouteKey) → IsMoreSpecific a b → IsMoreSpecific b c → IsMoreSpecific a c
-specific-trans a b c (inl p) (inl q) = inl (omega (arith, p, q))
-specific-trans a b c (inl p) (inr q) = inl (omega (arith, p, q.0))
-specific-trans a b c (inr p) (inl q) = inl (omega (arith, p.0, q))
-specific-trans a b c (inr p) (inr q) = inr (p.0 ∙ q.0, omega (arith, p.1, q.1))
-
-not_itself : (a : RouteKey) → ¬ IsMoreSpecific a a
-not_itself a (inl p) = omega (arith, p)
-not_itself a (inr p) = omega (arith, p.1)
-
 either_specific : (a b : RouteKey) → IsMoreSpecific a b ⊎ ¬ IsMoreSpecific a b
 either_specific a b =
     elim (cases_order a.dst.len b.dst.len) [
+      | inr (inr longer) ↦ inl (inl longer)
+      | inr (inl shorter) ↦ inr (λ more. elim more [ inl lt ↦ omega (arith, shorter, lt) | inr equal ↦ omega (arith, shorter, equal.0) ])
       | inl same ↦ elim (cases_lt b.src.len a.src.len) [
         | inl longer ↦ inl (inr (same, longer))
-        | inr ge ↦ inr (λ more. elim more [
-          | inl lt ↦ absurd (omega (arith, same, lt))
-          | inr longer ↦
-              absurd (omega (arith, ge, longer.1))
-        ])
-      ]
-      | inr other ↦ elim other [
-        | inl shorter ↦ inr (λ more. elim more [
-          | inl lt ↦
-              absurd (omega (arith, shorter, lt))
-          | inr equal ↦
-              absurd (omega (arith, shorter, equal.0))
-        ])
-        | inr longer ↦ inl (inl longer)
+        | inr ge ↦ inr (λ more. elim more [ inl lt ↦ omega (arith, same, lt) | inr longer ↦ omega (arith, ge, longer.1) ])
       ]
     ]
 
@@ -79,117 +58,67 @@ pub key_one : (d s : Address) (a b : RouteKey) → AreClean a → AreClean b →
 key_one d s a b a_clean b_clean a_both b_both not_a not_b =
     let dst : a.dst.len ≡ b.dst.len = elim (cases_order a.dst.len b.dst.len) [
       | inl same ↦ same
-      | inr other ↦ elim other [
-        | inl shorter ↦ absurd (not_b (inl shorter))
-        | inr longer ↦
-            absurd (not_a (inl longer))
-      ]
+      | inr (inl shorter) ↦ absurd (not_b (inl shorter))
+      | inr (inr longer) ↦ absurd (not_a (inl longer))
     ] in
     let src : a.src.len ≡ b.src.len = elim (cases_order a.src.len b.src.len) [
       | inl same ↦ same
-      | inr other ↦ elim other [
-        | inl shorter ↦ absurd (not_b (inr (sym dst, shorter)))
-        | inr longer
-            ↦ absurd (not_a (inr (dst, longer)))
-      ]
+      | inr (inl shorter) ↦ absurd (not_b (inr (sym dst, shorter)))
+      | inr (inr longer) ↦ absurd (not_a (inr (dst, longer)))
     ] in
     key_is a b (clean_one a.dst b.dst d a_clean.0 b_clean.0 a_both.0 b_both.0 dst)
     (clean_one a.src b.src s a_clean.1 b_clean.1 a_both.1 b_both.1 src)
 
 -- ---- the most specific of some rows
 
-abbrev covers_test : AddressPrefix → Address → Bool
-covers_test p a =
-    let w = width_of p.address.family in
-    same_family p.address.family a.family && eqb (leading_bits w p.len a.bits)
-    (leading_bits w p.len p.address.bits)
-
-covers_tested : (p : AddressPrefix) (a : Address) → (covers_test p a ≡ true → Covers p a)
-    × (Covers p a → covers_test p a ≡ true)
-covers_tested p a = (
-  (λ h. let parts = and_parts _ _ h in (same_family-is _ _ parts.0, eqb-true _ _ parts.1)),
-  (λ c. and_from _ _ (subst (λ (f : Family). same_family p.address.family f ≡ true) c.0
-      (same_family-refl p.address.family)) (eq-eqb _ _ c.1)),
-)
-
 either_covers : (p : AddressPrefix) (a : Address) → Covers p a ⊎ ¬ Covers p a
 either_covers p a =
-    elim (cases_Bool (covers_test p a)) [
-      | inl is ↦ inl ((covers_tested p a).0 is)
-      | inr not ↦ inr (λ c. false≢true (sym not ∙ (covers_tested p a).1 c))
+    let w = width_of p.address.family in
+    elim (same_or_not p.address.family a.family) [
+      | inl same ↦ elim (cases_order (leading_bits w p.len a.bits) (leading_bits w p.len p.address.bits)) [
+        | inl is ↦ inl (same, is)
+        | inr (inl lt) ↦ inr (λ c. omega (arith, lt, c.1))
+        | inr (inr gt) ↦ inr (λ c. omega (arith, gt, c.1))
+      ]
+      | inr not ↦ inr (λ c. not c.0)
     ]
 
 either_contains : (d s : Address) (key : RouteKey) → ContainsBoth d s key ⊎ ¬ ContainsBoth d s key
 either_contains d s key =
     elim (either_covers key.dst d) [
-      | inl dst ↦ elim (either_covers key.src s) [
-        | inl src ↦ inl (dst, src)
-        | inr not ↦
-            inr (λ both. not both.1)
-      ]
+      | inl dst ↦ elim (either_covers key.src s) [ inl src ↦ inl (dst, src) | inr not ↦ inr (λ both. not both.1) ]
       | inr not ↦ inr (λ both. not both.0)
     ]
 
--- a row that contains both addresses, and none that does is more specific
-pub record MostSpecific (rows : List Pair) (d s : Address) : Type 0 where
-  pub row : Pair
-  pub listed : Listed rows row
-  pub matching : ContainsBoth d s row.0
-  pub best : (other : Pair) → Listed rows other → ContainsBoth d s other.0
-      → ¬ IsMoreSpecific other.0 row.0
-
--- no row contains both addresses
-abbrev pub NoneMatches : List Pair → Address → Address → Type 0
-NoneMatches rows d s = (row : Pair) → Listed rows row → ¬ ContainsBoth d s row.0
-
-on_top : (x : Pair) (rows : List Pair) (d s : Address) → ContainsBoth d s x.0
-    → ((other : Pair) → Listed rows other → ContainsBoth d s other.0 → ¬ IsMoreSpecific other.0 x.0)
-    → MostSpecific (x ∷ rows) d s
-on_top x rows d s both best = record {
-  row = x;
-  listed = inl refl;
-  matching = both;
-  best = λ other listed contains. elim listed [
-    | inl same ↦
-        subst (λ (r : Pair). ¬ IsMoreSpecific r.0 x.0) same (not_itself x.0)
-    | inr later ↦
-        best other later contains
-  ];
-}
-
-below : (x : Pair) (rows : List Pair) (d s : Address) (most : MostSpecific rows d s)
-    → (ContainsBoth d s x.0 → ¬ IsMoreSpecific x.0 most.row.0) → MostSpecific (x ∷ rows) d s
-below x rows d s most not_more = record {
-  row = most.row;
-  listed = inr most.listed;
-  matching = most.matching;
-  best = λ other listed contains. elim listed [
-    | inl same ↦ subst (λ (r : Pair). ¬ IsMoreSpecific r.0 most.row.0) same
-        (not_more (subst (λ (r : Pair). ContainsBoth d s r.0) (sym same) contains))
-    | inr later ↦ most.best other later contains
-  ];
-}
-
-pub none_or_most : (rows : List Pair) (d s : Address) → NoneMatches rows d s ⊎ MostSpecific rows d s
-none_or_most [] d s = inl (λ row none both. none)
-none_or_most (x ∷ rows) d s =
-    elim (either_contains d s x.0) [
-      | inl both ↦ inr (elim (none_or_most rows d s) [
-        | inl none ↦ on_top x rows d s both (λ other listed contains.
-            absurd (none other listed contains))
-        | inr most ↦ elim (either_specific x.0 most.row.0) [
-          | inl more ↦ on_top x rows d s both (λ other listed contains over.
-              most.best other listed contains (specific-trans other.0 x.0 most.row.0 over more))
-          | inr not_more ↦ below x rows d s most (λ contains. not_more)
-        ]
-      ])
-      | inr not ↦ elim (none_or_most rows d s) [
-        | inl none ↦ inl (λ row listed both. elim listed [
-          | inl same ↦
-              not (subst (λ (r : Pair). ContainsBoth d s r.0) (sym same) both)
-          | inr later ↦
-              none row later both
-        ])
-        | inr most ↦ inr (below x rows d s most (λ contains. absurd (not contains)))
-      ]
+either_better : (d s : Address) (row : Pair) (best : Option Pair)
+    → IsBetter d s row.0 best ⊎ ¬ IsBetter d s row.0 best
+either_better d s row best =
+    elim (either_contains d s row.0) [
+      | inl both ↦ by best both
+      | inr not ↦ inr (λ better. not better.0)
     ]
+  where
+    by : (best : Option Pair) → ContainsBoth d s row.0
+        → IsBetter d s row.0 best ⊎ ¬ IsBetter d s row.0 best
+    by None both = inl (both, tt)
+    by (Some b) both = elim (either_specific row.0 b.0) [
+      | inl more ↦ inl (both, more)
+      | inr not ↦ inr (λ better. not better.1)
+    ]
+
+best_from : (d s : Address) (seen later : List Pair) (best : Option Pair) → IsBestOf seen d s best
+    → (now : Option Pair) × IsBestOf (seen ++ later) d s now
+best_from d s seen [] best is =
+    (best, subst (λ (rows : List Pair). IsBestOf rows d s best) (sym (append-nil seen)) is)
+best_from d s seen (row ∷ later) best is =
+    let joined : (seen ++ row ∷ []) ++ later ≡ seen ++ row ∷ later = append_assoc seen (row ∷ []) later in
+    let found : (now : Option Pair) × IsBestOf ((seen ++ row ∷ []) ++ later) d s now =
+    elim (either_better d s row best) [
+      | inl more ↦ best_from d s (seen ++ row ∷ []) later (Some row) (better seen d s row best is more)
+      | inr not ↦ best_from d s (seen ++ row ∷ []) later best (no_better seen d s row best is not)
+    ] in
+    (found.0, subst (λ (rows : List Pair). IsBestOf rows d s found.0) joined found.1)
+
+-- rows have a best one, or none matches
+pub best_of : (rows : List Pair) (d s : Address) → (best : Option Pair) × IsBestOf rows d s best
+best_of rows d s = best_from d s [] rows None (record { none = λ row c. absurd (omega (arith, c.1)) })

@@ -14,9 +14,7 @@ mod Entries
 mod Verdicts
 pub mod OneVerdict
 mod Normal
-pub mod Items
 pub mod Told
-pub mod Dumps
 pub mod HeldFor
 pub mod CleanKeys
 pub mod BestKeys

@@ -1,7 +1,7 @@
 -- Octets that tell what pairs say, and nothing else, have no fault where a table has room for the pairs.
 use Rattle.std.proofs.Common.{◌≡◌, ℕ, Bool, ◌+◌, ◌≤◌, List, [], ◌∷◌, ◌++◌, length, map, Result, Ok, refl, sym, ap, subst, ◌∙◌, append_assoc, arith, inl, inr}
 use Rattle.std.specs.List.{flat_map}
-use Rattle.std.proofs.lemmas.List.{append-nil}
+use Rattle.std.proofs.lemmas.List.{append-nil, take_all}
 use Rattle.std.proofs.lemmas.List.Concat.{flat_map-append}
 use Rattle.babel_prefix.specs.Address.{Address}
 use Rattle.babel_tlv.specs.declared.event.Event.{Event}
@@ -126,6 +126,7 @@ pub no_fault : (mode : Mode) (limits : Bounds) (sender : Address) (octets : List
     → length octets ≤ limits.bytes → HasNoFault limits mode sender octets
 no_fault mode limits sender octets pairs tells room short fault faulty =
     elim faulty as (λ _. ⊥) [
-      | inl within ↦ no_stream_fault mode limits.entries (start_of limits sender) octets pairs fault tells room within.1
-      | inr past ↦ elim past as (λ _. ⊥) [ inl cut ↦ omega (arith, cut.0) | inr long ↦ omega (arith, long.0) ]
+      | inl seen ↦ no_stream_fault mode limits.entries (start_of limits sender) octets pairs fault tells room
+          (subst (λ (o : List ℕ). StreamFault mode limits.entries (start_of limits sender) o fault) (take_all limits.bytes octets short) seen.0)
+      | inr long ↦ omega (arith, long.0)
     ]

@@ -1,7 +1,9 @@
 -- What a dump answers is what its table answers.
 use Rattle.std.proofs.Common.{◌≡◌, ◌↔◌, inl, inr, ℕ, List, map, Option, Some, None}
 use Rattle.std.proofs.Common.{refl, sym, ap, subst, ◌∙◌, arith, Contains}
+use Rattle.std.specs.List.{flat_map}
 use Rattle.std.proofs.lemmas.Bool.{cases_lt, cases_order}
+use Rattle.std.proofs.lemmas.List.{append-nil}
 use Rattle.babel_prefix.specs.declared.family.Family.{Family}
 use Rattle.babel_prefix.specs.Width.{width_of}
 use Rattle.babel_prefix.specs.Block.{Block}
@@ -11,27 +13,25 @@ use Rattle.babel_prefix.specs.Best.{Row}
 use Rattle.babel_prefix.specs.BestRow.{AreOfFamily, Matches, IsNoLonger}
 use Rattle.babel_prefix.specs.Entries.{answer_for, row_of, rows_in}
 use Rattle.babel_prefix.proofs.AnswerLaws.{IsTop, answer-top}
-use Rattle.babel_prefix.proofs.BestLaws.{none_or_some}
 use Rattle.babel_prefix.proofs.EntryLaws.{HasBoth, Listed-map, answer_for-none}
 use Rattle.babel_prefix.proofs.Members.{Listed, Listed-from_Contains, Contains-from_Listed}
 use Rattle.babel_tlv.specs.declared.event.Event.{Event}
 use Rattle.babel_tlv.specs.declared.held.Held.{Held}
 use Rattle.babel_tlv.specs.declared.mode.Mode.{Mode}
+use Rattle.babel_tlv.specs.Framing.{packet_octets}
 use Rattle.babel_tlv.specs.Pair.{Pair}
 use Rattle.babel_tlv.specs.Route.{RouteKey}
-use Rattle.babel_table.specs.BestMatch.{ContainsBoth, IsMoreSpecific}
+use Rattle.babel_table.specs.BestMatch.{ContainsBoth, HasNoMatch, IsMoreSpecific}
 use Rattle.babel_table.specs.Bounds.{Bounds, start_of}
 use Rattle.babel_table.specs.Rows.{Routes, entries_of}
 use Rattle.babel_table.specs.TableOf.{IsTableOf}
-use Rattle.babel_table.proofs.HoldsLaws.{Holds-stands, stands-Holds}
-use Rattle.babel_canon.specs.DumpAnswers.{held_for, IsAnswer}
+use Rattle.babel_table.proofs.StandingLaws.{IsBestOf, IsBestRow}
 use Rattle.babel_canon.specs.AnswersAreTold.{TableAnswers, AnswerIsOne}
-use Rattle.babel_canon.proofs.BestKeys.{MostSpecific, NoneMatches, clean_one, key_one, none_or_most}
+use Rattle.babel_canon.proofs.BestKeys.{best_of, clean_one, key_one}
 use Rattle.babel_canon.proofs.Boxes.{FromPair, entry_of, pair_of_row, row_of_pair}
 use Rattle.babel_canon.proofs.CleanKeys.{AreClean, held-clean}
-use Rattle.babel_canon.proofs.Dumps.{dump-from_table, told-dump, told-table}
-use Rattle.babel_canon.proofs.HeldFor.{held_for-stands}
-use Rattle.babel_canon.proofs.Told.{quiet}
+use Rattle.babel_canon.proofs.HeldFor.{held_for, held-quiet, IsAnswer}
+use Rattle.babel_canon.proofs.Told.{quiet, table-refuses, told-dump, told-table}
 
 -- ---- rows that are held
 
@@ -91,17 +91,10 @@ module _ (mode : Mode) (said : List Event) (rows : List Pair) (are : AreHeld mod
       elim (cases_order pair.0.dst.len best.0.dst.len) [
         | inl same ↦ elim (cases_lt best.0.src.len pair.0.src.len) [
           | inl longer ↦ absurd (not_more (inr (same, longer)))
-          | inr ge ↦ inr (
-            ap block_of (clean_one pair.0.dst best.0.dst d (clean_row pair c).0
-                (clean_row best best_c).0 both.0 best_both.0 same),
-            ge,
-          )
+          | inr ge ↦ inr (ap block_of (clean_one pair.0.dst best.0.dst d (clean_row pair c).0 (clean_row best best_c).0 both.0 best_both.0 same), ge)
         ]
-        | inr other ↦ elim other [
-          | inl shorter ↦ inl shorter
-          | inr longer ↦
-              absurd (not_more (inl longer))
-        ]
+        | inr (inl shorter) ↦ inl shorter
+        | inr (inr longer) ↦ absurd (not_more (inl longer))
       ]
 
   not_more-specific : (pair best : Pair) → IsNoLonger (row_of (entry_of pair))
@@ -112,16 +105,15 @@ module _ (mode : Mode) (said : List Event) (rows : List Pair) (are : AreHeld mod
       ap (λ (b : Block). b.len) same.0 in omega (arith, len, longer)
   not_more-specific pair best (inr same) (inr longer) = omega (arith, same.1, longer.1)
 
-  most-answer : (most : MostSpecific rows d s) → answer_for (entries_of rows) d s ≡ Some most.row.1
-  most-answer most =
+  most-answer : (best : Pair) → IsBestRow rows d s best
+      → answer_for (entries_of rows) d s ≡ Some best.1
+  most-answer best most =
       let w = width_of d.family in
-      let best = most.row in
-      let best_in = Contains-from_Listed rows best most.listed in
       let all = rows_in d.family (entries_of rows) in
       let here = matches-from_both best most.matching in
       let listed : Listed all (row_of (entry_of best)) =
       Listed-from_Contains all (row_of (entry_of best))
-      (row_of_pair d.family rows best best_in here.0) in
+      (row_of_pair d.family rows best most.listed here.0) in
       let from_row : (row : Row Held) → Listed all row → FromPair d.family rows row = λ row t.
       pair_of_row d.family rows row (Contains-from_Listed all row t) in
       let matching_pair : (row : Row Held) (t : Listed all row) → Matches w d.bits s.bits row
@@ -135,8 +127,8 @@ module _ (mode : Mode) (said : List Event) (rows : List Pair) (are : AreHeld mod
             let from = from_row row t in
             let both = matching_pair row t m in
             subst (λ (r : Row Held). IsNoLonger r (row_of (entry_of best))) from.is_row
-            (no_longer from.pair best from.member best_in both most.matching
-            (most.best from.pair (Listed-from_Contains rows from.pair from.member) both));
+            (no_longer from.pair best from.member most.listed both most.matching
+            (most.best from.pair from.member both));
       } in
       answer-top w all d.bits s.bits (row_of (entry_of best)) top (λ row too.
       let from = from_row row too.listed in
@@ -145,27 +137,19 @@ module _ (mode : Mode) (said : List Event) (rows : List Pair) (are : AreHeld mod
       subst (λ (r : Row Held). IsNoLonger (row_of (entry_of best)) r) (sym from.is_row)
       (too.longest (row_of (entry_of best)) listed here.1) in
       let same : from.pair.0 ≡ best.0 = key_one d s from.pair.0 best.0
-      (clean_row from.pair from.member) (clean_row best best_in) both most.matching
-      (most.best from.pair (Listed-from_Contains rows from.pair from.member) both)
-      (not_more-specific best from.pair below) in
+      (clean_row from.pair from.member) (clean_row best most.listed) both most.matching
+      (most.best from.pair from.member both) (not_more-specific best from.pair below) in
       sym (ap (λ (r : Row Held). r.value) from.is_row)
       ∙ one_held mode said from.pair.0 best.0 from.pair.1 best.1 same
-      (are.held from.pair.0 from.pair.1 from.member) (are.held best.0 best.1 best_in))
+      (are.held from.pair.0 from.pair.1 from.member) (are.held best.0 best.1 most.listed))
 
-  none-answer : NoneMatches rows d s → answer_for (entries_of rows) d s ≡ None
+  none-answer : HasNoMatch (Contains rows) d s → answer_for (entries_of rows) d s ≡ None
   none-answer none = answer_for-none (entries_of rows) d s (sym one_family) (λ entry c both.
       let from = Listed-map entry_of rows entry (Listed-from_Contains (entries_of rows) entry c) in
-      none from.0 from.1 (subst (HasBoth d s) (sym from.2) both))
+      none.none from.0 (Contains-from_Listed rows from.0 from.1)
+      (subst (HasBoth d s) (sym from.2) both))
 
   -- ---- the answer of the events
-
-  nothing-else : (key : RouteKey) → ((held : Held) → held_for mode said key ≡ Some held → ⊥)
-      → held_for mode said key ≡ None
-  nothing-else key never = elim (none_or_some (held_for mode said key)) [
-    | inl none ↦
-        none
-    | inr some ↦ absurd (never some.0 some.1)
-  ]
 
   -- an answer of the events, which the rows have too
   record Settled : Type 0 where
@@ -173,42 +157,38 @@ module _ (mode : Mode) (said : List Event) (rows : List Pair) (are : AreHeld mod
     pub is_answer : IsAnswer mode said d s answer
     pub rows_too : answer_for (entries_of rows) d s ≡ answer
 
+  settled_by : (best : Option Pair) → IsBestOf rows d s best → Settled
+  settled_by None none = record {
+    answer = None;
+    is_answer = record { none = λ pair is. none.none pair (are.all pair.0 pair.1 is) };
+    rows_too = none-answer none;
+  }
+  settled_by (Some best) most = record {
+    answer = Some best.1;
+    is_answer = record {
+      key = best.0;
+      listed = are.held best.0 best.1 most.listed;
+      matching = most.matching;
+      best = λ pair is. most.best pair (are.all pair.0 pair.1 is);
+    };
+    rows_too = most-answer best most;
+  }
+
   settled : Settled
-  settled = elim (none_or_most rows d s) [
-    | inl none ↦ record {
-      answer = None;
-      is_answer = λ key both. nothing-else key (λ held is.
-          none (key, held) (Listed-from_Contains rows (key, held) (are.all key held is)) both);
-      rows_too = none-answer none;
-    }
-    | inr most ↦ record {
-      answer = Some most.row.1;
-      is_answer = record {
-        key = most.row.0;
-        matching = most.matching;
-        is_held = are.held most.row.0 most.row.1 (Contains-from_Listed rows most.row most.listed);
-        best = λ key both more. nothing-else key (λ held is.
-            most.best (key, held) (Listed-from_Contains rows (key, held) (are.all key held is)) both
-            more);
-      };
-      rows_too = most-answer most;
-    }
-  ]
+  settled = let found = best_of rows d s in settled_by found.0 found.1
 
   answer_one : (answer other : Option Held) → IsAnswer mode said d s answer
       → IsAnswer mode said d s other → answer ≡ other
   answer_one None None is too = refl
-  answer_one None (Some held) is too = let e : Some held ≡ None = sym too.is_held
-      ∙ is too.key too.matching in absurd cc
-  answer_one (Some held) None is too = let e : Some held ≡ None = sym is.is_held
-      ∙ too is.key is.matching in absurd cc
+  answer_one None (Some held) is too =
+      absurd (is.none (too.key, held) too.listed too.matching)
+  answer_one (Some held) None is too = absurd (too.none (is.key, held) is.listed is.matching)
   answer_one (Some held) (Some other) is too =
-      let same : is.key ≡ too.key = key_one d s is.key too.key (are.clean is.key held is.is_held)
-      (are.clean too.key other too.is_held) is.matching too.matching
-      (λ more. let e : Some held ≡ None = sym is.is_held ∙ too.best is.key is.matching more in cc)
-      (λ more. let e : Some other ≡ None = sym too.is_held ∙ is.best too.key too.matching more in
-      cc) in
-      ap Some (one_held mode said is.key too.key held other same is.is_held too.is_held)
+      let same : is.key ≡ too.key = key_one d s is.key too.key (are.clean is.key held is.listed)
+      (are.clean too.key other too.listed) is.matching too.matching
+      (too.best (is.key, held) is.listed is.matching)
+      (is.best (too.key, other) too.listed too.matching) in
+      ap Some (one_held mode said is.key too.key held other same is.listed too.listed)
 
   -- the events and the rows have one answer
   answer_is : (answer : Option Held) → IsAnswer mode said d s answer
@@ -224,10 +204,8 @@ module _ (limits : Bounds) (mode : Mode) (sender : Address) (dump : List ℕ) (t
     (is_table : IsTableOf limits mode sender dump table) where
   table_held : AreHeld mode (map quiet is_table.said) table.rows
   table_held = record {
-    held = λ key held c. held_for-stands mode is_table.said key
-        ∙ Holds-stands mode is_table.said key held (is_table.rows.held key held c);
-    all = λ key held is. is_table.rows.all key held (stands-Holds mode is_table.said key held
-        (sym (held_for-stands mode is_table.said key) ∙ is));
+    held = λ key held c. held-quiet mode key None is_table.said ∙ is_table.rows.held key held c;
+    all = λ key held is. is_table.rows.all key held (sym (held-quiet mode key None is_table.said) ∙ is);
     clean = λ key held is. held-clean mode (start_of limits sender) is_table.packets key held
         (ap (λ (es : List Event). held_for mode es key)
         (told-table limits mode sender dump table is_table) ∙ is);
@@ -238,11 +216,17 @@ table_answers limits mode one table is_table d s d_in s_in one_family answer =
     let is = answer_is mode (map quiet is_table.said) table.rows
     (table_held limits mode one.sender one.dump table is_table) d s one_family answer in (
       (λ answers. is.0 (subst (λ (es : List Event). IsAnswer mode es d s answer)
-          (told-dump limits mode one.sender one.dump table is_table answers.packets answers.is_dump)
+          (told-dump limits mode one.sender one.dump table is_table answers.packets
+          (record {
+            whole = answers.whole ∙ sym (append-nil (flat_map packet_octets answers.packets));
+            placed = answers.placed;
+          }))
           answers.answers)),
       (λ rows. record {
         packets = is_table.packets;
-        is_dump = dump-from_table limits mode one.sender one.dump table is_table;
+        whole = is_table.reads.whole ∙ append-nil (flat_map packet_octets is_table.packets);
+        placed = is_table.reads.placed;
+        none_refuses = table-refuses limits mode one.sender one.dump table is_table;
         answers = subst (λ (es : List Event). IsAnswer mode es d s answer)
             (sym (told-table limits mode one.sender one.dump table is_table)) (is.1 rows);
       }),

@@ -1,6 +1,7 @@
 -- Lists of values that grow, and the rows, boxes and pairs that have numbers in them.
-use Rattle.std.proofs.Common.{◌≡◌, ℕ, zero, suc, ◌<◌, Bool, cond, List, [], ◌∷◌, ◌++◌, length, map, get_or, Some, None, Ordering, refl, sym, ap, subst, ◌∙◌, arith, inl, inr, rules}
+use Rattle.std.proofs.Common.{◌≡◌, ℕ, zero, suc, ◌<◌, Bool, cond, List, [], ◌∷◌, ◌++◌, length, map, get_or, Option, Some, None, Ordering, refl, sym, ap, subst, ◌∙◌, arith, inl, inr, rules}
 use Rattle.std.specs.List.{All, filter, slice_get}
+use Rattle.std.specs.Option.{unwrap_or}
 use Rattle.std.specs.BTreeMap.{BTreeMap, get, is_at}
 use Rattle.std.specs.Ordering.{is_eq}
 use Rattle.std.specs.declared.cmp.Ordering.TheVariants.{Less, Equal, Greater}
@@ -17,7 +18,7 @@ use Rattle.babel_prefix.specs.Entries.{Entry, are_of_family, row_of, rows_in, an
 use Rattle.babel_prefix.specs.BestRow.{AreOfFamily, HasDistinctPrefixes}
 use Rattle.babel_prefix.proofs.EntryLaws.{rows_in-all}
 use Rattle.babel_trie.specs.Boxes.{IsBoxList}
-use Rattle.babel_trie.proofs.NumberLaws.{slice_get-push, slice_get-kept, slice_get-push_cases}
+use Rattle.babel_trie.proofs.NumberLaws.{slice_get-push, slice_get-kept, slice_get-push_cases, slice_get_in}
 use Rattle.babel_tlv.specs.declared.held.Held.{Held}
 use Rattle.babel_tlv.specs.declared.held.Held.TheVariants as helds
 use Rattle.babel_tlv.specs.contracts.held.HeldOrd.TheImpl.{ghosts}
@@ -31,7 +32,7 @@ use Rattle.babel_canon.specs.declared.values.PackedValue.{PackedValue}
 use Rattle.babel_canon.specs.Grids.{AreFamilyBoxes}
 use Rattle.babel_canon.specs.Values.{HasFiniteMetric, AreNumbered, AreNumberedBoxes, AreNumberedEntries, KeepsValues, HasValue, IsPacked, origin_of, restored, value_of, valued, valued_entry}
 use Rattle.babel_canon.proofs.Boxes.{held_tied}
-use Rattle.babel_canon.proofs.Entries.{kept, passed}
+use Rattle.babel_canon.proofs.Entries.{kept}
 use Rattle.babel_canon.proofs.Numbered.{AreDistinct, Says, rows_say, boxes_by_value, numbers_of_boxes}
 
 -- ---- one origin more
@@ -74,15 +75,57 @@ numbered_after_push values numbers after held number is_last numbered absent upd
           update q ∙ ap (λ (o : Ordering). cond (is_eq o) (Some number) (get held_cmp numbers q)) here ∙ ap Some (is_last ∙ sym last.0)
     ]
 
+-- a number that an origin has, put in again, changes nothing
+numbered_after_same : (values : List Held) (numbers after : BTreeMap Held ℕ) (held : Held) (number : ℕ) → AreNumbered values numbers → get held_cmp numbers held ≡ Some number
+    → ((q : Held) → get held_cmp after q ≡ cond (is_at (held_cmp held) q) (Some number) (get held_cmp numbers q)) → AreNumbered values after
+numbered_after_same values numbers after held number numbered there update =
+    record { exact = λ q n. ((λ e. (numbered.exact q n).0 (sym (same q) ∙ e)), (λ e. same q ∙ (numbered.exact q n).1 e)) }
+  where
+    by : (q : Held) (o : Ordering) → held_cmp held q ≡ o → cond (is_eq o) (Some number) (get held_cmp numbers q) ≡ get held_cmp numbers q
+    by q Equal is = sym there ∙ ap (get held_cmp numbers) (held_exact held q is)
+    by q Less is = refl
+    by q Greater is = refl
+
+    same : (q : Held) → get held_cmp after q ≡ get held_cmp numbers q
+    same q = update q ∙ by q (held_cmp held q) refl
+
+-- what a map has or else the next number: it had none if that is the next one, since all that it has are below
+pub absent_where_next : (values : List Held) (numbers : BTreeMap Held ℕ) (held : Held) → AreNumbered values numbers
+    → unwrap_or (get held_cmp numbers held) (length values) ≡ length values → get held_cmp numbers held ≡ None
+absent_where_next values numbers held numbered is = by (get held_cmp numbers held) refl is
+  where
+    by : (o : Option ℕ) → get held_cmp numbers held ≡ o → unwrap_or o (length values) ≡ length values → o ≡ None
+    by None found same = refl
+    by (Some n) found same =
+        let below : n < length values = slice_get_in values n held ((numbered.exact held n).0 found) in
+        let last : n ≡ length values = same in
+        absurd (omega arith)
+
+present_where_other : (o : Option ℕ) (number next : ℕ) → number ≡ unwrap_or o next → number ≢ next → o ≡ Some number
+present_where_other None number next is other = absurd (other is)
+present_where_other (Some n) number next is other = ap Some (sym is)
+
 -- the same, by the order of the type
 module _ (values : List Held) (numbers : BTreeMap Held ℕ) where
-  pub found_number : (held : Held) (number : ℕ) → AreNumbered values numbers → get ghosts.cmp numbers held ≡ Some number → slice_get values number ≡ Some held
-  found_number held number numbered found = (numbered.exact held number).0 (subst (λ (k : Held → Held → Ordering). get k numbers held ≡ Some number) held_order found)
+  pub numbered_again : (after : BTreeMap Held ℕ) (held : Held) (number next : ℕ) → AreNumbered values numbers
+      → number ≡ unwrap_or (get ghosts.cmp numbers held) next → number ≢ next
+      → ((q : Held) → get ghosts.cmp after q ≡ cond (is_at (ghosts.cmp held) q) (Some number) (get ghosts.cmp numbers q))
+      → AreNumbered values after × (slice_get values number ≡ Some held)
+  numbered_again after held number next numbered is other update =
+      let there : get held_cmp numbers held ≡ Some number =
+      subst (λ (k : Held → Held → Ordering). get k numbers held ≡ Some number) held_order (present_where_other (get ghosts.cmp numbers held) number next is other) in (
+        numbered_after_same values numbers after held number numbered there
+            (subst (λ (k : Held → Held → Ordering). (q : Held) → get k after q ≡ cond (is_at (k held) q) (Some number) (get k numbers q)) held_order update),
+        (numbered.exact held number).0 there,
+      )
 
-  pub numbered_by : (after : BTreeMap Held ℕ) (held : Held) (number : ℕ) → number ≡ length values → AreNumbered values numbers → get ghosts.cmp numbers held ≡ None
+  pub numbered_next : (after : BTreeMap Held ℕ) (held : Held) (number : ℕ) → AreNumbered values numbers → number ≡ length values
+      → number ≡ unwrap_or (get ghosts.cmp numbers held) (length values)
       → ((q : Held) → get ghosts.cmp after q ≡ cond (is_at (ghosts.cmp held) q) (Some number) (get ghosts.cmp numbers q)) → AreNumbered (values ++ held ∷ []) after
-  numbered_by after held number is_last numbered absent update =
-      numbered_after_push values numbers after held number is_last numbered (subst (λ (k : Held → Held → Ordering). get k numbers held ≡ None) held_order absent)
+  numbered_next after held number numbered is_last is update =
+      numbered_after_push values numbers after held number is_last numbered
+      (absent_where_next values numbers held numbered
+      (subst (λ (k : Held → Held → Ordering). unwrap_or (get k numbers held) (length values) ≡ length values) held_order (sym is ∙ is_last)))
       (subst (λ (k : Held → Held → Ordering). (q : Held) → get k after q ≡ cond (is_at (k held) q) (Some number) (get k numbers q)) held_order update)
 
 pub distinct : (values : List Held) (numbers : BTreeMap Held ℕ) → AreNumbered values numbers → AreDistinct values
@@ -144,9 +187,6 @@ module _ (values : List Held) where
   rows_valued [] = refl
   rows_valued (entry ∷ entries) = ap (λ (rs : List (Row Held)). row_of (valued_entry values entry) ∷ rs) (rows_valued entries)
 
-  of_family_too : (family : Family) (entries : List (Entry PackedValue)) → All (AreOfFamily family) entries → All (AreOfFamily family) (map (valued_entry values) entries)
-  of_family_too family entries all = All-map (AreOfFamily family) (valued_entry values) entries all
-
   rows_numbers : (entries : List (Entry PackedValue)) → All (λ entry. HasValue values entry.2) entries → All (λ row. HasValue values row.value) (map row_of entries)
   rows_numbers entries all = All-map (λ (row : Row PackedValue). HasValue values row.value) row_of entries all
 
@@ -204,11 +244,6 @@ kept_by family rows row values more number old new one_family here new_is keeps 
           ∙ ap (λ (h : Held). let e : Entry Held = (row.0.dst, row.0.src, h) in filter (are_of_family family) (entries_of rows) ++ e ∷ []) held
           ∙ sym (kept family rows row here there);
     }
-
-pub passed_by : (family : Family) (rows : List Pair) (row : Pair) (values : List Held) (entries : List (Entry PackedValue))
-    → row.0.dst.address.family ≢ family → AreNumberedEntries family rows values entries → AreNumberedEntries family (rows ++ row ∷ []) values entries
-passed_by family rows row values entries apart so_far =
-    record { of_family = so_far.of_family; numbers = so_far.numbers; items = so_far.items ∙ sym (passed family rows row apart) }
 
 -- ---- one value packed
 

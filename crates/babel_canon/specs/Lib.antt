@@ -11,9 +11,6 @@ pub mod Headline
 pub mod Grids
 pub mod Canonical
 pub mod Normalises
-pub mod Items
-pub mod Told
-pub mod Dumps
 pub mod DumpAnswers
 pub mod AnswersTell
 pub mod AnswersAreTold

@@ -1,5 +1,7 @@
 //! Values in eight octets: where routes come from has a number, and is once in a list.
 ghost use Rattle.std.specs.Prelude.{◌≡◌, ◌+◌, ◌*◌, ◌^◌, ◌<◌, IfOk, OnOk, Some, slice_get, true};
+ghost use Rattle.std.specs.BTreeMap.{get, Updates};
+ghost use Rattle.std.specs.Option.{unwrap_or};
 ghost use Rattle.babel_tlv.specs.Group.{held_metric, held_seqno};
 ghost use Rattle.babel_canon.specs.Values.{AreNumbered, HasFiniteMetric, IsPacked};
 ghost use Rattle.babel_canon.specs.Values.{KeepsValues, origin_of, value_of};
@@ -97,6 +99,18 @@ fn seqno_and_metric(held: &Held) -> (u16, u16)
     }
 }
 
+/// The number of an origin in a map, which is this one from now on if there is none. The map is
+/// searched once.
+fn number_or(numbers: &mut BTreeMap<Held, u32>, origin: &Held, next: u32) -> Result<u32, AllocError>
+    ensures number { IfOk result (λ number.
+        number ≡ unwrap_or (get ⟦<Held as Ord>⟧.cmp numbers.old origin.now) next) }
+    ensures updates { IfOk result (λ number.
+        Updates ⟦<Held as Ord>⟧.cmp numbers.old numbers.new origin.now (Some number)) }
+{
+    let number = *numbers.entry(*origin)?.or_insert(next);
+    Ok(number)
+}
+
 impl Values {
     /// No values.
     pub(crate) fn new(alloc: Global) -> Values
@@ -126,14 +140,14 @@ impl Values {
         ensures found { IfOk result (λ number. slice_get self.new.list.items number ≡ Some origin) }
         ensures keeps { OnOk result (KeepsValues self.old.list.items self.new.list.items) }
     {
-        if let Some(number) = self.numbers.get(&origin).copied() {
-            return Ok(number);
-        }
-        let Ok(number) = u32::try_from(self.list.len()) else {
+        let Ok(next) = u32::try_from(self.list.len()) else {
             return Err(AllocError);
         };
+        let number = number_or(&mut self.numbers, &origin, next)?;
+        if number != next {
+            return Ok(number);
+        }
         self.list.push(origin)?;
-        self.numbers.insert(origin, number)?;
         Ok(number)
     }
 

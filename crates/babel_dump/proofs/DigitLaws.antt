@@ -1,7 +1,7 @@
--- Numbers of few digits in hexadecimal, digit by digit.
+-- Numbers of few digits in hexadecimal and in decimal, digit by digit.
 use Rattle.std.proofs.Common.{◌≡◌, ℕ, suc, ◌/◌, ◌%◌, ◌<◌, ◌≤◌, Bool, true, false, cond, eqb, List, [], ◌∷◌, ◌++◌, refl, ◌∙◌, ap, append_assoc, arith}
 use Rattle.std.specs.Prelude.{◌≢◌}
-use Rattle.std.specs.Fmt.{digits, digits_onto, digit_glyph}
+use Rattle.std.specs.Fmt.{decimal, digits, digits_onto, digit_glyph}
 use Rattle.std.proofs.lemmas.Bool.Decides.{Decides-eqb}
 use Rattle.std.proofs.lemmas.Fmt.{hex_one_digit, hex_two_digits}
 
@@ -71,3 +71,41 @@ pub group_four : (before : List ℕ) (n : ℕ) → 4096 ≤ n → n < 65536
     → before ++ digit_glyph false (n / 4096) ∷ [] ++ digit_glyph false (n / 256 % 16) ∷ [] ++ digit_glyph false (n / 16 % 16) ∷ [] ++ digit_glyph false (n % 16) ∷ []
     ≡ before ++ digits 16 false n
 group_four before n large small = rw (hex_four n large small) (simp append_assoc refl)
+
+-- ---- in decimal
+
+ten_one : (n : ℕ) → n < 10 → decimal n ≡ digit_glyph false n ∷ []
+unfolding digits
+ten_one n small =
+    let same : n % 10 ≡ n = omega arith in
+    last 10 63 n [] (omega arith) ∙ ap (λ d. digit_glyph false d ∷ []) same
+
+ten_two : (n : ℕ) → 10 ≤ n → n < 100 → decimal n ≡ digit_glyph false (n / 10) ∷ digit_glyph false (n % 10) ∷ []
+unfolding digits
+ten_two n large small =
+    let low = digit_glyph false (n % 10) in
+    let same : n / 10 % 10 ≡ n / 10 = omega arith in
+    step 10 63 n [] (omega arith) ∙ last 10 62 (n / 10) (low ∷ []) (omega arith) ∙ ap (λ d. digit_glyph false d ∷ low ∷ []) same
+
+ten_three : (n : ℕ) → 100 ≤ n → n < 1000
+    → decimal n ≡ digit_glyph false (n / 100) ∷ digit_glyph false (n / 10 % 10) ∷ digit_glyph false (n % 10) ∷ []
+unfolding digits
+ten_three n large small =
+    let low = digit_glyph false (n % 10) in
+    let middle = digit_glyph false (n / 10 % 10) in
+    let same : n / 10 / 10 % 10 ≡ n / 100 = omega arith in
+    step 10 63 n [] (omega arith)
+    ∙ step 10 62 (n / 10) (low ∷ []) (omega arith)
+    ∙ last 10 61 (n / 10 / 10) (middle ∷ low ∷ []) (omega arith)
+    ∙ ap (λ d. digit_glyph false d ∷ middle ∷ low ∷ []) same
+
+pub small_one : (before : List ℕ) (n : ℕ) → n < 10 → before ++ digit_glyph false n ∷ [] ≡ before ++ decimal n
+small_one before n small = rw (ten_one n small) refl
+
+pub small_two : (before : List ℕ) (n : ℕ) → 10 ≤ n → n < 100
+    → before ++ digit_glyph false (n / 10) ∷ [] ++ digit_glyph false (n % 10) ∷ [] ≡ before ++ decimal n
+small_two before n large small = rw (ten_two n large small) (simp append_assoc refl)
+
+pub small_three : (before : List ℕ) (n : ℕ) → 100 ≤ n → n < 1000
+    → before ++ digit_glyph false (n / 100) ∷ [] ++ digit_glyph false (n / 10 % 10) ∷ [] ++ digit_glyph false (n % 10) ∷ [] ≡ before ++ decimal n
+small_three before n large small = rw (ten_three n large small) (simp append_assoc refl)

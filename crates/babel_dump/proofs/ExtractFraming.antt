@@ -1,8 +1,9 @@
 -- What `extract` writes has no fault of framing but a TLV past the end of its packet.
-use Rattle.std.proofs.Common.{◌≡◌, ◌≢◌, ℕ, Bool, true, false, List, [], ◌∷◌, ◌++◌, length, take, drop, refl, sym, ap, subst, ◌∙◌, append_assoc, inl, inr, cond, nat_lt, ◌==◌}
-use Rattle.std.specs.Prelude.{Option, Result, Ok, Err, IfErr, ◌&&◌}
+use Rattle.std.proofs.Common.{◌≡◌, ◌≢◌, ℕ, Bool, true, false, List, [], ◌∷◌, ◌++◌, length, take, drop, refl, sym, ap, subst, ◌∙◌, append_assoc, inl, inr, cond, arith}
+use Rattle.std.specs.Prelude.{Option, Result, Ok, Err, IfErr}
 use Rattle.std.specs.List.{AllByRecursion, flat_map}
-use Rattle.std.proofs.lemmas.List.{append_cancel_left, take-append-drop}
+use Rattle.std.proofs.lemmas.Bool.{cases_lt}
+use Rattle.std.proofs.lemmas.List.{append_cancel_left, take-append-drop, take_all}
 use Rattle.babel_prefix.specs.Address.{Address}
 use Rattle.babel_tlv.specs.declared.event.Event.{Event}
 use Rattle.babel_tlv.specs.declared.fault.Fault.{Fault}
@@ -10,10 +11,9 @@ use Rattle.babel_tlv.specs.declared.fault.Fault.TheVariants as faults
 use Rattle.babel_tlv.specs.declared.mode.Mode.{Mode}
 use Rattle.babel_tlv.specs.declared.start.Start.{Start}
 use Rattle.babel_tlv.specs.Context.{Context}
-use Rattle.babel_tlv.specs.Forming.{sets_router_id, update_encoding}
 use Rattle.babel_tlv.specs.FrameFaults.{PacketFault}
 use Rattle.babel_tlv.specs.Framing.{TlvAt, packet_octets}
-use Rattle.babel_tlv.specs.Says.{Saying, said, sayings, sayings_behind, update_said}
+use Rattle.babel_tlv.specs.Says.{Saying, refuses, said, sayings, sayings_behind}
 use Rattle.babel_table.specs.Bounds.{Bounds, start_of}
 use Rattle.babel_table.specs.DumpFault.{DumpFault, IsTruncated, RefusedBy, Refuses, StreamFault}
 use Rattle.babel_table.proofs.DumpLaws.{begins-more, header-more}
@@ -39,17 +39,8 @@ either_none false here there = there
 event_none : {event : Event} → NoFraming (Ok event)
 event_none = record { none = tt }
 
-update_none : (context : Context) (tlv : TlvAt) → NoFraming (update_said context tlv)
-update_none context tlv =
-    let encoding : ℕ = update_encoding tlv.body in
-    either_none (nat_lt (length tlv.body) 10) event_none (either_none (encoding == 0) event_none
-    (either_none (encoding == 1 && true) event_none (either_none (encoding == 2 && true) event_none (either_none (encoding == 4 && context.via_v6) event_none
-    (either_none (sets_router_id tlv.body) (record { none = λ framing. framing }) event_none)))))
-
 said_none : (context : Context) (tlv : TlvAt) → NoFraming (said context tlv)
-said_none context tlv =
-    either_none (tlv.kind == 6) event_none (either_none (tlv.kind == 7) event_none
-    (either_none (tlv.kind == 8) (update_none context tlv) event_none))
+said_none context tlv = either_none (refuses context.via_v6 tlv) (record { none = λ framing. framing }) event_none
 
 abbrev SaysNone : Saying → Type 0
 SaysNone saying = IfErr saying.what (λ fault. ¬ IsOfFraming fault)
@@ -130,10 +121,14 @@ too_long_alone : (fault : Fault) → fault ≡ faults.TooLong → ¬ IsOfFraming
 too_long_alone fault is framing = subst IsOfFraming is framing
 
 dump_framed : (limits : Bounds) (mode : Mode) (sender : Address) (dump : List ℕ) → ArePackets dump → (fault : Fault) → DumpFault limits mode sender dump fault → ¬ IsOfFraming fault
-dump_framed limits mode sender dump are fault (inl (within, stream)) = stream_framed mode limits.entries (start_of limits sender) dump are fault stream
-dump_framed limits mode sender dump are fault (inr (inl (past, stream, whole))) =
-    front_framed mode limits.entries (start_of limits sender) dump are (take limits.bytes dump) (drop limits.bytes dump) (take-append-drop limits.bytes dump) fault stream whole
-dump_framed limits mode sender dump are fault (inr (inr (past, is, cut))) = too_long_alone fault is
+dump_framed limits mode sender dump are fault (inl (stream, whole)) = elim (cases_lt limits.bytes (length dump)) [
+  | inl past ↦
+      front_framed mode limits.entries (start_of limits sender) dump are (take limits.bytes dump) (drop limits.bytes dump) (take-append-drop limits.bytes dump) fault stream
+      (λ cut. omega (arith, past, whole cut))
+  | inr fits ↦ stream_framed mode limits.entries (start_of limits sender) dump are fault
+      (subst (λ (t : List ℕ). StreamFault mode limits.entries (start_of limits sender) t fault) (take_all limits.bytes dump fits) stream)
+]
+dump_framed limits mode sender dump are fault (inr (past, is, cut)) = too_long_alone fault is
 
 -- ---- what `extract` writes
 

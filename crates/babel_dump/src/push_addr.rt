@@ -10,7 +10,7 @@ ghost use Rattle.babel_dump.specs.Slices.{HasRoom, TookRoom};
 ghost use Rattle.babel_dump.specs.Spelling.{address_text, from_prefix, prefix_text};
 ghost use Rattle.babel_dump.specs.declared.spelling.Spelling.{Spelling};
 
-use crate::push::{push_decimal, push_octet, push_text};
+use crate::push::{push_octet, push_text};
 use crate::spelling::Spelling;
 use babel_prefix::{Addr, Family, Prefix};
 
@@ -88,7 +88,7 @@ pub(crate) fn push_prefix(buffer: &mut Vec<u8>, spelling: Spelling, prefix: Pref
 {
     push_addr(buffer, spelling, prefix.addr());
     push_octet(buffer, b'/');
-    push_decimal(buffer, prefix.len());
+    push_small(buffer, prefix.len());
 }
 
 /// Appends the address.
@@ -158,13 +158,33 @@ fn push_dotted(buffer: &mut Vec<u8>, octets: [u8; 4])
     ensures room { TookRoom buffer.old buffer.new 23 }
 {
     let [a, b, c, d] = octets;
-    push_decimal(buffer, a);
+    push_small(buffer, a);
     push_octet(buffer, b'.');
-    push_decimal(buffer, b);
+    push_small(buffer, b);
     push_octet(buffer, b'.');
-    push_decimal(buffer, c);
+    push_small(buffer, c);
     push_octet(buffer, b'.');
-    push_decimal(buffer, d);
+    push_small(buffer, d);
+}
+
+/// Appends a number of few digits in decimal, digit by digit.
+fn push_small(buffer: &mut Vec<u8>, number: u8)
+    requires { HasRoom buffer.old 3 }
+    ensures text { buffer.new.items ≡ buffer.old.items ++ decimal number }
+    ensures room { TookRoom buffer.old buffer.new 3 }
+{
+    if number < 10 {
+        push_digit(buffer, number);
+        return;
+    }
+    if number < 100 {
+        push_digit(buffer, number / 10);
+        push_digit(buffer, number % 10);
+        return;
+    }
+    push_digit(buffer, number / 100);
+    push_digit(buffer, number / 10 % 10);
+    push_digit(buffer, number % 10);
 }
 
 /// Appends the eight groups in hexadecimal, joined by `:`.

@@ -1,9 +1,9 @@
 -- Octets that a feeder takes, within the limit on all.
-use Rattle.std.proofs.Common.{◌≡◌, ◌≢◌, ℕ, zero, suc, ◌+◌, ◌-◌, ◌<◌, ◌≤◌, List, [], ◌∷◌, ◌++◌, length, take, drop, Option, Some, None, refl, sym, ap, subst, ◌∙◌, append_assoc, inl, inr, arith}
+use Rattle.std.proofs.Common.{◌≡◌, ◌≢◌, ℕ, ◌+◌, ◌-◌, ◌<◌, ◌≤◌, List, [], ◌∷◌, ◌++◌, length, take, drop, Option, Some, None, refl, sym, ap, subst, ◌∙◌, append_assoc, inl, inr, arith}
 use Rattle.std.specs.Prelude.{◌⊎◌, Result, Ok, Err, IfOk, IfErr}
 use Rattle.std.specs.List.{flat_map}
 use Rattle.std.proofs.Math.Seq.{take-append-add}
-use Rattle.std.proofs.lemmas.List.{append-nil, length-append, length-take, take-append-drop, take_at}
+use Rattle.std.proofs.lemmas.List.{append-nil, length-append, length-take, take-append-drop, take_all, take_at}
 use Rattle.babel_prefix.specs.Address.{Address}
 use Rattle.babel_prefix.specs.Entries.{answer_for}
 use Rattle.babel_tlv.specs.declared.fault.Fault.{Fault}
@@ -50,32 +50,26 @@ take-within bytes front more fits =
 
 module _ (limits : Bounds) (mode : Mode) (sender : Address) where
   -- a fault of octets within the limit stays that of the dump
-  pub dump_fault : (front more : List ℕ) (fault : Fault) → length front ≤ limits.bytes → ¬ IsTruncated fault
+  dump_fault : (front more : List ℕ) (fault : Fault) → length front ≤ limits.bytes → ¬ IsTruncated fault
       → ((more : List ℕ) → StreamFault mode limits.entries (start_of limits sender) (front ++ more) fault) → DumpFault limits mode sender (front ++ more) fault
-  dump_fault front more fault fits whole stream = by (length (front ++ more) - limits.bytes) refl
-    where
-      by : (past : ℕ) → length (front ++ more) - limits.bytes ≡ past → DumpFault limits mode sender (front ++ more) fault
-      by zero is = inl (omega (arith, is), stream more)
-      by (suc n) is =
-          inr (inl (
-            omega (arith, is),
-            subst (λ (t : List ℕ). StreamFault mode limits.entries (start_of limits sender) t fault) (sym (take-within limits.bytes front more fits))
-                (stream (take (limits.bytes - length front) more)),
-            whole,
-          ))
+  dump_fault front more fault fits whole stream = inl (
+    subst (λ (t : List ℕ). StreamFault mode limits.entries (start_of limits sender) t fault) (sym (take-within limits.bytes front more fits))
+        (stream (take (limits.bytes - length front) more)),
+    λ cut. absurd (whole cut),
+  )
 
   -- octets up to the limit that were taken, and more behind them
   too_long : (table : Routes) (at : ℕ) (pending front more : List ℕ) → HasTakenTo mode limits.entries (start_of limits sender) table at pending front → length front ≡ limits.bytes → more ≢ []
       → DumpFault limits mode sender (front ++ more) faults.TooLong
   too_long table at pending front [] taken fits some = absurd (some refl)
   too_long table at pending front (x ∷ more) taken fits some =
-      inr (inr (
+      inr (
         omega (arith, fits, length-append front (x ∷ more)),
         refl,
         λ other stream.
             (only_truncated mode limits.entries (start_of limits sender) table at pending front taken other
             (subst (λ (t : List ℕ). StreamFault mode limits.entries (start_of limits sender) t other) (take_at front (x ∷ more) limits.bytes fits) stream)).0,
-      ))
+      )
 
 needs-more : (mode : Mode) (start : Start) (octets more : List ℕ) → NeedsMemory mode start octets → NeedsMemory mode start (octets ++ more)
 needs-more mode start octets more (packets, rest, reads, grows) = (
@@ -94,15 +88,25 @@ module _ (p : Progress) where
   length-fed : (fed : List ℕ) → HasTaken p fed → length fed ≡ p.at + length p.pending
   length-fed fed taken = omega (arith, taken.place, ap length taken.reads.whole, length-append (flat_map packet_octets taken.packets) p.pending)
 
+  -- octets that were taken are only cut off, where some are pending
+  only_cut : (fed : List ℕ) (taken : HasTaken p fed) (fault : Fault) → DumpFault p.limits p.mode p.sender fed fault → IsTruncated fault × (p.pending ≡ [] → ⊥)
+  only_cut fed taken fault (inl (stream, whole)) = only_truncated p.mode p.limits.entries (start_of p.limits p.sender) p.table p.at p.pending fed (taken-to fed taken) fault
+      (subst (λ (t : List ℕ). StreamFault p.mode p.limits.entries (start_of p.limits p.sender) t fault) (take_all p.limits.bytes fed taken.in_limit) stream)
+  only_cut fed taken fault (inr (past, is, all)) = absurd (omega (arith, past, taken.in_limit))
+
   pub may_go_on : (fed : List ℕ) → HasTaken p fed → MayGoOn p.limits p.mode p.sender fed
-  may_go_on fed taken fault (inl (fits, stream)) = (only_truncated p.mode p.limits.entries (start_of p.limits p.sender) p.table p.at p.pending fed (taken-to fed taken) fault stream).0
-  may_go_on fed taken fault (inr (inl (past, stream, not))) = absurd (omega (arith, past, taken.in_limit))
-  may_go_on fed taken fault (inr (inr (past, is, all))) = absurd (omega (arith, past, taken.in_limit))
+  may_go_on fed taken fault faulty = (only_cut fed taken fault faulty).0
 
   pub no_fault : (fed : List ℕ) → HasTaken p fed → p.pending ≡ [] → HasNoFault p.limits p.mode p.sender fed
-  no_fault fed taken none fault (inl (fits, stream)) = (only_truncated p.mode p.limits.entries (start_of p.limits p.sender) p.table p.at p.pending fed (taken-to fed taken) fault stream).1 none
-  no_fault fed taken none fault (inr (inl (past, stream, not))) = absurd (omega (arith, past, taken.in_limit))
-  no_fault fed taken none fault (inr (inr (past, is, all))) = absurd (omega (arith, past, taken.in_limit))
+  no_fault fed taken none fault faulty = (only_cut fed taken fault faulty).1 none
+
+  -- octets that end within a packet are cut off
+  pub cut_off : (fed : List ℕ) → HasTaken p fed → p.pending ≢ [] → DumpFault p.limits p.mode p.sender fed (faults.Truncated p.at)
+  cut_off fed taken some = inl (
+    subst (λ (t : List ℕ). StreamFault p.mode p.limits.entries (start_of p.limits p.sender) t (faults.Truncated p.at)) (sym (take_all p.limits.bytes fed taken.in_limit))
+        (truncated p.mode p.limits.entries (start_of p.limits p.sender) p.table p.at p.pending fed (taken-to fed taken) some),
+    λ cut. taken.in_limit,
+  )
 
   pub table_of : (fed : List ℕ) → HasTaken p fed → p.pending ≡ [] → IsTableOf p.limits p.mode p.sender fed p.table
   table_of fed taken none = record {

@@ -190,8 +190,8 @@ not_of f g rows row d s apart are of c both =
     let is : row.0.dst.address.family ≡ f = All-contains (λ (r : Pair). r.0.dst.address.family ≡ f) rows row (All-from_recursion (λ (r : Pair). r.0.dst.address.family ≡ f) rows are) c in
     apart (sym is ∙ both.0.0 ∙ of)
 
-pub match-v4 : (found : Option Held) (a b : List Pair) (d s : Address) → AreOf V6 b → d.family ≡ V4 → MatchOption found (HasNoMatch a d s) (HasBestMatch a d s)
-    → MatchOption found (HasNoMatch (a ++ b) d s) (HasBestMatch (a ++ b) d s)
+pub match-v4 : (found : Option Held) (a b : List Pair) (d s : Address) → AreOf V6 b → d.family ≡ V4 → MatchOption found (HasNoMatch (Contains a) d s) (HasBestMatch (Contains a) d s)
+    → MatchOption found (HasNoMatch (Contains (a ++ b)) d s) (HasBestMatch (Contains (a ++ b)) d s)
 match-v4 None a b d s are of none = record {
   none = λ row c both. elim (Contains-append_cases a b row c) [ inl left ↦ none.none row left both | inr right ↦ not_of V6 V4 b row d s (λ e. absurd cc) are of right both ];
 }
@@ -202,8 +202,8 @@ match-v4 (Some held) a b d s are of best = record {
   best = λ row c both. elim (Contains-append_cases a b row c) [ inl left ↦ best.best row left both | inr right ↦ absurd (not_of V6 V4 b row d s (λ e. absurd cc) are of right both) ];
 }
 
-pub match-v6 : (found : Option Held) (a b : List Pair) (d s : Address) → AreOf V4 a → d.family ≡ V6 → MatchOption found (HasNoMatch b d s) (HasBestMatch b d s)
-    → MatchOption found (HasNoMatch (a ++ b) d s) (HasBestMatch (a ++ b) d s)
+pub match-v6 : (found : Option Held) (a b : List Pair) (d s : Address) → AreOf V4 a → d.family ≡ V6 → MatchOption found (HasNoMatch (Contains b) d s) (HasBestMatch (Contains b) d s)
+    → MatchOption found (HasNoMatch (Contains (a ++ b)) d s) (HasBestMatch (Contains (a ++ b)) d s)
 match-v6 None a b d s are of none = record {
   none = λ row c both. elim (Contains-append_cases a b row c) [ inl left ↦ not_of V4 V6 a row d s (λ e. absurd cc) are of left both | inr right ↦ none.none row right both ];
 }

@@ -381,13 +381,13 @@ module _ {family : Family} (keys : List RouteKey) (around : List Around) (nested
 listed_key : (rows : List Pair) (row : Pair) (c : Contains rows row) → get_or (keys_of rows) c.0 row.0 ≡ row.0
 listed_key rows row c = let first : Pair → RouteKey = λ r. r.0 in get_or-map first rows c.0 row ∙ ap first c.2
 
-pub no_match : (rows : List Pair) (d s : Address) → NoneWithin (ContainsBoth d s) (keys_of rows) 0 (length (keys_of rows)) → HasNoMatch rows d s
+pub no_match : (rows : List Pair) (d s : Address) → NoneWithin (ContainsBoth d s) (keys_of rows) 0 (length (keys_of rows)) → HasNoMatch (Contains rows) d s
 no_match rows d s none = record {
   none = λ row c both. none c.0 row.0 (omega arith) (subst (λ n. c.0 < n) (sym (length-keys_of rows)) c.1) (subst (ContainsBoth d s) (sym (listed_key rows row c)) both);
 }
 
 pub best_row : {family : Family} (rows : List Pair) (around : List Around) (d s : Address) (place : ℕ) (e : Pair) → IsNested family (keys_of rows) around → place < length rows
-    → ContainsBoth d s (get_or rows place e).0 → NoneWithin (ContainsBoth d s) (keys_of rows) (place + 1) (length (keys_of rows)) → HasBestMatch rows d s (get_or rows place e).1
+    → ContainsBoth d s (get_or rows place e).0 → NoneWithin (ContainsBoth d s) (keys_of rows) (place + 1) (length (keys_of rows)) → HasBestMatch (Contains rows) d s (get_or rows place e).1
 best_row {family} rows around d s place e nested inside both after = record {
   key = (get_or rows place e).0;
   listed = (place, inside, sym (get_or_default rows place e (get_or rows place e) inside));

@@ -1,5 +1,5 @@
 -- A dump has one fault at most and one table at most, and a fault stays.
-use Rattle.std.proofs.Common.{◌≡◌, ◌≢◌, ℕ, ◌+◌, List, [], ◌∷◌, ◌++◌, length, take, refl, sym, ap, subst, ◌∙◌, append_assoc, inl, inr, arith}
+use Rattle.std.proofs.Common.{◌≡◌, ◌≢◌, ℕ, zero, suc, ◌+◌, ◌-◌, List, [], ◌∷◌, ◌++◌, length, take, refl, sym, ap, subst, ◌∙◌, append_assoc, inl, inr, arith}
 use Rattle.std.specs.Prelude.{◌⊎◌, slice_index, Result, Ok, Err, IfErr}
 use Rattle.std.specs.List.{flat_map, AllByRecursion}
 use Rattle.std.proofs.lemmas.List.{length-append, take-append-le}
@@ -23,7 +23,6 @@ use Rattle.babel_table.specs.Holds.{HoldsAtMost, AreRowsOf, Names}
 use Rattle.babel_table.specs.OneOutcome.{FaultIsOne, FaultIsOfOctets, FaultStays, TableIsOne, RoutesNeedMemory, KeysNeedMemory}
 use Rattle.babel_table.specs.TableOf.{AreFine}
 use Rattle.babel_table.proofs.DumpLaws.{sayings-append, header-more, header-long, header-lasts, header-good, begins-more, packet-no_fault}
-use Rattle.babel_table.proofs.FeedLaws.{dump_fault}
 use Rattle.babel_table.proofs.FineLaws.{one_event, refuses-not, fine-not-refused, routes}
 use Rattle.babel_table.proofs.ReadingLaws.{BeginsNoPacket, partial-no_packet, one_body, stop_one, either_on, packets_one, readings_one, framed_one}
 use Rattle.babel_table.proofs.RowsLaws.{rows-one}
@@ -239,23 +238,17 @@ stream_kinds mode entries start octets fault (packets, rest, reads, inr (front, 
     (all_middle front saying later (subst (λ (s : List Saying). AllByRecursion Lasting s) is (packets_last start packets))) why)
 
 dump_kinds : (limits : Bounds) (mode : Mode) (sender : Address) (dump : List ℕ) (fault : Fault) → DumpFault limits mode sender dump fault → IsTruncated fault ⊎ IsLasting fault
-dump_kinds limits mode sender dump fault (inl (within, stream)) = stream_kinds mode limits.entries (start_of limits sender) dump fault stream
-dump_kinds limits mode sender dump fault (inr (inl (past, stream, whole))) = stream_kinds mode limits.entries (start_of limits sender) (take limits.bytes dump) fault stream
-dump_kinds limits mode sender dump fault (inr (inr (past, is, cut))) = inr (subst IsLasting (sym is) tt)
+dump_kinds limits mode sender dump fault (inl (stream, whole)) = stream_kinds mode limits.entries (start_of limits sender) (take limits.bytes dump) fault stream
+dump_kinds limits mode sender dump fault (inr (past, is, cut)) = inr (subst IsLasting (sym is) tt)
 
 -- ---- the laws
 
 pub fault_is_one : FaultIsOne
-fault_is_one limits mode sender dump fault other (inl (within, stream)) (inl (again, other_stream)) = stream-one mode limits.entries (start_of limits sender) dump fault other stream other_stream
-fault_is_one limits mode sender dump fault other (inl (within, stream)) (inr (inl (past, other_stream, whole))) = absurd (omega (arith, within, past))
-fault_is_one limits mode sender dump fault other (inl (within, stream)) (inr (inr (past, is, cut))) = absurd (omega (arith, within, past))
-fault_is_one limits mode sender dump fault other (inr (inl (past, stream, whole))) (inl (within, other_stream)) = absurd (omega (arith, within, past))
-fault_is_one limits mode sender dump fault other (inr (inl (past, stream, whole))) (inr (inl (again, other_stream, other_whole))) =
+fault_is_one limits mode sender dump fault other (inl (stream, whole)) (inl (other_stream, other_whole)) =
     stream-one mode limits.entries (start_of limits sender) (take limits.bytes dump) fault other stream other_stream
-fault_is_one limits mode sender dump fault other (inr (inl (past, stream, whole))) (inr (inr (again, is, cut))) = absurd (whole (cut fault stream))
-fault_is_one limits mode sender dump fault other (inr (inr (past, is, cut))) (inl (within, stream)) = absurd (omega (arith, within, past))
-fault_is_one limits mode sender dump fault other (inr (inr (past, is, cut))) (inr (inl (again, stream, whole))) = absurd (whole (cut other stream))
-fault_is_one limits mode sender dump fault other (inr (inr (past, is, cut))) (inr (inr (again, other_is, other_cut))) = is ∙ sym other_is
+fault_is_one limits mode sender dump fault other (inl (stream, whole)) (inr (past, is, cut)) = absurd (omega (arith, past, whole (cut fault stream)))
+fault_is_one limits mode sender dump fault other (inr (past, is, cut)) (inl (stream, whole)) = absurd (omega (arith, past, whole (cut other stream)))
+fault_is_one limits mode sender dump fault other (inr (past, is, cut)) (inr (again, other_is, other_cut)) = is ∙ sym other_is
 
 pub fault_is_of_octets : FaultIsOfOctets
 fault_is_of_octets limits mode sender dump fault refused = by (dump_kinds limits mode sender dump fault refused)
@@ -264,21 +257,23 @@ fault_is_of_octets limits mode sender dump fault refused = by (dump_kinds limits
     by (inl cut) = (λ is. subst IsTruncated is cut, λ is. subst IsTruncated is cut)
     by (inr lasting) = (λ is. subst IsLasting is lasting, λ is. subst IsLasting is lasting)
 
+take-more : (n : ℕ) (xs ys : List ℕ) → take n (xs ++ ys) ≡ take n xs ++ take (n - length xs) ys
+take-more zero xs ys = ap (λ (m : ℕ). take m ys) (let none : 0 ≡ 0 - length xs = omega arith in none)
+take-more (suc n) [] ys = ap (λ (m : ℕ). take m ys) (let all : suc n ≡ suc n - 0 = omega arith in all)
+take-more (suc n) (x ∷ xs) ys =
+    ap (λ (l : List ℕ). x ∷ l) (take-more n xs ys ∙ ap (λ (m : ℕ). take n xs ++ take m ys) (let left : n - length xs ≡ suc n - suc (length xs) = omega arith in left))
+
 pub fault_stays : FaultStays
-fault_stays limits mode sender given more fault (inl (within, stream)) whole =
-    dump_fault limits mode sender given more fault within whole (λ behind. stream-more mode limits.entries (start_of limits sender) given behind fault stream whole)
-fault_stays limits mode sender given more fault (inr (inl (past, stream, lasts))) whole =
-    inr (inl (
-      omega (arith, past, length-append given more),
-      subst (λ (t : List ℕ). StreamFault mode limits.entries (start_of limits sender) t fault) (sym (take-append-le limits.bytes given more (omega (arith, past)))) stream,
-      lasts,
-    ))
-fault_stays limits mode sender given more fault (inr (inr (past, is, cut))) whole =
-    inr (inr (
-      omega (arith, past, length-append given more),
-      is,
-      λ other stream. cut other (subst (λ (t : List ℕ). StreamFault mode limits.entries (start_of limits sender) t other) (take-append-le limits.bytes given more (omega (arith, past))) stream),
-    ))
+fault_stays limits mode sender given more fault (inl (stream, whole)) lasts = inl (
+  subst (λ (t : List ℕ). StreamFault mode limits.entries (start_of limits sender) t fault) (sym (take-more limits.bytes given more))
+      (stream-more mode limits.entries (start_of limits sender) (take limits.bytes given) (take (limits.bytes - length given) more) fault stream lasts),
+  λ cut. absurd (lasts cut),
+)
+fault_stays limits mode sender given more fault (inr (past, is, cut)) lasts = inr (
+  omega (arith, past, length-append given more),
+  is,
+  λ other stream. cut other (subst (λ (t : List ℕ). StreamFault mode limits.entries (start_of limits sender) t other) (take-append-le limits.bytes given more (omega (arith, past))) stream),
+)
 
 -- the events of a table are those of its packets
 pub table_is_one : TableIsOne

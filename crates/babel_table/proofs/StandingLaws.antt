@@ -31,8 +31,8 @@ pub record IsBestRow (rows : List Pair) (d s : Address) (row : Pair) : Type 0 wh
   pub best : (other : Pair) → Contains rows other → ContainsBoth d s other.0 → ¬ IsMoreSpecific other.0 row.0
 
 -- the best row, or none where no row contains both addresses
-abbrev IsBestOf : List Pair → Address → Address → Option Pair → Type 0
-IsBestOf rows d s best = MatchOption best (HasNoMatch rows d s) (IsBestRow rows d s)
+abbrev pub IsBestOf : List Pair → Address → Address → Option Pair → Type 0
+IsBestOf rows d s best = MatchOption best (HasNoMatch (Contains rows) d s) (IsBestRow rows d s)
 
 longer_still : (a b c : RouteKey) → IsMoreSpecific a b → IsMoreSpecific b c → IsMoreSpecific a c
 longer_still a b c (inl ab) (inl bc) = inl (omega (arith, ab, bc))
@@ -47,7 +47,7 @@ not_itself k (inr both) = omega (arith, both.1)
 -- ---- one more row
 
 module _ (rows : List Pair) (d s : Address) (row : Pair) where
-  better : (best : Option Pair) → IsBestOf rows d s best → IsBetter d s row.0 best → IsBestOf (rows ++ row ∷ []) d s (Some row)
+  pub better : (best : Option Pair) → IsBestOf rows d s best → IsBetter d s row.0 best → IsBestOf (rows ++ row ∷ []) d s (Some row)
   better best so_far is = record {
     listed = Contains-push rows row;
     matching = is.0;
@@ -62,7 +62,7 @@ module _ (rows : List Pair) (d s : Address) (row : Pair) where
       not_better None none more other c both = absurd (none.none other c both)
       not_better (Some b) best more other c both = λ longer. best.best other c both (longer_still other.0 row.0 b.0 longer more)
 
-  no_better : (best : Option Pair) → IsBestOf rows d s best → ¬ IsBetter d s row.0 best → IsBestOf (rows ++ row ∷ []) d s best
+  pub no_better : (best : Option Pair) → IsBestOf rows d s best → ¬ IsBetter d s row.0 best → IsBestOf (rows ++ row ∷ []) d s best
   no_better None none not = record {
     none = λ other c both. elim (Contains-push_cases rows row other c) [
       | inl earlier ↦ none.none other earlier both

@@ -1,6 +1,6 @@
 -- TLVs of a packet, taken one by one.
 use Rattle.std.proofs.Common.{◌≡◌, ℕ, zero, suc, ◌+◌, ◌≤◌, ltb, Bool, true, false, cond, take, List, [], ◌∷◌, ◌++◌, length, refl, sym, ap, subst, ◌∙◌, append_assoc, inl, inr, arith}
-use Rattle.std.specs.Prelude.{Result, Ok, Err, IfErr, OnOk, ◌==◌, ◌&&◌, nat_lt}
+use Rattle.std.specs.Prelude.{Result, Ok, Err, IfErr, OnOk}
 use Rattle.std.specs.List.{Contains}
 use Rattle.std.proofs.lemmas.List.{append-nil}
 use Rattle.std.proofs.lemmas.List.Elements.{Contains-append_right}
@@ -9,9 +9,8 @@ use Rattle.babel_tlv.specs.declared.event.Event.{Event}
 use Rattle.babel_tlv.specs.declared.fault.Fault.{Fault}
 use Rattle.babel_tlv.specs.declared.mode.Mode.{Mode}
 use Rattle.babel_tlv.specs.Framing.{TlvAt, tlvs_past, tlvs_of}
-use Rattle.babel_tlv.specs.Forming.{update_encoding, sets_router_id}
 use Rattle.babel_tlv.specs.Context.{Context, context_after}
-use Rattle.babel_tlv.specs.Says.{Saying, said, update_said, sayings_behind}
+use Rattle.babel_tlv.specs.Says.{Saying, refuses, said, sayings_behind}
 use Rattle.babel_table.specs.DumpFault.{Refuses, RefusedBy}
 use Rattle.babel_table.specs.Feeding.{StandsBehind, Fails, TookSome, MayGrowAt, IsRefused, IsLasting, event_at}
 use Rattle.babel_table.specs.Rows.{Routes}
@@ -27,17 +26,8 @@ either_lasts false here there = there
 event_lasts : {event : Event} → Lasts (Ok event)
 event_lasts = record { lasts = tt }
 
-update_lasts : (context : Context) (tlv : TlvAt) → Lasts (update_said context tlv)
-update_lasts context tlv =
-    let encoding : ℕ = update_encoding tlv.body in
-    either_lasts (nat_lt (length tlv.body) 10) event_lasts (either_lasts (encoding == 0) event_lasts
-    (either_lasts (encoding == 1 && true) event_lasts (either_lasts (encoding == 2 && true) event_lasts (either_lasts (encoding == 4 && context.via_v6) event_lasts
-    (either_lasts (sets_router_id tlv.body) (record { lasts = tt }) event_lasts)))))
-
 pub said_lasts : (context : Context) (tlv : TlvAt) → Lasts (said context tlv)
-said_lasts context tlv =
-    either_lasts (tlv.kind == 6) event_lasts (either_lasts (tlv.kind == 7) event_lasts
-    (either_lasts (tlv.kind == 8) (update_lasts context tlv) event_lasts))
+said_lasts context tlv = either_lasts (refuses context.via_v6 tlv) (record { lasts = tt }) event_lasts
 
 -- what a TLV refuses the dump for is no want of octets, nor of memory
 said-lasting : (context : Context) (tlv : TlvAt) (fault : Fault) → said context tlv ≡ Err fault → IsLasting fault

@@ -16,19 +16,25 @@ abbrev pub IsMoreSpecific : RouteKey → RouteKey → Type 0
 IsMoreSpecific other key = (key.dst.len < other.dst.len)
     ⊎ ((other.dst.len ≡ key.dst.len) × (key.src.len < other.src.len))
 
--- no row contains both addresses
-pub record HasNoMatch (rows : List Pair) (dst src : Address) : Type 0 where
-  pub none : (row : Pair) → Contains rows row → ¬ ContainsBoth dst src row.0
+-- `Has pair` says of a key and what is held that this is held for the key.
 
--- this stands in a row that contains both addresses, and no row that does is more specific
-pub record HasBestMatch (rows : List Pair) (dst src : Address) (held : Held) : Type 0 where
+-- nothing is held for a key that contains both addresses
+pub record HasNoMatch (Has : Pair → Type 0) (dst src : Address) : Type 0 where
+  pub none : (pair : Pair) → Has pair → ¬ ContainsBoth dst src pair.0
+
+-- this is held for a key that contains both addresses, and nothing for one that does and is more
+-- specific
+pub record HasBestMatch (Has : Pair → Type 0) (dst src : Address) (held : Held) : Type 0 where
   pub key : RouteKey
-  pub listed : Contains rows (key, held)
+  pub listed : Has (key, held)
   pub matching : ContainsBoth dst src key
-  pub best : (row : Pair) → Contains rows row → ContainsBoth dst src row.0
-      → ¬ IsMoreSpecific row.0 key
+  pub best : (pair : Pair) → Has pair → ContainsBoth dst src pair.0 → ¬ IsMoreSpecific pair.0 key
 
--- what stands in the best match among the rows, or nothing where no row contains both addresses
+-- what is held for the best match, or nothing where there is no match
+abbrev pub IsBestAmong : (Pair → Type 0) → Address → Address → Option Held → Type 0
+IsBestAmong Has dst src found =
+    MatchOption found (HasNoMatch Has dst src) (HasBestMatch Has dst src)
+
+-- the best match among rows
 abbrev pub IsBestMatch : List Pair → Address → Address → Option Held → Type 0
-IsBestMatch rows dst src found =
-    MatchOption found (HasNoMatch rows dst src) (HasBestMatch rows dst src)
+IsBestMatch rows = IsBestAmong (Contains rows)

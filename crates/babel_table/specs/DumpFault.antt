@@ -50,17 +50,17 @@ abbrev pub IsTruncated : Fault → Type 0
 IsTruncated (faults.Truncated at) = Unit {0}
 IsTruncated fault = ⊥
 
--- The fault of a dump. Octets past the limit are never looked at: if there are any, it is that of
--- the octets up to the limit unless these have none or are only truncated, and then TooLong.
+-- The fault of a dump. Octets past the limit are never looked at: it is that of the octets up to
+-- the limit (`seen`), unless only the limit cuts them off; or TooLong, if there are octets past it,
+-- and those up to it have no fault or are cut off.
 abbrev pub DumpFault : Bounds → Mode → Address → List ℕ → Fault → Type 0
 DumpFault limits mode sender dump fault =
     let start = start_of limits sender in
-    ((length dump ≤ limits.bytes) × StreamFault mode limits.entries start dump fault)
-    ⊎ ((limits.bytes < length dump)
-    × StreamFault mode limits.entries start (take limits.bytes dump) fault × ¬ IsTruncated fault)
+    let seen = take limits.bytes dump in
+    (StreamFault mode limits.entries start seen fault
+    × (IsTruncated fault → length dump ≤ limits.bytes))
     ⊎ ((limits.bytes < length dump) × (fault ≡ faults.TooLong)
-    × ((other : Fault) → StreamFault mode limits.entries start (take limits.bytes dump) other
-    → IsTruncated other))
+    × ((other : Fault) → StreamFault mode limits.entries start seen other → IsTruncated other))
 
 abbrev pub HasNoFault : Bounds → Mode → Address → List ℕ → Type 0
 HasNoFault limits mode sender dump = (fault : Fault) → DumpFault limits mode sender dump fault → ⊥

@@ -4,7 +4,7 @@ ghost use Rattle.std.specs.Map.{remove_entry};
 ghost use Rattle.babel_tlv.specs.declared.held.Held.TheVariants as helds;
 ghost use Rattle.babel_tlv.specs.Pairs.{EventFits, IsPair};
 ghost use Rattle.babel_tlv.specs.Keys.{key_cmp};
-ghost use Rattle.babel_tlv.specs.Verdicts.{event_of};
+ghost use Rattle.babel_tlv.specs.EventKinds.{event_of};
 ghost use Rattle.babel_tlv.specs.declared.event.Event.TheVariants as events;
 ghost use Rattle.babel_table.specs.Live.{IsNotHeld, KeepsAllButRows, unreachable};
 ghost use Rattle.babel_prefix.specs.Entries.{answer_for};
@@ -16,7 +16,7 @@ ghost use Rattle.babel_table.specs.Feeding.{Follows, IsRefused};
 use crate::kept_rows::KeptRows;
 use crate::sorted_rows::SortedRows;
 use babel_prefix::Addr;
-use babel_tlv::{Ann, Fault, Held, Key, Mode, Route, Verdict};
+use babel_tlv::{Ann, EventKind, Fault, Held, Key, Mode, Route};
 use std::alloc::{AllocError, Global};
 use std::marker::Model;
 
@@ -157,29 +157,29 @@ impl LiveRows {
     }
 
     /// Takes what is said of a route at this offset into the rows.
-    pub fn take(&mut self, verdict: Verdict, route: &Route, at: u64) -> Result<(), Fault>
-        requires fits { EventFits (event_of verdict route.now) }
+    pub fn take(&mut self, kind: EventKind, route: &Route, at: u64) -> Result<(), Fault>
+        requires fits { EventFits (event_of kind route.now) }
         requires room { self.old.wipes + 1 < 2 ^ 64 }
         ensures settings { (self.new.mode ≡ self.old.mode) × (self.new.entries ≡ self.old.entries)
             × (self.new.wipes ≤ self.old.wipes + 1) }
 
         // The rows of events are then those of these events and this one.
         ensures ok { OnOk result
-            (Follows self.old.mode (event_of verdict route.now) self.old.rows self.new.rows) }
+            (Follows self.old.mode (event_of kind route.now) self.old.rows self.new.rows) }
 
         // It is refused where there would be more rows than may be, or memory ran out.
         ensures refused { IfErr result (IsRefused self.old.mode self.old.entries at
-            (event_of verdict route.now) self.old.rows) }
+            (event_of kind route.now) self.old.rows) }
     {
-        match verdict {
-            Verdict::Announce => self.announce(&route.key, &route.ann, at),
-            Verdict::Retract => self.retract(&route.key, at),
-            Verdict::RetractAll => {
+        match kind {
+            EventKind::Announce => self.announce(&route.key, &route.ann, at),
+            EventKind::Retract => self.retract(&route.key, at),
+            EventKind::RetractAll => {
                 self.retract_all();
                 Ok(())
             }
-            Verdict::Nothing => Ok(()),
-            Verdict::Ignored(_) => Ok(()),
+            EventKind::Nothing => Ok(()),
+            EventKind::Ignored(_) => Ok(()),
         }
     }
 

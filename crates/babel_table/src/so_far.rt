@@ -2,7 +2,7 @@ ghost use Rattle.std.specs.Prelude.{◌≡◌, ◌≤◌, ◌<◌, ◌+◌, ◌^
 ghost use Rattle.std.specs.Prelude.{OnOk, IfOk, IfErr};
 ghost use Rattle.babel_table.specs.Feeding.{IsRefused, IsPartial, event_at};
 ghost use Rattle.babel_tlv.specs.Pairs.{EventFits};
-ghost use Rattle.babel_tlv.specs.Verdicts.{event_of};
+ghost use Rattle.babel_tlv.specs.EventKinds.{event_of};
 ghost use Rattle.babel_tlv.specs.Says.{sayings_behind};
 ghost use Rattle.babel_tlv.specs.Framing.{tlvs_of};
 ghost use Rattle.babel_tlv.specs.FrameFaults.{AreTlvs};
@@ -10,7 +10,7 @@ ghost use Rattle.babel_tlv.specs.Frames.{tlv_value};
 
 use crate::live::LiveRows;
 use crate::report::Report;
-use babel_tlv::{Fault, Frame, Route, Start, State, Tlv, Tlvs, Verdict, frame};
+use babel_tlv::{EventKind, Fault, Frame, Route, Start, State, Tlv, Tlvs, frame};
 
 /// The table so far. All was retracted at most as often as TLVs were seen.
 #[derive(Drop)]
@@ -27,8 +27,8 @@ impl SoFar {
     ghost use Rattle.babel_table.specs.Streams.{TakesPackets, TakesSayings, TakesTlv};
 
     /// Takes what a TLV says of a route.
-    pub fn take(&mut self, tlv: &Tlv<'_>, verdict: Verdict, route: &Route) -> Result<(), Fault>
-        requires fits { EventFits (event_of verdict route.now) }
+    pub fn take(&mut self, tlv: &Tlv<'_>, kind: EventKind, route: &Route) -> Result<(), Fault>
+        requires fits { EventFits (event_of kind route.now) }
         requires room { self.old.report.tlvs + 1 < 2 ^ 64 }
         ensures mode { self.new.rows.mode ≡ self.old.rows.mode }
         ensures entries { self.new.rows.entries ≡ self.old.rows.entries }
@@ -36,12 +36,12 @@ impl SoFar {
 
         // The table after some TLVs is then that after these and this one.
         ensures ok { OnOk result (TakesSayings self.old
-            (event_at (tlv_value tlv.now) (event_of verdict route.now) ∷ []) self.new) }
+            (event_at (tlv_value tlv.now) (event_of kind route.now) ∷ []) self.new) }
         ensures refused { IfErr result (IsRefused self.old.rows.mode self.old.rows.entries
-            tlv.now.at (event_of verdict route.now) self.old.rows.rows) }
+            tlv.now.at (event_of kind route.now) self.old.rows.rows) }
     {
-        self.report.count(tlv, verdict);
-        let taken = self.rows.take(verdict, route, tlv.at);
+        self.report.count(tlv, kind);
+        let taken = self.rows.take(kind, route, tlv.at);
         self.rows.are_few();
         taken
     }
@@ -58,8 +58,8 @@ impl SoFar {
             (TakesTlv self.old state.old (tlv_value tlv.now) self.new state.new) }
         ensures fails { IfErr result (FailsAtTlv self.old state.old (tlv_value tlv.now)) }
     {
-        let verdict = state.step_into(tlv, route)?;
-        self.take(tlv, verdict, route)
+        let kind = state.step_into(tlv, route)?;
+        self.take(tlv, kind, route)
     }
 
     /// Takes the TLVs of a packet's body, whose first octet lies at this offset. If the body is not

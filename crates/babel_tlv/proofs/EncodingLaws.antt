@@ -1,35 +1,51 @@
 -- The encodings in which Updates have prefixes: by their numbers, and for pairs.
-use Rattle.std.proofs.Common.{inl, inr, ◌≡◌, ◌≢◌, ℕ, ◌<◌, Bool, true, false, refl, subst, arith}
-use Rattle.std.specs.Prelude.{◌==◌, ◌&&◌, ◌⊎◌}
+use Rattle.std.proofs.Common.{inl, inr, ◌≡◌, ℕ, Bool, true, false, cond, eqb, ltb, ◌||◌, Option, Some, None, refl, subst}
+use Rattle.std.specs.Prelude.{◌&&◌, ◌⊎◌, IfSome}
 use Rattle.std.proofs.lemmas.Bool.{eqb-true}
-use Rattle.std.proofs.lemmas.Bool.Decides.{nat_tests}
 use Rattle.babel_prefix.specs.declared.family.Family.{Family}
 use Rattle.babel_prefix.specs.declared.family.Family.TheVariants.{V4, V6}
 use Rattle.babel_tlv.specs.declared.held.Held.{Held}
 use Rattle.babel_tlv.specs.declared.held.Held.TheVariants as helds
 use Rattle.babel_tlv.specs.declared.prefix_encoding.PrefixEncoding.{PrefixEncoding}
 use Rattle.babel_tlv.specs.declared.prefix_encoding.PrefixEncoding.TheVariants.{Ipv4, Ipv6, Ipv4ViaIpv6}
-use Rattle.babel_tlv.specs.Encodings.{hop_family, is_named, is_read, number_of, prefix_family}
+use Rattle.babel_tlv.specs.Encodings.{encoding_of, hop_family, number_of, prefix_family}
 use Rattle.babel_tlv.specs.Pairs.{HopFits, IsHopFor}
 use Rattle.babel_tlv.specs.Route.{Announcement, RouteKey}
 use Rattle.babel_tlv.specs.Group.{encoding_for}
 
-and_true : (a b : Bool) → (a && b) ≡ true → (a ≡ true) × (b ≡ true)
-and_true true b e = (refl, e)
-and_true false b e = absurd cc
-
 -- ---- numbers
 
--- a number that names an encoding is that of the encoding, which is read
-pub named_number : (via_v6 : Bool) (encoding : PrefixEncoding) (n : ℕ) → is_named via_v6 encoding n ≡ true → n ≡ number_of encoding
-named_number via_v6 encoding n is = eqb-true n (number_of encoding) (and_true (n == number_of encoding) (is_read via_v6 encoding) is).0
+abbrev pub is_read : Bool → PrefixEncoding → Bool
+is_read via_v6 encoding = ltb (number_of encoding) 4 || via_v6
 
-pub named_read : (via_v6 : Bool) (encoding : PrefixEncoding) (n : ℕ) → is_named via_v6 encoding n ≡ true → is_read via_v6 encoding ≡ true
-named_read via_v6 encoding n is = (and_true (n == number_of encoding) (is_read via_v6 encoding) is).1
+-- what a number names has this number, and is read
+abbrev Names : Bool → ℕ → Option PrefixEncoding → Type 0
+Names via_v6 n found = IfSome found (λ encoding. (n ≡ number_of encoding) × (is_read via_v6 encoding ≡ true))
 
--- a number names no encoding of another number
-pub not_named : (via_v6 : Bool) (encoding : PrefixEncoding) (n : ℕ) → n ≢ number_of encoding → is_named via_v6 encoding n ≡ false
-not_named via_v6 encoding n other = let differs : (n == number_of encoding) ≡ false = grind (arith, nat_tests) in rw differs refl
+names_by : (via_v6 : Bool) (n : ℕ) (a b c : Bool) → eqb n 1 ≡ a → eqb n 2 ≡ b → eqb n 4 ≡ c
+    → Names via_v6 n (cond (a && true) (Some Ipv4) (cond (b && true) (Some Ipv6) (cond (c && via_v6) (Some Ipv4ViaIpv6) None)))
+names_by via_v6 n true b c one two four = (eqb-true n 1 one, refl)
+names_by via_v6 n false true c one two four = (eqb-true n 2 two, refl)
+names_by true n false false true one two four = (eqb-true n 4 four, refl)
+names_by false n false false true one two four = tt
+names_by via_v6 n false false false one two four = tt
+
+pub named : (via_v6 : Bool) (n : ℕ) (encoding : PrefixEncoding) → encoding_of via_v6 n ≡ Some encoding → (n ≡ number_of encoding) × (is_read via_v6 encoding ≡ true)
+named via_v6 n encoding is = subst (Names via_v6 n) is (names_by via_v6 n (eqb n 1) (eqb n 2) (eqb n 4) refl refl refl)
+
+pub named-some : (via_v6 : Bool) (n : ℕ) (encoding : PrefixEncoding) → encoding_of via_v6 n ≡ Some encoding → eqb n 0 ≡ false
+named-some via_v6 n encoding is = some encoding (named via_v6 n encoding is).0
+  where
+    some : (encoding : PrefixEncoding) → n ≡ number_of encoding → eqb n 0 ≡ false
+    some Ipv4 number = rw number refl
+    some Ipv6 number = rw number refl
+    some Ipv4ViaIpv6 number = rw number refl
+
+-- an encoding that is read is named by its number
+pub encoding_of-read : (via_v6 : Bool) (encoding : PrefixEncoding) → is_read via_v6 encoding ≡ true → encoding_of via_v6 (number_of encoding) ≡ Some encoding
+encoding_of-read via_v6 Ipv4 read = refl
+encoding_of-read via_v6 Ipv6 read = refl
+encoding_of-read via_v6 Ipv4ViaIpv6 read = rw read refl
 
 -- ---- families
 

@@ -1,5 +1,5 @@
 -- A Next Hop that is written is read as one.
-use Rattle.std.proofs.Common.{◌≡◌, ℕ, ◌^◌, ◌<◌, Bool, true, false, cond, List, [], ◌∷◌, ◌++◌, take, drop, Some, refl, ap, ◌∙◌, arith}
+use Rattle.std.proofs.Common.{◌≡◌, ℕ, ◌^◌, ◌<◌, Bool, true, false, cond, List, [], ◌∷◌, ◌++◌, take, drop, refl, ap, ◌∙◌, arith}
 use Rattle.std.specs.Prelude.{◌==◌}
 use Rattle.std.specs.List.{starts_with}
 use Rattle.std.specs.Int.{bytes_high_first}
@@ -16,11 +16,11 @@ use Rattle.babel_tlv.specs.declared.event.Event.TheVariants as events
 use Rattle.babel_tlv.specs.Forming.{link_local}
 use Rattle.babel_tlv.specs.Context.{Context}
 use Rattle.babel_tlv.specs.Group.{next_hop_tlv, next_hop_octets}
+use Rattle.babel_tlv.specs.Kept.{kept_with}
 use Rattle.babel_tlv.proofs.Telling.{Tells, Tells-one}
 
 abbrev pub with_hop : Family → Context → Address → Context
-with_hop V4 context hop = record context { next_hop_v4 = Some hop }
-with_hop V6 context hop = record context { next_hop_v6 = Some hop }
+with_hop family context hop = record context { next_hops = kept_with family hop context.next_hops }
 
 abbrev hop_of : Family → ℕ → Address
 hop_of family bits = record { family = family; bits = bits }

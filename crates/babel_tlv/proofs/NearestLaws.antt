@@ -9,7 +9,8 @@ use Rattle.babel_prefix.specs.Address.{Address}
 use Rattle.babel_tlv.specs.declared.prefix_encoding.PrefixEncoding.{PrefixEncoding}
 use Rattle.babel_tlv.specs.declared.prefix_encoding.PrefixEncoding.TheVariants.{Ipv4, Ipv6, Ipv4ViaIpv6}
 use Rattle.babel_tlv.specs.Framing.{TlvAt}
-use Rattle.babel_tlv.specs.Context.{context_after, default_in, given_default, given_next_hop, given_router_id, next_hop_in_context, of_family}
+use Rattle.babel_tlv.specs.Context.{context_after, given_default, given_next_hop, given_router_id, of_family}
+use Rattle.babel_tlv.specs.Kept.{kept_for, prefix_for}
 use Rattle.babel_tlv.specs.Nearest.{SetsNone, IsSetTo, IsNearest, DefaultIsNearest, NextHopIsNearest, RouterIdIsNearest}
 
 module _ (X : Type 0) (sets : List TlvAt → TlvAt → Option X) where
@@ -54,37 +55,35 @@ module _ (X : Type 0) (sets : List TlvAt → TlvAt → Option X) where
       (on_by begins (stands earlier) tlv earlier (nearest begins stands at_first on earlier) (sets earlier tlv) refl)
 
 pub default_is_nearest : DefaultIsNearest
-default_is_nearest start encoding = nearest Address (λ before tlv. given_default start.via_v6 encoding (default_in encoding (context_after start before)) tlv) None
-    (λ earlier. default_in encoding (context_after start earlier)) (first encoding) (on encoding)
+default_is_nearest start encoding = nearest Address (λ before tlv. given_default (context_after start before) encoding tlv) None
+    (λ earlier. prefix_for encoding (context_after start earlier).defaults) (first encoding) (on encoding)
   where
-    first : (encoding : PrefixEncoding) → default_in encoding (context_after start []) ≡ None
+    first : (encoding : PrefixEncoding) → prefix_for encoding (context_after start []).defaults ≡ None
     first Ipv4 = refl
     first Ipv6 = refl
     first Ipv4ViaIpv6 = refl
 
-    on : (encoding : PrefixEncoding) (tlv : TlvAt) (earlier : List TlvAt) → default_in encoding (context_after start (tlv ∷ earlier))
-        ≡ option_or (given_default start.via_v6 encoding (default_in encoding (context_after start earlier)) tlv) (default_in encoding (context_after start earlier))
+    on : (encoding : PrefixEncoding) (tlv : TlvAt) (earlier : List TlvAt) → prefix_for encoding (context_after start (tlv ∷ earlier)).defaults
+        ≡ option_or (given_default (context_after start earlier) encoding tlv) (prefix_for encoding (context_after start earlier).defaults)
     on Ipv4 tlv earlier = refl
     on Ipv6 tlv earlier = refl
     on Ipv4ViaIpv6 tlv earlier = refl
 
 pub next_hop_is_nearest : NextHopIsNearest
 next_hop_is_nearest start family = nearest Address (λ before tlv. given_next_hop family tlv) (of_family family start.sender)
-    (λ earlier. next_hop_in_context family (context_after start earlier)) (first family) (on family)
+    (λ earlier. kept_for family (context_after start earlier).next_hops) (first family) (on family)
   where
-    first : (family : Family) → next_hop_in_context family (context_after start []) ≡ of_family family start.sender
+    first : (family : Family) → kept_for family (context_after start []).next_hops ≡ of_family family start.sender
     first V4 = refl
     first V6 = refl
 
-    on : (family : Family) (tlv : TlvAt) (earlier : List TlvAt) → next_hop_in_context family (context_after start (tlv ∷ earlier))
-        ≡ option_or (given_next_hop family tlv) (next_hop_in_context family (context_after start earlier))
+    on : (family : Family) (tlv : TlvAt) (earlier : List TlvAt) → kept_for family (context_after start (tlv ∷ earlier)).next_hops
+        ≡ option_or (given_next_hop family tlv) (kept_for family (context_after start earlier).next_hops)
     on V4 tlv earlier = refl
     on V6 tlv earlier = refl
 
 pub ruleset of_a_family = (default_is_nearest, next_hop_is_nearest)
 
 pub router_id_is_nearest : RouterIdIsNearest
-router_id_is_nearest start = nearest (List ℕ)
-    (λ before tlv. given_router_id start.via_v6 (default_in Ipv4 (context_after start before)) (default_in Ipv6 (context_after start before))
-    (default_in Ipv4ViaIpv6 (context_after start before)) tlv) None
+router_id_is_nearest start = nearest (List ℕ) (λ before tlv. given_router_id (context_after start before) tlv) None
     (λ earlier. (context_after start earlier).router_id) refl (λ tlv earlier. refl)

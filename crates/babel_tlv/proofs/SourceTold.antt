@@ -1,8 +1,7 @@
 -- A source prefix that is written is read back.
 use Rattle.std.proofs.Common.{◌≡◌, ℕ, suc, ◌+◌, ◌-◌, ◌%◌, ◌^◌, ◌<◌, ◌≤◌, Bool, true, false, cond, ltb, eqb, List, [], ◌∷◌, length, Option, Some, None, refl, sym, ap, subst, ◌∙◌, arith}
-use Rattle.std.specs.Prelude.{◌==◌}
+use Rattle.std.specs.Prelude.{◌==◌, unwrap_or, Ok}
 use Rattle.std.specs.Int.{bytes_high_first}
-use Rattle.std.specs.Option.{option_or}
 use Rattle.std.proofs.Math.Nat.{mod-eq_of_lt}
 use Rattle.std.proofs.lemmas.Bool.{le-ltb}
 use Rattle.std.proofs.lemmas.Bool.Decides.{nat_tests}
@@ -13,15 +12,13 @@ use Rattle.babel_prefix.specs.Width.{width_of, octet_count}
 use Rattle.babel_prefix.specs.Address.{AddressPrefix, whole_family}
 use Rattle.babel_prefix.specs.Covers.{IsAddressPrefix}
 use Rattle.babel_tlv.specs.declared.place.Place.TheVariants as places
-use Rattle.babel_tlv.specs.declared.reason.Reason.{Reason}
-use Rattle.babel_tlv.specs.declared.reason.Reason.TheVariants as reasons
-use Rattle.babel_tlv.specs.Framing.{tlvs_of}
 use Rattle.babel_tlv.specs.Left.{BeginsTlv}
 use Rattle.babel_tlv.specs.Forming.{octets_for, prefix_from}
-use Rattle.babel_tlv.specs.SubTlv.{sub_reason, source_of, is_bad_source}
+use Rattle.babel_tlv.specs.SubTlv.{is_bad_source, item_read, sub_tlvs}
+use Rattle.babel_tlv.specs.Reading.{source_prefix}
 use Rattle.babel_tlv.specs.Group.{prefix_octets, source_sub}
-use Rattle.babel_tlv.proofs.Reading.{tlvs_of-begins}
-use Rattle.babel_tlv.proofs.SubReading.{fault_from-begins}
+use Rattle.babel_tlv.proofs.Reading.{one}
+use Rattle.babel_tlv.proofs.SubTlvLaws.{rest_read-begins}
 use Rattle.babel_tlv.proofs.PrefixLaws.{length-octets, prefix_from-octets}
 
 few_octets : (family : Family) (len : ℕ) → len ≤ width_of family → octets_for len ≤ octet_count family
@@ -83,35 +80,28 @@ good_source src fits some =
     let enough : ltb (suc (length (prefix_octets src))) (1 + octets_for src.len) ≡ false = le-ltb _ _ (omega (arith, sized)) in
     rw (has_body, some, in_width, enough) refl
 
-abbrev no_reason : Option Reason
-no_reason = None
-
--- the fault of an item that is first, and last
-abbrev fault_if : Bool → Option Reason
-fault_if b = option_or (cond b (Some reasons.BadSource) no_reason) None
-
--- what is written of a source prefix has no fault, and gives it back
+-- what is written of a source prefix is read back
 pub record ReadsSource (src : AddressPrefix) (octets : List ℕ) : Type 0 where
-  pub fine : sub_reason (places.InUpdate src.address.family) octets ≡ None
-  pub given : source_of src.address.family (tlvs_of 0 octets) ≡ src
+  pub given : Option AddressPrefix
+  pub read : sub_tlvs (places.InUpdate src.address.family) octets ≡ Ok given
+  pub is : unwrap_or given (whole_family src.address.family) ≡ src
 
-item_read : (src : AddressPrefix) → IsAddressPrefix src → (src.len == 0) ≡ false → ReadsSource src (item_octets src)
-item_read src fits some =
-    let begins = item_begins src fits in
+item_told : (src : AddressPrefix) → IsAddressPrefix src → (src.len == 0) ≡ false → ReadsSource src (item_octets src)
+item_told src fits some =
+    let family = src.address.family in
+    let reads : item_read (places.InUpdate family) None (one 0 128 (item_body src)) ≡ Ok (Some (source_prefix family (item_body src))) = rw (good_source src fits some) refl in
     record {
-      fine = fault_from-begins (places.InUpdate src.address.family) [] 0 (item_octets src) 128 (item_body src) [] begins
-          ∙ ap (λ (b : Bool). fault_if b) (good_source src fits some);
-      given = ap (source_of src.address.family) (tlvs_of-begins 0 (item_octets src) 128 (item_body src) [] begins)
-          ∙ ap (λ (octets : List ℕ). prefix_from src.address.family src.len octets)
-          (take_all (octets_for src.len) (prefix_octets src) (omega (arith, length-prefix_octets src fits)))
+      given = Some (source_prefix family (item_body src));
+      read = rest_read-begins (places.InUpdate family) None 0 (item_octets src) 128 (item_body src) [] (Ok (Some (source_prefix family (item_body src)))) (item_begins src fits) reads;
+      is = ap (λ (octets : List ℕ). prefix_from family src.len octets) (take_all (octets_for src.len) (prefix_octets src) (omega (arith, length-prefix_octets src fits)))
           ∙ prefix_from-octets src fits;
     }
 
 source_by : (src : AddressPrefix) → IsAddressPrefix src → (b : Bool) → (src.len == 0) ≡ b → ReadsSource src (cond b [] (item_octets src))
 source_by src fits true none =
     let len_is : src.len ≡ 0 = grind (arith, nat_tests) in
-    record { fine = refl; given = whole_is src.address.family src.address.bits src.len len_is fits.start_in_range fits.rest_is_zero }
-source_by src fits false some = item_read src fits some
+    record { given = None; read = refl; is = whole_is src.address.family src.address.bits src.len len_is fits.start_in_range fits.rest_is_zero }
+source_by src fits false some = item_told src fits some
 
 pub source_told : (src : AddressPrefix) → IsAddressPrefix src → ReadsSource src (source_sub src)
 source_told src fits = source_by src fits (src.len == 0) refl

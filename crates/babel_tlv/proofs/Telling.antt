@@ -8,8 +8,7 @@ use Rattle.babel_tlv.specs.declared.event.Event.{Event}
 use Rattle.babel_tlv.specs.declared.event.Event.TheVariants as events
 use Rattle.babel_tlv.specs.declared.fault.Fault.{Fault}
 use Rattle.babel_tlv.specs.Framing.{TlvAt, IsTlv, ArePlaced, laid_out, tlv_octets}
-use Rattle.babel_tlv.specs.Context.{Context, context_after}
-use Rattle.babel_tlv.specs.Updating.{updated}
+use Rattle.babel_tlv.specs.Context.{Context, context_after, updated}
 use Rattle.babel_tlv.specs.Says.{Saying, said, sayings_behind}
 use Rattle.babel_tlv.specs.News.{spoken}
 use Rattle.babel_tlv.proofs.Reading.{one}

@@ -20,7 +20,8 @@ use Rattle.babel_tlv.specs.Context.{context_after}
 use Rattle.babel_tlv.specs.Says.{Saying, sayings, sayings_behind}
 use Rattle.babel_tlv.specs.Group.{pair_encoding, is_id, is_hop, router_id_tlv, next_hop_tlv, next_hop_octets, held_seqno, held_metric}
 use Rattle.babel_tlv.specs.Group.{shared_octets, update_tlv, update_body, group, groups_behind, body_of, ArePacked}
-use Rattle.babel_tlv.specs.Writing.{route_in, Written, written_after, hop_in, dst_in, group_in}
+use Rattle.babel_tlv.specs.Kept.{kept_for, prefix_for}
+use Rattle.babel_tlv.specs.Writing.{route_in, Written, written_after, group_in}
 use Rattle.babel_tlv.specs.Pair.{Pair}
 use Rattle.babel_tlv.specs.Pairs.{FitsKey, HopFits, IsPair}
 use Rattle.babel_tlv.specs.News.{spoken, pair_event}
@@ -106,7 +107,7 @@ length-hop V6 bits = by_test (starts_with ◌==◌ (bytes_high_first 16 bits) li
 -- a route's Router-Id and Next Hop
 length-tlvs : (so_far : Written) (family : Family) (key : RouteKey) (held : Held) → FitsKey key held → length (route_in family so_far held) ≤ 32
 length-tlvs so_far family key (helds.Route ann) fits =
-    let hop = hop_in family so_far in
+    let hop = kept_for family so_far.next_hops in
     let id_octets = cond (is_id so_far.router_id ann.router_id) [] (router_id_tlv ann.router_id) in
     let hop_octets = cond (is_hop hop ann.next_hop) [] (next_hop_tlv ann.next_hop) in
     let id_len : length id_octets ≤ 12 = omega (arith, length-unless (is_id so_far.router_id ann.router_id) (router_id_tlv ann.router_id), fits.0.eight) in
@@ -119,7 +120,7 @@ pub length-group : (so_far : Written) (pair : Pair) → IsPair pair → length (
 length-group so_far pair fits =
     let encoding = pair_encoding pair in
     let family = hop_family encoding in
-    let omit = shared_octets (dst_in encoding so_far) pair.0.dst in
+    let omit = shared_octets (prefix_for encoding so_far.dsts) pair.0.dst in
     let route = route_in family so_far pair.1 in
     let update = update_tlv encoding omit pair.0 (held_seqno pair.1) (held_metric pair.1) in
     let body_len : length (update_body encoding omit pair.0 (held_seqno pair.1) (held_metric pair.1)) ≤ 45 =

@@ -1,30 +1,16 @@
--- What a parser keeps between two TLVs, and an address of each family and a prefix of each
--- encoding, if one is known: RFC 8966, 4.5; RFC 9229, 4.1.
-use Rattle.std.specs.Prelude.{◌≡◌, ◌^◌, ◌<◌, ℕ, List, length, slice_index, IfSome, Option, Some}
+-- An address of each family, and of a prefix of each encoding, if one is known: RFC 8966, 4.5;
+-- RFC 9229, 4.1.
+use Rattle.std.specs.Prelude.{◌≡◌, IfSome, Option, Some}
 use Rattle.babel_prefix.specs.declared.family.Family.{Family}
 use Rattle.babel_prefix.specs.declared.family.Family.TheVariants.{V4, V6}
 use Rattle.babel_prefix.specs.Address.{Address, IsAddress}
 use Rattle.babel_tlv.specs.declared.prefix_encoding.PrefixEncoding.{PrefixEncoding}
 use Rattle.babel_tlv.specs.declared.prefix_encoding.PrefixEncoding.TheVariants.{Ipv4, Ipv6}
 use Rattle.babel_tlv.specs.declared.prefix_encoding.PrefixEncoding.TheVariants.{Ipv4ViaIpv6}
-use Rattle.babel_tlv.specs.Context.{Context}
 
 -- an address of the family, if there is one
 abbrev pub IsOfFamily : Family → Option Address → Type 0
 IsOfFamily family a = IfSome a (λ hop. (hop.family ≡ family) × IsAddress hop)
-
--- RFC 8966, 4.1.3: eight octets
-abbrev pub IsRouterId : List ℕ → Type 0
-IsRouterId id = (length id ≡ 8) × ((i : ℕ) → slice_index id i < 2 ^ 8)
-
--- what holds of every parser state
-pub record IsContext (context : Context) : Type 0 where
-  pub default_v4 : IsOfFamily V4 context.default_v4
-  pub default_v6 : IsOfFamily V6 context.default_v6
-  pub default_v4_via_v6 : IsOfFamily V4 context.default_v4_via_v6
-  pub router_id : IfSome context.router_id IsRouterId
-  pub next_hop_v4 : IsOfFamily V4 context.next_hop_v4
-  pub next_hop_v6 : IsOfFamily V6 context.next_hop_v6
 
 pub record Kept : Type 0 where
   pub v4 : Option Address

@@ -4,12 +4,11 @@ use Rattle.std.specs.Prelude.{◌≡◌, ℕ, List, [], ◌∷◌, ◌++◌, Opt
 use Rattle.babel_prefix.specs.declared.family.Family.{Family}
 use Rattle.babel_prefix.specs.Address.{Address}
 use Rattle.babel_tlv.specs.declared.prefix_encoding.PrefixEncoding.{PrefixEncoding}
-use Rattle.babel_tlv.specs.declared.prefix_encoding.PrefixEncoding.TheVariants.{Ipv4, Ipv6}
-use Rattle.babel_tlv.specs.declared.prefix_encoding.PrefixEncoding.TheVariants.{Ipv4ViaIpv6}
 use Rattle.babel_tlv.specs.declared.start.Start.{Start}
 use Rattle.babel_tlv.specs.Framing.{TlvAt}
 use Rattle.babel_tlv.specs.Context.{context_after, given_default, given_next_hop, given_router_id}
-use Rattle.babel_tlv.specs.Context.{default_in, next_hop_in_context, of_family}
+use Rattle.babel_tlv.specs.Context.{of_family}
+use Rattle.babel_tlv.specs.Kept.{kept_for, prefix_for}
 
 -- `sets before tlv` is what a TLV sets where these TLVs came before it in its packet, if it sets
 -- any. All lists of TLVs have the latest first.
@@ -41,23 +40,18 @@ IsNearest X sets begins earlier stands =
 -- the default prefix of an encoding, which a packet begins without
 abbrev pub DefaultIsNearest : Type 0
 DefaultIsNearest = (start : Start) (encoding : PrefixEncoding) (earlier : List TlvAt)
-    → IsNearest Address
-    (λ before tlv. given_default start.via_v6 encoding
-    (default_in encoding (context_after start before)) tlv)
-    None earlier (default_in encoding (context_after start earlier))
+    → IsNearest Address (λ before tlv. given_default (context_after start before) encoding tlv)
+    None earlier (prefix_for encoding (context_after start earlier).defaults)
 
 -- the next hop of a family; a packet begins with the sender as that of its family
 abbrev pub NextHopIsNearest : Type 0
 NextHopIsNearest = (start : Start) (family : Family) (earlier : List TlvAt)
     → IsNearest Address (λ before tlv. given_next_hop family tlv)
     (of_family family start.sender) earlier
-    (next_hop_in_context family (context_after start earlier))
+    (kept_for family (context_after start earlier).next_hops)
 
 -- the router-id, which a packet begins without
 abbrev pub RouterIdIsNearest : Type 0
 RouterIdIsNearest = (start : Start) (earlier : List TlvAt)
-    → IsNearest (List ℕ)
-    (λ before tlv. given_router_id start.via_v6 (default_in Ipv4 (context_after start before))
-    (default_in Ipv6 (context_after start before))
-    (default_in Ipv4ViaIpv6 (context_after start before)) tlv)
+    → IsNearest (List ℕ) (λ before tlv. given_router_id (context_after start before) tlv)
     None earlier (context_after start earlier).router_id

@@ -10,7 +10,7 @@ use Rattle.babel_tlv.specs.declared.prefix_encoding.PrefixEncoding.TheVariants.{
 use Rattle.babel_tlv.specs.declared.held.Held.{Held}
 use Rattle.babel_tlv.specs.declared.held.Held.TheVariants as helds
 use Rattle.babel_tlv.specs.Encodings.{hop_family}
-use Rattle.babel_tlv.specs.Route.{Announcement}
+use Rattle.babel_tlv.specs.Kept.{Kept, KeptPrefixes, kept_for, kept_with, prefix_for, prefix_with}
 use Rattle.babel_tlv.specs.Pair.{Pair}
 use Rattle.babel_tlv.specs.Group.{pair_encoding, written_id, written_hop}
 use Rattle.babel_tlv.specs.Group.{written_dst, route_tlvs, update_tlv}
@@ -19,60 +19,44 @@ use Rattle.babel_tlv.specs.Group.{shared_octets, held_seqno, held_metric}
 -- what is current in the packet, for each family and each encoding
 pub record Written : Type 0 where
   pub router_id : Option (List ℕ)
-  pub next_hop_v4 : Option Address
-  pub next_hop_v6 : Option Address
-  pub dst_v4 : Option Address
-  pub dst_v6 : Option Address
-  pub dst_v4_via_v6 : Option Address
+  pub next_hops : Kept
+  pub dsts : KeptPrefixes
 
 -- this stands for these pairs, the latest first
 abbrev pub written_after : List Pair → Written
 written_after earlier = record {
   router_id = written_id earlier;
-  next_hop_v4 = written_hop V4 earlier;
-  next_hop_v6 = written_hop V6 earlier;
-  dst_v4 = written_dst Ipv4 earlier;
-  dst_v6 = written_dst Ipv6 earlier;
-  dst_v4_via_v6 = written_dst Ipv4ViaIpv6 earlier;
+  next_hops = record { v4 = written_hop V4 earlier; v6 = written_hop V6 earlier };
+  dsts = record {
+    v4 = written_dst Ipv4 earlier;
+    v6 = written_dst Ipv6 earlier;
+    v4_via_v6 = written_dst Ipv4ViaIpv6 earlier;
+  };
 }
-
-abbrev pub hop_in : Family → Written → Option Address
-hop_in V4 so_far = so_far.next_hop_v4
-hop_in V6 so_far = so_far.next_hop_v6
-
-abbrev pub dst_in : PrefixEncoding → Written → Option Address
-dst_in Ipv4 so_far = so_far.dst_v4
-dst_in Ipv6 so_far = so_far.dst_v6
-dst_in Ipv4ViaIpv6 so_far = so_far.dst_v4_via_v6
 
 -- the group of a pair, by what is current
 abbrev pub route_in : Family → Written → Held → List ℕ
-route_in family so_far held = route_tlvs so_far.router_id (hop_in family so_far) held
+route_in family so_far held =
+    route_tlvs so_far.router_id (kept_for family so_far.next_hops) held
 
 abbrev pub group_in : Written → Pair → List ℕ
 group_in so_far pair =
     let encoding = pair_encoding pair in
     route_in (hop_family encoding) so_far pair.1
-    ++ update_tlv encoding (shared_octets (dst_in encoding so_far) pair.0.dst) pair.0
+    ++ update_tlv encoding (shared_octets (prefix_for encoding so_far.dsts) pair.0.dst) pair.0
     (held_seqno pair.1) (held_metric pair.1)
 
--- a route's Router-Id and Next Hop are current
-abbrev pub with_route : Family → Announcement → Written → Written
-with_route V4 ann old =
-    record old { router_id = Some ann.router_id; next_hop_v4 = Some ann.next_hop }
-with_route V6 ann old =
-    record old { router_id = Some ann.router_id; next_hop_v6 = Some ann.next_hop }
-
--- an unreachable pair brings neither
+-- a route's Router-Id and Next Hop are current; an unreachable pair brings neither
 abbrev pub with_held : Family → Held → Written → Written
-with_held family (helds.Route ann) old = with_route family ann old
+with_held family (helds.Route ann) old = record old {
+  router_id = Some ann.router_id;
+  next_hops = kept_with family ann.next_hop old.next_hops;
+}
 with_held family helds.Unreachable old = old
 
 -- the last Update of the encoding has this destination address
 abbrev pub with_dst : PrefixEncoding → Address → Written → Written
-with_dst Ipv4 dst old = record old { dst_v4 = Some dst }
-with_dst Ipv6 dst old = record old { dst_v6 = Some dst }
-with_dst Ipv4ViaIpv6 dst old = record old { dst_v4_via_v6 = Some dst }
+with_dst encoding dst old = record old { dsts = prefix_with encoding dst old.dsts }
 
 abbrev pub with_pair : Pair → Written → Written
 with_pair pair old =

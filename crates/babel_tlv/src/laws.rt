@@ -5,6 +5,7 @@ ghost use Rattle.std.specs.declared.cmp.Ordering.TheVariants.{Equal};
 ghost use Rattle.babel_tlv.specs.declared.held.Held.{Held as HeldValue};
 ghost use Rattle.babel_tlv.specs.Nearest.{DefaultIsNearest, NextHopIsNearest, RouterIdIsNearest};
 ghost use Rattle.babel_tlv.specs.Pairs.{held_cmp};
+ghost use Rattle.babel_tlv.specs.Says.{IgnoredTellsNothing};
 ghost use Rattle.babel_tlv.specs.ViewsTell.{AllIsSeen, SeenFits, SeenHopFits};
 ghost use Rattle.babel_tlv.specs.ViewsTell.{SeenTellsApart, SeenTwiceIsSeen};
 ghost use Rattle.babel_tlv.specs.Route.{RouteKey, Announcement};
@@ -65,4 +66,9 @@ pub fn state_is_nearest()
     ensures default_prefix { DefaultIsNearest }
     ensures next_hop { NextHopIsNearest }
     ensures router_id { RouterIdIsNearest }
+{}
+
+/// A TLV that is ignored, or refuses the dump, tells nothing of routes: RFC 8966, 4.6.
+pub fn ignored_tells_nothing()
+    ensures { IgnoredTellsNothing }
 {}

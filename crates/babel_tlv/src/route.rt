@@ -8,12 +8,12 @@ use babel_prefix::{Addr, Family, Prefix};
 pub struct Route {
     /// What the route is for.
     pub key: Key,
-    /// What was announced for it, if the verdict is `Announce`.
+    /// What was announced for it, if the kind is `Announce`.
     pub ann: Ann,
 }
 
 impl Route {
-    /// A place where nothing was written. No verdict speaks of it.
+    /// A place where nothing was written. No event speaks of it.
     pub fn unwritten() -> Route {
         let everywhere = Prefix::whole(Family::V4);
         Route {

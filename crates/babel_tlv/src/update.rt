@@ -4,22 +4,19 @@ ghost use Rattle.babel_tlv.specs.Kept.{IsOfFamily};
 ghost use Rattle.babel_tlv.specs.Forming.{field_len, formed, omitted, prefix_from, prefix_len};
 ghost use Rattle.babel_tlv.specs.Forming.{sets_default, sets_router_id, update_encoding};
 ghost use Rattle.babel_tlv.specs.Pairs.{EventFits};
-ghost use Rattle.babel_tlv.specs.Says.{wildcard_event};
+ghost use Rattle.babel_tlv.specs.Says.{source_of, unless_ignored, wildcard_reason, wildcard_tells};
 ghost use Rattle.babel_tlv.specs.Encodings.{IsNamedBy};
 ghost use Rattle.babel_tlv.specs.Fields.{AreUpdateFields};
-ghost use Rattle.babel_tlv.specs.Framing.{tlvs_of};
-ghost use Rattle.babel_tlv.specs.Reading.{HasFault, joined_octets, update_sub_tlvs};
-ghost use Rattle.babel_tlv.specs.SubTlv.{sub_reason, source_of};
-ghost use Rattle.babel_tlv.specs.Verdicts.{event_of};
-ghost use Rattle.babel_tlv.specs.declared.place.Place.TheVariants as places;
+ghost use Rattle.babel_tlv.specs.Reading.{joined_octets, update_sub_tlvs};
+ghost use Rattle.babel_tlv.specs.EventKinds.{event_of};
 ghost use Rattle.babel_tlv.specs.declared.route.Route.{Route};
 
 use crate::address::{completed, octet_count};
 use crate::encoding::Encoding;
+use crate::event_kind::EventKind;
 use crate::place::Place;
 use crate::reason::Reason;
 use crate::sub_tlv::{octets_needed, read_sub_tlvs};
-use crate::verdict::Verdict;
 use crate::wire::{INFINITY, PREFIX_FLAG, ROUTER_ID_FLAG};
 use babel_prefix::{Addr, Family, Prefix};
 use byteorder::{ByteOrder, NetworkEndian};
@@ -112,10 +109,7 @@ impl<'a> Update<'a> {
     /// 7.2.
     pub fn source(&self, family: Family) -> Result<Prefix, Reason>
         requires { 10 + field_len self.now.body.now ≤ length self.now.body.now }
-        ensures fault { HasFault
-            (sub_reason (places.InUpdate family) (update_sub_tlvs self.now.body.now)) result }
-        ensures value { IfOk result (λ source. source
-            ≡ source_of family (tlvs_of 0 (update_sub_tlvs self.now.body.now))) }
+        ensures value { result ≡ source_of family self.now.body.now }
         ensures family { IfOk result (λ source. source.address.family ≡ family) }
     {
         let sub_tlvs = self.sub_tlvs();
@@ -150,19 +144,21 @@ impl<'a> Update<'a> {
     }
 
     /// What an Update of the wildcard encoding says: RFC 8966, 4.6.9; RFC 9079, 5.2.
-    pub fn wildcard(&self) -> Verdict
-        ensures said { (route : Route) → event_of result route ≡ wildcard_event self.now.body.now }
+    pub fn wildcard(&self) -> EventKind
+        ensures said { (route : Route) → event_of result route
+            ≡ unless_ignored (wildcard_reason self.now.body.now)
+            (wildcard_tells self.now.body.now) }
         ensures fits { (route : Route) → EventFits (event_of result route) }
     {
         if self.metric != INFINITY {
-            return Verdict::Ignored(Reason::WildcardFinite);
+            return EventKind::Ignored(Reason::WildcardFinite);
         }
         if self.plen > 0 || self.omitted > 0 {
-            return Verdict::Ignored(Reason::WildcardPrefix);
+            return EventKind::Ignored(Reason::WildcardPrefix);
         }
         match read_sub_tlvs(Place::InWildcard, self.sub_tlvs()) {
-            Ok(_) => Verdict::RetractAll,
-            Err(reason) => Verdict::Ignored(reason),
+            Ok(_) => EventKind::RetractAll,
+            Err(reason) => EventKind::Ignored(reason),
         }
     }
 }

@@ -7,5 +7,5 @@ pub returns-clause-text : goal.returns-clause-text
 returns-clause-text c =
     let before = c.args.buffer.now.items in
     let slash = appended before _ _ _ _ (rw c.addr.ensures.value at c.push_addr.ensures.text) c.push_octet.ensures.text in
-    appended before _ _ _ _ slash (rw c.len.ensures.value at c.push_decimal.ensures.text)
+    appended before _ _ _ _ slash (rw c.len.ensures.value at c.push_small.ensures.text)
     ∙ ap (λ (t : List ℕ). before ++ t) (prefix_parts c.args.spelling c.args.prefix)

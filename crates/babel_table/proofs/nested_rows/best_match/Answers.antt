@@ -1,6 +1,6 @@
 -- The last row from the source to the last destination is the best match; where there is none, the rows around that destination are next.
 use Rattle.std.proofs.Common.{◌≡◌, ◌-◌, ◌<◌, true, get_or, length, sym, ◌∙◌, ap, subst, arith}
-use Rattle.std.specs.List.{HoldsAt}
+use Rattle.std.specs.List.{Contains, HoldsAt}
 use Rattle.std.specs.Map.{keys_of}
 use Rattle.std.specs.Ordering.{is_le}
 use Rattle.std.proofs.lemmas.Map.Entries.{length-keys_of}
@@ -57,7 +57,7 @@ returns-then-last-gt0 g c =
     let after =
     found_last keys around c.requires.nested d s to (c.loop-end.end - 1) at place key_in leads (λ k f low high has. none k f (omega (arith, low)) high has)
     (λ k f low high has. c.loop-end.invariant.none k f (omega (arith, low)) high has) in
-    subst (HasBestMatch rows d s) (sym c.held.ensures.value) (best_row rows around d s place e c.requires.nested place_in both after)
+    subst (HasBestMatch (Contains rows) d s) (sym c.held.ensures.value) (best_row rows around d s place e c.requires.nested place_in both after)
 
 pub end_to-end-requires-in-loop-end-clause-up_to :
     goal.end_to-end-requires-in-loop-end-clause-up_to

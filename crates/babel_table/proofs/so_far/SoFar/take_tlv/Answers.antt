@@ -2,23 +2,23 @@
 use Rattle.std.proofs.Common.{sym}
 use Rattle.std.proofs.lemmas.Result.{err_from_is_err_and}
 use Rattle.babel_tlv.specs.Frames.{tlv_value}
-use Rattle.babel_tlv.specs.Verdicts.{event_of}
+use Rattle.babel_tlv.specs.EventKinds.{event_of}
 use Rattle.babel_table.specs.Feeding.{routes}
 use Rattle.babel_table.proofs.TookLaws.{took-refused, tlv-taken, tlv-failed}
 use Rattle.babel_table.proofs.so_far.SoFar.take_tlv.Goals as goal
 
 pub returns-clause-ok : goal.returns-clause-ok
 returns-clause-ok c = tlv-taken c.args.self.now.rows.mode c.args.self.now.rows.entries (routes c.args.self.now.rows.rows c.args.self.now.report) _ c.args.state.now _ (tlv_value c.args.tlv.now)
-    (event_of c.in_ok-verdict.verdict c.step_into.new.route) c.take.result c.in_ok-verdict.ensures.said c.in_ok-verdict.ensures.state c.take.ensures.ok
+    (event_of c.in_ok-kind.kind c.step_into.new.route) c.take.result c.in_ok-kind.ensures.said c.in_ok-kind.ensures.state c.take.ensures.ok
 
 pub returns-clause-fails : goal.returns-clause-fails
 returns-clause-fails c = tlv-failed c.args.self.now.rows.mode c.args.self.now.rows.entries (routes c.args.self.now.rows.rows c.args.self.now.report)
     (routes c.args.self.now.rows.rows c.args.self.now.report) c.args.state.now c.args.state.now (tlv_value c.args.tlv.now)
-    (event_of c.in_ok-verdict.verdict c.step_into.new.route) c.take.result c.in_ok-verdict.ensures.said c.take.ensures.refused
+    (event_of c.in_ok-kind.kind c.step_into.new.route) c.take.result c.in_ok-kind.ensures.said c.take.ensures.refused
 
-pub returns-in_err-verdict-clause-fails : goal.returns-in_err-verdict-clause-fails
-returns-in_err-verdict-clause-fails c =
+pub returns-in_err-kind-clause-fails : goal.returns-in_err-kind-clause-fails
+returns-in_err-kind-clause-fails c =
     let exit = err_from_is_err_and c.from_residual.result c.from_residual.ensures.1 in
     rw (exit.1, exit.2) (λ start old all left some. took-refused c.args.self.now.rows.mode c.args.self.now.rows.entries start old all
     (routes c.args.self.now.rows.rows c.args.self.now.report) c.args.state.now (tlv_value c.args.tlv.now) left
-    c.in_err-verdict.field-0.0 some (sym c.in_err-verdict.ensures.said))
+    c.in_err-kind.field-0.0 some (sym c.in_err-kind.ensures.said))

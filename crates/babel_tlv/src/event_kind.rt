@@ -1,5 +1,5 @@
 ghost use Rattle.std.specs.Prelude.{◌≡◌};
-ghost use Rattle.babel_tlv.specs.Verdicts.{event_of};
+ghost use Rattle.babel_tlv.specs.EventKinds.{event_of};
 
 use crate::event::Event;
 use crate::reason::Reason;
@@ -7,7 +7,7 @@ use crate::route::Route;
 
 /// What a TLV says, but for the route that it says it of: RFC 8966, 4.6.
 #[derive(Clone, Copy, Debug, PartialEq, Eq)]
-pub enum Verdict {
+pub enum EventKind {
     /// An Update with a finite metric: the route.
     Announce,
     /// An Update with an infinite metric: no route for the key.
@@ -20,17 +20,17 @@ pub enum Verdict {
     Ignored(Reason),
 }
 
-impl Verdict {
-    /// The verdict with what it says of the route.
+impl EventKind {
+    /// The event of this kind, of the route.
     pub fn event(self, route: &Route) -> Event
         ensures { result ≡ event_of self route.now }
     {
         match self {
-            Verdict::Announce => Event::Announce(route.key, route.ann),
-            Verdict::Retract => Event::Retract(route.key),
-            Verdict::RetractAll => Event::RetractAll,
-            Verdict::Nothing => Event::Nothing,
-            Verdict::Ignored(reason) => Event::Ignored(reason),
+            EventKind::Announce => Event::Announce(route.key, route.ann),
+            EventKind::Retract => Event::Retract(route.key),
+            EventKind::RetractAll => Event::RetractAll,
+            EventKind::Nothing => Event::Nothing,
+            EventKind::Ignored(reason) => Event::Ignored(reason),
         }
     }
 }
