@@ -3,7 +3,8 @@
 # The senders of a capture: the first file that the line names, or a later one.
 function __babel_dump_senders
     set -l valued from other-from interface other-interface to src each ignore color body
-    set -a valued max-routes max-octets within match source id
+    set -a valued max-routes max-octets within match source id since until
+    set -a valued other-since other-until
     set -l words (commandline -po)
     set -l before (commandline -poc)
     # The word at the cursor may be empty: something has to stand there.
@@ -53,6 +54,8 @@ complete -c babel-dump -n __fish_use_subcommand -a help -d 'Print help'
 __babel_dump_option "$commands" -l accept-cut -d 'Read a truncated capture'
 __babel_dump_option "$commands" -l quiet -d 'Suppress notes'
 __babel_dump_option "$commands" -l max-octets -x -d 'How many octets there may be'
+__babel_dump_option "$commands" -l since -x -d 'Skip what came before a time'
+__babel_dump_option "$commands" -l until -x -d 'Skip what came after a time'
 __babel_dump_option "$commands" -l help -d 'Print help'
 __babel_dump_option "$of_dumps extract" -l from -x -a '(__babel_dump_senders 1)' -d 'The sender'
 __babel_dump_option "$of_dumps extract" -l interface -x -d 'The place in a capture'
@@ -61,6 +64,8 @@ __babel_dump_option "$of_dumps" -l v4-via-v6 -d 'Read IPv4 routes with an IPv6 n
 __babel_dump_option "$of_dumps" -l max-routes -x -d 'How many routes there may be'
 __babel_dump_option "$two" -l other-from -x -a '(__babel_dump_senders 2)' -d 'The other sender'
 __babel_dump_option "$two" -l other-interface -x -d 'The place in the other capture'
+__babel_dump_option "$two" -l other-since -x -d 'The same of the other capture'
+__babel_dump_option "$two" -l other-until -x -d 'The same of the other capture'
 __babel_dump_option "lookup $views senders extract" -l strict -d 'Reject what was not read'
 __babel_dump_option "show lookup pairs compare senders" -l json -d 'Print JSON'
 __babel_dump_option "show lookup pairs compare diff senders" -l short -d 'Write IPv6 as fe80::1'

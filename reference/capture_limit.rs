@@ -121,6 +121,8 @@ enum Fault {
     Lacking(u64, Lack),
     TooManySenders(u64),
     TooLong(u64),
+    BadTime(u64),
+    NoTime(u64),
 }
 
 impl fmt::Display for Fault {
@@ -143,6 +145,8 @@ impl fmt::Display for Fault {
             }
             Fault::TooManySenders(at) => write!(f, "too many senders at {at}"),
             Fault::TooLong(at) => write!(f, "capture too long at {at}"),
+            Fault::BadTime(at) => write!(f, "bad time at {at}"),
+            Fault::NoTime(at) => write!(f, "packet without a time at {at}"),
         }
     }
 }
@@ -163,11 +167,152 @@ enum Layout {
 struct Interface {
     link: u32,
     snap_len: u32,
+    clock: Clock,
+}
+
+/// How the times of an interface count: units of a second, if these are less than 2^128, and the
+/// seconds that are added.
+#[derive(Clone, Copy)]
+struct Clock {
+    units: Option<u128>,
+    offset: i64,
+}
+
+/// The time of a record: seconds, and units.
+#[derive(Clone, Copy)]
+struct Stamp {
+    seconds: u32,
+    units: u64,
+}
+
+/// The nanoseconds of a second, and the start of the year 10000.
+const SECOND: i128 = 1_000_000_000;
+const END: i128 = 253_402_300_800 * SECOND;
+
+impl Clock {
+    /// Nanoseconds since 1970, of the years up to 9999.
+    fn time(self, stamp: Stamp) -> Option<i128> {
+        let second = u128::from(stamp.units) * SECOND as u128;
+        let units = self.units.map_or(0, |units| second / units);
+        let seconds = i128::from(stamp.seconds) + i128::from(self.offset);
+        Some(seconds * SECOND + units as i128).filter(|time| (0..END).contains(time))
+    }
+}
+
+/// A moment in nanoseconds, since 1970 or since the capture's first packet.
+#[derive(Clone, Copy)]
+enum Moment {
+    At(i128),
+    After(i128),
+}
+
+impl Moment {
+    fn from(self, first: i128) -> i128 {
+        match self {
+            Moment::At(time) => time,
+            Moment::After(later) => first + later,
+        }
+    }
+
+    fn parse(word: &str) -> Option<Moment> {
+        if let Some(word) = word.strip_prefix('+') {
+            return Some(Moment::After(seconds_of(word)?));
+        }
+        let time = match word.strip_prefix('@') {
+            Some(word) => seconds_of(word)?,
+            None => date_time_of(word)?,
+        };
+        (0..END).contains(&time).then_some(Moment::At(time))
+    }
+}
+
+fn number_of(digits: &str) -> Option<u64> {
+    let is_number = digits.bytes().all(|octet| octet.is_ascii_digit());
+    is_number.then(|| digits.parse().ok()).flatten()
+}
+
+/// Seconds, and a fraction of one to nine digits if there is a point.
+fn seconds_of(word: &str) -> Option<i128> {
+    let (seconds, fraction) = match word.split_once('.') {
+        Some((_, "")) => return None,
+        Some((seconds, digits)) if digits.len() <= 9 => {
+            (seconds, number_of(digits)? * 10u64.pow(9 - digits.len() as u32))
+        }
+        Some(_) => return None,
+        None => (word, 0),
+    };
+    Some(i128::from(number_of(seconds)?) * SECOND + i128::from(fraction))
+}
+
+fn two_digits(word: &str, least: u64, most: u64) -> Option<u64> {
+    let number = number_of(word).filter(|_| word.len() == 2)?;
+    (least..=most).contains(&number).then_some(number)
+}
+
+fn date_time_of(word: &str) -> Option<i128> {
+    let (date, word) = word.split_once('T')?;
+    let (time, offset) = if let Some(time) = word.strip_suffix('Z') {
+        (time, 0)
+    } else {
+        let at = word.find(['+', '-'])?;
+        let (hours, minutes) = word[at + 1..].split_once(':')?;
+        let minutes = 60 * two_digits(hours, 0, 23)? + two_digits(minutes, 0, 59)?;
+        let sign = if word[at..].starts_with('-') { -1 } else { 1 };
+        (&word[..at], sign * i128::from(minutes))
+    };
+    let parts: Vec<_> = time.split(':').collect();
+    let (hour, minute, second) = match parts[..] {
+        [hour, minute] => (hour, minute, "00"),
+        [hour, minute, second] => (hour, minute, second),
+        _ => return None,
+    };
+    two_digits(second.split('.').next()?, 0, 59)?;
+    let minutes = 60 * two_digits(hour, 0, 23)? + two_digits(minute, 0, 59)?;
+    let [year, month, day] = date.split('-').collect::<Vec<_>>()[..] else {
+        return None;
+    };
+    let year = number_of(year).filter(|_| year.len() == 4)?;
+    let (month, day) = (two_digits(month, 1, 12)?, two_digits(day, 1, 31)?);
+    let is_leap = year % 4 == 0 && (year % 100 != 0 || year % 400 == 0);
+    let days = [31, 28 + u64::from(is_leap), 31, 30, 31, 30, 31, 31, 30, 31, 30, 31];
+    if day > days[month as usize - 1] || year == 0 {
+        return None;
+    }
+    let before = year - 1;
+    let day = 365 * before + before / 4 - before / 100 + before / 400
+        + days[..month as usize - 1].iter().sum::<u64>()
+        + day;
+    // The first of January 1970 is day 719,163 from the year 1 on.
+    let minutes = (i128::from(day) - 719_163) * 1_440 + i128::from(minutes) - offset;
+    Some(minutes * 60 * SECOND + seconds_of(second)?)
+}
+
+/// Which packets are read, by when they came.
+struct Window {
+    since: Option<Moment>,
+    until: Option<Moment>,
+    first: Option<i128>,
+}
+
+impl Window {
+    fn reads(&mut self, stamp: Option<Stamp>, time: Option<i128>, at: u64) -> Result<bool, Fault> {
+        if self.since.is_none() && self.until.is_none() {
+            return Ok(true);
+        }
+        if stamp.is_none() {
+            return Err(Fault::NoTime(at));
+        }
+        let time = time.ok_or(Fault::BadTime(at))?;
+        let first = *self.first.get_or_insert(time);
+        let is_since = self.since.is_none_or(|since| since.from(first) <= time);
+        Ok(is_since && self.until.is_none_or(|until| time <= until.from(first)))
+    }
 }
 
 /// What is read of a capture so far.
 struct Reader {
     limit: u64,
+    window: Window,
     layout: Layout,
     first: usize,
     interfaces: Vec<Interface>,
@@ -213,16 +358,28 @@ fn check_version(
     Ok(())
 }
 
-/// The name among the options of an interface, the first that is not empty; nothing if an option
-/// runs past their end.
-fn name_in(order: Order, mut options: &[u8]) -> Option<&[u8]> {
+/// The name among the options of an interface, the first that is not empty, and how its times
+/// count; nothing if an option runs past their end, or has a length that it can't have.
+fn options_in(order: Order, mut options: &[u8]) -> Option<(&[u8], Clock)> {
     let mut name: &[u8] = &[];
+    let (mut power, mut offset) = (None, None);
     while options.len() >= 4 {
         let len = usize::from(order.u16_at(options, 2));
         let value = options[4..].get(..len);
         match order.u16_at(options, 0) {
             0 => break,
             2 if name.is_empty() => name = value?,
+            9 => {
+                let [said] = value?.try_into().ok()?;
+                power.get_or_insert(said);
+            }
+            14 => {
+                let said = value?.try_into().ok()?;
+                offset.get_or_insert(match order {
+                    Order::Big => i64::from_be_bytes(said),
+                    Order::Little => i64::from_le_bytes(said),
+                });
+            }
             _ => {
                 value?;
             }
@@ -230,7 +387,12 @@ fn name_in(order: Order, mut options: &[u8]) -> Option<&[u8]> {
         let used = 4 + len.next_multiple_of(4);
         options = options.get(used..).unwrap_or_default();
     }
-    Some(name)
+    let units = match power.unwrap_or(6) {
+        power @ ..128 => 10u128.checked_pow(power.into()),
+        power => 2u128.checked_pow(u32::from(power) - 128),
+    };
+    let offset = offset.unwrap_or(0);
+    Some((name, Clock { units, offset }))
 }
 
 impl Reader {
@@ -267,8 +429,11 @@ impl Reader {
     fn take_block(&mut self, block: &[u8], at: u64) -> Result<(), Fault> {
         match self.layout {
             Layout::Pcap(order) => {
-                let frame = &block[16..];
-                self.take_packet(0, frame, order.u32_at(block, 12), at)
+                let stamp = Stamp {
+                    seconds: order.u32_at(block, 0),
+                    units: order.u32_at(block, 4).into(),
+                };
+                self.take_packet(0, Some(stamp), &block[16..], order.u32_at(block, 12), at)
             }
             Layout::Section(order) => self.take_pcapng(order, block, at),
             Layout::Start => {
@@ -281,6 +446,13 @@ impl Reader {
                 self.interfaces.push(Interface {
                     link: order.u32_at(block, 20) & 0xffff,
                     snap_len: order.u32_at(block, 16),
+                    clock: Clock {
+                        units: Some(match order.u32_at(block, 0) {
+                            NANOSECONDS => 1_000_000_000,
+                            _ => 1_000_000,
+                        }),
+                        offset: 0,
+                    },
                 });
                 Ok(())
             }
@@ -318,11 +490,13 @@ impl Reader {
         if self.interfaces.len() == MOST_INTERFACES {
             return Err(Fault::TooManyInterfaces(at));
         }
-        let name = name_in(order, &block[16..block.len() - 4]);
-        self.names.push(name.ok_or(Fault::BadLength(at))?.to_vec());
+        let options = options_in(order, &block[16..block.len() - 4]);
+        let (name, clock) = options.ok_or(Fault::BadLength(at))?;
+        self.names.push(name.to_vec());
         self.interfaces.push(Interface {
             link: order.u16_at(block, 8).into(),
             snap_len: order.u32_at(block, 12),
+            clock,
         });
         Ok(())
     }
@@ -342,7 +516,13 @@ impl Reader {
         let kept = order.u32_at(block, 20) as usize;
         let frame = block[28..block.len() - 4].get(..kept);
         let frame = frame.ok_or(Fault::BadLength(at))?;
-        self.take_packet(self.first + number, frame, order.u32_at(block, 24), at)
+        let high = u64::from(order.u32_at(block, 12));
+        let stamp = Stamp {
+            seconds: 0,
+            units: high << 32 | u64::from(order.u32_at(block, 16)),
+        };
+        let whole = order.u32_at(block, 24);
+        self.take_packet(self.first + number, Some(stamp), frame, whole, at)
     }
 
     fn take_simple(&mut self, order: Order, block: &[u8], at: u64) -> Result<(), Fault> {
@@ -358,12 +538,13 @@ impl Reader {
         };
         let frame = block[12..block.len() - 4].get(..kept as usize);
         let frame = frame.ok_or(Fault::BadLength(at))?;
-        self.take_packet(self.first, frame, whole, at)
+        self.take_packet(self.first, None, frame, whole, at)
     }
 
     fn take_packet(
         &mut self,
         interface: usize,
+        stamp: Option<Stamp>,
         frame: &[u8],
         whole: u32,
         at: u64,
@@ -375,10 +556,16 @@ impl Reader {
             whole: frame.len().max(whole as usize),
         };
         self.found.packets += 1;
-        match look(described.link, part) {
-            Ok(None) => Ok(()),
-            Ok(Some(seen)) => self.found.take(interface as u64, seen, at),
-            Err(Unread) => Err(Fault::UnreadLink(at, described.link)),
+        let time = stamp.and_then(|stamp| described.clock.time(stamp));
+        let seen = look(described.link, part);
+        let seen = seen.map_err(|Unread| Fault::UnreadLink(at, described.link))?;
+        if !self.window.reads(stamp, time, at)? {
+            return Ok(());
+        }
+        self.found.has_untimed |= time.is_none();
+        match seen {
+            None => Ok(()),
+            Some(seen) => self.found.take(interface as u64, time, seen, at),
         }
     }
 }
@@ -687,7 +874,16 @@ struct Origin {
 struct Tally {
     packets: u64,
     octets: u64,
-    updates: u64,
+    updates: Updates,
+    /// The earliest and the latest time.
+    times: Option<(i128, i128)>,
+}
+
+/// The Updates of packets: how many, and the greatest Interval of those that announce.
+#[derive(Clone, Copy, Default)]
+struct Updates {
+    count: u64,
+    interval: Option<u16>,
 }
 
 #[derive(Clone, Copy)]
@@ -773,6 +969,8 @@ struct Found {
     wanted: Option<Wanted>,
     packets: u64,
     left_out: [Option<(u64, u64)>; 8],
+    /// Whether a packet has no time.
+    has_untimed: bool,
     dump: Vec<u8>,
     /// The sender found last, and its tally, which is not among the others yet.
     last: Option<(Origin, Tally)>,
@@ -786,13 +984,20 @@ impl Found {
             wanted,
             packets: 0,
             left_out: [None; 8],
+            has_untimed: false,
             dump: Vec::new(),
             last: None,
             tallies: HashMap::with_hasher(seed),
         }
     }
 
-    fn take(&mut self, interface: u64, seen: Seen<'_>, at: u64) -> Result<(), Fault> {
+    fn take(
+        &mut self,
+        interface: u64,
+        time: Option<i128>,
+        seen: Seen<'_>,
+        at: u64,
+    ) -> Result<(), Fault> {
         let sender = seen.sender;
         let place = Place {
             interface,
@@ -816,7 +1021,8 @@ impl Found {
         let mut sent = Tally {
             packets: 1,
             octets: packet.len() as u64,
-            updates: 0,
+            updates: Updates::default(),
+            times: time.map(|time| (time, time)),
         };
         match self.wanted {
             Some(_) => self.dump.extend_from_slice(packet),
@@ -862,7 +1068,12 @@ impl Tally {
     fn add(&mut self, sent: Tally) {
         self.packets += sent.packets;
         self.octets += sent.octets;
-        self.updates += sent.updates;
+        self.updates.count += sent.updates.count;
+        self.updates.interval = self.updates.interval.max(sent.updates.interval);
+        self.times = match (self.times, sent.times) {
+            (Some((first, last)), Some((one, other))) => Some((first.min(one), last.max(other))),
+            (times, sent) => times.or(sent),
+        };
     }
 }
 
@@ -881,21 +1092,27 @@ fn packet_of(payload: &[u8]) -> Result<&[u8], Reason> {
     payload.get(..len).ok_or(Reason::Truncated)
 }
 
-/// How many Updates a packet has, whatever they hold; none if a TLV runs past its end: RFC 8966,
-/// 4.3, 4.6.9.
-fn updates_in(packet: &[u8]) -> u64 {
-    let (mut at, mut count) = (4, 0);
+/// The Updates of a packet; none if a TLV runs past its end: RFC 8966, 4.3, 4.6.9.
+fn updates_in(packet: &[u8]) -> Updates {
+    let (mut at, mut found) = (4, Updates::default());
     while let Some(&kind) = packet.get(at) {
-        at += match (kind, packet.get(at + 1)) {
+        let len = match (kind, packet.get(at + 1)) {
             (0, _) => 1,
             (_, Some(&len)) => 2 + usize::from(len),
-            (_, None) => return 0,
+            (_, None) => return Updates::default(),
         };
-        count += u64::from(kind == UPDATE);
+        if kind == UPDATE {
+            found.count += 1;
+            let body = packet.get(at + 2..at + len).filter(|body| body.len() >= 10);
+            if let Some(body) = body.filter(|body| u16_at(body, 8) != u16::MAX) {
+                found.interval = found.interval.max(Some(u16_at(body, 4)));
+            }
+        }
+        at += len;
     }
     match at == packet.len() {
-        true => count,
-        false => 0,
+        true => found,
+        false => Updates::default(),
     }
 }
 
@@ -938,11 +1155,13 @@ fn read_some(input: &mut impl Read, buffer: &mut [u8]) -> Result<usize, Failure>
 fn read_capture(
     mut input: impl Read,
     limit: u64,
+    window: Window,
     wanted: Option<Wanted>,
     accept_cut: bool,
 ) -> Result<Reader, Failure> {
     let mut reader = Reader {
         limit,
+        window,
         layout: Layout::Start,
         first: 0,
         interfaces: Vec::new(),
@@ -1031,6 +1250,16 @@ impl Words {
         }
     }
 
+    fn moment(&self, option: &str) -> Result<Option<Moment>, Failure> {
+        let Some(word) = self.options.get(option) else {
+            return Ok(None);
+        };
+        match Moment::parse(word) {
+            Some(moment) => Ok(Some(moment)),
+            None => Err(Failure::Usage(format!("not a time: {word}"))),
+        }
+    }
+
     fn place(&self) -> Result<Option<Place>, Failure> {
         let Some(word) = self.options.get("interface") else {
             return Ok(None);
@@ -1050,13 +1279,18 @@ impl Words {
     fn read(&self, wanted: Option<Wanted>) -> Result<Reader, Failure> {
         let limit = self.number("max-octets")?.unwrap_or(USUAL_OCTETS);
         let accept_cut = self.has("accept-cut");
+        let window = Window {
+            since: self.moment("since")?,
+            until: self.moment("until")?,
+            first: None,
+        };
         let reader = match &self.file {
-            None => read_capture(io::stdin().lock(), limit, wanted, accept_cut),
+            None => read_capture(io::stdin().lock(), limit, window, wanted, accept_cut),
             Some(name) if name == "-" => {
-                read_capture(io::stdin().lock(), limit, wanted, accept_cut)
+                read_capture(io::stdin().lock(), limit, window, wanted, accept_cut)
             }
             Some(name) => match File::open(name) {
-                Ok(file) => read_capture(file, limit, wanted, accept_cut),
+                Ok(file) => read_capture(file, limit, window, wanted, accept_cut),
                 Err(_) => Err(Failure::Open(name.clone())),
             },
         }?;
@@ -1120,29 +1354,57 @@ fn place_json(place: Place, name: &[u8]) -> String {
     format!("\"interface\":{interface},\"link\":{link},\"vlans\":[{vlans}],\"name\":{name}")
 }
 
+/// `YYYY-MM-DDTHH:MM:SS.NNNNNNNNNZ`. Of the calendar: 400 years from a first of March on have
+/// 146,097 days.
+fn time_text(time: i128) -> String {
+    let (day, clock) = ((time / (86_400 * SECOND)) as u64, time % (86_400 * SECOND));
+    let day = day + 719_468;
+    let (era, day) = (day / 146_097, day % 146_097);
+    let year = (day - day / 1_460 + day / 36_524 - day / 146_096) / 365;
+    let day = day - (365 * year + year / 4 - year / 100);
+    let month = (5 * day + 2) / 153;
+    let day = day - (153 * month + 2) / 5 + 1;
+    let month = if month < 10 { month + 3 } else { month - 9 };
+    let year = era * 400 + year + u64::from(month < 3);
+    let (seconds, rest) = (clock / SECOND, clock % SECOND);
+    let (hour, minute, second) = (seconds / 3_600, seconds / 60 % 60, seconds % 60);
+    format!("{year:04}-{month:02}-{day:02}T{hour:02}:{minute:02}:{second:02}.{rest:09}Z")
+}
+
 fn senders(words: &Words) -> Result<u8, Failure> {
     let mut reader = words.read(None)?;
     let senders = reader.found.senders();
+    let has_untimed = reader.found.has_untimed;
     let mut out = io::BufWriter::with_capacity(1 << 16, io::stdout().lock());
     for (Origin { place, sender }, tally) in &senders {
         let Tally {
             packets,
             octets,
-            updates,
+            updates: Updates { count, interval },
+            times,
         } = tally;
+        let times = times.filter(|_| !has_untimed);
+        let times = times.map(|(first, last)| (time_text(first), time_text(last)));
         let name = &reader.names[place.interface as usize];
         if words.has("json") {
             let place = place_json(*place, name);
             writeln!(
                 out,
                 "{{\"address\":\"{sender}\",{place},\"packets\":{packets},\"octets\":{octets},\
-                 \"updates\":{updates}}}"
+                 \"updates\":{count},\"interval\":{},\"first\":{},\"last\":{}}}",
+                interval.map_or("null".into(), |interval| interval.to_string()),
+                times.as_ref().map_or("null".into(), |(first, _)| format!("\"{first}\"")),
+                times.as_ref().map_or("null".into(), |(_, last)| format!("\"{last}\""))
             )?;
         } else {
             let place = place_text(*place, name);
             writeln!(
                 out,
-                "{sender} {place} packets {packets} octets {octets} updates {updates}"
+                "{sender} {place} packets {packets} octets {octets} updates {count} interval {} \
+                 first {} last {}",
+                interval.map_or("-".into(), |all| format!("{}.{:02}", all / 100, all % 100)),
+                times.as_ref().map_or("-", |(first, _)| first),
+                times.as_ref().map_or("-", |(_, last)| last)
             )?;
         }
     }

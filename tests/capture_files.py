@@ -162,16 +162,16 @@ def sliced(record, kept):
     return Record(record.frame[:kept], record.interface)
 
 
-def pcap(records, link=1, order="little", nanoseconds=False, version=(2, 4)):
-    """draft-ietf-opsawg-pcap, 4 and 5."""
+def pcap(records, link=1, order="little", nanoseconds=False, version=(2, 4), times=None):
+    """draft-ietf-opsawg-pcap, 4 and 5; each time has seconds and a fraction."""
     magic = 0xA1B23C4D if nanoseconds else 0xA1B2C3D4
     numbers = lambda *values: b"".join(number(value, 4, order) for value in values)
     head = numbers(magic) + number(version[0], 2, order) + number(version[1], 2, order) + numbers(
         0, 0, SNAP, link
     )
+    times = times or [(TIME + place, place) for place in range(len(records))]
     return head + b"".join(
-        numbers(TIME + place, place) + each.lengths(order) + each.frame
-        for place, each in enumerate(records)
+        numbers(*time) + each.lengths(order) + each.frame for time, each in zip(times, records)
     )
 
 
@@ -198,9 +198,15 @@ def interface(link=1, order="little", snap=0, options=b""):
     return block(1, number(link, 2, order) + b"\0\0" + number(snap, 4, order) + options, order)
 
 
-def enhanced(record, order="little", options=b"", place=0):
-    """draft-ietf-opsawg-pcapng, 4.3."""
-    head = b"".join(number(value, 4, order) for value in (record.interface, TIME, place))
+def stamp_of(time, order):
+    """draft-ietf-opsawg-pcapng, 4.3: units of time in two numbers, the higher one first."""
+    return number(time >> 32, 4, order) + number(time % 2**32, 4, order)
+
+
+def enhanced(record, order="little", options=b"", place=0, time=None):
+    """draft-ietf-opsawg-pcapng, 4.3: in microseconds, if no time is given."""
+    time = (TIME + place) * 1_000_000 + place if time is None else time
+    head = number(record.interface, 4, order) + stamp_of(time, order)
     return block(
         6,
         head + record.lengths(order) + record.frame + bytes(-len(record.frame) % 4) + options,
@@ -214,8 +220,7 @@ def old_packet(record, order="little", options=b""):
     head = (
         number(record.interface, 2, order)
         + number(0, 2, order)
-        + number(TIME, 4, order)
-        + number(0, 4, order)
+        + stamp_of(TIME * 1_000_000, order)
     )
     return block(
         2,

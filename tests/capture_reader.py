@@ -5,8 +5,10 @@ It is written from draft-ietf-opsawg-pcap, draft-ietf-opsawg-pcapng, RFC 791, RF
 layer gives the octets of the next one.
 """
 
+import datetime
 import ipaddress
 import json
+import re
 from dataclasses import dataclass, field
 
 USUAL_OCTETS = 1 << 30
@@ -16,7 +18,13 @@ LONGEST_BLOCK = 16_777_216
 BABEL = 6_696
 UDP = 17
 UPDATE = 8
+RETRACTED = 0xFFFF
+SECOND = 1_000_000_000
+# The start of the year 10000, in nanoseconds since that of 1970.
+END = 253_402_300_800 * SECOND
 LISTED_PLACES = 16
+# The lengths of the options that say how an interface's times count.
+TIME_OPTIONS = {9: 1, 14: 8}
 REASONS = (
     "truncated",
     "bad-magic",
@@ -42,14 +50,15 @@ class Fault(Exception):
 
 @dataclass
 class Packet:
-    """A captured packet: the offset of its block, its interface and link type, the octets kept, and
-    how many there were."""
+    """A captured packet: the offset of its block, its interface and link type, the octets kept, how
+    many there were, and when it came, in nanoseconds since the start of 1970."""
 
     at: int
     interface: int
     link: int
     frame: bytes
     whole: int
+    time: int = None
 
 
 @dataclass
@@ -66,15 +75,16 @@ class Seen:
 
 @dataclass
 class Found:
-    """What a capture gives: each sender's packets at each place, for each reason the numbers of the
-    packets left out, how many frames were too short to tell, and how many packets came in frames
-    that name no interface."""
+    """What a capture gives: each sender's packets at each place, with their times, for each reason
+    the numbers of the packets left out, how many frames were too short to tell, how many packets
+    came in frames that name no interface, and the numbers and times of the packets read."""
 
     packets: dict = field(default_factory=dict)
     left_out: dict = field(default_factory=dict)
     short: int = 0
     cooked: int = 0
     names: list = field(default_factory=list)
+    times: list = field(default_factory=list)
     cut: int = None
 
 
@@ -120,22 +130,26 @@ def refuse_version(block, begin, place, order, read):
         raise Fault(f"version {version[0]}.{version[1]} not read at {begin}")
 
 
-def name_in(options, order, at):
-    """draft-ietf-opsawg-pcapng, 3.5, 4.2: the name among the options of an interface, the first if
-    there are several."""
-    name, place = b"", 0
+def options_in(options, order, at):
+    """draft-ietf-opsawg-pcapng, 3.5, 4.2: the name among the options of an interface, how many
+    units of time a second has, and the seconds that are added; the first if there are several."""
+    name, place, found = b"", 0, {}
     while place + 4 <= len(options):
         code, length = (
             int.from_bytes(options[here : here + 2], order) for here in (place, place + 2)
         )
         if code == 0:
             break
-        if place + 4 + length > len(options):
+        if place + 4 + length > len(options) or length != TIME_OPTIONS.get(code, length):
             raise Fault(f"bad length at {at}")
+        value = options[place + 4 : place + 4 + length]
+        found.setdefault(code, value)
         if code == 2 and not name:
-            name = options[place + 4 : place + 4 + length]
+            name = value
         place += 4 + (length + 3) // 4 * 4
-    return name
+    power = found.get(9, b"\6")[0]
+    units = 2 ** (power - 128) if power >= 128 else 10**power
+    return name, units, int.from_bytes(found.get(14, b""), order, signed=True)
 
 
 def pcap_packets(octets, order, limit, _names):
@@ -144,6 +158,7 @@ def pcap_packets(octets, order, limit, _names):
     if limit < 24:
         raise Fault("capture too long at 0")
     link, at = number(octets, 20) % 65_536, 24
+    unit = 1 if number(octets, 0) == 0xA1B23C4D else 1_000
     refuse_version(octets, 0, 4, order, [(2, 4)])
 
     def length(header):
@@ -156,7 +171,8 @@ def pcap_packets(octets, order, limit, _names):
         if not record:
             yield at
             return
-        yield Packet(at, 0, link, record[16:], number(record, 12))
+        time = number(record, 0) * SECOND + number(record, 4) * unit
+        yield Packet(at, 0, link, record[16:], number(record, 12), time)
         at += len(record)
 
 
@@ -177,10 +193,12 @@ def pcapng_packets(octets, limit, names):
             raise Fault(f"bad length at {at}")
         return total
 
-    def packet(interface, frame, whole):
+    def packet(interface, frame, whole, stamp=None):
         if interface >= len(interfaces):
             raise Fault(f"no such interface at {at}")
-        return Packet(at, interface, interfaces[interface][0], frame, whole)
+        link, _, units, offset = interfaces[interface]
+        time = None if stamp is None else stamp * SECOND // units + offset * SECOND
+        return Packet(at, interface, link, frame, whole, time)
 
     while at < len(octets):
         block = block_of(octets, at, length, 24 if order is None else 12, limit)
@@ -201,8 +219,9 @@ def pcapng_packets(octets, limit, names):
         if kind == 1:
             if len(interfaces) == MOST_INTERFACES:
                 raise Fault(f"too many interfaces at {at}")
-            interfaces.append((number(block, 8, 2), number(block, 12)))
-            names.append(name_in(block[16:-4], order, at))
+            name, units, offset = options_in(block[16:-4], order, at)
+            interfaces.append((number(block, 8, 2), number(block, 12), units, offset))
+            names.append(name)
         elif kind == 3:
             if first >= len(interfaces):
                 raise Fault(f"no such interface at {at}")
@@ -219,6 +238,7 @@ def pcapng_packets(octets, limit, names):
                 first + number(block, 8, 2 if kind == 2 else 4),
                 block[28 : 28 + kept],
                 number(block, 24),
+                (number(block, 12) << 32) + number(block, 16),
             )
         at += len(block)
 
@@ -422,8 +442,88 @@ def updates_in(packet):
     return count
 
 
-def find(octets, limit, wanted, accept_cut):
-    """What a capture gives of the senders that are wanted."""
+def interval_in(packet):
+    """The greatest Interval of a packet's Updates that announce: RFC 8966, 4.6.9; none if a TLV
+    runs past its end."""
+    greatest, at = None, 4
+    while at < len(packet):
+        if packet[at] == 0:
+            at += 1
+            continue
+        if at + 2 > len(packet) or at + 2 + packet[at + 1] > len(packet):
+            return None
+        body = packet[at + 2 : at + 2 + packet[at + 1]]
+        if packet[at] == UPDATE and len(body) >= 10 and big(body, 8, 2) != RETRACTED:
+            greatest = max(greatest or 0, big(body, 4, 2))
+        at += 2 + packet[at + 1]
+    return greatest
+
+
+TIME_WORD = re.compile(
+    r"(\d{4}-\d\d-\d\d)T(\d\d):(\d\d)(?::(\d\d)(?:\.(\d{1,9}))?)?(?:Z|([+-])(\d\d):(\d\d))",
+    re.ASCII,
+)
+SECONDS_WORD = re.compile(r"([+@])(\d+)(?:\.(\d{1,9}))?", re.ASCII)
+
+
+def moment_of(word):
+    """The moment that `--since` or `--until` names: nanoseconds, and whether they count from the
+    capture's first record."""
+    fraction = lambda digits: int((digits or "0").ljust(9, "0"))
+    if match := SECONDS_WORD.fullmatch(word):
+        mark, seconds, digits = match.groups()
+        time, is_later = int(seconds) * SECOND + fraction(digits), mark == "+"
+        if int(seconds) < 2**64 and (is_later or time < END):
+            return time, is_later
+    elif match := TIME_WORD.fullmatch(word):
+        date, hour, minute, second, digits, sign, hours, minutes = match.groups()
+        hour, minute, second, hours, minutes = (
+            int(each or 0) for each in (hour, minute, second, hours, minutes)
+        )
+        try:
+            day = (datetime.date.fromisoformat(date) - datetime.date(1970, 1, 1)).days
+        except ValueError:
+            day = None
+        if day is not None and max(hour, hours) < 24 and max(minute, second, minutes) < 60:
+            offset = (hours * 60 + minutes) * (-1 if sign == "-" else 1)
+            seconds = ((day * 24 + hour) * 60 + minute - offset) * 60 + second
+            time = seconds * SECOND + fraction(digits)
+            if 0 <= time < END:
+                return time, False
+    raise NoTime(word)
+
+
+class NoTime(Exception):
+    """A word is not a time."""
+
+
+class Window:
+    """Which packets are read, by when they came."""
+
+    def __init__(self, since, until):
+        self.since, self.until = (each and moment_of(each) for each in (since, until))
+        self.first = None
+
+    def asks(self):
+        return bool(self.since or self.until)
+
+    def reads(self, packet):
+        if not self.asks():
+            return True
+        if packet.time is None:
+            raise Fault(f"packet without a time at {packet.at}")
+        if not 0 <= packet.time < END:
+            raise Fault(f"bad time at {packet.at}")
+        if self.first is None:
+            self.first = packet.time
+        since, until = (
+            each and each[0] + (self.first if each[1] else 0) for each in (self.since, self.until)
+        )
+        return (since is None or since <= packet.time) and (until is None or packet.time <= until)
+
+
+def find(octets, limit, wanted, accept_cut, window):
+    """What a capture gives of the senders that are wanted, in this window."""
     found, number = Found(), 0
     for packet in packets(octets, limit, found.names):
         if isinstance(packet, int):
@@ -434,6 +534,10 @@ def find(octets, limit, wanted, accept_cut):
         if packet.link not in LINKS:
             raise Fault(f"link type {packet.link} not read at {packet.at}")
         number += 1
+        if not window.reads(packet):
+            continue
+        time = packet.time if packet.time is not None and 0 <= packet.time < END else None
+        found.times.append((number, time))
         seen = seen_in(packet.link, packet.frame, packet.whole)
         if seen == SHORT:
             found.short += 1
@@ -453,7 +557,7 @@ def find(octets, limit, wanted, accept_cut):
         origin = place, seen.sender.version, int(seen.sender)
         if origin not in found.packets and len(found.packets) == MOST_SENDERS:
             raise Fault(f"too many senders at {packet.at}")
-        found.packets.setdefault(origin, []).append(babel)
+        found.packets.setdefault(origin, []).append((babel, time))
         found.cooked += packet.link == 113
     return found
 
@@ -503,13 +607,30 @@ def place_text(place, name):
     return " ".join(words)
 
 
-def sender_line(origin, sent, names, as_json):
+def time_text(time):
+    """ISO 8601, with nine digits after the point."""
+    day = datetime.date(1970, 1, 1) + datetime.timedelta(days=time // (86_400 * SECOND))
+    second = time // SECOND % 86_400
+    clock = f"{second // 3600:02}:{second // 60 % 60:02}:{second % 60:02}"
+    return f"{day.year:04}-{day.month:02}-{day.day:02}T{clock}.{time % SECOND:09}Z"
+
+
+def interval_of(packets):
+    """The greatest Interval of packets."""
+    return max((each for each in map(interval_in, packets) if each is not None), default=None)
+
+
+def sender_line(origin, packets, found, as_json):
     place, version, bits = origin
     interface, link, vlans = place
-    name = names[interface] if interface < len(names) else b""
+    name = found.names[interface] if interface < len(found.names) else b""
+    sent, times = zip(*packets)
     address, octets, updates = text_of(version, bits), sum(map(len, sent)), sum(
         map(updates_in, sent)
     )
+    interval = interval_of(sent)
+    all_timed = all(time is not None for _, time in found.times)
+    first, last = (time_text(each(times)) if all_timed else None for each in (min, max))
     if as_json:
         says = {
             "address": address,
@@ -519,9 +640,12 @@ def sender_line(origin, sent, names, as_json):
             "name": name_text(name) or None,
         }
         says.update(packets=len(sent), octets=octets, updates=updates)
+        says.update(interval=interval, first=first, last=last)
         return json_line(says)
     counts = f"packets {len(sent)} octets {octets} updates {updates}"
-    return f"{address} {place_text(place, name)} {counts}\n"
+    seconds = "-" if interval is None else f"{interval // 100}.{interval % 100:02}"
+    times = f"interval {seconds} first {first or '-'} last {last or '-'}"
+    return f"{address} {place_text(place, name)} {counts} {times}\n"
 
 
 COOKED = (
@@ -537,8 +661,9 @@ def short_note(found):
         yield f"{frames} too short to tell", {"note": "too-short", "frames": found.short}
 
 
-def notes_of(found):
-    """The notes on a capture, as text and as an object: what was left out, and where it is cut."""
+def notes_of(found, asks):
+    """The notes on a capture, as text and as an object: what was left out, where it is cut, and
+    what there is to know of its times."""
     reasons = [
         {"reason": reason, "count": len(numbers), "first": numbers[0]}
         for reason in REASONS
@@ -554,6 +679,37 @@ def notes_of(found):
     if found.cut is not None:
         text = f"capture cut short at {found.cut}, and read up to there"
         yield text, {"note": "capture-cut", "at": found.cut}
+    yield from time_notes(found, asks)
+
+
+def time_notes(found, asks):
+    """That times run backwards, where times are asked for, and that a capture is shorter than an
+    Interval."""
+    numbers, times = zip(*found.times) if found.times else ((), ())
+    all_timed = None not in times
+    backwards = [
+        number
+        for number, before, time in zip(numbers[1:], times, times[1:])
+        if all_timed and time < before
+    ]
+    if asks and backwards:
+        text = f"times run backwards at packet {backwards[0]}"
+        yield text, {"note": "backwards", "packet": backwards[0]}
+    interval = interval_of(babel for packets in found.packets.values() for babel, _ in packets)
+    if times and all_timed and interval is not None:
+        span = max(times) - min(times)
+        if span < interval * SECOND // 100:
+            hundredths = span * 100 // SECOND
+            text = (
+                f"the capture spans {seconds_text(hundredths)} s, the Interval is "
+                f"{seconds_text(interval)} s: routes may be missing"
+            )
+            yield text, {"note": "short-span", "span": hundredths, "interval": interval}
+
+
+def seconds_text(hundredths):
+    """In seconds, without zeros at the end."""
+    return f"{hundredths // 100}.{hundredths % 100:02}".rstrip("0").rstrip(".")
 
 
 def texts_of(notes):
@@ -571,29 +727,49 @@ def refuse_if_strict(found, strict):
         raise Fault(f"datagram left out at packet {number}: {reason}")
 
 
-def senders(octets, as_json=False, strict=False, accept_cut=False, limit=USUAL_OCTETS):
+def senders(
+    octets,
+    as_json=False,
+    strict=False,
+    accept_cut=False,
+    limit=USUAL_OCTETS,
+    since=None,
+    until=None,
+):
     """What `senders` answers for a capture."""
     try:
-        found = find(octets, limit, everyone, accept_cut)
+        window = Window(since, until)
+        found = find(octets, limit, everyone, accept_cut, window)
         refuse_if_strict(found, strict)
+    except NoTime as word:
+        return Answer(2, errors=(f"not a time: {word}",))
     except Fault as fault:
         return Answer(3, errors=(str(fault),))
     origins = sorted(found.packets, key=by_place)
-    lines = [sender_line(origin, found.packets[origin], found.names, as_json) for origin in origins]
+    lines = [sender_line(origin, found.packets[origin], found, as_json) for origin in origins]
     status, none = (0, ()) if lines else (1, ("no Babel packets",))
-    notes = [*notes_of(found), *short_note(found)]
+    notes = [*notes_of(found, window.asks()), *short_note(found)]
     lines += [json_line(says) for _, says in notes if as_json]
     return Answer(status, "".join(lines).encode(), none + texts_of(notes))
 
 
 def extract(
-    octets, sender, interface=None, as_hex=False, strict=False, accept_cut=False, limit=USUAL_OCTETS
+    octets,
+    sender,
+    interface=None,
+    as_hex=False,
+    strict=False,
+    accept_cut=False,
+    limit=USUAL_OCTETS,
+    since=None,
+    until=None,
 ):
     """What `extract` answers for a capture."""
     sender = ipaddress.ip_address(sender)
     wanted = lambda of, place: of == sender and interface in (None, place_asked(place))
     try:
-        found = find(octets, limit, wanted, accept_cut)
+        window = Window(since, until)
+        found = find(octets, limit, wanted, accept_cut, window)
         refuse_if_strict(found, strict)
         name = text_of(sender.version, int(sender))
         if len(found.packets) > 1:
@@ -601,11 +777,14 @@ def extract(
             more = len(places) - LISTED_PLACES
             listed = ", ".join(places[:LISTED_PLACES]) + (f", and {more} more" if more > 0 else "")
             raise Fault(f"packets from this sender on several interfaces: {listed}")
+    except NoTime as word:
+        return Answer(2, errors=(f"not a time: {word}",))
     except Fault as fault:
         return Answer(3, errors=(str(fault),))
     if not found.packets:
-        return Answer(1, errors=(f"no packets from {name}", *texts_of(notes_of(found))))
+        notes = texts_of(notes_of(found, window.asks()))
+        return Answer(1, errors=(f"no packets from {name}", *notes))
     (sent,) = found.packets.values()
-    dump = b"".join(sent)
+    dump = b"".join(babel for babel, _ in sent)
     output = (dump.hex() + "\n").encode() if as_hex else dump
-    return Answer(0, output, texts_of(notes_of(found)))
+    return Answer(0, output, texts_of(notes_of(found, window.asks())))

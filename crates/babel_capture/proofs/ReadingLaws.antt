@@ -15,9 +15,10 @@ use Rattle.babel_capture.specs.Gathering.{AreMade, AreTaken, BlockNeedsMemory, G
 use Rattle.babel_capture.specs.Lengths.{block_len}
 use Rattle.babel_capture.specs.Reading.{Account, Progress, LeadTo, BlockFails, NeedsMemory, NeedsMemoryAt, StopsAt, Stops}
 use Rattle.babel_capture.specs.Tallies.{Senders, senders_of}
-use Rattle.babel_capture.specs.PacketEnds.{AreEnds}
+use Rattle.babel_capture.specs.PacketEnds.{AreEnds, time_told}
 use Rattle.babel_capture.proofs.EndLaws.{ends-after, ends-gone, noted}
 use Rattle.babel_capture.proofs.NumberLaws.{rest_is}
+use Rattle.babel_capture.specs.Window.{Extent}
 
 -- ---- one block more
 
@@ -59,7 +60,7 @@ blocks-push before at (first ∷ blocks) b (here, one, first_said, are) is block
 
 length-made : (wanted : Wanted) (sightings : List Sighting) (made : List Made) → AreMade wanted sightings made → length made ≡ length sightings
 length-made wanted [] made are = ap length are
-length-made wanted (first ∷ sightings) made (one, others, is, number, link, finds, takes, are) =
+length-made wanted (first ∷ sightings) made (one, others, is, number, link, came, finds, takes, are) =
     (let rest : length others ≡ length sightings = length-made wanted sightings others are in omega (arith, ap length is, rest))
 
 packets-are : (sightings : List Sighting) (gathering : Gathering) → IsGathered sightings gathering → gathering.report.packets ≡ length sightings
@@ -67,7 +68,7 @@ packets-are sightings gathering gathered =
     ap (λ (c : Counts). c.packets) gathered.report ∙ length-made gathering.wanted sightings gathered.made gathered.taken.are_made
 
 -- nothing was read yet
-pub lead-none : (limit : ℕ) (progress : Progress) → progress.context ≡ start limit → progress.at ≡ 0 → IsGathered [] progress.gathering → progress.gathering.names ≡ []
+pub lead-none : (limit : Extent) (progress : Progress) → progress.context ≡ start limit → progress.at ≡ 0 → IsGathered [] progress.gathering → progress.gathering.names ≡ []
     → progress.gathering.dump ≡ [] → progress.ends ≡ [] → LeadTo (record { limit = limit; taken = [] }) [] progress
 lead-none limit progress context place gathered names dump ends = record {
   blocks = [];
@@ -85,7 +86,7 @@ pub lead-push : (account : Account) (read block : List ℕ) (old new : Progress)
     → ((taken : List ℕ) (before : List Sighting) → IsGathered before (with_taken taken old.gathering)
     → IsGathered (before ++ sightings_in (old.gathering.report.packets + 1) old.at content) (with_taken taken new.gathering))
     → new.gathering.names ≡ old.gathering.names ++ names_in content → new.gathering.wanted ≡ old.gathering.wanted
-    → new.ends ≡ noted (length old.gathering.dump) (length new.gathering.dump) new.gathering.report.packets old.ends
+    → new.ends ≡ noted (length old.gathering.dump) (length new.gathering.dump) new.gathering.report.packets (time_told content) old.ends
     → LeadTo account read old → LeadTo account (read ++ block) new
 lead-push account read block old new content is_block said context place gathers names wanted ends lead =
     let b : BlockAt = record { at = old.at; octets = block; content = content } in

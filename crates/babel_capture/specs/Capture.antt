@@ -10,10 +10,11 @@ use Rattle.babel_capture.specs.Context.{Before}
 use Rattle.babel_capture.specs.Counts.{Made}
 use Rattle.babel_capture.specs.Gathering.{Gathering, IsGathered, AreTaken}
 use Rattle.babel_capture.specs.Reading.{Account, Progress, HasStarted, HasTaken, Stops}
+use Rattle.babel_capture.specs.Window.{Extent}
 
 -- the octets are a capture, whole blocks from the first to the last, and this is what its packets
 -- give
-pub record IsRead (limit : ℕ) (octets : List ℕ) (gathering : Gathering) : Type 0 where
+pub record IsRead (limit : Extent) (octets : List ℕ) (gathering : Gathering) : Type 0 where
   pub blocks : List BlockAt
   pub whole : octets ≡ octets_of blocks
   pub are_blocks : AreBlocks (start limit) 0 blocks
@@ -23,7 +24,7 @@ pub record IsRead (limit : ℕ) (octets : List ℕ) (gathering : Gathering) : Ty
 
 -- the octets are a capture, and then less than a block: its last one is cut short, at this offset
 -- if there are any
-pub record IsReadToCut (limit : ℕ) (octets : List ℕ) (gathering : Gathering)
+pub record IsReadToCut (limit : Extent) (octets : List ℕ) (gathering : Gathering)
     (cut : Option ℕ) : Type 0 where
   pub read : List ℕ
   pub rest : List ℕ
@@ -39,7 +40,8 @@ IsShortBy before at rest fault =
     ⊎ (HasStarted before × (rest ≢ []) × (fault ≡ faults.CutShort at))
 
 -- whole blocks that are taken, and then less than a block: the fault
-pub record EndsShort (limit : ℕ) (wanted : Wanted) (octets : List ℕ) (fault : Fault) : Type 0 where
+pub record EndsShort (limit : Extent) (wanted : Wanted) (octets : List ℕ)
+    (fault : Fault) : Type 0 where
   pub blocks : List BlockAt
   pub rest : List ℕ
   pub made : List Made
@@ -50,16 +52,16 @@ pub record EndsShort (limit : ℕ) (wanted : Wanted) (octets : List ℕ) (fault 
   pub short : IsShortBy (context_behind (start limit) blocks) (length (octets_of blocks)) rest fault
 
 -- the fault of octets that are no capture, or none that can be read
-abbrev pub CaptureFault : ℕ → Wanted → List ℕ → Fault → Type 0
+abbrev pub CaptureFault : Extent → Wanted → List ℕ → Fault → Type 0
 CaptureFault limit wanted octets fault = Stops limit wanted octets fault
     ⊎ EndsShort limit wanted octets fault
 
 -- ---- in pieces
 
--- what a reader holds: how many octets it reads at most, how far its blocks led, the octets so far
+-- what a reader holds: how much it reads, how far its blocks led, the octets so far
 -- of the next one, and the fault if it has one
 pub record State : Type 0 where
-  pub limit : ℕ
+  pub limit : Extent
   pub progress : Progress
   pub pending : List ℕ
   pub fault : Option Fault

@@ -10,7 +10,7 @@ use Rattle.babel_capture.specs.declared.wanted.Wanted.{Wanted}
 use Rattle.babel_capture.specs.declared.wanted.Wanted.TheVariants as wanteds
 use Rattle.babel_capture.specs.Blocks.{Sighting, sight_in}
 use Rattle.babel_capture.specs.Contents.{Captured, Content, file, section, describes, holds}
-use Rattle.babel_capture.specs.Contents.{nothing}
+use Rattle.babel_capture.specs.Contents.{skips, nothing}
 use Rattle.babel_capture.specs.Counts.{Counts, Made, counts_of}
 use Rattle.babel_capture.specs.Dumps.{Dumps, dumps_of}
 use Rattle.babel_capture.specs.Findings.{Found, passed, untold, left, refused, lacked, found, Finds}
@@ -32,8 +32,8 @@ abbrev pub AreMade : Wanted → List Sighting → List Made → Type 0
 AreMade wanted [] made = made ≡ []
 AreMade wanted (sighting ∷ later) made =
     (one : Made) × (others : List Made) × (made ≡ one ∷ others) × (one.number ≡ sighting.number)
-    × (one.link ≡ sighting.link) × Finds wanted sighting.what one.what × IsTaken one.what
-    × AreMade wanted later others
+    × (one.link ≡ sighting.link) × (one.came ≡ sighting.came)
+    × Finds wanted sighting.what one.what × IsTaken one.what × AreMade wanted later others
 
 -- What is made of packets that are taken, each of them: at most 65,536 senders are kept, each
 -- counted at each place where it occurs.
@@ -121,4 +121,5 @@ BlockNeedsMemory wanted senders (holds packet) =
     × PacketNeedsMemory wanted senders origin octets)
     ⊎ ((origin : Origin) × (lack : Lack)
     × Finds wanted (sight_in packet) (lacked origin.place origin.sender lack))
+BlockNeedsMemory wanted senders (skips packet) = ⊥
 BlockNeedsMemory wanted senders nothing = ⊥

@@ -1,28 +1,40 @@
--- Where each packet of a dump ends, and which packet of the capture it came from. It is this
--- project's own.
-use Rattle.std.specs.Prelude.{◌≡◌, ℕ, ◌+◌, List, [], ◌∷◌, ◌++◌, length}
+-- Where each packet of a dump ends, which packet of the capture it came from, and when that came.
+-- It is this project's own.
+use Rattle.std.specs.Prelude.{◌≡◌, ℕ, ◌+◌, List, [], ◌∷◌, ◌++◌, length, Option, None}
 use Rattle.babel_capture.specs.declared.packet_end.PacketEnd.{PacketEnd}
 use Rattle.babel_capture.specs.declared.wanted.Wanted.{Wanted}
 use Rattle.babel_capture.specs.declared.wanted.Wanted.TheVariants as wanteds
+use Rattle.babel_capture.specs.Contents.{Content, file, section, describes, holds, skips, nothing}
 use Rattle.babel_capture.specs.Counts.{Made}
 use Rattle.babel_capture.specs.Findings.{Found, passed, untold, left, refused, lacked, found}
 use Rattle.babel_capture.specs.Gathering.{dump_of, octets_found}
+use Rattle.babel_capture.specs.Times.{time_in, time_of}
 
--- the end of the packet with this number, if it was found, which begins at this offset
-abbrev pub end_found : ℕ → ℕ → Found → List PacketEnd
-end_found at number passed = []
-end_found at number untold = []
-end_found at number (left reason) = []
-end_found at number (refused lack) = []
-end_found at number (lacked place sender lack) = []
-end_found at number (found place sender packet) =
-    record { end = at + length packet; number = number } ∷ []
+-- the end of the packet with this number and time, if it was found, which begins at this offset
+abbrev pub end_found : ℕ → ℕ → Option ℕ → Found → List PacketEnd
+end_found at number time passed = []
+end_found at number time untold = []
+end_found at number time (left reason) = []
+end_found at number time (refused lack) = []
+end_found at number time (lacked place sender lack) = []
+end_found at number time (found place sender packet) =
+    record { end = at + length packet; number = number; time = time } ∷ []
+
+-- when the packet came that a block says, where it says one that is not skipped
+abbrev pub time_told : Content → Option ℕ
+time_told (file order interface) = None
+time_told (section order) = None
+time_told (describes interface name) = None
+time_told (holds packet) = time_in packet.moment
+time_told (skips packet) = None
+time_told nothing = None
 
 -- those of packets end to end, of which the first begins at this offset
 abbrev pub ends_from : ℕ → List Made → List PacketEnd
 ends_from at [] = []
 ends_from at (one ∷ later) =
-    end_found at one.number one.what ++ ends_from (at + length (octets_found one.what)) later
+    end_found at one.number (time_of one.came) one.what
+    ++ ends_from (at + length (octets_found one.what)) later
 
 -- those of a dump
 abbrev pub ends_of : Wanted → List Made → List PacketEnd

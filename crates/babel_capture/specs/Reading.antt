@@ -16,6 +16,7 @@ use Rattle.babel_capture.specs.Gathering.{IsRefused, with_taken}
 use Rattle.babel_capture.specs.Lengths.{block_len}
 use Rattle.babel_capture.specs.PacketEnds.{AreEnds}
 use Rattle.babel_capture.specs.Tallies.{Senders, senders_of}
+use Rattle.babel_capture.specs.Window.{Extent}
 
 -- what the blocks so far say of the capture, what was gathered of their packets, where each packet
 -- of the dump ends, and where the next block begins
@@ -30,9 +31,9 @@ abbrev pub without_dump : Progress → Progress
 without_dump progress =
     record progress { gathering = record progress.gathering { dump = [] }; ends = [] }
 
--- how many octets are read at most, and what was taken out of the dump until now
+-- how much is read, and what was taken out of the dump until now
 pub record Account : Type 0 where
-  pub limit : ℕ
+  pub limit : Extent
   pub taken : List ℕ
 
 -- the octets are blocks, and this is how far they lead
@@ -61,7 +62,7 @@ StopsAt wanted senders before at octets fault =
     × BlockFails wanted senders before at block fault)
 
 -- the octets are blocks that are taken, and then octets that are not: their fault
-pub record Stops (limit : ℕ) (wanted : Wanted) (octets : List ℕ) (fault : Fault) : Type 0 where
+pub record Stops (limit : Extent) (wanted : Wanted) (octets : List ℕ) (fault : Fault) : Type 0 where
   pub blocks : List BlockAt
   pub rest : List ℕ
   pub made : List Made
@@ -81,7 +82,7 @@ NeedsMemoryAt wanted senders before at octets =
 
 -- memory is needed for a piece that comes after these octets: for a block that begins in it, where
 -- those before are taken
-pub record NeedsMemory (limit : ℕ) (wanted : Wanted) (fed piece : List ℕ) : Type 0 where
+pub record NeedsMemory (limit : Extent) (wanted : Wanted) (fed piece : List ℕ) : Type 0 where
   pub blocks : List BlockAt
   pub rest : List ℕ
   pub made : List Made

@@ -3,6 +3,7 @@ ghost use Rattle.std.specs.Prelude.{IfSome, OnOk};
 ghost use Rattle.babel_capture.specs.Capture.{CaptureFault, HasGiven, HasRead, IsRead, IsReadToCut};
 ghost use Rattle.babel_capture.specs.Gathering.{with_taken};
 ghost use Rattle.babel_capture.specs.Reading.{NeedsMemory, without_dump};
+ghost use Rattle.babel_capture.specs.Window.{all_times};
 
 use crate::fault::Fault;
 use crate::gathered::Gathered;
@@ -10,6 +11,7 @@ use crate::packet_end::PacketEnd;
 use crate::reader::Reader;
 use crate::stream::Stream;
 use crate::wanted::Wanted;
+use crate::window::Window;
 use std::alloc::Global;
 use std::marker::Model;
 
@@ -18,6 +20,7 @@ use std::marker::Model;
 #[derive(Drop)]
 pub struct Capture {
     limit: u64,
+    window: Window,
     stream: Stream,
     fault: Option<Fault>,
 }
@@ -28,7 +31,7 @@ impl Model for Capture {
     ghost Value = { State };
 
     ghost view = { λ c. record {
-      limit = c.limit;
+      limit = record { octets = c.limit; window = c.window };
       progress = c.stream.reader;
       pending = c.stream.pending.items;
       fault = c.fault;
@@ -40,12 +43,25 @@ impl Capture {
     pub fn new(alloc: Global, limit: u64, wanted: Wanted) -> Capture
         ensures read { HasRead result [] }
         ensures dump { result.progress.gathering.dump ≡ [] }
-        ensures made { (result.limit ≡ limit) × (result.progress.gathering.wanted ≡ wanted)
-            × (result.fault ≡ None) }
+        ensures made { (result.limit ≡ all_times limit)
+            × (result.progress.gathering.wanted ≡ wanted) × (result.fault ≡ None) }
     {
+        Capture::within(alloc, limit, Window::Whole, wanted)
+    }
+
+    /// The same of the packets of this window alone: the others are skipped. Where the window is
+    /// not whole, a packet that has no time, or one before 1970 or after the year 9999, is a fault.
+    pub fn within(alloc: Global, limit: u64, window: Window, wanted: Wanted) -> Capture
+        ensures read { HasRead result [] }
+        ensures dump { result.progress.gathering.dump ≡ [] }
+        ensures made { (result.limit ≡ record { octets = limit; window = window })
+            × (result.progress.gathering.wanted ≡ wanted) × (result.fault ≡ None) }
+    {
+        let stream = Stream::new(alloc, limit, &window, wanted);
         Capture {
             limit,
-            stream: Stream::new(alloc, limit, wanted),
+            window,
+            stream,
             fault: None,
         }
     }

@@ -7,7 +7,10 @@ ghost use Rattle.babel_capture.specs.Gathering.{BlockNeedsMemory, IsGathered, Is
 ghost use Rattle.babel_capture.specs.Findings.{found};
 ghost use Rattle.babel_capture.specs.Dumps.{dump_added, dump_at, dumps_with};
 ghost use Rattle.babel_capture.specs.Gathering.{PacketNeedsMemory, dump_with, name_of, with_taken};
+ghost use Rattle.babel_capture.specs.Sight.{other};
 ghost use Rattle.babel_capture.specs.Tallies.{IsOneTooMany, tallied};
+ghost use Rattle.babel_capture.specs.Times.{skipped};
+ghost use Rattle.babel_capture.specs.Updates.{interval_in, updates_in};
 
 use crate::block::{Block, Packet};
 use crate::dumps::{Dumps, LackAt};
@@ -16,6 +19,8 @@ use crate::finding::Finding;
 use crate::lack::Lack;
 use crate::report::Report;
 use crate::tallies::{Origin, Tallies, Tally};
+use crate::time::Time;
+use crate::updates::{Updates, updates_in};
 use crate::wanted::Wanted;
 use std::alloc::{AllocError, Global};
 use std::collections::BTreeMap;
@@ -159,6 +164,9 @@ impl Gathered {
             self.old.wanted self.old.senders (holds (captured_of packet.now))) }
     {
         let link = packet.link;
+        let came = packet.time();
+        let told = came;
+        self.report.take_time(told);
         match self.wanted.finding(packet) {
             Finding::Passed => {
                 self.report.count(None);
@@ -186,8 +194,9 @@ impl Gathered {
                 sender,
                 packet,
             } => {
-                self.report.count_packet(link);
-                self.add(at, Origin { place, sender }, packet)
+                let updates = updates_in(packet);
+                self.report.count_packet(link, updates.interval);
+                self.add(at, Origin { place, sender }, came, packet, &updates)
             }
         }
     }
@@ -214,10 +223,28 @@ impl Gathered {
     {
         match said {
             Block::Packet(packet) => self.take_packet(at, packet),
+            Block::Skipped(_) => {
+                self.skip();
+                Ok(())
+            }
             Block::File { .. } => self.add_name(&[]),
             Block::Interface { name, .. } => self.add_name(name),
             Block::Section(_) | Block::Other => Ok(()),
         }
+    }
+
+    /// Skips a packet: it is one of the capture, and no more.
+    fn skip(&mut self)
+        requires { self.old.report.packets + 1 < 2 ^ 64 }
+        ensures others { (self.new.wanted ≡ self.old.wanted) × (self.new.names ≡ self.old.names)
+            × (self.new.dump ≡ self.old.dump)
+            × (self.new.report.packets ≡ self.old.report.packets + 1) }
+        ensures skipped { (taken : List ℕ) (before : List Sighting) (next : Sighting)
+            → next.number ≡ self.old.report.packets + 1 → next.what ≡ other → next.came ≡ skipped
+            → IsGathered before (with_taken taken self.old)
+            → IsGathered (before ++ next ∷ []) (with_taken taken self.new) }
+    {
+        self.report.count(None);
     }
 
     /// Keeps the name of an interface.
@@ -254,7 +281,16 @@ impl Gathered {
     }
 
     /// Counts a packet for its sender, and adds it to a dump, if one is wanted.
-    fn add(&mut self, at: u64, origin: Origin, packet: &[u8]) -> Result<(), Fault>
+    fn add(
+        &mut self,
+        at: u64,
+        origin: Origin,
+        time: Option<Time>,
+        packet: &[u8],
+        updates: &Updates,
+    ) -> Result<(), Fault>
+        requires count { updates.now.count ≡ updates_in packet.now }
+        requires interval { updates.now.interval ≡ interval_in packet.now }
         ensures wanted { self.new.wanted ≡ self.old.wanted }
         ensures names { self.new.names ≡ self.old.names }
         ensures report { self.new.report ≡ self.old.report }
@@ -263,14 +299,14 @@ impl Gathered {
         ensures dumps { OnOk result (self.new.dumps ≡ dumps_with self.old.wanted self.old.dumps
             self.old.report.packets (found origin.place origin.sender packet.now)) }
         ensures senders { OnOk result (self.new.senders
-            ≡ tallied self.old.senders origin packet.now) }
+            ≡ tallied self.old.senders origin time packet.now) }
         ensures few { OnOk result (length self.new.senders ≤ 65536) }
         ensures err { IfErr result (λ fault. (fault ≡ Fault.Memory)
             ⊎ ((fault ≡ Fault.TooManySenders at) × IsOneTooMany self.old.senders origin)) }
         ensures memory { IfErr result (λ fault. fault ≡ Fault.Memory
             → PacketNeedsMemory self.old.wanted self.old.senders origin packet.now) }
     {
-        self.senders.add(at, origin, packet)?;
+        self.senders.add(at, origin, time, packet, updates)?;
         match self.wanted {
             Wanted::Everyone => {}
             Wanted::Each => self.dumps.add(&origin, packet, None)?,

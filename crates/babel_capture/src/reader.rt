@@ -15,7 +15,9 @@ use crate::fault::Fault;
 use crate::gathered::Gathered;
 use crate::layout::Layout;
 use crate::packet_end::PacketEnd;
+use crate::time::Time;
 use crate::wanted::Wanted;
+use crate::window::Window;
 use std::alloc::Global;
 use std::marker::Model;
 
@@ -46,15 +48,18 @@ impl Model for Reader {
 }
 
 impl Reader {
-    /// Nothing was read yet, of so many octets at most.
-    pub fn new(alloc: Global, limit: u64, wanted: Wanted) -> Reader
-        ensures none { LeadTo (record { limit = limit; taken = [] }) [] result }
-        ensures context { result.context ≡ start limit }
+    /// Nothing was read yet, of so many octets at most and of packets of this window.
+    pub fn new(alloc: Global, limit: u64, window: &Window, wanted: Wanted) -> Reader
+        ensures none { LeadTo (record {
+          limit = record { octets = limit; window = window.now };
+          taken = [];
+        }) [] result }
+        ensures context { result.context ≡ start (record { octets = limit; window = window.now }) }
         ensures wanted { result.gathering.wanted ≡ wanted }
         ensures dump { result.gathering.dump ≡ [] }
     {
         Reader {
-            context: Context::new(alloc, limit),
+            context: Context::new(alloc, limit, window),
             gathered: Gathered::new(alloc, wanted),
             ends: Vec::new(alloc),
             at: 0,
@@ -90,13 +95,13 @@ impl Reader {
         let dump_len = self.gathered.dump().len();
         self.at += block.len() as u64;
         self.gathered.take_said(at, &said)?;
-        self.note_end(dump_len)?;
+        self.note_end(dump_len, said.time())?;
         self.context.take(&said)?;
         Ok(())
     }
 
-    /// Notes where the dump ends, if it was so long before its last packet.
-    fn note_end(&mut self, before: usize) -> Result<(), Fault>
+    /// Notes where the dump ends, if it was so long before its last packet, which came then.
+    fn note_end(&mut self, before: usize, time: Option<Time>) -> Result<(), Fault>
         ensures others { (self.new.context ≡ self.old.context)
             × (self.new.gathering ≡ self.old.gathering) × (self.new.at ≡ self.old.at) }
         ensures ends { OnOk result (self.new.ends
@@ -104,6 +109,7 @@ impl Reader {
             then self.old.ends ++ record {
               end = length self.old.gathering.dump;
               number = self.old.gathering.report.packets;
+              time = time;
             } ∷ []
             else self.old.ends)) }
         ensures err { IfErr result (λ fault. (fault ≡ Fault.Memory)
@@ -114,7 +120,7 @@ impl Reader {
             return Ok(());
         }
         let number = self.gathered.report().packets();
-        match self.ends.push(PacketEnd { end, number }) {
+        match self.ends.push(PacketEnd { end, number, time }) {
             Ok(()) => Ok(()),
             Err(_) => Err(Fault::Memory),
         }

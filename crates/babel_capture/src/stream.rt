@@ -8,6 +8,7 @@ use crate::fault::Fault;
 use crate::gathered::Gathered;
 use crate::reader::Reader;
 use crate::wanted::Wanted;
+use crate::window::Window;
 use std::alloc::Global;
 
 /// The octets of a capture in pieces: its blocks are read as soon as they are whole, and less than
@@ -124,15 +125,17 @@ impl Stream {
         Ok(())
     }
 
-    /// No octets yet, of so many at most.
-    pub fn new(alloc: Global, limit: u64, wanted: Wanted) -> Stream
-        ensures none { HasTaken (record { limit = limit; taken = [] }) result.reader
-            result.pending.items [] }
+    /// No octets yet, of so many at most and of packets of this window.
+    pub fn new(alloc: Global, limit: u64, window: &Window, wanted: Wanted) -> Stream
+        ensures none { HasTaken (record {
+          limit = record { octets = limit; window = window.now };
+          taken = [];
+        }) result.reader result.pending.items [] }
         ensures wanted { result.reader.gathering.wanted ≡ wanted }
         ensures dump { result.reader.gathering.dump ≡ [] }
     {
         Stream {
-            reader: Reader::new(alloc, limit, wanted),
+            reader: Reader::new(alloc, limit, window, wanted),
             pending: Vec::new(alloc),
         }
     }

@@ -5,8 +5,9 @@ use Rattle.std.proofs.lemmas.Option.{none-some, same_Some}
 use Rattle.babel_capture.specs.Capture.{EndsShort, IsRead, IsReadToCut}
 use Rattle.std.specs.Io.KnownBytes.{Consumes, IsAtEnd}
 use Rattle.babel_capture.specs.Gathering.{Gathering, with_taken}
+use Rattle.babel_capture.specs.Window.{Extent}
 use Rattle.babel_capture.specs.declared.fault.Fault.TheVariants as faults
-use Rattle.babel_dump.specs.CaptureGiven.{CaptureInput, GaveCapture, GaveWhole, IsReadSo}
+use Rattle.babel_dump.specs.CaptureGiven.{extent_of, CaptureInput, GaveCapture, GaveWhole, IsReadSo}
 use Rattle.babel_dump.specs.CapturedDump.{HandedIsDump, IsDumpIn, NoDumpCause, RefusalHasCause, capture_with}
 use Rattle.babel_dump.specs.Device.{HandsOf, InputState, fresh}
 use Rattle.babel_dump.specs.Drained.{CaptureSource, EndsRefused, Hands, HasDrained, HasHandedAll, Held, IsAccepted, IsWhole, Stands}
@@ -19,18 +20,18 @@ use Rattle.babel_dump.specs.declared.input_fault.InputFault.TheVariants as input
 pub record GaveToCut (reader : CaptureInput) (gathering : Gathering) (cut : Option ℕ) : Type 0 where
   pub octets : List ℕ
   pub gave : GaveWhole reader octets
-  pub is_read : IsReadToCut reader.reading.limit octets gathering cut
+  pub is_read : IsReadToCut (extent_of reader.reading) octets gathering cut
   pub wanted : gathering.wanted ≡ reader.wanted
 
 -- without a cut the octets are whole blocks
-no_cut : (limit : ℕ) (octets : List ℕ) (gathering : Gathering) (cut : Option ℕ) → cut ≡ None → IsReadToCut limit octets gathering cut
+no_cut : (limit : Extent) (octets : List ℕ) (gathering : Gathering) (cut : Option ℕ) → cut ≡ None → IsReadToCut limit octets gathering cut
     → IsRead limit octets gathering
 no_cut limit octets gathering cut none read = elim read.where_cut [
   | inl end ↦ subst (λ (all : List ℕ). IsRead limit all gathering) (sym (read.whole ∙ ap (λ rest. read.read ++ rest) end.0 ∙ append-nil read.read)) read.is_read
   | inr more ↦ absurd (none-some _ (sym none ∙ more.1))
 ]
 
-read_so : (accept_cut : Bool) (limit : ℕ) (octets : List ℕ) (gathering : Gathering) (cut : Option ℕ) → IsAccepted accept_cut cut
+read_so : (accept_cut : Bool) (limit : Extent) (octets : List ℕ) (gathering : Gathering) (cut : Option ℕ) → IsAccepted accept_cut cut
     → IsReadToCut limit octets gathering cut → IsReadSo accept_cut limit octets gathering cut
 read_so false limit octets gathering cut accepted read = (no_cut limit octets gathering cut (accepted refl) read, accepted refl)
 read_so true limit octets gathering cut accepted read = read
@@ -40,12 +41,12 @@ pub gave_so : (reader : CaptureInput) (gathering : Gathering) (cut : Option ℕ)
 gave_so reader gathering cut accepted given = record {
   octets = given.octets;
   gave = given.gave;
-  is_read = read_so reader.reading.accept_cut reader.reading.limit given.octets gathering cut accepted given.is_read;
+  is_read = read_so reader.reading.accept_cut (extent_of reader.reading) given.octets gathering cut accepted given.is_read;
   wanted = given.wanted;
 }
 
 -- with one they end within a block
-cut_short : (limit : ℕ) (octets : List ℕ) (gathering : Gathering) (cut : Option ℕ) (at : ℕ) → cut ≡ Some at
+cut_short : (limit : Extent) (octets : List ℕ) (gathering : Gathering) (cut : Option ℕ) (at : ℕ) → cut ≡ Some at
     → IsReadToCut limit octets gathering cut → EndsShort limit gathering.wanted octets (faults.CutShort at)
 cut_short limit octets gathering cut at some read = elim read.where_cut [
   | inl end ↦ absurd (none-some _ (sym end.1 ∙ some))
@@ -68,8 +69,8 @@ end_refused reader gathering cut (input_faults.Dump fault) given cause = cause
 end_refused reader gathering cut (input_faults.Ignored tlv) given cause = absurd cause
 end_refused reader gathering cut (input_faults.Capture fault) given cause = λ not_memory.
     let at = cause.1.0 in
-    let short : EndsShort reader.reading.limit reader.wanted given.octets fault =
-    rw (cause.1.2, ← given.wanted) (cut_short reader.reading.limit given.octets gathering cut at cause.1.1 given.is_read) in
+    let short : EndsShort (extent_of reader.reading) reader.wanted given.octets fault =
+    rw (cause.1.2, ← given.wanted) (cut_short (extent_of reader.reading) given.octets gathering cut at cause.1.1 given.is_read) in
     record {
       given = given.octets;
       gave = given.gave.gave;

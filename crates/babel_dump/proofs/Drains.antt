@@ -8,7 +8,7 @@ use Rattle.babel_capture.specs.Capture.{CaptureFault, HasFailed, HasGiven, HasGi
 use Rattle.babel_capture.specs.Gathering.{with_taken}
 use Rattle.babel_capture.specs.declared.fault.Fault.{Fault}
 use Rattle.babel_capture.specs.declared.fault.Fault.TheVariants as faults
-use Rattle.babel_dump.specs.Drained.{CaptureSource, EndsRefused, EndsWith, HasDrained, HasHanded, HasHandedAll, Hands, Held, Stands, capture_limit, wanted_by}
+use Rattle.babel_dump.specs.Drained.{dump_extent, CaptureSource, EndsRefused, EndsWith, HasDrained, HasHanded, HasHandedAll, Hands, Held, Stands, capture_limit, wanted_by}
 use Rattle.babel_dump.specs.declared.captured.CaptureNotes.{CaptureNotes}
 use Rattle.babel_dump.specs.declared.input_fault.InputFault.{InputFault}
 use Rattle.babel_dump.specs.declared.input_fault.InputFault.TheVariants as input_faults
@@ -25,7 +25,7 @@ kept_given (Some xs) None kept = absurd kept
 kept_given (Some xs) (Some ys) kept = sym kept
 
 -- nothing was read yet
-pub begun : (source : CaptureSource) → HasRead source.capture [] → source.capture.limit ≡ capture_limit source.reading.limits.bytes
+pub begun : (source : CaptureSource) → HasRead source.capture [] → source.capture.limit ≡ dump_extent source.reading
     → source.capture.progress.gathering.wanted ≡ wanted_by source.reading → source.capture.progress.gathering.dump ≡ [] → source.capture.fault ≡ None
     → source.end ≡ None → HasDrained source.left source []
 begun source read limit wanted no_more sound going = record {
@@ -50,7 +50,7 @@ drained_more first old new piece part dump reading limit wanted no_more gave fee
       fed = drained.fed ++ piece;
       gave = Consumes-trans first old.left new.left _ _ drained.gave gave;
       read = read;
-      limit = limit ∙ drained.limit ∙ ap (λ (r : Reading). capture_limit r.limits.bytes) (sym reading);
+      limit = limit ∙ drained.limit ∙ ap dump_extent (sym reading);
       wanted = wanted ∙ drained.wanted ∙ ap wanted_by (sym reading);
       no_more = no_more;
       stands = stands (drained.fed ++ piece) (dump ++ part) read;

@@ -6,6 +6,7 @@ use Rattle.std.specs.Option.{SomeIff}
 use Rattle.std.specs.Io.KnownBytes.{Appends, Consumes, IsAtEnd}
 use Rattle.babel_prefix.specs.Address.{Address}
 use Rattle.babel_capture.specs.Gathering.{Gathering}
+use Rattle.babel_capture.specs.Window.{Extent}
 use Rattle.babel_capture.specs.declared.wanted.Wanted.{Wanted}
 use Rattle.babel_capture.specs.declared.wanted.Wanted.TheVariants as wanteds
 use Rattle.babel_capture.proofs.OneCapture.{capture_is_one, cut_capture_is_one}
@@ -40,7 +41,7 @@ use Rattle.babel_canon.proofs.OneVerdict.{verdict_is_one}
 use Rattle.babel_dump.specs.AnySource.{HasSourceSpecific, LooksUpAnySource, any_source}
 use Rattle.babel_dump.proofs.AnySourceLaws.{told_one}
 use Rattle.babel_dump.specs.AskedPairs.{AskFor, IsFirstWrong, asking, lines_of}
-use Rattle.babel_dump.specs.CaptureGiven.{GaveCapture, GaveSound, IsReadSo}
+use Rattle.babel_dump.specs.CaptureGiven.{extent_of, GaveCapture, GaveSound, IsReadSo}
 use Rattle.babel_dump.specs.CaptureRun.{CaptureCause, IsOutcomeOf}
 use Rattle.babel_dump.specs.CaptureText.{dump_status, dump_text, senders_in, senders_status}
 use Rattle.babel_dump.specs.Command.{CompareCause, Compares, DifferencesCause, HaveDifferences, InTurn, IsOfMany, IsOfMemory, ListsDifferences, ListsPairs, WritesNormal}
@@ -408,7 +409,7 @@ each_one reading format dump pairs one two one_pairs two_pairs text text_too out
     second.text_is second.outcome_is
 
 -- a capture gives one gathering, from whichever reader
-read_one : (accept_cut : Bool) (limit : ℕ) (octets : List ℕ) (one other : Gathering) (cut other_cut : Option ℕ) → IsReadSo accept_cut limit octets one cut
+read_one : (accept_cut : Bool) (limit : Extent) (octets : List ℕ) (one other : Gathering) (cut other_cut : Option ℕ) → IsReadSo accept_cut limit octets one cut
     → IsReadSo accept_cut limit octets other other_cut → one.wanted ≡ other.wanted → (one ≡ other) × (cut ≡ other_cut)
 read_one false limit octets one other cut other_cut read again wanted =
     (capture_is_one limit octets one other read.0 again.0 wanted, read.1 ∙ sym again.1)
@@ -416,19 +417,19 @@ read_one true limit octets one other cut other_cut read again wanted = cut_captu
 
 -- the octets are a capture of which this is read, of the wanted datagrams
 pub record IsGatheringOf (reading : CaptureReading) (wanted : Wanted) (octets : List ℕ) (gathering : Gathering) (cut : Option ℕ) : Type 0 where
-  pub is_read : IsReadSo reading.accept_cut reading.limit octets gathering cut
+  pub is_read : IsReadSo reading.accept_cut (extent_of reading) octets gathering cut
   pub wanted_is : gathering.wanted ≡ wanted
 
 reads_one : (reading : CaptureReading) (wanted : Wanted) (octets : List ℕ) (one two : Gathering) (cut cut_too : Option ℕ) → IsGatheringOf reading wanted octets one cut
     → IsGatheringOf reading wanted octets two cut_too → (one ≡ two) × (cut ≡ cut_too)
 reads_one reading wanted octets one two cut cut_too is is_too =
-    read_one reading.accept_cut reading.limit octets one two cut cut_too is.is_read is_too.is_read (is.wanted_is ∙ sym is_too.wanted_is)
+    read_one reading.accept_cut (extent_of reading) octets one two cut cut_too is.is_read is_too.is_read (is.wanted_is ∙ sym is_too.wanted_is)
 
 is_read : (reading : CaptureReading) (wanted : Wanted) (reader : Reads) (contents : Contents) (gathering : Gathering) (cut : Option ℕ) → HasContents reader.old contents
     → GaveCapture (capture_of reader reading wanted) gathering cut → IsGatheringOf reading wanted contents.octets gathering cut
 is_read reading wanted reader contents gathering cut has gave =
     let all = all_of reader.old.left reader.new.left contents.octets gave.octets has.octets gave.gave.gave.consumed gave.gave.all.0 in record {
-      is_read = subst (λ (t : List ℕ). IsReadSo reading.accept_cut reading.limit t gathering cut) all gave.is_read;
+      is_read = subst (λ (t : List ℕ). IsReadSo reading.accept_cut (extent_of reading) t gathering cut) all gave.is_read;
       wanted_is = gave.wanted;
     }
 

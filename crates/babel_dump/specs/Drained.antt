@@ -7,6 +7,7 @@ use Rattle.std.specs.Io.KnownBytes.{Consumes, IsAtEnd}
 use Rattle.babel_capture.specs.Capture.{EndsShort, HasGiven, IsReadToCut, State}
 use Rattle.babel_capture.specs.Gathering.{Gathering, with_taken}
 use Rattle.babel_capture.specs.Reading.{Stops}
+use Rattle.babel_capture.specs.Window.{Extent}
 use Rattle.babel_capture.specs.declared.fault.Fault.{Fault}
 use Rattle.babel_capture.specs.declared.fault.Fault.TheVariants as capture_faults
 use Rattle.babel_capture.specs.declared.wanted.Wanted.{Wanted}
@@ -23,6 +24,11 @@ use Rattle.babel_dump.specs.declared.reading.Reading.{Reading}
 -- a capture may have 2^30 octets, or as many as its dump if that is more
 abbrev pub capture_limit : ℕ → ℕ
 capture_limit dump = max (2 ^ 30) dump
+
+-- how much of a capture is read for its dump
+abbrev pub dump_extent : Reading → Extent
+dump_extent reading =
+    record { octets = capture_limit reading.limits.bytes; window = reading.window }
 
 -- the datagrams of the dump's sender, at its place if one is named
 abbrev pub wanted_by : Reading → Wanted
@@ -109,7 +115,7 @@ pub record HasDrained (first : Option (List ℕ)) (source : CaptureSource)
   pub fed : List ℕ
   pub gave : Consumes first source.left fed
   pub read : HasGiven source.capture dump fed
-  pub limit : source.capture.limit ≡ capture_limit source.reading.limits.bytes
+  pub limit : source.capture.limit ≡ dump_extent source.reading
   pub wanted : source.capture.progress.gathering.wanted ≡ wanted_by source.reading
   pub no_more : source.capture.progress.gathering.dump ≡ []
   pub stands : Stands source fed dump source.end

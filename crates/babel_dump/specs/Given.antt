@@ -1,6 +1,7 @@
 -- What readers gave, as dumps. No RFC speaks of readers: these are this project's own.
 use Rattle.std.specs.Prelude.{ℕ, ◌≡◌, ◌≢◌, ◌⊎◌, Bool, false, true, List, None, Some}
 use Rattle.babel_prefix.specs.Address.{Address}
+use Rattle.babel_capture.specs.declared.window.Window.TheVariants as windows
 use Rattle.babel_tlv.specs.declared.fault.Fault.{Fault}
 use Rattle.babel_tlv.specs.declared.fault.Fault.TheVariants as faults
 use Rattle.babel_tlv.specs.declared.mode.Mode.{Mode}
@@ -54,6 +55,8 @@ usual_reading limits mode sender = record {
   mode = mode;
   sender = sender;
   place = None;
+  window = windows.Whole;
+  time_option = None;
   accept_cut = false;
   strict = false;
 }

@@ -34,6 +34,7 @@ use Rattle.babel_dump.specs.declared.spelling.Spelling.TheVariants as spellings
 abbrev pub capture_read_by : SenderKeys → CaptureReading
 capture_read_by keys = record {
   limit = capture_limit keys.limits.bytes;
+  window = keys.window;
   accept_cut = keys.accept_cut;
   strict = keys.strict;
 }
@@ -48,6 +49,8 @@ read_by keys origin = record {
   mode = keys.mode;
   sender = origin.sender;
   place = Some origin.place;
+  window = keys.window;
+  time_option = None;
   accept_cut = keys.accept_cut;
   strict = keys.strict;
 }

@@ -1,7 +1,7 @@
 //! What a reader gives, as a capture.
 ghost use Rattle.std.specs.Prelude.{◌≡◌, ◌≢◌, ℕ, true, List, [], None, IfOk, IfErr, OnOk};
 ghost use Rattle.babel_capture.specs.Capture.{CaptureFault, HasRead};
-ghost use Rattle.babel_dump.specs.CaptureGiven.{GaveCapture, GaveSound, IsFedWhole};
+ghost use Rattle.babel_dump.specs.CaptureGiven.{extent_of, GaveCapture, GaveSound, IsFedWhole};
 ghost use Rattle.babel_dump.specs.CaptureGiven.{IsReadSo, capture_from};
 ghost use Rattle.babel_dump.specs.CaptureRun.{CaptureCause, IsNoFault, capture_calls};
 ghost use Rattle.babel_dump.specs.Device.{HasRoomToCount};
@@ -41,8 +41,9 @@ pub(crate) fn read_capture<R: ByteIn>(
         Gathered (capture_calls input) (CaptureCause input IsNoFault)
         (λ read. GaveSound input read.gathered read.cut) result }
 {
+    let strict = reading.strict;
     let read = read_whole(alloc, reading, wanted, reader)?;
-    if reading.strict {
+    if strict {
         if let Some(datagram) = first_left_out(&read.gathered.report()) {
             return Err(InputFault::LeftOut(datagram));
         }
@@ -62,9 +63,15 @@ fn read_whole<R: ByteIn>(
         Gathered (capture_calls input) (CaptureCause input IsNoFault)
         (λ read. GaveCapture input read.gathered read.cut) result }
 {
-    let mut capture = Capture::new(alloc, u64::from(reading.limit), wanted);
-    feed_all(&mut capture, reading, reader)?;
-    let read = finished(capture, reading.accept_cut)?;
+    let CaptureReading {
+        limit,
+        window,
+        accept_cut,
+        ..
+    } = reading;
+    let mut capture = Capture::within(alloc, u64::from(limit), window, wanted);
+    feed_all(&mut capture, CaptureReading { ..reading }, reader)?;
+    let read = finished(capture, accept_cut)?;
     Ok(read)
 }
 
@@ -99,11 +106,11 @@ pub(crate) fn feed_all<R: ByteIn>(
     reader: &mut R,
 ) -> Result<(), InputFault>
     requires counts { HasRoomToCount (R.state reader.old) }
-    requires limit { capture.old.limit ≡ reading.limit }
+    requires limit { capture.old.limit ≡ extent_of reading }
     requires fresh { HasRead capture.old [] }
     requires no_fault { capture.old.fault ≡ None }
 
-    ensures limit { capture.new.limit ≡ reading.limit }
+    ensures limit { capture.new.limit ≡ extent_of reading }
     ensures wanted { capture.new.progress.gathering.wanted ≡ capture.old.progress.gathering.wanted }
     ensures sound { OnOk result (capture.new.fault ≡ None) }
     ensures gathered { let wanted = capture.old.progress.gathering.wanted in

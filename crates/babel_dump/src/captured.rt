@@ -56,7 +56,7 @@ impl<R: Read + Drop> Source<R> {
             alloc,
             reading,
             reader,
-            capture: Capture::new(alloc, u64::from(how.limit), reading.wanted()),
+            capture: Capture::within(alloc, u64::from(how.limit), how.window, reading.wanted()),
             end: None,
         }
     }

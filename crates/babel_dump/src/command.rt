@@ -57,7 +57,8 @@ const AFTER_SHOW: &str = after_help!(
     "show --from fe80::1 x.pcap",
     "show --hold --from fe80::1 x.pcap | grep -v unreachable",
     "show --quiet --match 10.1.2.3 --from fe80::1 x.pcap",
-    "show --summary --from fe80::1 x.pcap";
+    "show --summary --from fe80::1 x.pcap",
+    "show --until 2026-11-25T13:30:22Z --from fe80::1 x.pcap";
     "0  done"
 );
 
@@ -111,7 +112,8 @@ const AFTER_COMPARE: &str = after_help!(
 const AFTER_DIFF: &str = after_help!(
     examples:
     "diff --from fe80::1 before.pcap now.pcap",
-    "diff --stat --color auto --from fe80::1 before.pcap now.pcap";
+    "diff --stat --color auto --from fe80::1 before.pcap now.pcap",
+    "diff --until +60 --other-until +90 --from fe80::1 x.pcap x.pcap";
     "0  no route differs",
     "1  at least one route differs"
 );
@@ -120,7 +122,7 @@ const AFTER_SENDERS: &str = after_help!(
     refused: "a capture";
     examples:
     "senders x.pcap",
-    "senders --json < x.pcap";
+    "senders --since +60 --json < x.pcap";
     "0  there are senders",
     "1  there are no senders"
 );
@@ -349,12 +351,24 @@ fn of_two_dumps<'a>(alloc: Global, command: Command<'a>) -> Result<Command<'a>, 
         "other-interface",
         "The same for OTHER, if it is a capture",
     );
+    let other_since = moment(
+        alloc,
+        "other-since",
+        "The same for OTHER [default: that of --since]",
+    );
+    let other_until = moment(
+        alloc,
+        "other-until",
+        "The same for OTHER [default: that of --until]",
+    );
     let command = command
         .arg(from)?
         .arg(other_from.required(false))?
         .arg(interface)?
         .arg(other_interface)?;
     with_settings(alloc, command)?
+        .arg(other_since)?
+        .arg(other_until)?
         .arg(strict(alloc))?
         .arg(ignore(alloc))?
         .arg(dump(
@@ -422,7 +436,7 @@ fn of_one_capture<'a>(alloc: Global, command: Command<'a>) -> Result<Command<'a>
     let file = Arg::new(alloc, "file")
         .value_name("CAPTURE")
         .help("The capture; standard input if omitted or -");
-    command
+    with_times(alloc, command)?
         .arg(flag(
             alloc,
             "strict",
@@ -462,10 +476,10 @@ fn with_reading<'a>(alloc: Global, command: Command<'a>) -> Result<Command<'a>, 
     with_settings(alloc, command.arg(from)?.arg(interface(alloc))?)
 }
 
-/// The command with what each command has that reads a dump: how retractions and IPv4 routes with
-/// IPv6 next hops are read, whether there are notes, and the limits.
+/// The command with what each command has that reads a dump: when its packets came, how retractions
+/// and IPv4 routes with IPv6 next hops are read, whether there are notes, and the limits.
 fn with_settings<'a>(alloc: Global, command: Command<'a>) -> Result<Command<'a>, AllocError> {
-    command
+    with_times(alloc, command)?
         .arg(hold(alloc))?
         .arg(v4_via_v6(alloc))?
         .arg(quiet(alloc))?
@@ -486,6 +500,27 @@ fn with_settings<'a>(alloc: Global, command: Command<'a>) -> Result<Command<'a>,
             "How many octets a dump may have, also one in a capture [default: 33554432, or 83 for \
              each of the routes if that is more]",
         ))
+}
+
+/// The command with the moments between which a capture is read.
+fn with_times<'a>(alloc: Global, command: Command<'a>) -> Result<Command<'a>, AllocError> {
+    command
+        .arg(moment(
+            alloc,
+            "since",
+            "Skip what a capture has before TIME: a time with an offset, as 2026-11-25T13:30:22Z, \
+             seconds since 1970, as @1764077422.5, or seconds since the first record, as +90",
+        ))?
+        .arg(moment(alloc, "until", "Skip what a capture has after TIME"))
+}
+
+/// An option whose value is a moment.
+fn moment<'a>(alloc: Global, id: &'a str, help: &'a str) -> Arg<'a> {
+    Arg::new(alloc, id)
+        .long(id)
+        .value_name("TIME")
+        .action(ArgAction::Set)
+        .help(help)
 }
 
 /// An option whose value is a number from 1 to this one.

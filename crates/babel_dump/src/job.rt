@@ -7,7 +7,8 @@ use crate::capture_reading::CaptureReading;
 use crate::filter::Filter;
 use crate::format::Format;
 use crate::key_text::Named;
-use crate::reading::Reading;
+use crate::reading::{Reading, TimeOption};
+use crate::run_fault::Side;
 use crate::spelling::Spelling;
 use babel_canon::Body;
 use babel_capture::Place;
@@ -308,9 +309,9 @@ impl Job {
     /// are captures.
     pub fn misplaced(&self, is_capture: bool, other_is_capture: bool) -> Option<&'static str> {
         let reading = self.reading()?;
-        let other_place = match self.other_reading() {
-            Some(other) => other.place,
-            None => None,
+        let (other_place, other_option) = match self.other_reading() {
+            Some(other) => (other.place, other.time_option),
+            None => (None, None),
         };
         if reading.place.is_some() && !is_capture {
             return Some("--interface");
@@ -321,7 +322,31 @@ impl Job {
         if reading.accept_cut && !is_capture && !other_is_capture {
             return Some("--accept-cut");
         }
-        None
+        match reading.time_option {
+            Some(TimeOption::Since) if !is_capture && !other_is_capture => return Some("--since"),
+            Some(TimeOption::Until) if !is_capture && !other_is_capture => return Some("--until"),
+            _ => {}
+        }
+        match other_option {
+            Some(TimeOption::Since) if !other_is_capture => Some("--other-since"),
+            Some(TimeOption::Until) if !other_is_capture => Some("--other-until"),
+            _ => None,
+        }
+    }
+
+    /// Whether a time is asked for of the input on this side, if it is a capture.
+    pub(crate) fn is_timed(&self, side: Side) -> bool {
+        if let Job::Senders { reading, .. } | Job::Extract { reading, .. } = self {
+            return reading.is_timed();
+        }
+        let reading = match side {
+            Side::First => self.reading(),
+            Side::Other => self.other_reading(),
+        };
+        match reading {
+            Some(reading) => reading.of_capture().is_timed(),
+            None => false,
+        }
     }
 
     /// How many octets of an input are read at most.

@@ -16,11 +16,15 @@ use crate::push_note::push_note_json;
 use crate::run_fault::{RunFault, Side};
 use crate::sender_keys::SenderKeys;
 use crate::write::{WriteFailed, write_all, write_text};
+use babel_capture::{Report as CaptureReport, Window};
 use babel_table::Report;
 use std::alloc::{AllocError, Global};
 
-/// No job has more notes: five about each dump of a comparison, and one about both.
-const MOST: usize = 11;
+/// No job has more notes: seven about each dump of a comparison, and one about both.
+const MOST: usize = 15;
+
+/// The nanoseconds of a hundredth of a second.
+const HUNDREDTH: u128 = 10_000_000;
 
 /// The JSON object of a note has no more octets, and the end of its line.
 const LONGEST: usize = 1_600;
@@ -84,7 +88,8 @@ impl Notes {
                 }
             }
             Reports::Capture { report, cut } => {
-                self.add_capture(Side::First, CaptureNotes { report, cut })?;
+                let is_timed = job.is_timed(Side::First);
+                self.add_capture(Side::First, CaptureNotes { report, cut }, is_timed)?;
                 match (job, report.short()) {
                     (Job::Senders { .. }, 1..) => {
                         self.add(Side::First, Note::TooShort(report.short()))
@@ -105,7 +110,8 @@ impl Notes {
         if keys.quiet {
             return Ok(());
         }
-        self.add_capture(Side::First, capture)
+        let is_timed = matches!(keys.window, Window::Between { .. });
+        self.add_capture(Side::First, capture, is_timed)
     }
 
     /// What there is to know of the dump of a sender in it, of which this is the report.
@@ -136,7 +142,7 @@ impl Notes {
             self.add_ignored(side, report)?;
         }
         if let Some(capture) = capture {
-            self.add_capture(side, capture)?;
+            self.add_capture(side, capture, job.is_timed(side))?;
         }
         self.add_updates(side, report)
     }
@@ -157,17 +163,29 @@ impl Notes {
         }
     }
 
-    /// Adds what was left out of a capture, that frames named no interface, and where it is cut
-    /// short.
-    fn add_capture(&mut self, side: Side, capture: CaptureNotes) -> Result<(), AllocError> {
+    /// Adds what was left out of a capture, that frames named no interface, where it is cut short,
+    /// where times run backwards, if times are asked for, and that it is shorter than an Interval.
+    fn add_capture(
+        &mut self,
+        side: Side,
+        capture: CaptureNotes,
+        is_timed: bool,
+    ) -> Result<(), AllocError> {
         if let Some(note) = LeftOutNote::of(capture.report) {
             self.add(side, Note::LeftOut(note))?;
         }
         if capture.report.cooked() > 0 {
             self.add(side, Note::Cooked)?;
         }
-        match capture.cut {
-            Some(at) => self.add(side, Note::CaptureCut(at)),
+        if let Some(at) = capture.cut {
+            self.add(side, Note::CaptureCut(at))?;
+        }
+        match capture.report.timing().backwards {
+            Some(packet) if is_timed => self.add(side, Note::Backwards(packet))?,
+            _ => {}
+        }
+        match short_span(&capture.report) {
+            Some(note) => self.add(side, note),
             None => Ok(()),
         }
     }
@@ -182,6 +200,25 @@ impl Notes {
         write_notes(writer, &self.list, &mut self.line)?;
         Ok(())
     }
+}
+
+/// That what was read of a capture spans less than the greatest Interval of an Update that
+/// announces, where each packet has a time.
+fn short_span(report: &CaptureReport) -> Option<Note> {
+    let interval = report.interval()?;
+    let timing = report.timing();
+    if timing.has_untimed {
+        return None;
+    }
+    let span = timing
+        .latest?
+        .nanoseconds()
+        .checked_sub(timing.earliest?.nanoseconds())?;
+    if span >= u128::from(interval) * HUNDREDTH {
+        return None;
+    }
+    let span = u64::try_from(span / HUNDREDTH).ok()?;
+    Some(Note::ShortSpan { span, interval })
 }
 
 /// Writes a JSON object for each of these notes, each by way of the line, and flushes.

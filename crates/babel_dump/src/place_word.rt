@@ -84,7 +84,7 @@ fn parse_vlans(word: &str) -> Option<Vlans> {
 }
 
 /// A number in decimal, of digits alone.
-fn parse_number<N: FromStr<Err = ParseIntError>>(word: &str) -> Option<N> {
+pub(crate) fn parse_number<N: FromStr<Err = ParseIntError>>(word: &str) -> Option<N> {
     if word.bytes().all(|octet| octet.is_ascii_digit()) {
         word.parse().ok()
     } else {

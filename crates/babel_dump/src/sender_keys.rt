@@ -27,7 +27,7 @@ use crate::run_fault::RunFault;
 use crate::seeded::Seeded;
 use crate::spelling::Spelling;
 use crate::write::write_text;
-use babel_capture::{Gathered, Origin, Place, Wanted};
+use babel_capture::{Gathered, Origin, Place, Wanted, Window};
 use babel_table::Limits;
 use babel_tlv::{Mode, View};
 use std::alloc::{AllocError, Global};
@@ -42,6 +42,8 @@ pub struct SenderKeys {
     pub mode: Mode,
     /// The place whose senders alone are asked for: `--interface`.
     pub place: Option<Place>,
+    /// Which packets are read, by when they came: `--since`, `--until`.
+    pub window: Window,
     /// Whether a capture that is cut short is read to its last whole record: `--accept-cut`.
     pub accept_cut: bool,
     /// Whether the capture is refused if a datagram was left out of it, and a dump if a TLV of it
@@ -64,6 +66,8 @@ impl SenderKeys {
             mode: self.mode,
             sender: origin.sender,
             place: Some(origin.place),
+            window: self.window,
+            time_option: None,
             accept_cut: self.accept_cut,
             strict: self.strict,
         }
@@ -75,6 +79,7 @@ impl SenderKeys {
     {
         CaptureReading {
             limit: capture_limit(self.limits.bytes()),
+            window: self.window,
             accept_cut: self.accept_cut,
             strict: self.strict,
         }

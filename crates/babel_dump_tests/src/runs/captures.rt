@@ -34,8 +34,10 @@ pub static CAPTURE: [u8; 122] = [
     0x2a, 0x02, 0x00, 0x00, 0x12, 0x34,
 ];
 
-pub const SENDERS: &str = "192.0.2.1 interface 0 packets 1 octets 4 updates 0\n\
-     192.0.2.2 interface 0 packets 1 octets 4 updates 0\n";
+pub const SENDERS: &str = "192.0.2.1 interface 0 packets 1 octets 4 updates 0 interval - \
+     first 1970-01-01T00:00:00.000000000Z last 1970-01-01T00:00:00.000000000Z\n\
+     192.0.2.2 interface 0 packets 1 octets 4 updates 0 interval - \
+     first 1970-01-01T00:00:00.000000000Z last 1970-01-01T00:00:00.000000000Z\n";
 
 /// What the two commands write of the capture.
 static WRITTEN: [(&str, &str); 3] = [

@@ -1,10 +1,11 @@
 use Rattle.std.proofs.Common.{◌≡◌, ℕ, List, ◌+◌, ◌++◌, length, arith, ap, sym, subst, ◌∙◌}
-use Rattle.std.specs.Prelude.{Ok}
+use Rattle.std.specs.Prelude.{Ok, Option}
 use Rattle.std.proofs.lemmas.Result.{err_from_is_err_and}
 use Rattle.babel_capture.specs.Blocks.{IsBlock, Sighting, sightings_in}
 use Rattle.babel_capture.specs.Contents.{Content, block_said, content_of, context_after}
 use Rattle.babel_capture.specs.Context.{Before}
 use Rattle.babel_capture.specs.Gathering.{BlockNeedsMemory, Gathering, IsGathered, with_taken}
+use Rattle.babel_capture.specs.PacketEnds.{time_told}
 use Rattle.babel_capture.specs.Reading.{Account, Progress, LeadTo}
 use Rattle.babel_capture.specs.contracts.reader.Reader.{the_view}
 use Rattle.babel_capture.proofs.EndLaws.{grown-needs, noted}
@@ -55,10 +56,11 @@ returns-clause-ok c =
     subst (λ (g : Gathering). (taken : List ℕ) (before : List Sighting) → IsGathered before (with_taken taken old.gathering)
     → IsGathered (before ++ sightings_in number old.at content) (with_taken taken g))
     (sym same) c.in_ok-take_said.ensures.ok in
-    let ends : new.ends ≡ noted (length old.gathering.dump) (length new.gathering.dump) new.gathering.report.packets old.ends =
-    subst (λ (g : Gathering). new.ends ≡ noted (length old.gathering.dump) (length g.dump) g.report.packets old.ends) (sym same)
+    let ends : new.ends ≡ noted (length old.gathering.dump) (length new.gathering.dump) new.gathering.report.packets (time_told content) old.ends =
+    subst (λ (g : Gathering). new.ends ≡ noted (length old.gathering.dump) (length g.dump) g.report.packets (time_told content) old.ends) (sym same)
     (ap (λ (p : Progress). p.ends) c.self-2.view_is ∙ c.in_ok-note_end.ensures.ends
-    ∙ ap (λ (d : List ℕ). noted (length d) (length c.take_said.new.self.dump) c.take_said.new.self.report.packets old.ends) c.dump-dump_len.ensures) in
+    ∙ ap (λ (d : List ℕ). noted (length d) (length c.take_said.new.self.dump) c.take_said.new.self.report.packets c.time.result old.ends) c.dump-dump_len.ensures
+    ∙ ap (λ (t : Option ℕ). noted (length old.gathering.dump) (length c.take_said.new.self.dump) c.take_said.new.self.report.packets t old.ends) c.time.ensures) in
     subst (λ (p : Progress). (account : Account) (read : List ℕ) → LeadTo account read p → LeadTo account (read ++ c.args.block.now) new) c.self.view_is
     (λ account read lead. lead-push account read c.args.block.now old new content is_block c.in_ok-said.ensures.ok context (ap (λ (p : Progress). p.at) c.self-2.view_is ∙ others.2) gathers
     (ap (λ (g : Gathering). g.names) same ∙ c.in_ok-take_said.ensures.names) (ap (λ (g : Gathering). g.wanted) same ∙ c.take_said.ensures.wanted) ends lead)
