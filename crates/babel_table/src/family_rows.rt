@@ -7,15 +7,17 @@ ghost use Rattle.std.specs.Map.{keys_of, lookup, remove_entry};
 ghost use Rattle.babel_tlv.specs.Keys.{key_cmp};
 ghost use Rattle.babel_table.specs.BestMatch.{IsBestMatch};
 ghost use Rattle.babel_table.specs.Compact.{CanKeep, address_in};
-ghost use Rattle.babel_table.specs.Live.{kept, live_rows};
+ghost use Rattle.babel_table.specs.Live.{kept, lasting, live_rows};
 ghost use Rattle.babel_table.specs.Lookup.{IsBetter};
 ghost use Rattle.babel_table.specs.Rows.{IsRising};
-ghost use Rattle.babel_table.specs.Said.{AreDistinct, AreIndexed, IsPlace, AreAbove, standing};
+ghost use Rattle.babel_table.specs.Said.{AreAbove, AreDistinct, AreIndexed, IsPlace, is_passed};
+ghost use Rattle.babel_table.specs.Said.{passed_count, standing, unless_passed, unpassed};
 
 use crate::compact_held::CompactHeld;
 use crate::compact_key::CompactKey;
 use crate::compact_row::CompactRow;
 use crate::hop::Hop;
+use crate::moment::Moment;
 use crate::places::Places;
 use crate::stored::Stored;
 use crate::word::Word;
@@ -89,20 +91,20 @@ impl<W: Word, H: Hop> FamilyRows<W, H> {
         self.count
     }
 
-    /// Keeps this for the key. Where there is nothing for it, the refusal is answered, if there is
-    /// one.
+    /// Keeps this for the key, with its mark. Where there is nothing for it, the refusal is
+    /// answered, if there is one.
     pub fn put(
         &mut self,
         key: &Key,
         held: Held,
-        wipes: u64,
+        mark: u64,
         refusal: Option<Fault>,
     ) -> Result<(), Fault>
         requires family { key.now.dst.address.family ≡ W.family }
         requires fits { CanKeep H.fits held }
         requires few { length self.old < 2 ^ 62 }
         ensures ok { OnOk result
-            (self.new ≡ insert_entry key_cmp self.old key.now (kept held wipes)) }
+            (self.new ≡ insert_entry key_cmp self.old key.now (kept held mark)) }
         ensures len { OnOk result (length self.new ≡ length self.old
             + (if is_some (lookup (is_at (key_cmp key.now)) self.old) then 0 else 1)) }
         ensures room { OnOk result ((refusal ≡ None)
@@ -113,7 +115,7 @@ impl<W: Word, H: Hop> FamilyRows<W, H> {
     {
         let key = CompactKey::of(key);
         let held = CompactHeld::of(held);
-        let stored = Stored { held, wipes };
+        let stored = Stored { held, mark };
         if let Some(place) = find(&self.rows, self.next, self.rising, &self.places, &key) {
             let was = self.rows[place].1.is_some();
             if let Some(fault) = refusal {
@@ -222,6 +224,24 @@ impl<W: Word, H: Hop> FamilyRows<W, H> {
         self.count = 0;
     }
 
+    /// For how many keys there is something that has passed at the moment.
+    pub fn count_passed(&self, moment: &Moment<'_>) -> usize
+        ensures count { result + length (lasting moment.now.stamps.now moment.now.factor
+            moment.now.time self.now) ≡ length self.now }
+        ensures small { result < 2 ^ 63 }
+    {
+        count_passed(&self.rows, moment)
+    }
+
+    /// Keeps nothing for the keys of what has passed at the moment.
+    pub fn forget_passed(&mut self, moment: &Moment<'_>)
+        ensures { self.new ≡ lasting moment.now.stamps.now moment.now.factor moment.now.time
+            self.old }
+    {
+        self.count -= count_passed(&self.rows, moment);
+        forget_passed(&mut self.rows, moment);
+    }
+
     /// The rows that these stand for after so many wipes, in order.
     pub fn listed(self, alloc: Global, wipes: u64) -> Result<Vec<CompactRow<W, H>>, AllocError>
         ensures { IfOk result (λ rows. rows.items ≡ live_rows wipes self) }
@@ -270,6 +290,48 @@ fn best_standing<W: Word, H: Hop>(
     match best {
         Some((_, held)) => Some(held),
         None => None,
+    }
+}
+
+/// Of how many rows what was said has passed at the moment.
+fn count_passed<W: Word, H: Hop>(rows: &[WordRow<W, H>], moment: &Moment<'_>) -> usize
+    ensures { result ≡ passed_count moment.now.stamps.now moment.now.factor moment.now.time
+        rows.now }
+{
+    let mut count = 0;
+    for row in rows {
+        count += usize::from(has_passed(&row.1, moment));
+    }
+    count
+}
+
+/// Keeps nothing in the rows in which what was said has passed at the moment.
+fn forget_passed<W: Word, H: Hop>(rows: &mut [WordRow<W, H>], moment: &Moment<'_>)
+    ensures { rows.new ≡ unpassed moment.now.stamps.now moment.now.factor moment.now.time
+        rows.old }
+{
+    for row in rows.iter_mut() {
+        forget_if_passed(&mut row.1, moment);
+    }
+}
+
+/// Keeps nothing where what was said has passed at the moment.
+fn forget_if_passed<H: Hop>(said: &mut Option<Stored<H>>, moment: &Moment<'_>)
+    ensures { said.new ≡ unless_passed moment.now.stamps.now moment.now.factor moment.now.time
+        said.old }
+{
+    if has_passed(said, moment) {
+        *said = None;
+    }
+}
+
+/// Whether something was said, and has passed at the moment.
+fn has_passed<H: Hop>(said: &Option<Stored<H>>, moment: &Moment<'_>) -> bool
+    ensures { result ≡ is_passed moment.now.stamps.now moment.now.factor moment.now.time said.now }
+{
+    match said {
+        Some(stored) => moment.has_passed(stored.mark),
+        None => false,
     }
 }
 

@@ -1,6 +1,7 @@
 //! Laws of the definitions.
 ghost use Rattle.babel_table.specs.OneOutcome.{FaultIsOne, FaultIsOfOctets, FaultStays, TableIsOne};
 ghost use Rattle.babel_table.specs.OneOutcome.{HopsFit, KeysNeedMemory, RoutesNeedMemory};
+ghost use Rattle.babel_table.specs.Words.{WordsAreHeld};
 
 /// A dump has at most one fault.
 pub fn fault_is_one()
@@ -34,4 +35,9 @@ pub fn fault_stays()
 pub fn rows_need_memory()
     ensures plain { RoutesNeedMemory }
     ensures hold { KeysNeedMemory }
+{}
+
+/// The words that are kept, but for those that have passed, are what is held at the moment.
+pub fn words_are_held()
+    ensures { WordsAreHeld }
 {}

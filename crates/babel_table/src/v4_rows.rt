@@ -8,10 +8,11 @@ ghost use Rattle.babel_tlv.specs.Keys.{key_cmp};
 ghost use Rattle.babel_tlv.specs.Pairs.{FitsKey};
 ghost use Rattle.babel_table.specs.BestMatch.{IsBestMatch};
 ghost use Rattle.babel_table.specs.Compact.{AreOf, is_via_v6};
-ghost use Rattle.babel_table.specs.Live.{kept, live_rows};
+ghost use Rattle.babel_table.specs.Live.{kept, lasting, live_rows};
 ghost use Rattle.babel_table.specs.TableRows.{AreRows};
 
 use crate::family_rows::FamilyRows;
+use crate::moment::Moment;
 use crate::nested_rows::NestedRows;
 use crate::nested_v4::NestedV4;
 use babel_prefix::{Addr, Family};
@@ -79,20 +80,20 @@ impl V4Rows {
         }
     }
 
-    /// Keeps this for the key. Where there is nothing for it, the refusal is answered, if there is
-    /// one.
+    /// Keeps this for the key, with its mark. Where there is nothing for it, the refusal is
+    /// answered, if there is one.
     pub fn put(
         &mut self,
         key: &Key,
         held: Held,
-        wipes: u64,
+        mark: u64,
         refusal: Option<Fault>,
     ) -> Result<(), Fault>
         requires family { key.now.dst.address.family ≡ V4 }
         requires fits { FitsKey key.now held }
         requires few { length self.old < 2 ^ 62 }
         ensures ok { OnOk result
-            (self.new ≡ insert_entry key_cmp self.old key.now (kept held wipes)) }
+            (self.new ≡ insert_entry key_cmp self.old key.now (kept held mark)) }
         ensures len { OnOk result (length self.new ≡ length self.old
             + (if is_some (lookup (is_at (key_cmp key.now)) self.old) then 0 else 1)) }
         ensures room { OnOk result ((refusal ≡ None)
@@ -102,10 +103,10 @@ impl V4Rows {
             ⊎ ((refusal ≡ Some fault) × (lookup (is_at (key_cmp key.now)) self.old ≡ None))) }
     {
         if self.is_wide {
-            return self.wide.put(key, held, wipes, refusal);
+            return self.wide.put(key, held, mark, refusal);
         }
         if !is_via_v6(&held) {
-            return self.narrow.put(key, held, wipes, refusal);
+            return self.narrow.put(key, held, mark, refusal);
         }
         if let Some(fault) = refusal {
             if !self.narrow.has(key) {
@@ -115,7 +116,7 @@ impl V4Rows {
         self.wide = self.narrow.widened(self.seed)?;
         self.narrow = FamilyRows::new(self.alloc, self.seed);
         self.is_wide = true;
-        self.wide.put(key, held, wipes, refusal)
+        self.wide.put(key, held, mark, refusal)
     }
 
     /// Keeps nothing for the key.
@@ -136,6 +137,31 @@ impl V4Rows {
     {
         self.wide.clear();
         self.narrow.clear();
+    }
+
+    /// For how many keys there is something that has passed at the moment.
+    pub fn count_passed(&self, moment: &Moment<'_>) -> usize
+        ensures count { result + length (lasting moment.now.stamps.now moment.now.factor
+            moment.now.time self.now) ≡ length self.now }
+        ensures small { result < 2 ^ 63 }
+    {
+        if self.is_wide {
+            self.wide.count_passed(moment)
+        } else {
+            self.narrow.count_passed(moment)
+        }
+    }
+
+    /// Keeps nothing for the keys of what has passed at the moment.
+    pub fn forget_passed(&mut self, moment: &Moment<'_>)
+        ensures { self.new ≡ lasting moment.now.stamps.now moment.now.factor moment.now.time
+            self.old }
+    {
+        if self.is_wide {
+            self.wide.forget_passed(moment);
+        } else {
+            self.narrow.forget_passed(moment);
+        }
     }
 
     /// The rows that these stand for after so many wipes, in order.

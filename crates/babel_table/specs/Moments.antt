@@ -1,0 +1,135 @@
+-- What was said when, and what is held at a moment: RFC 8966, 3.5.4, 4.6.9 and appendix B. A time
+-- is in nanoseconds since the start of 1970. Who uses no times needs none of this page.
+use Rattle.std.specs.Prelude.{◌≡◌, ℕ, ◌<◌, ◌≤◌, ◌+◌, ◌*◌, List, [], ◌∷◌, ◌++◌, map, length, Result}
+use Rattle.std.specs.Prelude.{Ok, Err}
+use Rattle.std.specs.List.{AllByRecursion, Contains, flat_map}
+use Rattle.babel_prefix.specs.Address.{Address}
+use Rattle.babel_tlv.specs.declared.event.Event.{Event}
+use Rattle.babel_tlv.specs.declared.event.Event.TheVariants as events
+use Rattle.babel_tlv.specs.declared.fault.Fault.{Fault}
+use Rattle.babel_tlv.specs.declared.held.Held.{Held}
+use Rattle.babel_tlv.specs.declared.held.Held.TheVariants as helds
+use Rattle.babel_tlv.specs.declared.mode.Mode.TheVariants as modes
+use Rattle.babel_tlv.specs.declared.start.Start.{Start}
+use Rattle.babel_tlv.specs.Context.{Context, context_after}
+use Rattle.babel_tlv.specs.Forming.{two_octets}
+use Rattle.babel_tlv.specs.Framing.{TlvAt, ArePackets, packet_octets}
+use Rattle.babel_tlv.specs.Route.{RouteKey, Announcement}
+use Rattle.babel_tlv.specs.Says.{said}
+use Rattle.babel_table.specs.Bounds.{Bounds, start_of}
+use Rattle.babel_table.specs.Holds.{SpeaksOf}
+use Rattle.babel_table.specs.Rows.{IsRising, Routes}
+use Rattle.babel_table.specs.TableOf.{IsTableOf}
+
+-- ---- what was said when
+
+-- RFC 8966, 4.6.9: the Interval of an Update, in hundredths of a second
+abbrev pub update_interval : List ℕ → ℕ
+update_interval body = two_octets body 4
+
+-- when something was said, and the Interval that was said with it
+pub record When : Type 0 where
+  pub time : ℕ
+  pub interval : ℕ
+
+-- what a TLV told, and when
+pub record Told : Type 0 where
+  pub when : When
+  pub event : Event
+
+-- a TLV that refuses the dump tells nothing
+abbrev pub event_in : Result Event Fault → Event
+event_in (Ok event) = event
+event_in (Err fault) = events.Nothing
+
+-- what a TLV that came at this time tells in its context
+abbrev pub told_at : ℕ → Context → TlvAt → Told
+told_at time context tlv = record {
+  when = record { time = time; interval = update_interval tlv.body };
+  event = event_in (said context tlv);
+}
+
+-- what the TLVs of a packet that came at this time tell, after the earlier ones of the packet
+abbrev pub told_behind : ℕ → Start → List TlvAt → List TlvAt → List Told
+told_behind time start earlier [] = []
+told_behind time start earlier (tlv ∷ tlvs) =
+    told_at time (context_after start earlier) tlv ∷ told_behind time start (tlv ∷ earlier) tlvs
+
+-- packets that came at one time, each as its TLVs
+pub record Heard : Type 0 where
+  pub time : ℕ
+  pub packets : List (List TlvAt)
+
+-- what they tell
+abbrev pub told_in : Start → ℕ → List (List TlvAt) → List Told
+told_in start time packets = flat_map (told_behind time start []) packets
+
+-- what all packets tell, in the order in which they were heard
+abbrev pub told_of : Start → List Heard → List Told
+told_of start all = flat_map (λ heard. told_in start heard.time heard.packets) all
+
+-- ---- what is held at a moment
+
+-- this is the last of what was told that speaks of the key: it announces or retracts the key, or
+-- retracts all
+pub record IsLastTold (told : List Told) (key : RouteKey) (word : Told) : Type 0 where
+  pub before : List Told
+  pub after : List Told
+  pub whole : told ≡ before ++ word ∷ after
+  pub speaks : SpeaksOf key word.event
+  pub silent : AllByRecursion (λ later. ¬ SpeaksOf key later.event) after
+
+-- RFC 8966, appendix B: at the moment so many times the Interval have passed. The factor is in
+-- ten-millionths and an Interval in hundredths of a second, so their product is in nanoseconds. An
+-- Interval of 0, which 4.6.9 forbids, does not pass (this project's own).
+abbrev pub HasPassed : ℕ → ℕ → When → Type 0
+HasPassed factor moment when =
+    (0 < when.interval) × (when.time + factor * when.interval ≤ moment)
+
+-- the last word on the key announces this, at a time from which so many times its Interval have not
+-- passed
+pub record Lasts (factor moment : ℕ) (told : List Told) (key : RouteKey)
+    (ann : Announcement) : Type 0 where
+  pub when : When
+  pub last : IsLastTold told key (record { when = when; event = events.Announce key ann })
+  pub lasts : ¬ HasPassed factor moment when
+
+-- what is held for a key at the moment, where a retracted key has no row
+abbrev pub HoldsAt : ℕ → ℕ → List Told → RouteKey → Held → Type 0
+HoldsAt factor moment told key (helds.Route ann) = Lasts factor moment told key ann
+HoldsAt factor moment told key helds.Unreachable = ⊥
+
+-- the rows are the keys for which something is held at the moment, each once, in rising order, with
+-- what is held for them
+pub record AreRowsAt (factor moment : ℕ) (told : List Told)
+    (rows : List (RouteKey × Held)) : Type 0 where
+  pub rising : IsRising rows
+  pub held : (key : RouteKey) (held : Held) → Contains rows (key, held)
+      → HoldsAt factor moment told key held
+  pub all : (key : RouteKey) (held : Held) → HoldsAt factor moment told key held
+      → Contains rows (key, held)
+
+-- ---- a dump of which it is known when its packets came
+
+-- the octets of these packets, and when they came
+abbrev pub octets_heard : Heard → ℕ × List ℕ
+octets_heard heard = (heard.time, flat_map packet_octets heard.packets)
+
+-- the octets are packets that came then
+pub record AreHeard (given : List (ℕ × List ℕ)) (all : List Heard) : Type 0 where
+  pub octets : given ≡ map octets_heard all
+  pub placed : ArePackets 0 (flat_map (λ heard. heard.packets) all)
+
+-- the dump that the octets are, end to end
+abbrev pub dump_of : List (ℕ × List ℕ) → List ℕ
+dump_of given = flat_map (λ piece. piece.1) given
+
+-- the table of a dump at a moment: its rows are those held then, and its report is the dump's
+pub record IsTableAt (limits : Bounds) (sender : Address) (given : List (ℕ × List ℕ))
+    (factor moment : ℕ) (table : Routes) : Type 0 where
+  pub all : List Heard
+  pub heard : AreHeard given all
+  pub rows : AreRowsAt factor moment (told_of (start_of limits sender) all) table.rows
+  pub whole : Routes
+  pub is_whole : IsTableOf limits modes.Plain sender (dump_of given) whole
+  pub report : table.report ≡ whole.report
