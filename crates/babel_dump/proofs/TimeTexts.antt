@@ -28,7 +28,6 @@ module _ (first : ℕ → ℕ) (day k most : ℕ) (before : (n : ℕ) → n < k 
   begun-all (suc n) few all = by (nat_le k n) refl
     where
       by : (b : Bool) → nat_le k n ≡ b → begun first (suc n) day ≡ k
-      unfolding begun
       by true is =
           let later : k ≤ n = grind (arith, nat_tests) in
           let not : nat_le (first n) day ≡ false = (let late = after n later (omega (arith, few)) in grind (arith, nat_tests)) in
@@ -150,5 +149,3 @@ module _ (d : Date) (day : ℕ) (is : epoch_day d +ℤ pos 4371587 ≡ pos (day 
 
   pub day_by : d.day ≡ day_of_month day
   day_by = (dated d day from_epoch_is).2
-
-pub ruleset date_by = (year_by, month_by, day_by)
