@@ -15,6 +15,7 @@ use Rattle.babel_dump.specs.TimeText.{begun, day_of_month, first_day, month_of, 
 
 module _ (first : ℕ → ℕ) (day k most : ℕ) (before : (n : ℕ) → n < k → first n ≤ day) (after : (n : ℕ) → k ≤ n → n < most → day < first n) where
   begun-before : (n : ℕ) → n ≤ k → begun first n day ≡ n
+  unfolding begun
   begun-before zero few = refl
   begun-before (suc n) few =
       let has : nat_le (first n) day ≡ true = (let earlier = before n (omega (arith, few)) in grind (arith, nat_tests)) in
@@ -22,6 +23,7 @@ module _ (first : ℕ → ℕ) (day k most : ℕ) (before : (n : ℕ) → n < k 
       rw has (omega (arith, rest))
 
   pub begun-all : (n : ℕ) → n ≤ most → k ≤ n → begun first n day ≡ k
+  unfolding begun
   begun-all zero few all = omega (arith, all)
   begun-all (suc n) few all = by (nat_le k n) refl
     where
@@ -147,5 +149,3 @@ module _ (d : Date) (day : ℕ) (is : epoch_day d +ℤ pos 4371587 ≡ pos (day 
 
   pub day_by : d.day ≡ day_of_month day
   day_by = (dated d day from_epoch_is).2
-
-pub ruleset date_by = (year_by, month_by, day_by)

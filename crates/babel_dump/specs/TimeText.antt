@@ -10,7 +10,7 @@ abbrev pub first_day : (year month : ℕ) → ℕ
 first_day year month = unsigned_abs (days_from_civil (pos year) month 1)
 
 -- how many of these have begun on a day, of so many that begin on these days
-abbrev pub begun : (first : ℕ → ℕ) → ℕ → (day : ℕ) → ℕ
+unfoldable pub begun : (first : ℕ → ℕ) → ℕ → (day : ℕ) → ℕ
 begun first zero day = 0
 begun first (suc n) day = begun first n day + (if nat_le (first n) day then 1 else 0)
 

@@ -59,7 +59,6 @@ fn push_day(buffer: &mut Vec<u8>, day: u32)
 }
 
 /// The date so many days after 1 January 1970.
-#[tactic(auto, using(crate::proofs::TimeTexts::date_by))]
 fn date_of(day: u32) -> Date
     requires { day < 2932897 }
     ensures year { result.year ≡ year_of day }
