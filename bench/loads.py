@@ -25,11 +25,12 @@ NEXT_HOP = bytes.fromhex("070a0300") + bytes.fromhex("0000000000000001")
 
 class Dump:
     """Packets being written; each Update leaves out the octets that it shares with the one before
-    of its family."""
+    of its family. IPv4 routes have IPv6 next hops where that is asked for (RFC 9229)."""
 
-    def __init__(self, path):
+    def __init__(self, path, via_v6=False):
         self.file = open(path, "wb")
         self.written = 0
+        self.encodings = {4: 4 if via_v6 else 1, 6: 2}
         self.clear()
 
     def clear(self):
@@ -49,7 +50,8 @@ class Dump:
 
     def append(self, family, bits, length, ann, source):
         router_id, seqno, metric = ann
-        if family == 6 and family not in self.defaults:
+        encoding = self.encodings[family]
+        if encoding != 1 and family not in self.defaults:
             self.body += NEXT_HOP
         if self.router_id != router_id:
             self.body += bytes((6, 10, 0, 0)) + router_id
@@ -67,7 +69,6 @@ class Dump:
             field = source_bits.to_bytes(WIDTH[family] // 8, "big")[: (source_length + 7) // 8]
             sub = bytes((128, 1 + len(field), source_length)) + field
         field = octets[omitted:count]
-        encoding = 1 if family == 4 else 2
         fixed = struct.pack(">BBBBHHH", encoding, 0x80, length, omitted, 1_600, seqno, metric)
         self.body += bytes((8, len(fixed) + len(field) + len(sub))) + fixed + field + sub
 
@@ -186,7 +187,8 @@ def write_updates(path, rng):
 
 
 def write_ipv4(folder, rng):
-    """200,000 routes, some of them within others; and the same with one other metric."""
+    """200,000 routes, some of them within others; the same with one other metric; and the same with
+    an IPv6 next hop."""
     prefixes = ipv4_routes(rng, 198_000)
     wide = [prefix for prefix in prefixes if prefix[1] <= 20]
     for bits, length in rng.sample(wide, 2_000):
@@ -194,8 +196,8 @@ def write_ipv4(folder, rng):
     anns = announcements(rng, 20)
     rng.shuffle(prefixes)
     routes = [(bits, length, rng.choice(anns)) for bits, length in prefixes]
-    for name, other in (("ipv4.dump", 0), ("ipv4-other.dump", 1)):
-        dump = Dump(folder / name)
+    for name, other in (("ipv4", 0), ("ipv4-other", 1), ("ipv4-via-v6", 0)):
+        dump = Dump(folder / f"{name}.dump", via_v6=name == "ipv4-via-v6")
         for place, (bits, length, (router_id, seqno, metric)) in enumerate(routes):
             metric += other if place == 100_000 else 0
             dump.put(4, bits, length, (router_id, seqno, metric))

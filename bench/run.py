@@ -19,6 +19,7 @@ over a capture 2; of times below 2 ms and of memories below 8 MB it does not ask
 """
 
 import argparse
+import itertools
 import pathlib
 import statistics
 import subprocess
@@ -59,6 +60,9 @@ COMPARED = (
 )
 NESTED = ("nested", "nested-sources")
 COUNTED = ("hidden-16k", "hidden-64k", "router-ids-16k", "router-ids-64k", "router-ids-256k")
+MANY_DIFFERENCES = (
+    "network-or-hosts-1k", "network-or-hosts-2k", "network-or-hosts-4k", "deepest-16k", "deepest-64k"
+)
 SIZES = (1, 4, 16, 64, 256)
 CAPTURES = ("frames.pcap", "one-sender.pcap", "small-packets.pcapng", "many-senders.pcap")
 
@@ -88,9 +92,15 @@ def cases():
             for command in (["show"], ["pairs"], ["pairs", "--count"], ["normalise"]):
                 yield load, [*command, *FROM]
             yield load, ["normalise", "--routes", *FROM]
+    for command in "lookup", "show", "normalise":
+        rest = LOOKUP if command == "lookup" else []
+        yield "ipv4-via-v6", [command, "--v4-via-v6", *FROM, *rest]
     for load, other in COMPARED:
-        for command in ["compare"], ["compare", "--routes"], ["diff"]:
+        for command in ["compare"], ["compare", "--all"], ["compare", "--routes"], ["diff"]:
             yield load, [*command, *FROM, "--other-from", "192.0.2.1", f"{other}.dump"]
+    for load in MANY_DIFFERENCES:
+        words = [*FROM, "--other-from", "192.0.2.1", f"{load}-other.dump"]
+        yield load, ["compare", "--all", "--count", *words]
     for kind in ("growth", "growth-hosts"):
         for size in SIZES:
             for command in ("show", "normalise"):
@@ -142,7 +152,8 @@ def size_of(plain, load, command, loads, sizes):
     if is_capture(load):
         return file_of(load, loads).stat().st_size / 1024
     if load not in sizes:
-        dump = [*FROM, loads / f"{load}.dump"]
+        option = [word for word in command if word == "--v4-via-v6"]
+        dump = [*option, *FROM, loads / f"{load}.dump"]
         read = numbers_of(plain, ["show", *dump])
         rows = outcome([plain, "show", *dump])[1].count(b" from ")
         pairs = numbers_of(plain, ["pairs", "--count", *dump]).get("pairs", 0)
@@ -202,7 +213,7 @@ def main():
         )
         print("|---|---|---|---|---|---|---|---|---|---|---|")
         for load, command in cases():
-            name = " ".join(word for word in command[:2] if word != "--from")
+            name = " ".join(itertools.takewhile(lambda word: word != "--from", command))
             if options.only not in f"{load} {name}" or not file_of(load, options.loads).exists():
                 continue
             beside = plain_of_captures if is_capture(load) else plain

@@ -6,10 +6,10 @@
 Each dump is one of examples/routers, with one to four octets changed, and in one of eight dumps the
 end cut off. Both programs must write the same octets and texts and give the same status in each
 run: `show`, also with `--short`, `pairs`, also with `--count`, `normalise` at some size of a
-packet's body, two lookups, and `compare` with the dump as it was, each with and without `--hold`,
-and with and without `--v4-via-v6`; `normalise` and `compare` with `--routes`, too. Exits 1 where
-they do not. The same seed makes the same dumps. Octets are also changed to 4, which is the address
-encoding of `--v4-via-v6` in many places.
+packet's body, two lookups, and `compare` with the dump as it was, also with `--all` and `--count`,
+each with and without `--hold`, and with and without `--v4-via-v6`; `normalise` and `compare` with
+`--routes`, too. Exits 1 where they do not. The same seed makes the same dumps. Octets are also
+changed to 4, which is the address encoding of `--v4-via-v6` in many places.
 """
 
 import argparse
@@ -50,7 +50,8 @@ def runs(sender, original, dump, body):
         yield ["normalise", *sent, "--body", str(body), "--hex", dump]
         yield ["lookup", *sent, "--to", "10.0.0.1", "--src", "192.0.2.7", dump]
         yield ["lookup", *sent, "--to", "2001:db8::1", "--src", "2001:db8::2", dump]
-        yield ["compare", *sent, "--other-from", sender, dump, original]
+        for each in [], ["--all"], ["--all", "--count"]:
+            yield ["compare", *each, *sent, "--other-from", sender, dump, original]
         yield ["normalise", "--routes", *sent, "--body", str(body), dump]
         yield ["compare", "--routes", "--all", *sent, "--other-from", sender, dump, original]
 

@@ -11,8 +11,9 @@ pairs; half of them have IPv4 routes with IPv6 next hops too, and are read with 
 `pairs`, with and without `--count` and `--hold`, `lookup`, and
 `compare` with another table, which mostly differs in a few Updates, must write what the definitions
 say and end with the status of that; and, unless it is the plain program, `pairs` and `compare` with
-`--ignore metric`. With `--all` so must `compare --all`, with and without `--count`, `--json`,
-`--hold` and `--ignore metric`. Exits 1 where they do not. The same seed makes the same tables.
+`--ignore metric`. With `--all` so must `compare --all`, with and without `--count`, `--hold` and,
+unless it is the plain program, `--json` and `--ignore metric`. Exits 1 where they do not. The same
+seed makes the same tables.
 """
 
 import argparse
@@ -337,7 +338,7 @@ def note_of_routes(left, right):
     )
 
 
-def compare_runs(left, right, words, dumps, every):
+def compare_runs(left, right, words, dumps, every, plain):
     words = [*words, "--other-from", "192.0.2.1", *dumps]
     least = difference(left, right)
     note, as_json = note_of_routes(left, right) if least is None else ("", [])
@@ -346,8 +347,9 @@ def compare_runs(left, right, words, dumps, every):
     if every:
         found = list(differences(left, right))
         yield ["compare", "--all", *words], text_of_differences(found), *end
-        yield ["compare", "--all", "--json", *words], json_of_differences(found) + as_json, *end
         yield ["compare", "--all", "--count", *words], [f"differences {len(found)}"], *end
+    if every and not plain:
+        yield ["compare", "--all", "--json", *words], json_of_differences(found) + as_json, *end
         count = [f'{{"differences":{len(found)}}}']
         yield ["compare", "--all", "--count", "--json", *words], count + as_json, *end
 
@@ -358,12 +360,12 @@ def expected_runs(rng, updates, others, dumps, read, plain, every):
         left, right = (table_of(each, bool(hold)) for each in (updates, others))
         yield from pair_runs(left, words, dumps[0])
         yield from lookup_run(rng, left, words, dumps[0])
-        yield from compare_runs(left, right, words, dumps, every)
+        yield from compare_runs(left, right, words, dumps, every, plain)
         if not plain:
             words = ["--ignore", "metric", *words]
             left, right = (without_metrics(table) for table in (left, right))
             yield from pair_runs(left, words, dumps[0])
-            yield from compare_runs(left, right, words, dumps, every)
+            yield from compare_runs(left, right, words, dumps, every, plain)
 
 
 def checked(program, folder, tables, seed, plain, every, tiny):

@@ -9,7 +9,7 @@
 //!     limit lookup [--hold] --from A --each PAIRS [FILE]
 //!     limit pairs [--hold] [--count] [--routes] --from A [FILE]
 //!     limit normalise [--hold] [--hex] [--body N] [--routes] --from A [FILE]
-//!     limit compare [--hold] [--routes [--all] [--count]] --from A --other-from B FILE OTHER
+//!     limit compare [--hold] [--routes] [--all] [--count] --from A --other-from B FILE OTHER
 //!     limit diff [--hold] --from A --other-from B FILE OTHER
 //!
 //! With --short, of each but normalise, addresses have their short texts (RFC 5952, 4).
@@ -543,6 +543,13 @@ struct Owner {
 impl Hashed for Owner {
     fn hashed(&self, seed: &Seed) -> u64 {
         seed.mixed(self.next_hop.hashed(seed), self.router_id)
+    }
+}
+
+/// What the left and the right table answer.
+impl Hashed for (u64, u64) {
+    fn hashed(&self, seed: &Seed) -> u64 {
+        seed.mixed(self.0, self.1)
     }
 }
 
@@ -1194,15 +1201,18 @@ impl Reader {
                 0 => self.take_wildcard(tlv, &octets[FIXED..len]),
                 1 => {
                     let hop = self.v4.next_hop.map(Hop::V4);
-                    self.v4.take_update::<OWN>(&mut self.shared, hop, tlv, octets, len)
+                    self.v4
+                        .take_update::<OWN>(&mut self.shared, hop, tlv, octets, len)
                 }
                 2 => {
                     let hop = self.v6.next_hop.map(Hop::V6);
-                    self.v6.take_update::<OWN>(&mut self.shared, hop, tlv, octets, len)
+                    self.v6
+                        .take_update::<OWN>(&mut self.shared, hop, tlv, octets, len)
                 }
                 4 if self.shared.via_v6 => {
                     let hop = self.v6.next_hop.map(Hop::V6);
-                    self.v4.take_update::<VIA_V6>(&mut self.shared, hop, tlv, octets, len)
+                    self.v4
+                        .take_update::<VIA_V6>(&mut self.shared, hop, tlv, octets, len)
                 }
                 _ if tlv[3] & 0x40 != 0 => Err(Stop::EncodingSetsRouterId),
                 _ => Err(Reason::UnknownEncoding.into()),
@@ -1812,6 +1822,44 @@ impl<A: Address> Forks<A> {
         self.list(high, block.high(), sources);
     }
 
+    /// Lists the largest blocks of sources with one pair of different answers, in order, each with
+    /// that pair's number.
+    fn list_apart(
+        &mut self,
+        left: Function,
+        right: Function,
+        block: Block<A>,
+        answers: &mut Numbered<(u64, u64)>,
+        sources: &mut Vec<(Prefix<A>, u64)>,
+    ) {
+        if self.are_equal(left, right, block.bits) {
+            return;
+        }
+        if left.is_constant() && right.is_constant() {
+            let number = answers.number((left.0, right.0));
+            sources.push((block.prefix(), number as u64));
+            return;
+        }
+        let block = self.apart_within(left, right, block);
+        let (lefts, rights) = (self.halves(left, block), self.halves(right, block));
+        self.list_apart(lefts.0, rights.0, block.low(), answers, sources);
+        self.list_apart(lefts.1, rights.1, block.high(), answers, sources);
+    }
+
+    /// The block without what is around both functions' forks, if they answer the same there.
+    fn apart_within(&self, left: Function, right: Function, block: Block<A>) -> Block<A> {
+        let fork = |function: Function| (!function.is_constant()).then(|| self.get(function));
+        let outside = |function| fork(function).map_or(function.0, |fork| fork.outside);
+        if outside(left) != outside(right) {
+            return block;
+        }
+        match (fork(left), fork(right)) {
+            (Some(left), Some(right)) => left.block.joined(right.block),
+            (Some(fork), None) | (None, Some(fork)) => fork.block,
+            (None, None) => block,
+        }
+    }
+
     /// The least source that two functions which differ answer differently, and their answers.
     fn first_apart(&mut self, mut left: Function, mut right: Function) -> (A, u64, u64) {
         let mut block = Block::WHOLE;
@@ -2090,6 +2138,81 @@ impl<A: Address> Canon<A> {
     }
 }
 
+/// The boxes that two tables answer differently, each with the number of its answers.
+impl<A: Address> Canon<A> {
+    /// A fault where the boxes, with so many others, are more than the limit.
+    fn of_differences(
+        left: &Rows<A>,
+        right: &Rows<A>,
+        answers: &mut Numbered<(u64, u64)>,
+        count: &mut u64,
+    ) -> Result<Canon<A>, Fault> {
+        let mut forks = Forks::new();
+        let mut sweeps = (Sweep::new(left), Sweep::new(right));
+        let mut runs = (sweeps.0.run(&mut forks), sweeps.1.run(&mut forks));
+        let mut canon = Canon {
+            runs: Vec::new(),
+            parts: Vec::new(),
+            sources: Vec::new(),
+        };
+        while let (Some(left), Some(right)) = runs {
+            let (first, last) = (left.first.max(right.first), left.last.min(right.last));
+            let start = canon.sources.len();
+            let (functions, sources) = ((left.function, right.function), &mut canon.sources);
+            forks.list_apart(functions.0, functions.1, Block::WHOLE, answers, sources);
+            canon.take_listed(start, first, last, count)?;
+            if left.last == last {
+                runs.0 = sweeps.0.run(&mut forks);
+            }
+            if right.last == last {
+                runs.1 = sweeps.1.run(&mut forks);
+            }
+        }
+        canon.count_last(count)?;
+        Ok(canon)
+    }
+
+    /// The sources listed from this place on, of the destinations from the first to the last: the
+    /// last run goes on where it has the same.
+    fn take_listed(
+        &mut self,
+        start: usize,
+        first: A,
+        last: A,
+        count: &mut u64,
+    ) -> Result<(), Fault> {
+        if let (Some(run), Some(part)) = (self.runs.last_mut(), self.parts.last()) {
+            if run.last.next() == first && self.sources[part.clone()] == self.sources[start..] {
+                run.last = last;
+                self.sources.truncate(start);
+                return Ok(());
+            }
+        }
+        if start < self.sources.len() {
+            self.count_last(count)?;
+            let function = Function(FORK | self.parts.len() as u64);
+            self.runs.push(Run {
+                first,
+                last,
+                function,
+            });
+            self.parts.push(start..self.sources.len());
+        }
+        Ok(())
+    }
+
+    /// Counts the boxes of the last run, which does not go on.
+    fn count_last(&self, count: &mut u64) -> Result<(), Fault> {
+        if let (Some(run), Some(part)) = (self.runs.last(), self.parts.last()) {
+            *count += u64::from(block_count(run.first, run.last)) * part.len() as u64;
+        }
+        if *count > MAX_ENTRIES as u64 {
+            return Err(Fault::TooManyPairs);
+        }
+        Ok(())
+    }
+}
+
 struct Difference<A> {
     dst: A,
     src: A,
@@ -2104,7 +2227,12 @@ fn common_front<A: Address>(left: &Rows<A>, right: &Rows<A>) -> usize {
             && row.value() == other.value()
             && left.source(row) == right.source(other)
     };
-    let mut front = left.rows.iter().zip(&right.rows).take_while(are_one).count();
+    let mut front = left
+        .rows
+        .iter()
+        .zip(&right.rows)
+        .take_while(are_one)
+        .count();
     let dst = |rows: &[Row<A>], place: usize| rows.get(place).map(|row| row.key.dst());
     while front > 0 {
         let last = dst(&left.rows, front - 1);
@@ -2148,7 +2276,7 @@ fn first_difference<A: Address>(left: &Rows<A>, right: &Rows<A>) -> Option<Diffe
     }
 }
 
-/// A key for which two tables hold what differs.
+/// A key for which two tables hold what differs, or a box that they answer differently.
 struct RouteDifference<A> {
     key: (Prefix<A>, Prefix<A>),
     left: u64,
@@ -2561,9 +2689,7 @@ fn read_words(mut words: impl Iterator<Item = String>) -> Option<Words> {
     let (mut options, mut flags, mut files) = (HashMap::new(), Vec::new(), Vec::new());
     while let Some(word) = words.next() {
         match word.strip_prefix("--") {
-            Some(flag @ (
-                "hex" | "hold" | "v4-via-v6" | "count" | "all" | "routes" | "short"
-            )) => {
+            Some(flag @ ("hex" | "hold" | "v4-via-v6" | "count" | "all" | "routes" | "short")) => {
                 flags.push(flag.to_string());
             }
             Some(option) => {
@@ -2687,7 +2813,9 @@ fn lookup_each(words: &Words, name: &str) -> Result<u8, Failure> {
     let out = &mut words.out();
     let mut status = 0;
     for line in text.lines() {
-        let pair = line.split_once(' ').map(|(dst, src)| (Addr::parse(dst), Addr::parse(src)));
+        let pair = line
+            .split_once(' ')
+            .map(|(dst, src)| (Addr::parse(dst), Addr::parse(src)));
         let value = match pair {
             Some((Some(Addr::V4(dst)), Some(Addr::V4(src)))) => {
                 put_found(out, &table.v4, &nestings.0, dst, src)?
@@ -2845,6 +2973,9 @@ fn compare(words: &Words) -> Result<u8, Failure> {
     if words.has("routes") || words.command == "diff" {
         return compare_routes(&mut words.out(), &listed(words, senders), &left, &right);
     }
+    if words.has("all") {
+        return compare_all(words, &left, &right);
+    }
     let out = &mut words.out();
     let differ =
         put_difference(out, &left.v4, &right.v4) || put_difference(out, &left.v6, &right.v6);
@@ -2869,6 +3000,56 @@ fn put_difference<A: Address>(out: &mut Out<impl Write>, left: &Rows<A>, right: 
     out.text(b"right ");
     out.answer(owners, found.right);
     true
+}
+
+/// Each box that two sorted tables answer differently.
+fn compare_all(words: &Words, left: &Table, right: &Table) -> Result<u8, Failure> {
+    let mut found = 0;
+    let (v4, v4_answers) = differences(&left.v4, &right.v4, &mut found)?;
+    let (v6, v6_answers) = differences(&left.v6, &right.v6, &mut found)?;
+    let out = &mut words.out();
+    if words.has("count") {
+        out.words(&format!("differences {found}\n"));
+    } else if found == 0 {
+        out.text(b"same\n");
+    } else {
+        put_differences(out, &v4, &v4_answers, &right.v4.owners.list)?;
+        put_differences(out, &v6, &v6_answers, &right.v6.owners.list)?;
+    }
+    out.finish()?;
+    Ok(u8::from(found > 0))
+}
+
+/// Those of a family, after so many, and their answers.
+fn differences<A: Address>(
+    left: &Rows<A>,
+    right: &Rows<A>,
+    found: &mut u64,
+) -> Result<(Canon<A>, Vec<(u64, u64)>), Failure> {
+    let mut answers = Numbered::new();
+    let canon = Canon::of_differences(left, right, &mut answers, found)
+        .map_err(|fault| Failure::Dump("", fault))?;
+    Ok((canon, answers.list))
+}
+
+fn put_differences<A: Address>(
+    out: &mut Out<impl Write>,
+    canon: &Canon<A>,
+    answers: &[(u64, u64)],
+    owners: &[Owner],
+) -> io::Result<()> {
+    canon.each_pair(|dst, src, number| {
+        let (left, right) = answers[number as usize];
+        out.difference(
+            owners,
+            &RouteDifference {
+                key: (dst, src),
+                left,
+                right,
+            },
+        );
+        out.hand_over_if_full()
+    })
 }
 
 /// What is written of the keys for which two tables hold what differs.

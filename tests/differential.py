@@ -38,7 +38,7 @@ def check(tally, long):
         tables = TABLES_LONG if long else TABLES
         for side, is_plain in (program, False), (plain, True):
             for command, _, problem in checked(
-                side, folder, tables, SEED, is_plain, not is_plain, tiny=True
+                side, folder, tables, SEED, is_plain, True, tiny=True
             ):
                 tally.check(f"the definitions beside {command} of {side.name}", problem)
         dumps = RANDOM_DUMPS_LONG if long else RANDOM_DUMPS

@@ -10,7 +10,7 @@ use Rattle.babel_canon.specs.Answers.{AnswerTheSame}
 use Rattle.babel_canon.specs.Sent.{Sent, sent}
 use Rattle.babel_canon.specs.DumpAnswers.{DumpAnswers, IsSettled, AnswerAlike}
 use Rattle.babel_canon.specs.AnswersAreTold.{AnswersAreTold, SettledIsOne}
-use Rattle.babel_canon.proofs.Headline.{forms_tell, headline}
+use Rattle.babel_canon.proofs.Headline.{headline}
 use Rattle.babel_canon.proofs.TableAnswers.{table_answers}
 
 -- dumps answer alike exactly where their tables answer the same
@@ -46,23 +46,21 @@ settled_is_one via_v6 mode one is_settled d s d_in s_in one_family =
 
 pub answers_are_told : AnswersAreTold
 answers_are_told limits mode body bounds size one octets normal =
-    let again = (headline limits mode body bounds size one octets normal).1 in
+    let told = headline limits mode body bounds size one octets normal in
     record {
       settled = settled limits mode one normal.table normal.is_table;
       tells_apart = λ other other_octets made.
-          let tell = forms_tell body size normal.table.rows made.table.rows normal.boxes made.boxes
-          octets other_octets normal.are_boxes made.are_boxes normal.text made.text in (
-            (λ same. alike-from_same limits mode one other normal.table made.table normal.is_table
-                made.is_table (tell.0 same)),
-            (λ alike. tell.1 (same-from_alike limits mode one other normal.table made.table
-                normal.is_table made.is_table alike)),
+          let tell = told.0 other other_octets made in (
+            (λ same. alike-from_same limits mode one other normal.table made.table normal.is_table made.is_table
+                (tell.0 same normal.table made.table normal.is_table made.is_table)),
+            (λ alike. tell.1 (λ table others is_table is_other. same-from_alike limits mode one other table others is_table is_other alike)),
           );
       reads_alike = λ any.
-          let read = again any in
+          let read = told.1 any in
           alike-from_same limits mode (sent any octets) one read.again.table normal.table
           read.again.is_table normal.is_table
           (read.answers read.again.table normal.table read.again.is_table normal.is_table);
-      again = λ any. (again any).again;
-      unchanged = λ any. (again any).unchanged;
-      only_memory = λ any. (again any).only_memory;
+      again = λ any. (told.1 any).again;
+      unchanged = λ any. (told.1 any).unchanged;
+      only_memory = λ any. (told.1 any).only_memory;
     }

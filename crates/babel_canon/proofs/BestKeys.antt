@@ -1,24 +1,22 @@
 -- The most specific of the keys that contain two addresses.
-use Rattle.std.proofs.Common.{◌≡◌, ◌⊎◌, inl, inr, ℕ, ◌-◌, ◌*◌, ◌/◌, ◌^◌, Bool}
-use Rattle.std.proofs.Common.{true, List, [], ◌∷◌, ◌++◌, Option, Some, None, sym, ap, subst, ◌∙◌}
-use Rattle.std.proofs.Common.{arith, eqb, eqb-true, eq-eqb, append_assoc}
-use Rattle.std.proofs.lemmas.Bool.{and_parts, and_from, cases_Bool, cases_lt, cases_order}
-use Rattle.std.proofs.lemmas.Bool.{false≢true}
+use Rattle.std.proofs.Common.{◌≡◌, ◌⊎◌, inl, inr, ℕ, ◌-◌, ◌*◌, ◌/◌, ◌^◌}
+use Rattle.std.proofs.Common.{List, [], ◌∷◌, ◌++◌, Option, Some, None, sym, ap, subst, ◌∙◌}
+use Rattle.std.proofs.Common.{arith, append_assoc}
+use Rattle.std.proofs.lemmas.Bool.{cases_lt, cases_order}
 use Rattle.std.proofs.lemmas.List.{append-nil}
 use Rattle.std.proofs.Math.Nat.{div-add-mod'}
-use Rattle.std.specs.Prelude.{◌&&◌}
 use Rattle.babel_prefix.specs.declared.family.Family.{Family}
-use Rattle.babel_prefix.specs.Width.{width_of, same_family}
+use Rattle.babel_prefix.specs.Width.{width_of}
 use Rattle.babel_prefix.specs.Block.{block_at, leading_bits}
 use Rattle.babel_prefix.specs.Address.{Address, AddressPrefix, prefix_of, prefix_at}
 use Rattle.babel_prefix.specs.Covers.{Covers}
-use Rattle.babel_prefix.proofs.EntryLaws.{same_family-is, same_family-refl}
 use Rattle.babel_tlv.specs.Pair.{Pair}
 use Rattle.babel_tlv.specs.Route.{RouteKey}
 use Rattle.babel_table.specs.BestMatch.{ContainsBoth, IsMoreSpecific}
 use Rattle.babel_table.specs.Lookup.{IsBetter}
 use Rattle.babel_table.proofs.EntryLaws.{same_key as key_is}
 use Rattle.babel_table.proofs.StandingLaws.{IsBestOf, better, no_better}
+use Rattle.babel_canon.proofs.Boxes.{same_or_not}
 use Rattle.babel_canon.proofs.CleanKeys.{IsClean, AreClean}
 
 -- ---- clean prefixes
@@ -46,22 +44,11 @@ clean_one p q a p_clean q_clean p_covers q_covers same =
 either_specific : (a b : RouteKey) → IsMoreSpecific a b ⊎ ¬ IsMoreSpecific a b
 either_specific a b =
     elim (cases_order a.dst.len b.dst.len) [
+      | inr (inr longer) ↦ inl (inl longer)
+      | inr (inl shorter) ↦ inr (λ more. elim more [ inl lt ↦ omega (arith, shorter, lt) | inr equal ↦ omega (arith, shorter, equal.0) ])
       | inl same ↦ elim (cases_lt b.src.len a.src.len) [
         | inl longer ↦ inl (inr (same, longer))
-        | inr ge ↦ inr (λ more. elim more [
-          | inl lt ↦ absurd (omega (arith, same, lt))
-          | inr longer ↦
-              absurd (omega (arith, ge, longer.1))
-        ])
-      ]
-      | inr other ↦ elim other [
-        | inl shorter ↦ inr (λ more. elim more [
-          | inl lt ↦
-              absurd (omega (arith, shorter, lt))
-          | inr equal ↦
-              absurd (omega (arith, shorter, equal.0))
-        ])
-        | inr longer ↦ inl (inl longer)
+        | inr ge ↦ inr (λ more. elim more [ inl lt ↦ omega (arith, same, lt) | inr longer ↦ omega (arith, ge, longer.1) ])
       ]
     ]
 
@@ -71,54 +58,35 @@ pub key_one : (d s : Address) (a b : RouteKey) → AreClean a → AreClean b →
 key_one d s a b a_clean b_clean a_both b_both not_a not_b =
     let dst : a.dst.len ≡ b.dst.len = elim (cases_order a.dst.len b.dst.len) [
       | inl same ↦ same
-      | inr other ↦ elim other [
-        | inl shorter ↦ absurd (not_b (inl shorter))
-        | inr longer ↦
-            absurd (not_a (inl longer))
-      ]
+      | inr (inl shorter) ↦ absurd (not_b (inl shorter))
+      | inr (inr longer) ↦ absurd (not_a (inl longer))
     ] in
     let src : a.src.len ≡ b.src.len = elim (cases_order a.src.len b.src.len) [
       | inl same ↦ same
-      | inr other ↦ elim other [
-        | inl shorter ↦ absurd (not_b (inr (sym dst, shorter)))
-        | inr longer
-            ↦ absurd (not_a (inr (dst, longer)))
-      ]
+      | inr (inl shorter) ↦ absurd (not_b (inr (sym dst, shorter)))
+      | inr (inr longer) ↦ absurd (not_a (inr (dst, longer)))
     ] in
     key_is a b (clean_one a.dst b.dst d a_clean.0 b_clean.0 a_both.0 b_both.0 dst)
     (clean_one a.src b.src s a_clean.1 b_clean.1 a_both.1 b_both.1 src)
 
 -- ---- the most specific of some rows
 
-abbrev covers_test : AddressPrefix → Address → Bool
-covers_test p a =
-    let w = width_of p.address.family in
-    same_family p.address.family a.family && eqb (leading_bits w p.len a.bits)
-    (leading_bits w p.len p.address.bits)
-
-covers_tested : (p : AddressPrefix) (a : Address) → (covers_test p a ≡ true → Covers p a)
-    × (Covers p a → covers_test p a ≡ true)
-covers_tested p a = (
-  (λ h. let parts = and_parts _ _ h in (same_family-is _ _ parts.0, eqb-true _ _ parts.1)),
-  (λ c. and_from _ _ (subst (λ (f : Family). same_family p.address.family f ≡ true) c.0
-      (same_family-refl p.address.family)) (eq-eqb _ _ c.1)),
-)
-
 either_covers : (p : AddressPrefix) (a : Address) → Covers p a ⊎ ¬ Covers p a
 either_covers p a =
-    elim (cases_Bool (covers_test p a)) [
-      | inl is ↦ inl ((covers_tested p a).0 is)
-      | inr not ↦ inr (λ c. false≢true (sym not ∙ (covers_tested p a).1 c))
+    let w = width_of p.address.family in
+    elim (same_or_not p.address.family a.family) [
+      | inl same ↦ elim (cases_order (leading_bits w p.len a.bits) (leading_bits w p.len p.address.bits)) [
+        | inl is ↦ inl (same, is)
+        | inr (inl lt) ↦ inr (λ c. omega (arith, lt, c.1))
+        | inr (inr gt) ↦ inr (λ c. omega (arith, gt, c.1))
+      ]
+      | inr not ↦ inr (λ c. not c.0)
     ]
 
 either_contains : (d s : Address) (key : RouteKey) → ContainsBoth d s key ⊎ ¬ ContainsBoth d s key
 either_contains d s key =
     elim (either_covers key.dst d) [
-      | inl dst ↦ elim (either_covers key.src s) [
-        | inl src ↦ inl (dst, src)
-        | inr not ↦
-            inr (λ both. not both.1)
-      ]
+      | inl dst ↦ elim (either_covers key.src s) [ inl src ↦ inl (dst, src) | inr not ↦ inr (λ both. not both.1) ]
       | inr not ↦ inr (λ both. not both.0)
     ]
 

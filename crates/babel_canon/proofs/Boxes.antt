@@ -1,8 +1,9 @@
 -- The boxes of both families are one list, and have the answers.
-use Rattle.std.proofs.Common.{◌≡◌, ℕ, ◌<◌, ◌^◌, true, List, [], ◌∷◌, map, Ordering, refl, sym, ap, subst, ◌∙◌, arith, inl, inr, ◌⊎◌, Contains}
+use Rattle.std.proofs.Common.{◌≡◌, ℕ, ◌<◌, ◌^◌, List, [], ◌∷◌, map, Ordering, refl, sym, ap, subst, ◌∙◌, arith, inl, inr, ◌⊎◌, Contains}
 use Rattle.std.specs.Prelude.{◌≢◌}
 use Rattle.std.specs.List.{AllByRecursion}
-use Rattle.std.specs.Ordering.{nat_cmp, is_eq}
+use Rattle.std.specs.List.Sorted.{IsStrictlySortedBy}
+use Rattle.std.specs.Ordering.{nat_cmp, ordering_reverse}
 use Rattle.std.specs.Cmp.Lexicographic.{slice_cmp}
 use Rattle.std.specs.declared.cmp.Ordering.TheVariants.{Less, Equal, Greater}
 use Rattle.std.proofs.lemmas.Bool.Decides.{nat_tests}
@@ -10,40 +11,37 @@ use Rattle.std.proofs.lemmas.Cmp.{tied_itself}
 use Rattle.std.proofs.lemmas.Map.Text.{is_eq-slice_cmp}
 use Rattle.std.proofs.lemmas.Slice.Eq.{bytes_eq-Decides}
 use Rattle.babel_prefix.specs.declared.family.Family.{Family}
+use Rattle.babel_prefix.specs.declared.family.Family.TheVariants.{V4, V6}
 use Rattle.babel_prefix.specs.Width.{width_of}
-use Rattle.babel_prefix.specs.Address.{prefix_of}
+use Rattle.babel_prefix.specs.Block.{Block}
+use Rattle.babel_prefix.specs.Address.{AddressPrefix, block_of, prefix_of}
 use Rattle.babel_prefix.specs.Best.{Row}
 use Rattle.babel_prefix.specs.Entries.{Entry, row_of, rows_in, answers_in}
 use Rattle.babel_prefix.specs.BestRow.{AreOfFamily}
 use Rattle.babel_prefix.proofs.AnswerLaws.{top-from_answer}
 use Rattle.babel_prefix.proofs.Members.{Listed, Listed-from_Contains, Contains-from_Listed}
+use Rattle.babel_prefix.proofs.Insertion.{equal_of}
 use Rattle.babel_prefix.proofs.EntryLaws.{IsFrom-row, row-from_entry, Listed-map, map-Listed}
-use Rattle.babel_trie.specs.Boxes.{SameAnswers, HasEqualityTest}
+use Rattle.babel_trie.specs.Boxes.{SameAnswers, HasEqualityTest, IsBox}
 use Rattle.babel_trie.proofs.BoxLaws.{IsBox-same}
 use Rattle.babel_trie.proofs.BoxAnswers.{answer-boxes}
-use Rattle.babel_tlv.specs.declared.event.Event.{Event}
+use Rattle.babel_trie.proofs.Lists.{InOrder}
+use Rattle.babel_trie.proofs.OneList.{one_list}
 use Rattle.babel_tlv.specs.declared.held.Held.{Held}
 use Rattle.babel_tlv.specs.declared.held.Held.TheVariants as helds
-use Rattle.babel_tlv.specs.declared.mode.Mode.TheVariants as modes
 use Rattle.babel_tlv.specs.Pair.{Pair}
 use Rattle.babel_tlv.specs.Pairs.{IsPair, held_cmp}
-use Rattle.babel_tlv.specs.News.{spoken, pair_event}
-use Rattle.babel_tlv.proofs.OrderLaws.{held_exact}
-use Rattle.babel_table.specs.Rows.{IsRising, entries_of}
+use Rattle.babel_tlv.specs.Keys.{key_cmp}
+use Rattle.babel_tlv.specs.Route.{RouteKey}
+use Rattle.babel_tlv.proofs.OrderLaws.{held_exact, key_total}
+use Rattle.babel_table.specs.Rows.{entries_of}
 use Rattle.babel_prefix.specs.TotalOrder.{address_total}
-use Rattle.babel_table.proofs.RowsLaws.{rows-one}
 use Rattle.babel_canon.specs.Grids.{pair_at}
 use Rattle.babel_canon.specs.Boxes.{AreBoxes}
 use Rattle.babel_canon.specs.Answers.{AnswerTheSame}
 use Rattle.babel_canon.specs.BoxesTell.{BoxesAnswer, BoxesTellApart}
-use Rattle.babel_canon.proofs.PairRows.{pairs_hold, rising-apart}
 
 -- ---- a test of what is held
-
-equal_of : (a : Ordering) → is_eq a ≡ true → a ≡ Equal
-equal_of Less e = absurd cc
-equal_of Equal e = refl
-equal_of Greater e = absurd cc
 
 nat_tied : (n : ℕ) → nat_cmp n n ≡ Equal
 nat_tied n = grind (arith, nat_tests)
@@ -70,6 +68,16 @@ held_test a b = by (held_cmp a b) refl
     by Greater e = inr (λ same. clash_too (held_cmp a b) (ap (held_cmp a) (sym same) ∙ held_tied a) e)
 
 -- ---- rows of a family, and the pairs that they come from
+
+pub prefix_is : (p q : AddressPrefix) → p.address.family ≡ q.address.family → block_of p ≡ block_of q → p ≡ q
+prefix_is p q family block =
+    ap (λ (f : Family). prefix_of f (block_of p)) family ∙ ap (λ (b : Block). prefix_of q.address.family b) block
+
+pub same_or_not : (f g : Family) → (f ≡ g) ⊎ (f ≢ g)
+same_or_not V4 V4 = inl refl
+same_or_not V4 V6 = inr (λ e. cc)
+same_or_not V6 V4 = inr (λ e. cc)
+same_or_not V6 V6 = inl refl
 
 abbrev pub entry_of : Pair → Entry Held
 entry_of pair = (pair.0.dst, pair.0.src, pair.1)
@@ -108,10 +116,14 @@ row_of_pair family pairs pair c of_family =
 
 -- ---- boxes are one list
 
-pub all_in : (P : Pair → Type 0) (pairs : List Pair) (pair : Pair) → AllByRecursion P pairs → Listed pairs pair → P pair
-all_in P [] pair all none = elim none [ ]
-all_in P (first ∷ pairs) pair all (inl e) = subst P e all.0
-all_in P (first ∷ pairs) pair all (inr later) = all_in P pairs pair all.1 later
+pub all_in : {A : Type 0} (P : A → Type 0) (xs : List A) (x : A) → AllByRecursion P xs → Listed xs x → P x
+all_in P [] x all none = elim none [ ]
+all_in P (first ∷ xs) x all (inl e) = subst P e all.0
+all_in P (first ∷ xs) x all (inr later) = all_in P xs x all.1 later
+
+pub each_is : {A : Type 0} (P : A → Type 0) (xs : List A) → ((x : A) → Listed xs x → P x) → AllByRecursion P xs
+each_is P [] each = tt
+each_is P (x ∷ xs) each = (each x (inl refl), each_is P xs (λ y at. each y (inr at)))
 
 pub same_in : (rows others : List Pair) → AnswerTheSame rows others → (family : Family) → SameAnswers (width_of family) (answers_in family (entries_of rows)) (answers_in family (entries_of others))
 same_in rows others same family d s d_in s_in = same (record { family = family; bits = d }) (record { family = family; bits = s }) d_in s_in refl
@@ -134,22 +146,28 @@ member_too rows others ps qs same p_boxes q_boxes pair member =
     let one : from.pair ≡ pair = pair-is family row from.pair from.of_family from.is_row ∙ sym (pair-is family row pair of_family refl) in
     subst (λ (p : Pair). Contains qs p) one from.member
 
--- rising pairs with the same members are one list
-pairs_speak : (pairs : List Pair) → spoken (map pair_event pairs) ≡ map pair_event pairs
-pairs_speak [] = refl
-pairs_speak ((key, helds.Route ann) ∷ pairs) = ap (λ (es : List Event). pair_event (key, helds.Route ann) ∷ es) (pairs_speak pairs)
-pairs_speak ((key, helds.Unreachable) ∷ pairs) = ap (λ (es : List Event). pair_event (key, helds.Unreachable) ∷ es) (pairs_speak pairs)
+-- lists that rise by a key and have the same members are one
+module _ {X : Type 0} (key : X → RouteKey) where
+  abbrev Rise : X → X → Type 0
+  Rise x y = key_cmp (key x) (key y) ≡ Less
 
-pub rising_one : (ps qs : List Pair) → IsRising ps → IsRising qs → ((pair : Pair) → Contains ps pair → Contains qs pair) → ((pair : Pair) → Contains qs pair → Contains ps pair) → ps ≡ qs
-rising_one ps qs p_rising q_rising to from =
-    let hold = pairs_hold modes.Hold (map pair_event ps) ps (rising-apart ps p_rising) tt (pairs_speak ps) in
-    rows-one modes.Hold (map pair_event ps) ps qs
-    (record { rising = p_rising; held = λ key held c. (hold key held).1 c; all = λ key held h. (hold key held).0 h })
-    (record { rising = q_rising; held = λ key held c. (hold key held).1 (from (key, held) c); all = λ key held h. to (key, held) ((hold key held).0 h) })
+  strict : (x y : X) → Rise x y → Rise y x → ⊥
+  strict x y less more = let clash : Less ≡ Greater = sym more ∙ key_total.antisymm (key y) (key x) ∙ ap ordering_reverse less in cc
+
+  in_order : (xs : List X) → IsStrictlySortedBy key_cmp (map key xs) → InOrder Rise xs
+  unfolding IsStrictlySortedBy
+  in_order [] rising = tt
+  in_order (x ∷ xs) rising = (λ y at. all_in (λ k. key_cmp (key x) k ≡ Less) (map key xs) (key y) rising.0 (map-Listed key xs y at), in_order xs rising.1)
+
+  pub rising_one : (xs ys : List X) → IsStrictlySortedBy key_cmp (map key xs) → IsStrictlySortedBy key_cmp (map key ys)
+      → ((x : X) → Contains xs x → Contains ys x) → ((x : X) → Contains ys x → Contains xs x) → xs ≡ ys
+  rising_one xs ys up down to from =
+      one_list Rise strict xs ys (in_order xs up) (in_order ys down)
+      (λ x at. Listed-from_Contains ys x (to x (Contains-from_Listed xs x at))) (λ x at. Listed-from_Contains xs x (from x (Contains-from_Listed ys x at)))
 
 pub boxes_one : (rows others ps qs : List Pair) → AnswerTheSame rows others → AreBoxes rows ps → AreBoxes others qs → ps ≡ qs
 boxes_one rows others ps qs same p_boxes q_boxes =
-    rising_one ps qs p_boxes.are_rows.rising q_boxes.are_rows.rising
+    rising_one (λ (pair : Pair). pair.0) ps qs p_boxes.are_rows.rising q_boxes.are_rows.rising
     (member_too rows others ps qs same p_boxes q_boxes) (member_too others rows qs ps (same_back rows others same) q_boxes p_boxes)
 
 -- ---- boxes answer
@@ -166,24 +184,30 @@ boxes_tell_apart rows others boxes other_boxes are other_are = (
   (λ same. boxes_one rows others boxes other_boxes same are other_are),
 )
 
--- what a box holds, a row of its family holds
-pub record HeldByRow (rows : List Pair) (box : Pair) : Type 0 where
+-- a row of a family holds this
+pub record HeldByRow (rows : List Pair) (family : Family) (held : Held) : Type 0 where
   pub pair : Pair
   pub member : Contains rows pair
-  pub family : pair.0.dst.address.family ≡ box.0.dst.address.family
-  pub fits_too : pair.1 ≡ box.1
+  pub of_family : pair.0.dst.address.family ≡ family
+  pub holds : pair.1 ≡ held
 
-pub box_held : (rows boxes : List Pair) → AreBoxes rows boxes → (box : Pair) → Contains boxes box → HeldByRow rows box
-box_held rows boxes are box member =
-    let family = box.0.dst.address.family in
-    let fits = all_in IsPair boxes box are.are_rows.each (Listed-from_Contains boxes box member) in
-    let row = row_of (entry_of box) in
-    let is_box = ((are.exact family).exact row).0 (row_of_pair family boxes box member (refl, sym fits.one_family)) in
-    let is_answer = is_box.answered row.dst.start row.src.start is_box.dst_is_prefix.start_in_range is_box.src_is_prefix.start_in_range refl refl in
-    let top = top-from_answer (width_of family) (rows_in family (entries_of rows)) row.dst.start row.src.start box.1 is_answer in
+-- what a box holds, a row of its family holds
+pub held_by_row : (family : Family) (rows : List Pair) (box : Row Held) → IsBox (width_of family) (answers_in family (entries_of rows)) box → HeldByRow rows family box.value
+held_by_row family rows box is =
+    let is_answer = is.answered box.dst.start box.src.start is.dst_is_prefix.start_in_range is.src_is_prefix.start_in_range refl refl in
+    let top = top-from_answer (width_of family) (rows_in family (entries_of rows)) box.dst.start box.src.start box.value is_answer in
     let from = pair_of_row family rows top.0 (Contains-from_Listed (rows_in family (entries_of rows)) top.0 top.1.listed) in
-    let value : from.pair.1 ≡ top.0.value = ap (λ (r : Row Held). r.value) from.is_row in
-    record { pair = from.pair; member = from.member; family = from.of_family.0; fits_too = value ∙ top.2 }
+    record { pair = from.pair; member = from.member; of_family = from.of_family.0; holds = ap (λ (r : Row Held). r.value) from.is_row ∙ top.2 }
+
+-- what holds of each row, and depends on its family and on what it holds alone, holds of each box
+pub boxes_each : (P : Pair → Type 0) → ((pair box : Pair) → pair.0.dst.address.family ≡ box.0.dst.address.family → pair.1 ≡ box.1 → P pair → P box)
+    → (rows boxes : List Pair) → AreBoxes rows boxes → AllByRecursion P rows → AllByRecursion P boxes
+boxes_each P moves rows boxes are each = each_is P boxes (λ box at.
+    let family = box.0.dst.address.family in
+    let fits = all_in IsPair boxes box are.are_rows.each at in
+    let by = held_by_row family rows (row_of (entry_of box))
+    (((are.exact family).exact (row_of (entry_of box))).0 (row_of_pair family boxes box (Contains-from_Listed boxes box at) (refl, sym fits.one_family))) in
+    moves by.pair box by.of_family by.holds (all_in P rows by.pair each (Listed-from_Contains rows by.pair by.member)))
 
 -- boxes of what answers the same
 pub boxes_too : (rows others boxes : List Pair) → AnswerTheSame rows others → AreBoxes rows boxes → AreBoxes others boxes

@@ -17,11 +17,13 @@ use Rattle.babel_tlv.specs.declared.start.Start.{Start}
 use Rattle.babel_tlv.specs.Context.{Context, first_context, updated}
 use Rattle.babel_tlv.specs.Encodings.{prefix_family}
 use Rattle.babel_tlv.specs.Framing.{TlvAt}
-use Rattle.babel_tlv.specs.Route.{RouteKey, Announcement, is_reserved}
-use Rattle.babel_tlv.specs.Says.{route_tells, tells, told, told_by}
+use Rattle.babel_tlv.specs.Route.{RouteKey}
+use Rattle.babel_tlv.specs.Says.{tells, told, told_by}
 use Rattle.babel_tlv.proofs.TellsLaws.{IsToldIn, tells-holds, told_key-is}
-use Rattle.babel_canon.specs.DumpAnswers.{same_key, retracted, held_after, held_for}
-use Rattle.babel_canon.proofs.HeldFor.{same_key-decides}
+use Rattle.babel_table.specs.Holds.{same_key, retracted, held_after}
+use Rattle.babel_table.proofs.HoldsLaws.{same_key-decides}
+use Rattle.babel_canon.proofs.HeldFor.{held_for}
+use Rattle.babel_canon.proofs.Told.{route_holds}
 
 -- the bits past the length are zero
 abbrev pub IsClean : AddressPrefix → Type 0
@@ -45,20 +47,11 @@ whole-clean : (family : Family) → IsClean (whole_family family)
 whole-clean V4 = refl
 whole-clean V6 = refl
 
-route-clean : (key : RouteKey) (body : List ℕ) (id : Option (List ℕ)) (hop : Option Address) → AreClean key → IsOfClean (route_tells key body id hop)
-route-clean key body None hop clean = tt
-route-clean key body (Some id) None clean = tt
-route-clean key body (Some id) (Some hop) clean = by (is_reserved id) _
-  where
-    by : (reserved : Bool) (ann : Announcement) → IsOfClean (cond reserved events.Nothing (events.Announce key ann))
-    by true ann = tt
-    by false ann = clean
-
 tells-clean : (context : Context) (tlv : TlvAt) → IsOfClean (tells context tlv)
 tells-clean context =
     let clean : (encoding : _) (body : List ℕ) (key : RouteKey) → IsToldIn context encoding body key → AreClean key = λ encoding body key told.
     told_key-is IsClean context encoding body key (λ len octets. prefix_at-clean len _) (whole-clean (prefix_family encoding)) told in
-    tells-holds IsOfClean context tt tt clean (λ encoding body key told id hop is. route-clean key body id hop (clean encoding body key told))
+    tells-holds IsOfClean context tt tt clean (λ encoding body key told id hop is. route_holds IsOfClean key body id hop tt (λ ann. clean encoding body key told))
 
 told_by-clean : (context : Context) (tlvs : List TlvAt)
     → AllByRecursion IsOfClean (told_by context tlvs)

@@ -13,8 +13,7 @@ use Rattle.std.proofs.lemmas.Map.Entries.{lookup-filter-values, option_filter}
 use Rattle.std.proofs.lemmas.Map.Keys.{IsDistinct-from_sorted}
 use Rattle.std.proofs.lemmas.Map.Views.{Contains-from_lookup, lookup-from_Contains}
 use Rattle.babel_prefix.proofs.EntryLaws.{Listed-map, map-Listed}
-use Rattle.babel_prefix.proofs.Insertion.{equal_of}
-use Rattle.babel_prefix.proofs.Members.{Listed, Contains-from_Listed, Listed-from_Contains}
+use Rattle.babel_prefix.proofs.Members.{Contains-from_Listed, Listed-from_Contains}
 use Rattle.babel_tlv.specs.declared.held.Held.{Held}
 use Rattle.babel_tlv.specs.Keys.{key_cmp}
 use Rattle.babel_tlv.specs.Pair.{Pair}
@@ -22,7 +21,7 @@ use Rattle.babel_tlv.specs.Pairs.{held_cmp}
 use Rattle.babel_tlv.specs.Route.{RouteKey}
 use Rattle.babel_tlv.proofs.OrderLaws.{key_total, held_exact}
 use Rattle.babel_table.specs.Rows.{IsRising}
-use Rattle.babel_table.proofs.HoldsLaws.{same-is, same-refl}
+use Rattle.babel_table.proofs.HoldsLaws.{same-is}
 use Rattle.babel_table.proofs.RowsLaws.{row_at}
 use Rattle.babel_canon.specs.declared.every_difference.Difference.{Difference}
 use Rattle.babel_canon.specs.Joined.{Joined, differ, difference_of, differing, joined}
@@ -182,53 +181,10 @@ alike_passed rows others left right alike is also = rw (is, also) (sym (alike_fi
 
 -- ---- there is one list of them
 
-abbrev AreBelow : RouteKey → List Difference → Type 0
-AreBelow key differences = AllByRecursion (λ other. key_cmp key other ≡ Less) (map (λ (d : Difference). d.key) differences)
-
-listed_above : (key : RouteKey) (differences : List Difference) (difference : Difference) → AreBelow key differences → Listed differences difference → key_cmp key difference.key ≡ Less
-listed_above key [] difference above none = elim none [ ]
-listed_above key (first ∷ rest) difference above (inl is) = subst (λ (d : Difference). key_cmp key d.key ≡ Less) is above.0
-listed_above key (first ∷ rest) difference above (inr at) = listed_above key rest difference above.1 at
-
-not_below_itself : (key : RouteKey) → key_cmp key key ≡ Less → ⊥
-not_below_itself key less = apart (key_cmp key key) less (equal_of (key_cmp key key) (same-refl key))
-  where
-    apart : (o : Ordering) → o ≡ Less → o ≡ Equal → ⊥
-    apart o a b = cc
-
-one_list : (one other : List Difference) → IsStrictlySortedBy key_cmp (map (λ (d : Difference). d.key) one) → IsStrictlySortedBy key_cmp (map (λ (d : Difference). d.key) other)
-    → ((d : Difference) → Listed one d → Listed other d) → ((d : Difference) → Listed other d → Listed one d) → one ≡ other
-unfolding IsStrictlySortedBy
-one_list [] [] up down to from = refl
-one_list [] (y ∷ ys) up down to from = absurd (from y (inl refl))
-one_list (x ∷ xs) [] up down to from = absurd (to x (inl refl))
-one_list (x ∷ xs) (y ∷ ys) up down to from =
-    let first : x ≡ y = heads (to x (inl refl)) (from y (inl refl)) in
-    let rest : xs ≡ ys = one_list xs ys up.1 down.1 (λ d at. later d at (to d (inr at)) first) (λ d at. sooner d at (from d (inr at)) first) in
-    ap (λ (d : Difference). d ∷ xs) first ∙ ap (λ (ds : List Difference). y ∷ ds) rest
-  where
-    heads : Listed (y ∷ ys) x → Listed (x ∷ xs) y → x ≡ y
-    heads (inl is) at = sym is
-    heads (inr here) (inl is) = is
-    heads (inr here) (inr there) =
-        let down_up = key_total.trans y.key x.key y.key (listed_above y.key ys x down.0 here) (listed_above x.key xs y up.0 there) in
-        absurd (not_below_itself y.key down_up)
-
-    later : (d : Difference) → Listed xs d → Listed (y ∷ ys) d → x ≡ y → Listed ys d
-    later d at (inl is) first =
-        absurd (not_below_itself x.key (subst (λ (other : Difference). key_cmp x.key other.key ≡ Less) (sym (first ∙ is)) (listed_above x.key xs d up.0 at)))
-    later d at (inr there) first = there
-
-    sooner : (d : Difference) → Listed ys d → Listed (x ∷ xs) d → x ≡ y → Listed xs d
-    sooner d at (inl is) first =
-        absurd (not_below_itself y.key (subst (λ (other : Difference). key_cmp y.key other.key ≡ Less) (sym (sym first ∙ is)) (listed_above y.key ys d down.0 at)))
-    sooner d at (inr there) first = there
-
 pub route_differences_are_one : RouteDifferencesAreOne
 route_differences_are_one rows others differences too are are_too =
-    one_list differences too are.rising are_too.rising
-    (λ d at. Listed-from_Contains too d ((are_too.exact d).1 ((are.exact d).0 (Contains-from_Listed differences d at))))
-    (λ d at. Listed-from_Contains differences d ((are.exact d).1 ((are_too.exact d).0 (Contains-from_Listed too d at))))
+    rising_one (λ (d : Difference). d.key) differences too are.rising are_too.rising
+    (λ d at. (are_too.exact d).1 ((are.exact d).0 at)) (λ d at. (are.exact d).1 ((are_too.exact d).0 at))
 
 -- ---- there is none where the rows are equal
 
@@ -244,7 +200,7 @@ held_alike (Some held) (Some other) = by (held_test held other)
 
 pub none_where_routes_same : NoneWhereRoutesSame
 none_where_routes_same rows others differences are_rows are_others are = (
-  (λ none. rising_one rows others up down (too rows others up down (same_at none)) (too others rows down up (λ key. sym (same_at none key)))),
+  (λ none. rising_one (λ (pair : Pair). pair.0) rows others up down (too rows others up down (same_at none)) (too others rows down up (λ key. sym (same_at none key)))),
   (λ same. none_of differences (λ d at. equal same d ((are.exact d).0 at))),
 )
   where

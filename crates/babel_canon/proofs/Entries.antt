@@ -1,16 +1,15 @@
 -- The rows of one family as entries.
-use Rattle.std.proofs.Common.{◌≡◌, Bool, true, false, cond, ◌&&◌, List, [], ◌∷◌, ◌++◌, refl, sym, ap, ◌∙◌}
-use Rattle.std.specs.Prelude.{◌≢◌}
+use Rattle.std.proofs.Common.{◌≡◌, Bool, true, cond, List, [], ◌∷◌, ◌++◌, sym, ap, ◌∙◌}
 use Rattle.std.specs.List.{filter}
 use Rattle.std.proofs.lemmas.Bool.{and_from}
-use Rattle.std.proofs.lemmas.List.{map-append, append-nil}
+use Rattle.std.proofs.lemmas.List.{map-append}
 use Rattle.std.proofs.lemmas.List.Elements.{filter-append}
 use Rattle.std.proofs.lemmas.List.Kept.{AllPairs-filter}
 use Rattle.babel_prefix.specs.declared.family.Family.{Family}
 use Rattle.babel_prefix.specs.Width.{same_family}
 use Rattle.babel_prefix.specs.Entries.{Entry, are_of_family}
 use Rattle.babel_prefix.specs.BestRow.{HasDistinctPrefixes}
-use Rattle.babel_prefix.proofs.EntryLaws.{same_family-is, same_family-refl}
+use Rattle.babel_prefix.proofs.EntryLaws.{same_family-refl}
 use Rattle.babel_tlv.specs.declared.held.Held.{Held}
 use Rattle.babel_tlv.specs.Pair.{Pair}
 use Rattle.babel_table.specs.Rows.{IsRising, entries_of}
@@ -30,17 +29,6 @@ kept family rows row here there =
     and_from _ _ (ap (same_family row.0.dst.address.family) (sym here) ∙ same_family-refl row.0.dst.address.family)
     (ap (same_family row.0.src.address.family) (sym there) ∙ same_family-refl row.0.src.address.family) in
     one_more family rows row ∙ ap (λ (b : Bool). filter (are_of_family family) (entries_of rows) ++ cond b (entry_of row ∷ []) []) passes
-
-pub passed : (family : Family) (rows : List Pair) (row : Pair) → row.0.dst.address.family ≢ family
-    → filter (are_of_family family) (entries_of (rows ++ row ∷ [])) ≡ filter (are_of_family family) (entries_of rows)
-passed family rows row apart =
-    one_more family rows row
-    ∙ ap (λ (b : Bool). filter (are_of_family family) (entries_of rows) ++ cond b (entry_of row ∷ []) []) (misses (same_family row.0.dst.address.family family) refl)
-    ∙ append-nil (filter (are_of_family family) (entries_of rows))
-  where
-    misses : (b : Bool) → same_family row.0.dst.address.family family ≡ b → are_of_family family (entry_of row) ≡ false
-    misses true e = absurd (apart (same_family-is row.0.dst.address.family family e))
-    misses false e = ap (λ (b : Bool). b && same_family row.0.src.address.family family) e
 
 pub distinct_entries : (family : Family) (rows : List Pair) → IsRising rows → HasDistinctPrefixes (filter (are_of_family family) (entries_of rows))
 distinct_entries family rows rising =

@@ -22,7 +22,6 @@ use Rattle.babel_prefix.specs.Address.{block_of, prefix_of}
 use Rattle.babel_prefix.specs.Best.{Row}
 use Rattle.babel_prefix.specs.Entries.{Entry, are_of_family, row_of, rows_in, answers_in}
 use Rattle.babel_prefix.specs.BestRow.{AreOfFamily}
-use Rattle.babel_prefix.proofs.AnswerLaws.{top-from_answer}
 use Rattle.babel_prefix.proofs.BlockLaws.{same_block, parent_within}
 use Rattle.babel_prefix.proofs.EntryLaws.{rows_in-all, map-Listed}
 use Rattle.babel_prefix.proofs.Members.{Listed, Listed-from_Contains, Contains-from_Listed}
@@ -39,7 +38,7 @@ use Rattle.babel_table.specs.TableRows.{AreRows}
 use Rattle.babel_tlv.proofs.OrderLaws.{key_total}
 use Rattle.babel_canon.specs.Boxes.{AreBoxes}
 use Rattle.babel_canon.specs.Grids.{pair_at, pair_of, both_families, AreFamilyBoxes}
-use Rattle.babel_canon.proofs.Boxes.{entry_of, pair_of_row, all_in}
+use Rattle.babel_canon.proofs.Boxes.{entry_of, held_by_row, all_in}
 
 abbrev key_of : Entry Held → RouteKey
 key_of entry = record { dst = entry.0; src = entry.1 }
@@ -168,17 +167,13 @@ moved key other helds.Unreachable e fits = tt
 box_pair : (family : Family) (rows : List Pair) → AreRows rows → (entry : Entry Held) → AreOfFamily family entry
     → IsBox (width_of family) (answers_in family (entries_of rows)) (row_of entry) → IsPair (pair_of entry)
 box_pair family rows are entry of_family box =
-    let row = row_of entry in
-    let is_answer = box.answered row.dst.start row.src.start box.dst_is_prefix.start_in_range box.src_is_prefix.start_in_range refl refl in
-    let top = top-from_answer (width_of family) (rows_in family (entries_of rows)) row.dst.start row.src.start entry.2 is_answer in
-    let from = pair_of_row family rows top.0 (Contains-from_Listed (rows_in family (entries_of rows)) top.0 top.1.listed) in
-    let value : from.pair.1 ≡ entry.2 = ap (λ (r : Row Held). r.value) from.is_row ∙ top.2 in
-    let fits = all_in IsPair rows from.pair are.each (Listed-from_Contains rows from.pair from.member) in
+    let by = held_by_row family rows (row_of entry) box in
+    let fits = all_in IsPair rows by.pair are.each (Listed-from_Contains rows by.pair by.member) in
     record {
       dst = subst (λ (f : Family). IsBlock (width_of f) (block_of entry.0)) (sym of_family.0) box.dst_is_prefix;
       src = subst (λ (f : Family). IsBlock (width_of f) (block_of entry.1)) (sym of_family.1) box.src_is_prefix;
       one_family = of_family.0 ∙ sym of_family.1;
-      fits = moved from.pair.0 (key_of entry) entry.2 (of_family.0 ∙ sym from.of_family.0) (subst (λ (h : Held). FitsKey from.pair.0 h) value fits.fits);
+      fits = moved by.pair.0 (key_of entry) entry.2 (of_family.0 ∙ sym by.of_family) (subst (FitsKey by.pair.0) by.holds fits.fits);
     }
 
 each_pair : (family : Family) (rows : List Pair) → AreRows rows → (entries : List (Entry Held)) → All (AreOfFamily family) entries

@@ -10,8 +10,7 @@ use Rattle.std.proofs.lemmas.List.Kept.{AllPairs-cons}
 use Rattle.babel_prefix.specs.declared.family.Family.{Family}
 use Rattle.babel_prefix.specs.declared.family.Family.TheVariants.{V4, V6}
 use Rattle.babel_prefix.specs.Width.{width_of, same_family}
-use Rattle.babel_prefix.specs.Block.{Block}
-use Rattle.babel_prefix.specs.Address.{AddressPrefix, block_of, prefix_of}
+use Rattle.babel_prefix.specs.Address.{AddressPrefix, block_of}
 use Rattle.babel_prefix.specs.Covers.{BlockCovers, IsBlock, Covers}
 use Rattle.babel_prefix.specs.Best.{Row}
 use Rattle.babel_prefix.specs.Entries.{Entry, are_of_family, row_of, rows_in, answers_in}
@@ -35,7 +34,7 @@ use Rattle.babel_canon.specs.Fewest.{AreApart, DoNotOverlap, AreDisjoint, BoxesA
 use Rattle.babel_canon.specs.Sent.{Sent}
 use Rattle.babel_canon.specs.Normalises.{Normalises, SaysFewest}
 use Rattle.babel_canon.proofs.PairRows.{rising-apart}
-use Rattle.babel_canon.proofs.Boxes.{held_test, entry_of, pair-is, pair_of_row, row_of_pair, all_in, same_in, boxes_answer}
+use Rattle.babel_canon.proofs.Boxes.{held_test, prefix_is, same_or_not, entry_of, pair-is, pair_of_row, row_of_pair, all_in, same_in, boxes_answer}
 
 -- ---- prefixes of a family, and their blocks
 
@@ -53,16 +52,6 @@ prefixes_apart family p q p_of q_of apart a a_fits in_p in_q =
 
 apart_back : (p q : AddressPrefix) → AreApart p q → AreApart q p
 apart_back p q apart a a_fits in_q in_p = apart a a_fits in_p in_q
-
-prefix_is : (p q : AddressPrefix) → p.address.family ≡ q.address.family → block_of p ≡ block_of q → p ≡ q
-prefix_is p q family block =
-    ap (λ (f : Family). prefix_of f (block_of p)) family ∙ ap (λ (b : Block). prefix_of q.address.family b) block
-
-same_or_not : (f g : Family) → (f ≡ g) ⊎ (f ≢ g)
-same_or_not V4 V4 = inl refl
-same_or_not V4 V6 = inr (λ e. cc)
-same_or_not V6 V4 = inr (λ e. cc)
-same_or_not V6 V6 = inl refl
 
 -- ---- a disjoint list is disjoint in each family
 

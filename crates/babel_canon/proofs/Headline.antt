@@ -1,10 +1,11 @@
 -- The headline, from what the boxes of rows answer and what their text is read as.
-use Rattle.std.proofs.Common.{◌≡◌, ◌↔◌, ℕ, ◌≤◌, Bool, true, List, [], ◌∷◌, length, map, refl, sym, ap, subst, ◌∙◌, arith, inl, inr, Contains}
+use Rattle.std.proofs.Common.{◌≡◌, ◌↔◌, ℕ, Bool, true, Option, None, List, [], ◌∷◌, map, refl, sym, ap, subst, ◌∙◌, arith, Contains}
+use Rattle.std.specs.Prelude.{IfSome}
 use Rattle.std.specs.List.{AllByRecursion}
 use Rattle.babel_prefix.specs.declared.family.Family.{Family}
 use Rattle.babel_prefix.specs.declared.family.Family.TheVariants.{V4}
 use Rattle.babel_prefix.specs.Address.{Address}
-use Rattle.babel_prefix.proofs.Members.{Listed, Contains-from_Listed, Listed-from_Contains}
+use Rattle.babel_prefix.proofs.Members.{Contains-from_Listed}
 use Rattle.babel_tlv.specs.declared.held.Held.{Held}
 use Rattle.babel_tlv.specs.declared.held.Held.TheVariants as helds
 use Rattle.babel_tlv.specs.declared.start.Start.{Start}
@@ -28,47 +29,38 @@ use Rattle.babel_canon.specs.Sizes.{IsBodySize}
 use Rattle.babel_canon.specs.RoundTrip.{IsRoute, AreReadableIn, TellsPairs, ReadsBack}
 use Rattle.babel_canon.specs.Boxes.{AreBoxes}
 use Rattle.babel_canon.specs.Answers.{AnswerTheSame}
-use Rattle.babel_canon.specs.Headline.{DumpsAnswer, TellsApart, ReadsAgain}
+use Rattle.babel_canon.specs.Headline.{TellsApart, ReadsAgain}
 use Rattle.babel_canon.specs.Sent.{Sent, sent}
 use Rattle.babel_canon.specs.Normalises.{Normalises, NormaliseFault, as_they_are, Headline}
 use Rattle.babel_canon.proofs.NoFault.{oks_one}
 use Rattle.babel_canon.proofs.PairRows.{rising-apart}
 use Rattle.babel_canon.proofs.RoundTrip.{text_reads_back}
-use Rattle.babel_canon.proofs.Boxes.{all_in, same_back, same_on, boxes_one, boxes_answer, boxes_too, box_held}
+use Rattle.babel_canon.proofs.Boxes.{each_is, same_back, same_on, boxes_one, boxes_answer, boxes_each, boxes_too}
 use Rattle.babel_table.proofs.ReadingLaws.{framed_one}
 use Rattle.babel_canon.proofs.Tables.{table_of_pairs}
-use Rattle.babel_canon.proofs.OneOutcome.{rows_one, texts_one, normal_form_is_one, normal_form_has_no_fault}
+use Rattle.babel_canon.proofs.HeldFor.{plain_held}
+use Rattle.babel_canon.proofs.OneOutcome.{on_tables, texts_one, form_is_one, form_has_no_fault}
 
 -- ---- boxes can be read in the mode of their rows
-
-each_is : (P : Pair → Type 0) (pairs : List Pair) → ((pair : Pair) → Listed pairs pair → P pair) → AllByRecursion P pairs
-each_is P [] all = tt
-each_is P (pair ∷ pairs) all = (all pair (inl refl), each_is P pairs (λ other at. all other (inr at)))
 
 -- in mode Plain each row of a dump is a route
 pub rows_readable : (limits : Bounds) (mode : Mode) (sender : Address) (dump : List ℕ) (table : Routes) → IsTableOf limits mode sender dump table → AreReadableIn mode table.rows
 rows_readable limits modes.Hold sender dump table is_table = tt
-rows_readable limits modes.Plain sender dump table is_table =
-    each_is (λ (pair : Pair). IsRoute pair.1) table.rows (λ row at. route row.1 row.0 (Contains-from_Listed table.rows row at))
+rows_readable limits modes.Plain sender dump table is_table = each_is (λ (pair : Pair). IsRoute pair.1) table.rows (λ row at. route row.1 row.0 (Contains-from_Listed table.rows row at))
   where
     route : (held : Held) (key : RouteKey) → Contains table.rows (key, held) → IsRoute held
-    route (helds.Route ann) key c = tt
-    route helds.Unreachable key c = is_table.rows.held key helds.Unreachable c
+    route held key c = subst (λ (o : Option Held). IfSome o IsRoute) (is_table.rows.held key held c) (plain_held key None is_table.said tt)
 
-pub readable : (mode : Mode) (rows boxes : List Pair) → AreReadableIn mode rows → AreBoxes rows boxes → AreReadableIn mode boxes
+readable : (mode : Mode) (rows boxes : List Pair) → AreReadableIn mode rows → AreBoxes rows boxes → AreReadableIn mode boxes
 readable modes.Hold rows boxes reads are = tt
-readable modes.Plain rows boxes reads are = each_is (λ (pair : Pair). IsRoute pair.1) boxes (λ box at.
-    let by = box_held rows boxes are box (Contains-from_Listed boxes box at) in
-    subst IsRoute by.fits_too (all_in (λ (pair : Pair). IsRoute pair.1) rows by.pair reads (Listed-from_Contains rows by.pair by.member)))
+readable modes.Plain rows boxes reads are = boxes_each (λ (pair : Pair). IsRoute pair.1) (λ pair box family held. subst IsRoute held) rows boxes are reads
 
 -- ---- next hops fit the keys
 
 -- what boxes have for next hops, rows of the same family have
-pub boxes_hop : (via_v6 : Bool) (rows boxes : List Pair) → HopsFit via_v6 rows → AreBoxes rows boxes → HopsFit via_v6 boxes
-boxes_hop via_v6 rows boxes hops are = each_is (λ (pair : Pair). HopFits via_v6 pair.0 pair.1) boxes (λ box at.
-    let by = box_held rows boxes are box (Contains-from_Listed boxes box at) in
-    moved by.pair.0 box.0 box.1 by.family
-    (subst (HopFits via_v6 by.pair.0) by.fits_too (all_in (λ (pair : Pair). HopFits via_v6 pair.0 pair.1) rows by.pair hops (Listed-from_Contains rows by.pair by.member))))
+boxes_hop : (via_v6 : Bool) (rows boxes : List Pair) → HopsFit via_v6 rows → AreBoxes rows boxes → HopsFit via_v6 boxes
+boxes_hop via_v6 rows boxes hops are =
+    boxes_each (λ (pair : Pair). HopFits via_v6 pair.0 pair.1) (λ pair box family held fits. moved pair.0 box.0 box.1 family (subst (HopFits via_v6 pair.0) held fits)) rows boxes are hops
   where
     moved : (key other : RouteKey) (held : Held) → key.dst.address.family ≡ other.dst.address.family → HopFits via_v6 key held → HopFits via_v6 other held
     moved key other (helds.Route ann) same fits = subst (λ (f : Family). IsHopFor via_v6 f ann.next_hop.family) same fits
@@ -141,56 +133,59 @@ forms_tell body size rows others boxes other_boxes octets other_octets are other
 pub record IsItsOwn (limits : Bounds) (mode : Mode) (body : ℕ) (boxes : List Pair) (octets : List ℕ) (any : Address) : Type 0 where
   pub again : Normalises as_they_are limits mode body (sent any octets) octets
   pub rows_are : again.table.rows ≡ boxes
-  pub boxes_are : again.boxes ≡ boxes
 
-pub its_own : (limits : Bounds) (mode : Mode) (body : ℕ) → AreBounds limits → IsBodySize body → (rows boxes : List Pair) (octets : List ℕ) → AreBoxes rows boxes → HopsFit limits.via_v6 boxes
-    → AreReadableIn mode boxes → length boxes ≤ limits.entries → IsCanonicalText body boxes octets → (any : Address) → IsItsOwn limits mode body boxes octets any
-its_own limits mode body bounds size rows boxes octets are hops reads few text any =
-    let read = back mode body boxes octets (start_of limits any) size are.are_rows hops reads text in
+pub its_own : (limits : Bounds) (mode : Mode) (body : ℕ) → AreBounds limits → IsBodySize body → (see : List Pair → List Pair) (it : Sent) (octets : List ℕ)
+    → (one : Normalises see limits mode body it octets) → AreReadableIn mode (see one.table.rows) → HopsFit limits.via_v6 (see one.table.rows)
+    → (any : Address) → IsItsOwn limits mode body one.boxes octets any
+its_own limits mode body bounds size see it octets one reads_rows hops_rows any =
+    let rows = see one.table.rows in
+    let are = one.are_boxes in
+    let reads = readable mode rows one.boxes reads_rows are in
+    let read = back mode body one.boxes octets (start_of limits any) size are.are_rows (boxes_hop limits.via_v6 rows one.boxes hops_rows are) reads one.text in
     record {
       again = record {
-        no_fault = read.no_fault limits refl few (omega (arith, few, bounds.room));
+        no_fault = read.no_fault limits refl one.few (omega (arith, one.few, bounds.room));
         table = _;
-        is_table = table_of_pairs limits mode any octets boxes are.are_rows.rising reads few read.tells;
-        boxes = boxes;
-        are_boxes = boxes_too rows boxes boxes (same_back boxes rows (boxes_answer rows boxes are)) are;
-        few = few;
-        text = text;
+        is_table = table_of_pairs limits mode any octets one.boxes are.are_rows.rising reads one.few read.tells;
+        boxes = one.boxes;
+        are_boxes = boxes_too rows one.boxes one.boxes (same_back one.boxes rows (boxes_answer rows one.boxes are)) are;
+        few = one.few;
+        text = one.text;
       };
       rows_are = refl;
-      boxes_are = refl;
     }
 
 -- ---- the headline
 
-tells_apart : (limits : Bounds) (mode : Mode) (body : ℕ) → IsBodySize body → (one : Sent) (octets : List ℕ) → Normalises as_they_are limits mode body one octets
-    → TellsApart AnswerTheSame (Normalises as_they_are limits mode body) limits mode one octets
-tells_apart limits mode body size it octets one other_it other_octets other =
-    let tell = forms_tell body size one.table.rows other.table.rows one.boxes other.boxes octets other_octets one.are_boxes other.are_boxes one.text other.text in
-    (answers_same tell.0, (λ same. tell.1 (same one.table other.table one.is_table other.is_table)))
-  where
-    answers_same : (octets ≡ other_octets → AnswerTheSame one.table.rows other.table.rows) → octets ≡ other_octets → DumpsAnswer AnswerTheSame limits mode it other_it
-    answers_same tables_same same table other_table is_table is_other =
-        subst (λ (l : List Pair). AnswerTheSame l other_table.rows) (rows_one limits mode it.sender it.dump one.table table one.is_table is_table)
-        (subst (λ (l : List Pair). AnswerTheSame one.table.rows l) (rows_one limits mode other_it.sender other_it.dump other.table other_table other.is_table is_other) (tables_same same))
+-- where what is the same is what is seen as the same
+pub tells_apart : (see : List Pair → List Pair) (Same : List Pair → List Pair → Type 0) → ((rows others : List Pair) → Same rows others ↔ AnswerTheSame (see rows) (see others))
+    → (limits : Bounds) (mode : Mode) (body : ℕ) → IsBodySize body → (one : Sent) (octets : List ℕ) → Normalises see limits mode body one octets
+    → TellsApart Same (Normalises see limits mode body) limits mode one octets
+tells_apart see Same law limits mode body size it octets one other_it other_octets other =
+    let tell = forms_tell body size (see one.table.rows) (see other.table.rows) one.boxes other.boxes octets other_octets one.are_boxes other.are_boxes one.text other.text in
+    let same = law one.table.rows other.table.rows in (
+      (λ equal. on_tables limits mode it other_it one.table other.table one.is_table other.is_table Same (same.1 (tell.0 equal))),
+      (λ answers. tell.1 (same.0 (answers one.table other.table one.is_table other.is_table))),
+    )
 
-stays_itself : (limits : Bounds) (mode : Mode) (body : ℕ) → AreBounds limits → IsBodySize body → (one : Sent) (octets : List ℕ) → Normalises as_they_are limits mode body one octets
-    → (any : Address) → ReadsAgain AnswerTheSame (Normalises as_they_are limits mode body) (NormaliseFault as_they_are limits mode) limits mode one octets any
-stays_itself limits mode body bounds size it octets one any =
-    let reads = readable mode one.table.rows one.boxes (rows_readable limits mode it.sender it.dump one.table one.is_table) one.are_boxes in
-    let hops = boxes_hop limits.via_v6 one.table.rows one.boxes (hops_fit limits mode it.sender it.dump one.table one.is_table) one.are_boxes in
-    let own = its_own limits mode body bounds size one.table.rows one.boxes octets one.are_boxes hops reads one.few one.text any in
-    let same : AnswerTheSame one.boxes one.table.rows = boxes_answer one.table.rows one.boxes one.are_boxes in
-    record {
-      no_fault = own.again.no_fault;
-      answers = λ table other_table a b.
-          subst (λ (l : List Pair). AnswerTheSame l other_table.rows) (sym own.rows_are ∙ rows_one limits mode any octets own.again.table table own.again.is_table a)
-          (subst (λ (l : List Pair). AnswerTheSame one.boxes l) (rows_one limits mode it.sender it.dump one.table other_table one.is_table b) same);
-      again = own.again;
-      unchanged = λ other normal. normal_form_is_one limits mode body (sent any octets) other octets normal own.again;
-      only_memory = λ fault faulty. normal_form_has_no_fault limits mode body (sent any octets) octets fault own.again faulty;
-    }
+-- what the octets are made of is `made` of their own table's rows
+pub reads_again : (Same : List Pair → List Pair → Type 0) (limits : Bounds) (mode : Mode) (body : ℕ) (one : Sent) (octets : List ℕ) (any : Address)
+    → (table : Routes) → IsTableOf limits mode one.sender one.dump table → (made : List Pair → List Pair) (own : Normalises made limits mode body (sent any octets) octets)
+    → Same own.table.rows table.rows → ReadsAgain Same (Normalises made limits mode body) (NormaliseFault made limits mode) limits mode one octets any
+reads_again Same limits mode body it octets any table is_table made own same = record {
+  no_fault = own.no_fault;
+  answers = on_tables limits mode (sent any octets) it own.table table own.is_table is_table Same same;
+  again = own;
+  unchanged = λ other normal. form_is_one made limits mode body (sent any octets) other octets normal own;
+  only_memory = λ fault faulty. form_has_no_fault made limits mode body (sent any octets) octets fault own faulty;
+}
 
 pub headline : Headline
-headline limits mode body bounds size one octets normal =
-    (tells_apart limits mode body size one octets normal, stays_itself limits mode body bounds size one octets normal)
+headline limits mode body bounds size it octets one = (
+  tells_apart as_they_are AnswerTheSame (λ rows others. ((λ same. same), (λ same. same))) limits mode body size it octets one,
+  (λ any.
+      let own = its_own limits mode body bounds size as_they_are it octets one (rows_readable limits mode it.sender it.dump one.table one.is_table)
+      (hops_fit limits mode it.sender it.dump one.table one.is_table) any in
+      reads_again AnswerTheSame limits mode body it octets any one.table one.is_table as_they_are own.again
+      (subst (λ (l : List Pair). AnswerTheSame l one.table.rows) (sym own.rows_are) (boxes_answer one.table.rows one.boxes one.are_boxes))),
+)

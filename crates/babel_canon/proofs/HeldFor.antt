@@ -1,13 +1,7 @@
--- What is held for a key, event by event, is what stands for it.
-use Rattle.std.proofs.Common.{◌≡◌, ℕ, Bool, true, cond, List, [], ◌∷◌, map}
-use Rattle.std.proofs.Common.{Option, Some, None, refl, ap, subst, ◌∙◌, eqb-true, eq-eqb}
-use Rattle.std.specs.Prelude.{fold}
-use Rattle.std.proofs.lemmas.Bool.{and_parts, and_from}
-use Rattle.std.specs.Bool.{Decides, one_answer}
-use Rattle.babel_prefix.specs.declared.family.Family.{Family}
-use Rattle.babel_prefix.specs.Width.{same_family}
-use Rattle.babel_prefix.specs.Address.{AddressPrefix}
-use Rattle.babel_prefix.proofs.EntryLaws.{same_family-is, same_family-refl}
+-- What is held for a key is held without the reasons, too.
+use Rattle.std.proofs.Common.{◌≡◌, Bool, true, false, cond, List, [], ◌∷◌, map, Option, Some, None, refl, ap, ◌∙◌}
+use Rattle.std.specs.Prelude.{fold, IfSome, is_none}
+use Rattle.babel_prefix.specs.Address.{Address}
 use Rattle.babel_tlv.specs.declared.event.Event.{Event}
 use Rattle.babel_tlv.specs.declared.event.Event.TheVariants as events
 use Rattle.babel_tlv.specs.declared.held.Held.{Held}
@@ -15,81 +9,43 @@ use Rattle.babel_tlv.specs.declared.held.Held.TheVariants as helds
 use Rattle.babel_tlv.specs.declared.mode.Mode.{Mode}
 use Rattle.babel_tlv.specs.declared.mode.Mode.TheVariants as modes
 use Rattle.babel_tlv.specs.Route.{RouteKey}
-use Rattle.babel_table.proofs.HoldsLaws.{same, same-is, same-of, gone, next, stands, stands_from}
-use Rattle.babel_table.proofs.EntryLaws.{same_key as key_is}
-use Rattle.babel_canon.specs.DumpAnswers.{same_prefix, same_key, retracted, held_after, held_for}
+use Rattle.babel_table.specs.BestMatch.{IsBestAmong}
+use Rattle.babel_table.specs.Holds.{held_after, same_key, Holds}
+use Rattle.babel_canon.specs.RoundTrip.{IsRoute}
 use Rattle.babel_canon.proofs.Told.{quiet}
 
--- ---- tests of keys
+-- what is held for a key after events, and what they answer
+abbrev pub held_for : Mode → List Event → RouteKey → Option Held
+held_for mode events key = fold (held_after mode key) None events
 
-same_prefix-decides : (p q : AddressPrefix) → Decides (same_prefix p q) (p ≡ q)
-same_prefix-decides p q = (
-  (λ h. let parts = and_parts _ _ h in
-      let front = and_parts _ _ parts.0 in
-      let families = same_family-is p.address.family q.address.family front.0 in
-      ap (λ (f : Family). record {
-        address = record { family = f; bits = p.address.bits };
-        len =
-            p.len;
-      }) families
-      ∙ ap (λ (n : ℕ).
-      record { address = record { family = q.address.family; bits = n }; len = p.len })
-      (eqb-true _ _ front.1)
-      ∙ ap (λ (n : ℕ). record { address = q.address; len = n }) (eqb-true _ _ parts.1)),
-  (λ e. and_from _ _ (and_from _ _
-      (subst (λ (f : AddressPrefix). same_family p.address.family f.address.family ≡ true) e
-      (same_family-refl p.address.family))
-      (eq-eqb _ _ (ap (λ (f : AddressPrefix). f.address.bits) e)))
-      (eq-eqb _ _ (ap (λ (f : AddressPrefix). f.len) e))),
-)
+abbrev pub IsAnswer : Mode → List Event → Address → Address → Option Held → Type 0
+IsAnswer mode events = IsBestAmong (λ pair. Holds mode events pair.0 pair.1)
 
-pub same_key-decides : (a b : RouteKey) → Decides (same_key a b) (a ≡ b)
-same_key-decides a b = (
-  (λ h. let parts = and_parts _ _ h in
-      key_is a b ((same_prefix-decides a.dst b.dst).0 parts.0)
-      ((same_prefix-decides a.src b.src).0 parts.1)),
-  (λ e. and_from _ _ ((same_prefix-decides a.dst b.dst).1 (ap (λ (k : RouteKey). k.dst) e))
-      ((same_prefix-decides a.src b.src).1 (ap (λ (k : RouteKey). k.src) e))),
-)
+after-quiet : (mode : Mode) (key : RouteKey) (old : Option Held) (event : Event) → held_after mode key old (quiet event) ≡ held_after mode key old event
+after-quiet mode key old (events.Announce other ann) = refl
+after-quiet mode key old (events.Retract other) = refl
+after-quiet mode key old events.RetractAll = refl
+after-quiet mode key old events.Nothing = refl
+after-quiet mode key old (events.Ignored reason) = refl
 
-same_key-is : (a b : RouteKey) → same_key a b ≡ same a b
-same_key-is a b = one_answer (same_key a b) (same a b) (same_key-decides a b)
-    (same-is a b, same-of a b)
+pub held-quiet : (mode : Mode) (key : RouteKey) (old : Option Held) (said : List Event) → fold (held_after mode key) old (map quiet said) ≡ fold (held_after mode key) old said
+held-quiet mode key old [] = refl
+held-quiet mode key old (event ∷ later) =
+    ap (λ (o : Option Held). fold (held_after mode key) o (map quiet later)) (after-quiet mode key old event) ∙ held-quiet mode key (held_after mode key old event) later
 
--- ---- one event
+-- ---- in mode Plain only routes are held
 
-wiped-is : (mode : Mode) (key : RouteKey) (old : Option Held)
-    → held_after mode key old events.RetractAll ≡ next mode key old events.RetractAll
-wiped-is modes.Plain key None = refl
-wiped-is modes.Plain key (Some held) = refl
-wiped-is modes.Hold key None = refl
-wiped-is modes.Hold key (Some held) = refl
+one_of : (b : Bool) (new old : Option Held) → IfSome new IsRoute → IfSome old IsRoute → IfSome (cond b new old) IsRoute
+one_of true new old is_new is_old = is_new
+one_of false new old is_new is_old = is_old
 
-retracted-is : (mode : Mode) → retracted mode ≡ gone mode
-retracted-is modes.Plain = refl
-retracted-is modes.Hold = refl
+after-plain : (key : RouteKey) (old : Option Held) (event : Event) → IfSome old IsRoute → IfSome (held_after modes.Plain key old event) IsRoute
+after-plain key old (events.Announce other ann) is = one_of (same_key other key) (Some (helds.Route ann)) old tt is
+after-plain key old (events.Retract other) is = one_of (same_key other key) None old tt is
+after-plain key old events.RetractAll is = one_of (is_none old) None None tt tt
+after-plain key old events.Nothing is = is
+after-plain key old (events.Ignored reason) is = is
 
-event-is : (mode : Mode) (key : RouteKey) (old : Option Held) (event : Event)
-    → held_after mode key old (quiet event) ≡ next mode key old event
-event-is mode key old (events.Announce other ann) = ap (λ (b : Bool).
-    cond b (Some (helds.Route ann)) old) (same_key-is other key)
-event-is mode key old (events.Retract other) =
-    ap (λ (b : Bool). cond b (retracted mode) old) (same_key-is other key)
-    ∙ ap (λ (o : Option Held). cond (same other key) o old) (retracted-is mode)
-event-is mode key old events.RetractAll = wiped-is mode key old
-event-is mode key old events.Nothing = refl
-event-is mode key old (events.Ignored reason) = refl
-
--- ---- events
-
-held_from-is : (mode : Mode) (key : RouteKey) (old : Option Held) (said : List Event)
-    → fold (held_after mode key) old (map quiet said) ≡ stands_from mode key old said
-held_from-is mode key old [] = refl
-held_from-is mode key old (event ∷ later) =
-    ap (λ (o : Option Held). fold (held_after mode key) o (map quiet later))
-    (event-is mode key old event) ∙ held_from-is mode key (next mode key old event) later
-
--- what is held for a key stands for it
-pub held_for-stands : (mode : Mode) (said : List Event) (key : RouteKey)
-    → held_for mode (map quiet said) key ≡ stands mode key said
-held_for-stands mode said key = held_from-is mode key None said
+pub plain_held : (key : RouteKey) (old : Option Held) (said : List Event) → IfSome old IsRoute → IfSome (fold (held_after modes.Plain key) old said) IsRoute
+plain_held key old [] is = is
+plain_held key old (event ∷ later) is = plain_held key (held_after modes.Plain key old event) later (after-plain key old event is)

@@ -181,9 +181,6 @@ module _ (rows others rest more : List Pair) (row other : Pair) (row_is : rows �
 abbrev kept : List Joined → List Difference
 kept entries = map difference_of (filter (λ entry. differ entry.1) entries)
 
-pub kept_none : (entries : List Joined) → entries ≡ [] → kept entries ≡ []
-kept_none entries none = ap kept none
-
 pub kept_first : (entries rest : List Joined) (entry : Joined) → entries ≡ entry ∷ rest → differ entry.1 ≡ true → kept entries ≡ difference_of entry ∷ kept rest
 kept_first entries rest entry is differs = ap kept is ∙ ap (λ (b : Bool). map difference_of (cond b (entry ∷ filter (λ e. differ e.1) rest) (filter (λ e. differ e.1) rest))) differs
 

@@ -13,15 +13,23 @@ use Rattle.babel_table.specs.TableOf.{IsTableOf}
 use Rattle.babel_table.proofs.OutcomeLaws.{fault_is_one, table_is_one}
 use Rattle.babel_canon.specs.Boxes.{AreBoxes}
 use Rattle.babel_canon.specs.Answers.{AnswerTheSame}
+use Rattle.babel_canon.specs.Headline.{DumpsAnswer}
 use Rattle.babel_canon.specs.Sent.{Sent}
-use Rattle.babel_canon.specs.Normalises.{Normalises, NormaliseFault, as_they_are}
-use Rattle.babel_canon.specs.OneOutcome.{NormalFormIsOne, NormaliseFaultIsOne, NormalFormHasNoFault}
+use Rattle.babel_canon.specs.Normalises.{Normalises, NormaliseFault}
+use Rattle.babel_canon.specs.OneOutcome.{NormaliseFaultIsOne}
 use Rattle.babel_canon.proofs.Boxes.{boxes_one}
 
 -- a dump has one table, and so one list of rows
 pub rows_one : (limits : Bounds) (mode : Mode) (sender : Address) (dump : List ℕ) (table other : Routes)
     → IsTableOf limits mode sender dump table → IsTableOf limits mode sender dump other → table.rows ≡ other.rows
 rows_one limits mode sender dump table other is_table is_other = ap (λ (t : Routes). t.rows) (table_is_one limits mode sender dump table other is_table is_other)
+
+-- what holds of a table of each of two dumps holds of all their tables
+pub on_tables : (limits : Bounds) (mode : Mode) (it other_it : Sent) (one other : Routes) → IsTableOf limits mode it.sender it.dump one
+    → IsTableOf limits mode other_it.sender other_it.dump other → (Same : List Pair → List Pair → Type 0) → Same one.rows other.rows → DumpsAnswer Same limits mode it other_it
+on_tables limits mode it other_it one other is_one is_other Same same table too is_table is_too =
+    subst (λ (l : List Pair). Same l too.rows) (rows_one limits mode it.sender it.dump one table is_one is_table)
+    (subst (Same one.rows) (rows_one limits mode other_it.sender other_it.dump other too is_other is_too) same)
 
 pub texts_one : (body : ℕ) (ps qs : List Pair) (octets other : List ℕ) → ps ≡ qs → IsCanonicalText body ps octets → IsCanonicalText body qs other → octets ≡ other
 texts_one body ps qs octets other same p_text q_text = text_one body qs octets other (subst (λ (l : List Pair). IsCanonicalText body l octets) same p_text) q_text
@@ -46,12 +54,6 @@ form_has_no_fault see limits mode body it octets fault normal (inr (inl (is, no_
     let same = ap (λ (l : List Pair). length l) (boxes_same (see table.rows) (see normal.table.rows) boxes normal.boxes rows are_boxes normal.are_boxes) in
     absurd (omega (arith, same, many, normal.few))
 form_has_no_fault see limits mode body it octets fault normal (inr (inr memory)) = memory
-
-pub normal_form_is_one : NormalFormIsOne
-normal_form_is_one = form_is_one as_they_are
-
-pub normal_form_has_no_fault : NormalFormHasNoFault
-normal_form_has_no_fault = form_has_no_fault as_they_are
 
 pub normalise_fault_is_one : NormaliseFaultIsOne
 normalise_fault_is_one limits mode it fault other (inl one) (inl two) not_memory other_not = fault_is_one limits mode it.sender it.dump fault other one two

@@ -1,17 +1,18 @@
 -- Where the events are what pairs say, what stands behind them is the pairs.
 use Rattle.std.proofs.Common.{◌≡◌, ℕ, ◌≤◌, Bool, true, false, cond, List, [], ◌∷◌, ◌++◌, length, map, Option, Some, None, refl, sym, ap, subst, ◌∙◌, arith, inl, inr, Contains}
-use Rattle.std.specs.Prelude.{◌↔◌}
+use Rattle.std.specs.Prelude.{◌↔◌, ◌⊎◌, IsSome, fold}
 use Rattle.std.specs.List.{AllByRecursion, IsDistinct}
 use Rattle.std.specs.Map.{keys_of}
 use Rattle.std.specs.Option.{option_or}
 use Rattle.std.specs.Ordering.{eq_by_cmp}
 use Rattle.std.proofs.lemmas.Cmp.{eq_by_cmp_equiv}
-use Rattle.std.proofs.lemmas.List.Elements.{Contains-append_left, Contains-append_right}
+use Rattle.std.proofs.lemmas.List.Elements.{Contains-append_left}
 use Rattle.std.proofs.lemmas.Map.Entries.{length-keys_of}
 use Rattle.std.proofs.lemmas.Map.Keys.{IsDistinct-from_sorted, IsDistinct-head, IsDistinct-tail}
 use Rattle.std.proofs.lemmas.Map.Made.{IsDistinct-from_AllPairs, AllPairs-from_IsDistinct}
 use Rattle.std.proofs.lemmas.Map.Steps.{length-le_from_keys}
 use Rattle.std.proofs.lemmas.Map.Views.{Contains-from_any, Contains-from_lookup, lookup-from_Contains, IsSome-lookup_from_Contains}
+use Rattle.babel_prefix.proofs.EntryLaws.{Listed-map}
 use Rattle.babel_prefix.proofs.Members.{Listed, Listed-from_Contains, Contains-from_Listed}
 use Rattle.babel_tlv.specs.declared.event.Event.{Event}
 use Rattle.babel_tlv.specs.declared.event.Event.TheVariants as events
@@ -23,11 +24,11 @@ use Rattle.babel_tlv.specs.Route.{RouteKey}
 use Rattle.babel_tlv.specs.Keys.{key_cmp}
 use Rattle.babel_tlv.specs.Pair.{Pair}
 use Rattle.babel_tlv.specs.News.{spoken, held_event, pair_event}
-use Rattle.babel_table.specs.Holds.{Names, Holds}
+use Rattle.babel_table.specs.Holds.{Names, Holds, held_after, retracted, same_key}
 use Rattle.babel_table.specs.DumpFault.{HoldsMoreThan}
 use Rattle.babel_table.specs.Rows.{IsRising}
 use Rattle.babel_tlv.proofs.OrderLaws.{key_total}
-use Rattle.babel_table.proofs.HoldsLaws.{same, same-is, same-of, next, stands, stands_from, Holds-stands, stands-Holds}
+use Rattle.babel_table.proofs.HoldsLaws.{same, same-is, same-of, same_key-decides, next, stands, stands_from, Holds-stands, stands-Holds}
 use Rattle.babel_table.proofs.RowsLaws.{row_at}
 use Rattle.babel_canon.specs.RoundTrip.{HaveDistinctKeys, IsRoute, AreReadableIn}
 
@@ -122,17 +123,43 @@ record IsNamed (said : List Event) (key : RouteKey) : Type 0 where
   is_said : Contains said event
   names : Names key event
 
-said_here : (before after : List Event) (event : Event) → Contains (before ++ event ∷ after) event
-said_here before after event = Contains-append_right before (event ∷ after) event (0, omega arith, refl)
+abbrev NamedIn : List Event → RouteKey → Type 0
+NamedIn said key = (event : Event) × Listed said event × Names key event
+
+after-named : (mode : Mode) (key : RouteKey) (old : Option Held) (event : Event) → IsSome (held_after mode key old event) → IsSome old ⊎ Names key event
+after-named mode key old (events.Announce other ann) some = by (same_key other key) refl some
+  where
+    by : (b : Bool) → same_key other key ≡ b → IsSome (cond b (Some (helds.Route ann)) old) → IsSome old ⊎ (other ≡ key)
+    by true is some = inr ((same_key-decides other key).0 is)
+    by false is some = inl some
+after-named mode key old (events.Retract other) some = by (same_key other key) refl some
+  where
+    by : (b : Bool) → same_key other key ≡ b → IsSome (cond b (retracted mode) old) → IsSome old ⊎ (other ≡ key)
+    by true is some = inr ((same_key-decides other key).0 is)
+    by false is some = inl some
+after-named mode key None events.RetractAll some = absurd cc
+after-named mode key (Some held) events.RetractAll some = inl refl
+after-named mode key old events.Nothing some = inl some
+after-named mode key old (events.Ignored reason) some = inl some
+
+named_from : (mode : Mode) (key : RouteKey) (old : Option Held) (said : List Event) → IsSome (fold (held_after mode key) old said) → IsSome old ⊎ NamedIn said key
+named_from mode key old [] some = inl some
+named_from mode key old (event ∷ later) some = by (named_from mode key (held_after mode key old event) later some)
+  where
+    here : IsSome old ⊎ Names key event → IsSome old ⊎ NamedIn (event ∷ later) key
+    here (inl before) = inl before
+    here (inr names) = inr (event, inl refl, names)
+
+    by : IsSome (held_after mode key old event) ⊎ NamedIn later key → IsSome old ⊎ NamedIn (event ∷ later) key
+    by (inl after) = here (after-named mode key old event after)
+    by (inr (named, at, names)) = inr (named, inr at, names)
 
 holds-named : (mode : Mode) (said : List Event) (key : RouteKey) (held : Held) → Holds mode said key held → IsNamed said key
-holds-named mode said key (helds.Route ann) holds = record {
-  event = events.Announce key ann;
-  is_said = subst (λ (es : List Event). Contains es (events.Announce key ann)) (sym holds.whole) (said_here holds.before holds.after (events.Announce key ann));
-  names = refl;
-}
-holds-named modes.Plain said key helds.Unreachable holds = absurd holds
-holds-named modes.Hold said key helds.Unreachable holds = record { event = holds.named; is_said = holds.is_said; names = holds.names }
+holds-named mode said key held holds = by (named_from mode key None said (subst IsSome (sym holds) refl))
+  where
+    by : IsSome {T = Held} None ⊎ NamedIn said key → IsNamed said key
+    by (inl none) = absurd cc
+    by (inr (event, at, names)) = record { event = event; is_said = Contains-from_Listed said event at; names = names }
 
 -- an event that names a key is no silence
 listed-spoken : (told : List Event) (key : RouteKey) (event : Event) → Names key event → Listed told event → Listed (spoken told) event
@@ -167,27 +194,13 @@ held_key mode told behind first pairs key held news parts holds =
     (listed-spoken told key named.event named.names (Listed-from_Contains told named.event in_told)) in
     Contains-from_Listed (keys_of pairs) key (listed-key pairs key named.event named.names heard)
 
--- a key of a list is a pair's
-record HasKey (rows : List Pair) (key : RouteKey) : Type 0 where
-  held : Held
-  member : Contains rows (key, held)
-
-abbrev pair_of : RouteKey → Held → Pair
-pair_of k h = (k, h)
-
-has_key : (rows : List Pair) (key : RouteKey) → Listed (keys_of rows) key → HasKey rows key
-has_key [] key none = elim none [ ]
-has_key (row ∷ rows) key (inl e) = record { held = row.1; member = (0, omega arith, ap (λ (k : RouteKey). pair_of k row.1) e) }
-has_key (row ∷ rows) key (inr at) =
-    let later = has_key rows key at in
-    record { held = later.held; member = Contains-append_right (row ∷ []) rows (key, later.held) later.member }
-
 pub few_hold : (mode : Mode) (entries : ℕ) (told behind first : List Event) (pairs : List Pair) → spoken told ≡ map pair_event pairs → told ≡ first ++ behind → length pairs ≤ entries
     → HoldsMoreThan mode entries first → ⊥
 few_hold mode entries told behind first pairs news parts room more =
     let rows = more.0 in
     let laws = eq_by_cmp_equiv key_total in
     let few = length-le_from_keys laws (keys_of rows) pairs (IsDistinct-from_sorted key_cmp (keys_of rows) more.1.rising) (λ q in_rows.
-    let at = has_key rows q (Listed-from_Contains (keys_of rows) q (Contains-from_any same-is q (keys_of rows) in_rows)) in
-    IsSome-lookup_from_Contains laws q pairs (held_key mode told behind first pairs q at.held news parts (more.1.held q at.held at.member))) in
+    let from = Listed-map (λ (pair : Pair). pair.0) rows q (Listed-from_Contains (keys_of rows) q (Contains-from_any same-is q (keys_of rows) in_rows)) in
+    let member : Contains rows (q, from.0.1) = subst (λ (k : RouteKey). Contains rows (k, from.0.1)) from.2 (Contains-from_Listed rows from.0 from.1) in
+    IsSome-lookup_from_Contains laws q pairs (held_key mode told behind first pairs q from.0.1 news parts (more.1.held q from.0.1 member))) in
     omega (arith, more.2, room, few, length-keys_of rows)

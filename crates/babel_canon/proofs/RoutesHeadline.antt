@@ -5,32 +5,30 @@ use Rattle.babel_prefix.specs.Entries.{answer_for}
 use Rattle.babel_tlv.specs.declared.event.Event.{Event}
 use Rattle.babel_tlv.specs.declared.fault.Fault.{Fault}
 use Rattle.babel_tlv.specs.declared.fault.Fault.TheVariants as faults
-use Rattle.babel_tlv.specs.declared.held.Held.{Held}
 use Rattle.babel_tlv.specs.declared.mode.Mode.{Mode}
 use Rattle.babel_tlv.specs.declared.view.View.{View}
 use Rattle.babel_tlv.specs.Group.{IsCanonicalText}
 use Rattle.babel_tlv.specs.Pair.{Pair}
 use Rattle.babel_tlv.specs.Says.{Saying, sayings}
 use Rattle.babel_tlv.specs.Views.{keeps_all}
-use Rattle.babel_tlv.proofs.ViewLaws.{seen_twice_is_seen}
 use Rattle.babel_table.specs.Bounds.{Bounds, AreBounds, start_of}
 use Rattle.babel_table.specs.DumpFault.{HasNoFault}
 use Rattle.babel_table.specs.Holds.{HoldsAtMost}
 use Rattle.babel_table.specs.Rows.{Routes, entries_of}
-use Rattle.babel_table.specs.Seen.{seen_row, seen_rows, seen_table}
+use Rattle.babel_table.specs.Seen.{seen_rows, seen_table}
 use Rattle.babel_table.specs.TableRows.{AreRows}
 use Rattle.babel_table.specs.TableOf.{AreFine, IsTableOf}
 use Rattle.babel_table.proofs.RowsLaws.{rows-none, rows-one}
 use Rattle.babel_table.proofs.SeenLaws.{all_rows, seen_are_rows}
 use Rattle.babel_table.proofs.HopLaws.{hops_fit}
-use Rattle.babel_canon.specs.Headline.{DumpsAnswer, TellsApart}
+use Rattle.babel_canon.specs.Headline.{TellsApart}
 use Rattle.babel_canon.specs.Routes.{AreRouteOctets, AreRoutes, RoutesFault, RoutesHeadline, RoutesReadAgain, RoutesTheSame, SameRoutesAnswer, SaysRoutes}
 use Rattle.babel_canon.specs.Sent.{Sent, sent}
 use Rattle.babel_canon.specs.Sizes.{IsBodySize}
 use Rattle.babel_canon.proofs.Headline.{back, pairs_one, rows_readable}
-use Rattle.babel_canon.proofs.OneOutcome.{rows_one, texts_one}
+use Rattle.babel_canon.proofs.OneOutcome.{on_tables, rows_one, texts_one}
 use Rattle.babel_canon.proofs.Tables.{table_of_pairs}
-use Rattle.babel_canon.proofs.Views.{seen_answers_tell, seen_hops, seen_readable}
+use Rattle.babel_canon.proofs.Views.{all_seen, seen_answers_tell, seen_are_seen, seen_hops, seen_readable}
 
 -- ---- rows are never too many
 
@@ -49,26 +47,12 @@ length-seen : (view : View) (rows : List Pair) → length (seen_rows view rows) 
 length-seen view [] = refl
 length-seen view (row ∷ rows) = omega (arith, length-seen view rows)
 
--- ---- what is seen is seen so again
-
-twice : (view : View) (rows : List Pair) → seen_rows view (seen_rows view rows) ≡ seen_rows view rows
-twice view [] = refl
-twice view (row ∷ rows) =
-    ap (λ (held : Held). (row.0, held) ∷ seen_rows view (seen_rows view rows)) (seen_twice_is_seen view row.0.dst.address.family row.1)
-    ∙ ap (λ (l : List Pair). seen_row view row ∷ l) (twice view rows)
-
 -- ---- the headline
 
 module _ (view : View) (limits : Bounds) (mode : Mode) (body : ℕ) (size : IsBodySize body) where
-  on_tables : (it other_it : Sent) (one other : Routes) → IsTableOf limits mode it.sender it.dump one → IsTableOf limits mode other_it.sender other_it.dump other
-      → (Same : List Pair → List Pair → Type 0) → Same one.rows other.rows → DumpsAnswer Same limits mode it other_it
-  on_tables it other_it one other is_one is_other Same same table too is_table is_too =
-      subst (λ (l : List Pair). Same l too.rows) (rows_one limits mode it.sender it.dump one table is_one is_table)
-      (subst (Same one.rows) (rows_one limits mode other_it.sender other_it.dump other too is_other is_too) same)
-
   tells_apart : (one : Sent) (octets : List ℕ) → SaysRoutes view limits mode body one octets → TellsApart (RoutesTheSame view) (SaysRoutes view limits mode body) limits mode one octets
   tells_apart it octets one other_it other_octets other = (
-    (λ same. on_tables it other_it one.table other.table one.is_table other.is_table (RoutesTheSame view)
+    (λ same. on_tables limits mode it other_it one.table other.table one.is_table other.is_table (RoutesTheSame view)
         (pairs_one body (seen_rows view one.table.rows) (seen_rows view other.table.rows) other_octets size (seen_are_rows view one.table.rows one.rows)
         (seen_are_rows view other.table.rows other.rows) (subst (IsCanonicalText body (seen_rows view one.table.rows)) same one.text) other.text)),
     (λ same. texts_one body (seen_rows view one.table.rows) (seen_rows view other.table.rows) octets other_octets (same one.table other.table one.is_table other.is_table) one.text other.text),
@@ -87,7 +71,7 @@ module _ (view : View) (limits : Bounds) (mode : Mode) (body : ℕ) (size : IsBo
       let no_fault = read.no_fault limits refl few (omega (arith, few, bounds.room)) in
       record {
         no_fault = no_fault;
-        answers = on_tables (sent any octets) it _ one.table is_table one.is_table (AreRoutes view) refl;
+        answers = on_tables limits mode (sent any octets) it _ one.table is_table one.is_table (AreRoutes view) refl;
         again = record {
           no_fault = no_fault;
           table = _;
@@ -115,7 +99,8 @@ pub routes_headline : RoutesHeadline
 routes_headline view limits mode body bounds size one octets says = record {
   says = says;
   tells_apart = tells_apart view limits mode body size one octets says;
-  reads_again = λ any. read_again view limits mode body size bounds one octets says any view (twice view says.table.rows);
+  reads_again = λ any. read_again view limits mode body size bounds one octets says any view
+      (all_seen view (seen_rows view says.table.rows) (seen_are_seen view says.table.rows));
   reads_without = λ any. read_again view limits mode body size bounds one octets says any keeps_all (all_rows (seen_rows view says.table.rows));
 }
 

@@ -1,7 +1,9 @@
 -- What a dump answers is what its table answers.
 use Rattle.std.proofs.Common.{◌≡◌, ◌↔◌, inl, inr, ℕ, List, map, Option, Some, None}
 use Rattle.std.proofs.Common.{refl, sym, ap, subst, ◌∙◌, arith, Contains}
+use Rattle.std.specs.List.{flat_map}
 use Rattle.std.proofs.lemmas.Bool.{cases_lt, cases_order}
+use Rattle.std.proofs.lemmas.List.{append-nil}
 use Rattle.babel_prefix.specs.declared.family.Family.{Family}
 use Rattle.babel_prefix.specs.Width.{width_of}
 use Rattle.babel_prefix.specs.Block.{Block}
@@ -16,20 +18,19 @@ use Rattle.babel_prefix.proofs.Members.{Listed, Listed-from_Contains, Contains-f
 use Rattle.babel_tlv.specs.declared.event.Event.{Event}
 use Rattle.babel_tlv.specs.declared.held.Held.{Held}
 use Rattle.babel_tlv.specs.declared.mode.Mode.{Mode}
+use Rattle.babel_tlv.specs.Framing.{packet_octets}
 use Rattle.babel_tlv.specs.Pair.{Pair}
 use Rattle.babel_tlv.specs.Route.{RouteKey}
 use Rattle.babel_table.specs.BestMatch.{ContainsBoth, HasNoMatch, IsMoreSpecific}
 use Rattle.babel_table.specs.Bounds.{Bounds, start_of}
 use Rattle.babel_table.specs.Rows.{Routes, entries_of}
 use Rattle.babel_table.specs.TableOf.{IsTableOf}
-use Rattle.babel_table.proofs.HoldsLaws.{Holds-stands, stands-Holds}
 use Rattle.babel_table.proofs.StandingLaws.{IsBestOf, IsBestRow}
-use Rattle.babel_canon.specs.DumpAnswers.{held_for, IsAnswer}
 use Rattle.babel_canon.specs.AnswersAreTold.{TableAnswers, AnswerIsOne}
 use Rattle.babel_canon.proofs.BestKeys.{best_of, clean_one, key_one}
 use Rattle.babel_canon.proofs.Boxes.{FromPair, entry_of, pair_of_row, row_of_pair}
 use Rattle.babel_canon.proofs.CleanKeys.{AreClean, held-clean}
-use Rattle.babel_canon.proofs.HeldFor.{held_for-stands}
+use Rattle.babel_canon.proofs.HeldFor.{held_for, held-quiet, IsAnswer}
 use Rattle.babel_canon.proofs.Told.{quiet, table-refuses, told-dump, told-table}
 
 -- ---- rows that are held
@@ -90,17 +91,10 @@ module _ (mode : Mode) (said : List Event) (rows : List Pair) (are : AreHeld mod
       elim (cases_order pair.0.dst.len best.0.dst.len) [
         | inl same ↦ elim (cases_lt best.0.src.len pair.0.src.len) [
           | inl longer ↦ absurd (not_more (inr (same, longer)))
-          | inr ge ↦ inr (
-            ap block_of (clean_one pair.0.dst best.0.dst d (clean_row pair c).0
-                (clean_row best best_c).0 both.0 best_both.0 same),
-            ge,
-          )
+          | inr ge ↦ inr (ap block_of (clean_one pair.0.dst best.0.dst d (clean_row pair c).0 (clean_row best best_c).0 both.0 best_both.0 same), ge)
         ]
-        | inr other ↦ elim other [
-          | inl shorter ↦ inl shorter
-          | inr longer ↦
-              absurd (not_more (inl longer))
-        ]
+        | inr (inl shorter) ↦ inl shorter
+        | inr (inr longer) ↦ absurd (not_more (inl longer))
       ]
 
   not_more-specific : (pair best : Pair) → IsNoLonger (row_of (entry_of pair))
@@ -210,10 +204,8 @@ module _ (limits : Bounds) (mode : Mode) (sender : Address) (dump : List ℕ) (t
     (is_table : IsTableOf limits mode sender dump table) where
   table_held : AreHeld mode (map quiet is_table.said) table.rows
   table_held = record {
-    held = λ key held c. held_for-stands mode is_table.said key
-        ∙ Holds-stands mode is_table.said key held (is_table.rows.held key held c);
-    all = λ key held is. is_table.rows.all key held (stands-Holds mode is_table.said key held
-        (sym (held_for-stands mode is_table.said key) ∙ is));
+    held = λ key held c. held-quiet mode key None is_table.said ∙ is_table.rows.held key held c;
+    all = λ key held is. is_table.rows.all key held (sym (held-quiet mode key None is_table.said) ∙ is);
     clean = λ key held is. held-clean mode (start_of limits sender) is_table.packets key held
         (ap (λ (es : List Event). held_for mode es key)
         (told-table limits mode sender dump table is_table) ∙ is);
@@ -224,11 +216,16 @@ table_answers limits mode one table is_table d s d_in s_in one_family answer =
     let is = answer_is mode (map quiet is_table.said) table.rows
     (table_held limits mode one.sender one.dump table is_table) d s one_family answer in (
       (λ answers. is.0 (subst (λ (es : List Event). IsAnswer mode es d s answer)
-          (told-dump limits mode one.sender one.dump table is_table answers.packets answers.are_read)
+          (told-dump limits mode one.sender one.dump table is_table answers.packets
+          (record {
+            whole = answers.whole ∙ sym (append-nil (flat_map packet_octets answers.packets));
+            placed = answers.placed;
+          }))
           answers.answers)),
       (λ rows. record {
         packets = is_table.packets;
-        are_read = is_table.reads;
+        whole = is_table.reads.whole ∙ append-nil (flat_map packet_octets is_table.packets);
+        placed = is_table.reads.placed;
         none_refuses = table-refuses limits mode one.sender one.dump table is_table;
         answers = subst (λ (es : List Event). IsAnswer mode es d s answer)
             (sym (told-table limits mode one.sender one.dump table is_table)) (is.1 rows);

@@ -12,7 +12,7 @@ use Rattle.babel_tlv.specs.declared.mode.Mode.{Mode}
 use Rattle.babel_tlv.specs.declared.reason.Reason.{Reason}
 use Rattle.babel_tlv.specs.declared.start.Start.{Start}
 use Rattle.babel_tlv.specs.Context.{Context, context_after, first_context, updated}
-use Rattle.babel_tlv.specs.Framing.{TlvAt, Framed}
+use Rattle.babel_tlv.specs.Framing.{TlvAt, ReadsAs}
 use Rattle.babel_tlv.specs.Route.{RouteKey, Announcement, is_reserved}
 use Rattle.babel_tlv.specs.Says.{ignored_for, refuses, route_tells, said, sayings, sayings_behind, tells, told, told_by, unless_ignored}
 use Rattle.babel_tlv.proofs.HopsFit.{via_after}
@@ -41,18 +41,20 @@ quiet_of (Err fault) = events.Nothing
 abbrev IsQuiet : Event → Type 0
 IsQuiet event = quiet event ≡ event
 
-route_quiet : (key : RouteKey) (body : List ℕ) (id : Option (List ℕ)) (hop : Option Address) → IsQuiet (route_tells key body id hop)
-route_quiet key body None hop = refl
-route_quiet key body (Some id) None = refl
-route_quiet key body (Some id) (Some hop) = by (is_reserved id) _
+-- what holds of nothing and of each announcement of a key holds of what is told of a route
+pub route_holds : (Holds : Event → Type 0) (key : RouteKey) (body : List ℕ) (id : Option (List ℕ)) (hop : Option Address)
+    → Holds events.Nothing → ((ann : Announcement) → Holds (events.Announce key ann)) → Holds (route_tells key body id hop)
+route_holds Holds key body None hop nothing each = nothing
+route_holds Holds key body (Some id) None nothing each = nothing
+route_holds Holds key body (Some id) (Some hop) nothing each = by (is_reserved id) _ (each _)
   where
-    by : (reserved : Bool) (ann : Announcement) → IsQuiet (cond reserved events.Nothing (events.Announce key ann))
-    by true ann = refl
-    by false ann = refl
+    by : (reserved : Bool) (ann : Announcement) → Holds (events.Announce key ann) → Holds (cond reserved events.Nothing (events.Announce key ann))
+    by true ann holds = nothing
+    by false ann holds = holds
 
 tells_quiet : (context : Context) (tlv : TlvAt) → IsQuiet (tells context tlv)
-tells_quiet context tlv =
-    tells-holds IsQuiet context refl refl (λ encoding body key told. refl) (λ encoding body key told id hop is. route_quiet key body id hop) tlv
+tells_quiet context =
+    tells-holds IsQuiet context refl refl (λ encoding body key told. refl) (λ encoding body key told id hop is. route_holds IsQuiet key body id hop refl (λ ann. refl))
 
 -- what a TLV tells is what it says, without the reasons
 tells-said : (context : Context) (tlv : TlvAt) → tells context tlv ≡ quiet_of (said context tlv)
@@ -132,5 +134,5 @@ module _ (limits : Bounds) (mode : Mode) (sender : Address) (dump : List ℕ) (t
       told-sayings (start_of limits sender) is_table.packets ∙ ap (map quiet_of) said.whats ∙ quiet_oks said.told ∙ ap (map quiet) (sym said.parts)
 
   -- so does any reading of it
-  pub told-dump : (packets : List (List TlvAt)) → Framed dump packets → told (start_of limits sender) packets ≡ map quiet is_table.said
+  pub told-dump : (packets : List (List TlvAt)) → ReadsAs dump packets [] → told (start_of limits sender) packets ≡ map quiet is_table.said
   told-dump packets reads = ap (told (start_of limits sender)) (framed_one dump packets is_table.packets reads is_table.reads) ∙ told-table

@@ -32,7 +32,7 @@ use Rattle.babel_canon.specs.declared.values.PackedValue.{PackedValue}
 use Rattle.babel_canon.specs.Grids.{AreFamilyBoxes}
 use Rattle.babel_canon.specs.Values.{HasFiniteMetric, AreNumbered, AreNumberedBoxes, AreNumberedEntries, KeepsValues, HasValue, IsPacked, origin_of, restored, value_of, valued, valued_entry}
 use Rattle.babel_canon.proofs.Boxes.{held_tied}
-use Rattle.babel_canon.proofs.Entries.{kept, passed}
+use Rattle.babel_canon.proofs.Entries.{kept}
 use Rattle.babel_canon.proofs.Numbered.{AreDistinct, Says, rows_say, boxes_by_value, numbers_of_boxes}
 
 -- ---- one origin more
@@ -187,9 +187,6 @@ module _ (values : List Held) where
   rows_valued [] = refl
   rows_valued (entry ∷ entries) = ap (λ (rs : List (Row Held)). row_of (valued_entry values entry) ∷ rs) (rows_valued entries)
 
-  of_family_too : (family : Family) (entries : List (Entry PackedValue)) → All (AreOfFamily family) entries → All (AreOfFamily family) (map (valued_entry values) entries)
-  of_family_too family entries all = All-map (AreOfFamily family) (valued_entry values) entries all
-
   rows_numbers : (entries : List (Entry PackedValue)) → All (λ entry. HasValue values entry.2) entries → All (λ row. HasValue values row.value) (map row_of entries)
   rows_numbers entries all = All-map (λ (row : Row PackedValue). HasValue values row.value) row_of entries all
 
@@ -247,11 +244,6 @@ kept_by family rows row values more number old new one_family here new_is keeps 
           ∙ ap (λ (h : Held). let e : Entry Held = (row.0.dst, row.0.src, h) in filter (are_of_family family) (entries_of rows) ++ e ∷ []) held
           ∙ sym (kept family rows row here there);
     }
-
-pub passed_by : (family : Family) (rows : List Pair) (row : Pair) (values : List Held) (entries : List (Entry PackedValue))
-    → row.0.dst.address.family ≢ family → AreNumberedEntries family rows values entries → AreNumberedEntries family (rows ++ row ∷ []) values entries
-passed_by family rows row values entries apart so_far =
-    record { of_family = so_far.of_family; numbers = so_far.numbers; items = so_far.items ∙ sym (passed family rows row apart) }
 
 -- ---- one value packed
 

@@ -1,6 +1,6 @@
 -- The headline for every view, from what a view sees of rows.
 use Rattle.std.proofs.Common.{◌≡◌, ◌↔◌, ℕ, Bool, true, false, cond, List, [], ◌∷◌, map, Option, Some, None, refl, sym, ap, subst, ◌∙◌, inl, inr}
-use Rattle.std.specs.List.{filter}
+use Rattle.std.specs.List.{AllByRecursion, filter}
 use Rattle.std.proofs.lemmas.Bool.{and_parts}
 use Rattle.std.specs.Option.{option_map}
 use Rattle.babel_prefix.specs.declared.family.Family.{Family}
@@ -8,8 +8,7 @@ use Rattle.babel_prefix.specs.Width.{width_of}
 use Rattle.babel_prefix.specs.Address.{Address}
 use Rattle.babel_prefix.specs.Best.{Row, answer}
 use Rattle.babel_prefix.specs.Entries.{are_of_family, row_of, rows_in, answer_for}
-use Rattle.babel_prefix.proofs.EntryLaws.{Listed-map, same_family-is}
-use Rattle.babel_prefix.proofs.Members.{Listed, Listed-from_Contains, Contains-from_Listed}
+use Rattle.babel_prefix.proofs.EntryLaws.{same_family-is}
 use Rattle.babel_tlv.specs.declared.fault.Fault.{Fault}
 use Rattle.babel_tlv.specs.declared.held.Held.{Held}
 use Rattle.babel_tlv.specs.declared.held.Held.TheVariants as helds
@@ -28,18 +27,16 @@ use Rattle.babel_table.proofs.HopLaws.{hops_fit}
 use Rattle.babel_canon.specs.Boxes.{AreBoxes}
 use Rattle.babel_canon.specs.Answers.{AnswerTheSame}
 use Rattle.babel_canon.specs.Canonical.{HasManyBoxes}
-use Rattle.babel_canon.specs.Headline.{DumpsAnswer, TellsApart}
 use Rattle.babel_canon.specs.Sent.{Sent, sent}
 use Rattle.babel_canon.specs.Normalises.{Normalises, NormaliseFault, as_they_are}
 use Rattle.babel_canon.specs.RoundTrip.{AreReadableIn}
 use Rattle.babel_canon.specs.Sizes.{IsBodySize}
 use Rattle.babel_canon.specs.Views.{AnswerTheSameUnder, ReadsAgainSeen, HeadlineUnder}
 use Rattle.babel_canon.specs.ViewsTell.{SeenAnswersTell, AllNormalises}
-use Rattle.babel_canon.proofs.Boxes.{box_held, boxes_answer, entry_of}
-use Rattle.babel_canon.proofs.Headline.{boxes_hop, forms_tell, its_own, readable, rows_readable}
+use Rattle.babel_canon.proofs.Boxes.{boxes_answer, boxes_each, entry_of}
+use Rattle.babel_canon.proofs.Headline.{its_own, reads_again, rows_readable, tells_apart}
 use Rattle.babel_canon.proofs.MappedBoxes.{mapped_row}
 use Rattle.babel_canon.proofs.Numbered.{answer-map}
-use Rattle.babel_canon.proofs.OneOutcome.{rows_one, form_is_one, form_has_no_fault}
 
 -- ---- the answers of what is seen are what is seen of the answers
 
@@ -91,30 +88,21 @@ seen_answers_tell view rows others are other_are = under_seen view rows others
 
 -- ---- what is seen of the boxes of what is seen is these boxes
 
-record SeenOf (view : View) (rows : List Pair) (pair : Pair) : Type 0 where
-  pub held : Held
-  pub is_seen : seen view pair.0.dst.address.family held ≡ pair.1
-
-seen_member : (view : View) (rows : List Pair) (pair : Pair) → Listed (seen_rows view rows) pair → SeenOf view rows pair
-seen_member view rows pair at =
-    let from = Listed-map (seen_row view) rows pair at in
-    record { held = from.0.1; is_seen = subst (λ (p : Pair). seen view p.0.dst.address.family from.0.1 ≡ p.1) from.2 refl }
-
-abbrev IsSeen : View → Pair → Type 0
+abbrev pub IsSeen : View → Pair → Type 0
 IsSeen view pair = seen view pair.0.dst.address.family pair.1 ≡ pair.1
 
-all_seen : (view : View) (pairs : List Pair) → ((pair : Pair) → Listed pairs pair → IsSeen view pair) → seen_rows view pairs ≡ pairs
+pub seen_are_seen : (view : View) (rows : List Pair) → AllByRecursion (IsSeen view) (seen_rows view rows)
+seen_are_seen view [] = tt
+seen_are_seen view (row ∷ rows) = (seen_twice_is_seen view row.0.dst.address.family row.1, seen_are_seen view rows)
+
+pub all_seen : (view : View) (pairs : List Pair) → AllByRecursion (IsSeen view) pairs → seen_rows view pairs ≡ pairs
 all_seen view [] all = refl
-all_seen view (pair ∷ pairs) all =
-    ap (λ (held : Held). (pair.0, held) ∷ seen_rows view pairs) (all pair (inl refl)) ∙ ap (λ (l : List Pair). pair ∷ l) (all_seen view pairs (λ other at. all other (inr at)))
+all_seen view (pair ∷ pairs) all = ap (λ (held : Held). (pair.0, held) ∷ seen_rows view pairs) all.0 ∙ ap (λ (l : List Pair). pair ∷ l) (all_seen view pairs all.1)
 
 seen_boxes : (view : View) (rows boxes : List Pair) → AreBoxes (seen_rows view rows) boxes → seen_rows view boxes ≡ boxes
-seen_boxes view rows boxes are = all_seen view boxes (λ box at.
-    let by = box_held (seen_rows view rows) boxes are box (Contains-from_Listed boxes box at) in
-    let from = seen_member view rows by.pair (Listed-from_Contains (seen_rows view rows) by.pair by.member) in
-    let family = box.0.dst.address.family in
-    let held : seen view family from.held ≡ box.1 = subst (λ (f : Family). seen view f from.held ≡ box.1) by.family (from.is_seen ∙ by.fits_too) in
-    ap (seen view family) (sym held) ∙ seen_twice_is_seen view family from.held ∙ held)
+seen_boxes view rows boxes are = all_seen view boxes (boxes_each (IsSeen view)
+    (λ pair box family held is. subst (λ (f : Family). seen view f box.1 ≡ box.1) family (subst (λ (h : Held). seen view pair.0.dst.address.family h ≡ h) held is))
+    (seen_rows view rows) boxes are (seen_are_seen view rows))
 
 -- what is seen has next hops that fit, if the rows have
 pub seen_hops : (via_v6 : Bool) (view : View) (rows : List Pair) → HopsFit via_v6 rows → HopsFit via_v6 (seen_rows view rows)
@@ -129,78 +117,47 @@ seen_readable view modes.Plain ((key, helds.Unreachable) ∷ rows) reads = absur
 
 -- ---- the headline
 
-tells_apart : (view : View) (limits : Bounds) (mode : Mode) (body : ℕ) → IsBodySize body → (one : Sent) (octets : List ℕ) → Normalises (seen_rows view) limits mode body one octets
-    → TellsApart (AnswerTheSameUnder view) (Normalises (seen_rows view) limits mode body) limits mode one octets
-tells_apart view limits mode body size it octets one other_it other_octets other =
-    let tell = forms_tell body size (seen_rows view one.table.rows) (seen_rows view other.table.rows) one.boxes other.boxes octets other_octets one.are_boxes other.are_boxes one.text other.text in
-    let under = under_seen view one.table.rows other.table.rows in
-    (answers_same (λ same. under.1 (tell.0 same)), (λ same. tell.1 (under.0 (same one.table other.table one.is_table other.is_table))))
-  where
-    answers_same : (octets ≡ other_octets → AnswerTheSameUnder view one.table.rows other.table.rows) → octets ≡ other_octets → DumpsAnswer (AnswerTheSameUnder view) limits mode it other_it
-    answers_same tables_same same table other_table is_table is_other =
-        subst (λ (l : List Pair). AnswerTheSameUnder view l other_table.rows) (rows_one limits mode it.sender it.dump one.table table one.is_table is_table)
-        (subst (λ (l : List Pair). AnswerTheSameUnder view one.table.rows l) (rows_one limits mode other_it.sender other_it.dump other.table other_table other.is_table is_other) (tables_same same))
+-- the canonical form of what is seen is that of what is seen otherwise, where both are one
+abbrev pub seen_otherwise : (see other : List Pair → List Pair) (limits : Bounds) (mode : Mode) (body : ℕ) (it : Sent) (octets : List ℕ) (one : Normalises see limits mode body it octets)
+    → see one.table.rows ≡ other one.table.rows → Normalises other limits mode body it octets
+seen_otherwise see other limits mode body it octets one same = record {
+  no_fault = one.no_fault;
+  table = one.table;
+  is_table = one.is_table;
+  boxes = one.boxes;
+  are_boxes = subst (λ (l : List Pair). AreBoxes l one.boxes) same one.are_boxes;
+  few = one.few;
+  text = one.text;
+}
 
 stays_itself : (view : View) (limits : Bounds) (mode : Mode) (body : ℕ) → AreBounds limits → IsBodySize body → (one : Sent) (octets : List ℕ)
     → Normalises (seen_rows view) limits mode body one octets → (any : Address)
     → ReadsAgainSeen view (seen_rows view) limits mode body one octets any × ReadsAgainSeen view as_they_are limits mode body one octets any
 stays_itself view limits mode body bounds size it octets one any =
     let rows = one.table.rows in
-    let reads = readable mode (seen_rows view rows) one.boxes (seen_readable view mode rows (rows_readable limits mode it.sender it.dump one.table one.is_table)) one.are_boxes in
-    let seen_hop = seen_hops limits.via_v6 view rows (hops_fit limits mode it.sender it.dump one.table one.is_table) in
-    let hops = boxes_hop limits.via_v6 (seen_rows view rows) one.boxes seen_hop one.are_boxes in
-    let own = its_own limits mode body bounds size (seen_rows view rows) one.boxes octets one.are_boxes hops reads one.few one.text any in
-    let stays : seen_rows view one.boxes ≡ one.boxes = seen_boxes view rows one.boxes one.are_boxes in
-    let boxes_same_seen : AnswerTheSame (seen_rows view one.boxes) (seen_rows view rows) =
-    subst (λ (l : List Pair). AnswerTheSame l (seen_rows view rows)) (sym stays) (boxes_answer (seen_rows view rows) one.boxes one.are_boxes) in
-    let same : AnswerTheSameUnder view one.boxes rows = (under_seen view one.boxes rows).1 boxes_same_seen in
-    let again : Normalises (seen_rows view) limits mode body (sent any octets) octets = record {
-      no_fault = own.again.no_fault;
-      table = own.again.table;
-      is_table = own.again.is_table;
-      boxes = own.again.boxes;
-      are_boxes = subst (λ (l : List Pair). AreBoxes l own.again.boxes) (sym (ap (seen_rows view) own.rows_are ∙ stays ∙ sym own.rows_are)) own.again.are_boxes;
-      few = own.again.few;
-      text = own.again.text;
-    } in
-    let answers : DumpsAnswer (AnswerTheSameUnder view) limits mode (sent any octets) it = λ table other_table a b.
-    subst (λ (l : List Pair). AnswerTheSameUnder view l other_table.rows) (sym own.rows_are ∙ rows_one limits mode any octets own.again.table table own.again.is_table a)
-    (subst (λ (l : List Pair). AnswerTheSameUnder view one.boxes l) (rows_one limits mode it.sender it.dump one.table other_table one.is_table b) same) in
-    let of_see : (see : List Pair → List Pair) → Normalises see limits mode body (sent any octets) octets → ReadsAgainSeen view see limits mode body it octets any = λ see its. record {
-      no_fault = own.again.no_fault;
-      answers = answers;
-      again = its;
-      unchanged = λ other normal. form_is_one see limits mode body (sent any octets) other octets normal its;
-      only_memory = λ fault faulty. form_has_no_fault see limits mode body (sent any octets) octets fault its faulty;
-    } in
-    (of_see (seen_rows view) again, of_see as_they_are own.again)
+    let reads = seen_readable view mode rows (rows_readable limits mode it.sender it.dump one.table one.is_table) in
+    let hops = seen_hops limits.via_v6 view rows (hops_fit limits mode it.sender it.dump one.table one.is_table) in
+    let own = its_own limits mode body bounds size (seen_rows view) it octets one reads hops any in
+    let stays : seen_rows view own.again.table.rows ≡ one.boxes = ap (seen_rows view) own.rows_are ∙ seen_boxes view rows one.boxes one.are_boxes in
+    let same : AnswerTheSameUnder view own.again.table.rows rows = (under_seen view own.again.table.rows rows).1
+    (subst (λ (l : List Pair). AnswerTheSame l (seen_rows view rows)) (sym stays) (boxes_answer (seen_rows view rows) one.boxes one.are_boxes)) in
+    let again = seen_otherwise as_they_are (seen_rows view) limits mode body (sent any octets) octets own.again (own.rows_are ∙ sym stays) in (
+      reads_again (AnswerTheSameUnder view) limits mode body it octets any one.table one.is_table (seen_rows view) again same,
+      reads_again (AnswerTheSameUnder view) limits mode body it octets any one.table one.is_table as_they_are own.again same,
+    )
 
 pub headline_under : HeadlineUnder
-headline_under view limits mode body bounds size one octets normal =
-    (tells_apart view limits mode body size one octets normal, stays_itself view limits mode body bounds size one octets normal)
+headline_under view limits mode body bounds size one octets normal = (
+  tells_apart (seen_rows view) (AnswerTheSameUnder view) (under_seen view) limits mode body size one octets normal,
+  stays_itself view limits mode body bounds size one octets normal,
+)
 
 -- ---- the view that keeps all
 
 pub all_normalises : AllNormalises
 all_normalises limits mode body one octets = (
-  (λ under. record {
-    no_fault = under.no_fault;
-    table = under.table;
-    is_table = under.is_table;
-    boxes = under.boxes;
-    are_boxes = subst (λ (l : List Pair). AreBoxes l under.boxes) (all_rows under.table.rows) under.are_boxes;
-    few = under.few;
-    text = under.text;
-  }),
-  (λ normal. record {
-    no_fault = normal.no_fault;
-    table = normal.table;
-    is_table = normal.is_table;
-    boxes = normal.boxes;
-    are_boxes = subst (λ (l : List Pair). AreBoxes l normal.boxes) (sym (all_rows normal.table.rows)) normal.are_boxes;
-    few = normal.few;
-    text = normal.text;
-  }),
+  (λ under. seen_otherwise (seen_rows keeps_all) as_they_are limits mode body one octets under (all_rows under.table.rows)),
+  (λ normal. seen_otherwise as_they_are (seen_rows keeps_all) limits mode body one octets normal (sym (all_rows normal.table.rows))),
 )
 
 pub all_faults : (limits : Bounds) (mode : Mode) (one : Sent) (fault : Fault) → NormaliseFault (seen_rows keeps_all) limits mode one fault → NormaliseFault as_they_are limits mode one fault

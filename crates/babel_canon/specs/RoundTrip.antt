@@ -1,7 +1,7 @@
 -- What the canonical text of pairs is read as: RFC 8966, 4.5 and 4.6.9; RFC 9079, 5; RFC 9229,
 -- 2.
-use Rattle.std.specs.Prelude.{◌≡◌, ◌≢◌, ℕ, ◌*◌, ◌^◌, ◌<◌, ◌≤◌, List, length, map, Ok, ◌↔◌, Contains}
-use Rattle.std.specs.Prelude.{AllPairs}
+use Rattle.std.specs.Prelude.{◌≡◌, ◌≢◌, ℕ, ◌*◌, ◌^◌, ◌<◌, ◌≤◌, List, [], length, map, Ok, ◌↔◌}
+use Rattle.std.specs.Prelude.{AllPairs, Contains}
 use Rattle.std.specs.List.{AllByRecursion}
 use Rattle.std.specs.Map.{keys_of}
 use Rattle.babel_tlv.specs.declared.event.Event.{Event}
@@ -13,7 +13,7 @@ use Rattle.babel_tlv.specs.Route.{RouteKey}
 use Rattle.babel_tlv.specs.Pair.{Pair}
 use Rattle.babel_tlv.specs.declared.start.Start.{Start}
 use Rattle.babel_tlv.specs.Pairs.{HopFits, IsPair}
-use Rattle.babel_tlv.specs.Framing.{TlvAt, Framed}
+use Rattle.babel_tlv.specs.Framing.{TlvAt, ReadsAs}
 use Rattle.babel_tlv.specs.Says.{sayings}
 use Rattle.babel_tlv.specs.Group.{IsCanonicalText}
 use Rattle.babel_tlv.specs.News.{spoken, pair_event}
@@ -40,7 +40,7 @@ AreReadableIn modes.Hold pairs = Unit {0}
 pub record TellsPairs (start : Start) (octets : List ℕ) (pairs : List Pair) : Type 0 where
   pub packets : List (List TlvAt)
   pub said : List Event
-  pub reads : Framed octets packets
+  pub reads : ReadsAs octets packets []
   pub fine : map (λ saying. saying.what) (sayings start packets) ≡ map (λ event. Ok event) said
   pub news : spoken said ≡ map pair_event pairs
 

@@ -1,32 +1,14 @@
 -- Whole packets have no fault of framing but a TLV past the end of its packet.
-use Rattle.std.proofs.Common.{◌≡◌, ◌≢◌, ℕ, ◌+◌, ◌*◌, ◌/◌, ◌%◌, ◌<◌, List, [], ◌∷◌, ◌++◌, length, refl, sym, ap, subst, ◌∙◌, append_assoc, inl, inr, arith}
+use Rattle.std.proofs.Common.{◌≡◌, ◌≢◌, ℕ, ◌+◌, ◌*◌, ◌/◌, ◌%◌, ◌<◌, List, [], ◌∷◌, ◌++◌, length, sym, ap, subst, ◌∙◌, append_assoc, inl, inr, arith}
 use Rattle.std.specs.List.{All, flat_map}
-use Rattle.std.proofs.lemmas.List.{length-append}
 use Rattle.std.proofs.lemmas.List.Elements.{All-head, All-tail}
 use Rattle.babel_tlv.specs.declared.fault.Fault.{Fault}
 use Rattle.babel_tlv.specs.declared.fault.Fault.TheVariants as faults
-use Rattle.babel_tlv.specs.Framing.{TlvAt, ArePackets as ArePlacedPackets, IsBody, body_octets, framed, packet_octets}
-use Rattle.babel_tlv.specs.FrameFaults.{FrameFault, HeaderFault, LacksBody, PacketFault}
+use Rattle.babel_tlv.specs.Framing.{TlvAt, ArePackets as ArePlacedPackets, IsBody, tlv_octets, framed, packet_octets}
+use Rattle.babel_tlv.specs.FrameFaults.{FrameFault, PacketFault}
+use Rattle.babel_tlv.proofs.OneReading.{has_body, header_fine}
 use Rattle.babel_tlv.proofs.OneReading.{framed_one}
 use Rattle.babel_capture.specs.Packets.{ArePackets, IsPastEnd}
-
--- a packet's header is none that is wrong, and its body is there
-header_fine : (at : ℕ) (body more : List ℕ) (fault : Fault) → HeaderFault at (framed body ++ more) fault → ⊥
-header_fine at body more (faults.BadMagic place) h = h.2 refl
-header_fine at body more (faults.BadVersion place) h = h.3 refl
-header_fine at body more (faults.Truncated place) h = h
-header_fine at body more (faults.TlvPastEnd place) h = h
-header_fine at body more (faults.EncodingSetsRouterId place) h = h
-header_fine at body more (faults.TooManyRoutes place) h = h
-header_fine at body more faults.TooLong h = h
-header_fine at body more faults.TooManyPairs h = h
-header_fine at body more faults.Memory h = h
-
-has_body : (body more : List ℕ) → IsBody body → LacksBody (framed body ++ more) → ⊥
-has_body body more fits lacks =
-    let back : length body / 256 % 256 * 256 + length body % 256 ≡ length body = omega arith in
-    let short : length (framed body ++ more) < 4 + (length body / 256 % 256 * 256 + length body % 256) = lacks.3 in
-    omega (arith, short, back, length-append body more)
 
 past_end : (at : ℕ) (body more : List ℕ) (fault : Fault) → IsBody body → PacketFault at (framed body ++ more) fault → IsPastEnd fault
 past_end at body more fault fits (inl (is, inl short)) = absurd (omega (arith, short))
@@ -43,7 +25,7 @@ after at place (body ∷ bodies) [] rest fault fit placed same some faulty =
 after at place [] (tlvs ∷ packets) rest fault fit placed same some faulty =
     absurd (omega (arith, ap length same))
 after at place (body ∷ bodies) (tlvs ∷ packets) rest fault fit placed same some faulty =
-    let first = framed_one body (body_octets tlvs) (flat_map framed bodies) (flat_map packet_octets packets ++ rest) (All-head IsBody body bodies fit) placed.0
+    let first = framed_one body (flat_map tlv_octets tlvs) (flat_map framed bodies) (flat_map packet_octets packets ++ rest) (All-head IsBody body bodies fit) placed.0
     (same ∙ append_assoc (packet_octets tlvs) (flat_map packet_octets packets) rest) in
     after (at + length (packet_octets tlvs)) place bodies packets rest fault (All-tail IsBody body bodies fit) placed.2 first.1 some faulty
 

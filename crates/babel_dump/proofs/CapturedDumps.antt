@@ -10,8 +10,9 @@ use Rattle.babel_capture.specs.declared.fault.Fault.TheVariants as faults
 use Rattle.babel_dump.specs.CaptureGiven.{extent_of, CaptureInput, GaveCapture, GaveWhole, IsReadSo}
 use Rattle.babel_dump.specs.CapturedDump.{HandedIsDump, IsDumpIn, NoDumpCause, RefusalHasCause, capture_with}
 use Rattle.babel_dump.specs.Device.{HandsOf, InputState, fresh}
-use Rattle.babel_dump.specs.Drained.{CaptureSource, EndsRefused, Hands, HasDrained, HasHandedAll, Held, IsAccepted, IsWhole, Stands}
+use Rattle.babel_dump.specs.Drained.{CaptureSource, EndsRefused, Hands, HasDrained, HasHandedAll, Held, IsAccepted, IsWhole, Stands, part_of}
 use Rattle.babel_dump.proofs.Devices.{gave_known}
+use Rattle.babel_dump.proofs.Drains.{all_given}
 use Rattle.babel_dump.specs.declared.captured.CaptureNotes.{CaptureNotes}
 use Rattle.babel_dump.specs.declared.input_fault.InputFault.{InputFault}
 use Rattle.babel_dump.specs.declared.input_fault.InputFault.TheVariants as input_faults
@@ -123,9 +124,9 @@ given_whole first source fed gave at_end = record {
   met_end = omega arith;
 }
 
-given_to_cut : (first : Option (List ℕ)) (source : CaptureSource) (dump : List ℕ) (cut : Option ℕ) (drained : HasDrained first source dump)
-    → IsWhole source drained.fed dump cut → GaveToCut (reader_of first source) (with_taken dump source.capture.progress.gathering) cut
-given_to_cut first source dump cut drained whole = record {
+given_to_cut : (first : Option (List ℕ)) (source : CaptureSource) (taken : List ℕ) (cut : Option ℕ) (drained : HasDrained first source taken)
+    → IsWhole source drained.fed taken cut → GaveToCut (reader_of first source) (with_taken taken source.capture.progress.gathering) cut
+given_to_cut first source taken cut drained whole = record {
   octets = drained.fed;
   gave = given_whole first source drained.fed drained.gave whole.all;
   is_read = rw (← drained.limit) whole.is_read;
@@ -133,15 +134,15 @@ given_to_cut first source dump cut drained whole = record {
 }
 
 -- the capture was read to its end, and this is its dump
-pub drained_well : (first : Option (List ℕ)) (source : CaptureSource) (dump : List ℕ) (notes : CaptureNotes) → HasDrained first source dump
-    → source.end ≡ Some (Ok notes) → IsDumpIn (reader_of first source) dump notes
-drained_well first source dump notes drained is =
-    let stands = subst (Stands source drained.fed dump) is drained.stands in
-    let given = given_to_cut first source dump stands.0 drained stands.1 in
+pub drained_well : (first : Option (List ℕ)) (source : CaptureSource) (taken dump : List ℕ) (notes : CaptureNotes) → HasDrained first source taken
+    → dump ≡ taken ++ part_of source → source.end ≡ Some (Ok notes) → IsDumpIn (reader_of first source) dump notes
+drained_well first source taken dump notes drained dump_is is =
+    let stands = subst (Stands source drained.fed taken) is drained.stands in
+    let given = given_to_cut first source taken stands.0 drained stands.1 in
     record {
-      gathering = with_taken dump source.capture.progress.gathering;
+      gathering = with_taken taken source.capture.progress.gathering;
       gave = rw stands.2.cut_is (gave_so (reader_of first source) _ stands.0 stands.2.accepted given);
-      dump_is = rw (drained.no_more, append-nil dump) refl;
+      dump_is = dump_is;
       one_place = stands.2.one_place;
       report_is = stands.2.report_is;
     }
@@ -175,8 +176,9 @@ pub handed_is_dump : HandedIsDump
 handed_is_dump first old new held here octets is is_too handed gave =
     let hands : Hands held here octets = subst (λ (h : Option Held). HandsOf (Some held) h octets) is_too (subst (λ (h : Option Held). HandsOf h new.captured octets) is gave.gave.handed) in
     let all : HasHandedAll here = subst (λ (h : Option Held). IfSome h HasHandedAll) is_too gave.all.1 in
-    let drained : HasDrained first here.source octets = subst (HasDrained first here.source) (rw all.2 (append-nil octets)) (hands.handed first [] handed) in
-    (all.0, all.1, (last_state here.source, rw (← hands.reading) (drained_well first here.source octets all.0 drained all.1)))
+    let given = hands.handed first [] handed in
+    let dump_is : octets ≡ given.taken ++ part_of here.source = given.given_is ∙ ap (λ (t : List ℕ). given.taken ++ t) (all_given here.given (part_of here.source) all.2) in
+    (all.0, all.1, (last_state here.source, rw (← hands.reading) (drained_well first here.source given.taken octets all.0 given.drained dump_is all.1)))
 
 pub refusal_has_cause : RefusalHasCause
-refusal_has_cause first held given fault handed is = (last_state held.source, drained_refused first held.source (given ++ held.part) fault handed is)
+refusal_has_cause first held given fault handed is = (last_state held.source, drained_refused first held.source handed.taken fault handed.drained is)

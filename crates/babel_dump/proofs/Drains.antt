@@ -1,14 +1,15 @@
 -- A capture that is read for the dump of a sender, piece by piece.
-use Rattle.std.proofs.Common.{◌≡◌, ◌≢◌, refl, ℕ, List, [], ◌++◌, take, length, Option, None, Some, Result, Ok, Err, IfOk, IfErr, ◌<◌, ap, sym, subst, ◌∙◌, inl, inr, append-nil, append_assoc}
-use Rattle.std.specs.Prelude.{IfNone, IfSome, MatchResult}
+use Rattle.std.proofs.Common.{◌≡◌, ◌≢◌, refl, arith, Bool, true, false, ℕ, ◌+◌, ◌≤◌, List, [], ◌++◌, take, drop, length, length-append, Option, None, Some, Result, Ok, Err, IfOk, IfErr, ◌<◌, ap, sym, subst, ◌∙◌, inl, inr, append-nil, append_assoc}
+use Rattle.std.specs.Prelude.{MatchResult}
 use Rattle.std.specs.Io.KnownBytes.{Consumes, IsAtEnd, Keeps}
 use Rattle.std.proofs.KnownBytes.{Consumes-trans}
-use Rattle.std.proofs.lemmas.Option.{same_Some}
+use Rattle.std.proofs.Math.Seq.{take-add, take-append_seam}
+use Rattle.std.proofs.lemmas.List.{length-drop, take-append-drop}
 use Rattle.babel_capture.specs.Capture.{CaptureFault, HasFailed, HasGiven, HasGivenTo, HasRead, IsReadToCut, State}
 use Rattle.babel_capture.specs.Gathering.{with_taken}
 use Rattle.babel_capture.specs.declared.fault.Fault.{Fault}
 use Rattle.babel_capture.specs.declared.fault.Fault.TheVariants as faults
-use Rattle.babel_dump.specs.Drained.{dump_extent, CaptureSource, EndsRefused, EndsWith, HasDrained, HasHanded, HasHandedAll, Hands, Held, Stands, capture_limit, wanted_by}
+use Rattle.babel_dump.specs.Drained.{dump_extent, CaptureSource, EndsRefused, EndsWith, HasDrained, HasHanded, HasHandedAll, Hands, Held, Stands, next_of, part_of, wanted_by}
 use Rattle.babel_dump.specs.declared.captured.CaptureNotes.{CaptureNotes}
 use Rattle.babel_dump.specs.declared.input_fault.InputFault.{InputFault}
 use Rattle.babel_dump.specs.declared.input_fault.InputFault.TheVariants as input_faults
@@ -26,46 +27,51 @@ kept_given (Some xs) (Some ys) kept = sym kept
 
 -- nothing was read yet
 pub begun : (source : CaptureSource) → HasRead source.capture [] → source.capture.limit ≡ dump_extent source.reading
-    → source.capture.progress.gathering.wanted ≡ wanted_by source.reading → source.capture.progress.gathering.dump ≡ [] → source.capture.fault ≡ None
-    → source.end ≡ None → HasDrained source.left source []
-begun source read limit wanted no_more sound going = record {
+    → source.capture.progress.gathering.wanted ≡ wanted_by source.reading → source.capture.fault ≡ None → source.end ≡ None → HasDrained source.left source []
+begun source read limit wanted sound going = record {
   fed = [];
   gave = none_given source.left;
   read = read;
   limit = limit;
   wanted = wanted;
-  no_more = no_more;
   stands = subst (Stands source [] []) (sym going) sound;
 }
 
--- a piece was fed, and a part of the dump taken out
-pub drained_more : (first : Option (List ℕ)) (old new : CaptureSource) (piece part dump : List ℕ) → new.reading ≡ old.reading
+-- nothing was given yet
+pub begun_device : (first : Option (List ℕ)) (source : CaptureSource) (given : ℕ) → given ≡ 0 → HasDrained first source [] → HasHanded first (record { source = source; given = given }) []
+begun_device first source given none drained = record {
+  taken = [];
+  drained = drained;
+  given_is = rw none refl;
+  within = omega (arith, none);
+}
+
+-- the part was taken out, and a piece was fed
+pub drained_more : (first : Option (List ℕ)) (old new : CaptureSource) (piece part taken : List ℕ) → new.reading ≡ old.reading
     → new.capture.limit ≡ old.capture.limit → new.capture.progress.gathering.wanted ≡ old.capture.progress.gathering.wanted
-    → new.capture.progress.gathering.dump ≡ [] → Consumes old.left new.left piece
+    → Consumes old.left new.left piece
     → ((taken fed : List ℕ) → HasGiven old.capture taken fed → HasGiven new.capture (taken ++ part) (fed ++ piece))
-    → ((fed dump : List ℕ) → HasGiven new.capture dump fed → Stands new fed dump new.end)
-    → HasDrained first old dump → HasDrained first new (dump ++ part)
-drained_more first old new piece part dump reading limit wanted no_more gave feeds stands drained =
-    let read = feeds dump drained.fed drained.read in record {
+    → ((fed taken : List ℕ) → HasGiven new.capture taken fed → Stands new fed taken new.end)
+    → HasDrained first old taken → HasDrained first new (taken ++ part)
+drained_more first old new piece part taken reading limit wanted gave feeds stands drained =
+    let read = feeds taken drained.fed drained.read in record {
       fed = drained.fed ++ piece;
       gave = Consumes-trans first old.left new.left _ _ drained.gave gave;
       read = read;
       limit = limit ∙ drained.limit ∙ ap dump_extent (sym reading);
       wanted = wanted ∙ drained.wanted ∙ ap wanted_by (sym reading);
-      no_more = no_more;
-      stands = stands (drained.fed ++ piece) (dump ++ part) read;
+      stands = stands (drained.fed ++ piece) (taken ++ part) read;
     }
 
 -- nothing more was fed
-pub drained_end : (first : Option (List ℕ)) (old new : CaptureSource) (dump : List ℕ) → new.reading ≡ old.reading → new.capture ≡ old.capture
+pub drained_end : (first : Option (List ℕ)) (old new : CaptureSource) (taken : List ℕ) → new.reading ≡ old.reading → new.capture ≡ old.capture
     → Consumes old.left new.left []
-    → ((fed dump : List ℕ) → HasGiven new.capture dump fed → Stands new fed dump new.end)
-    → HasDrained first old dump → HasDrained first new dump
-drained_end first old new dump reading same gave stands drained =
-    let all = drained_more first old new [] [] dump reading (ap (λ (s : State). s.limit) same) (ap (λ (s : State). s.progress.gathering.wanted) same)
-    (ap (λ (s : State). s.progress.gathering.dump) same ∙ drained.no_more) gave
+    → ((fed taken : List ℕ) → HasGiven new.capture taken fed → Stands new fed taken new.end)
+    → HasDrained first old taken → HasDrained first new taken
+drained_end first old new taken reading same gave stands drained =
+    let all = drained_more first old new [] [] taken reading (ap (λ (s : State). s.limit) same) (ap (λ (s : State). s.progress.gathering.wanted) same) gave
     (λ taken fed given. rw (append-nil taken, append-nil fed, same) given) stands drained in
-    subst (HasDrained first new) (append-nil dump) all
+    subst (HasDrained first new) (append-nil taken) all
 
 -- it goes on
 pub stands_open : (source : CaptureSource) → source.end ≡ None → source.capture.fault ≡ None → (fed dump : List ℕ) → HasGiven source.capture dump fed
@@ -114,11 +120,25 @@ stands_ended source fed dump end (Err fault) (inr (inr (cut, whole, ends))) =
 
 -- ---- the device
 
--- the first octets of the part were given
-pub handed_on : (old new : Held) (octets : List ℕ) → new.source ≡ old.source → old.part ≡ octets ++ new.part → Hands old new octets
-handed_on old new octets same split = record {
-  reading = ap (λ (s : CaptureSource). s.reading) same;
-  handed = λ first given handed. rw (same, append_assoc given octets new.part, ← split) handed;
+pub all_given : (n : ℕ) (part : List ℕ) → drop n part ≡ [] → take n part ≡ part
+all_given n part spent = sym (append-nil (take n part)) ∙ ap (λ (t : List ℕ). take n part ++ t) (sym spent) ∙ take-append-drop n part
+
+pub nothing_left : (n : ℕ) (buf all rest : List ℕ) → n ≡ 0 → all ≡ take n buf ++ rest → rest ≡ [] → all ≡ []
+nothing_left n buf all rest zero split none = split ∙ ap (λ (k : ℕ). take k buf ++ rest) zero ∙ none
+
+-- the next octets of the part were given
+pub handed_on : (source : CaptureSource) (old new : ℕ) (octets rest : List ℕ) → drop old (part_of source) ≡ octets ++ rest → new ≡ old + length octets
+    → Hands (record { source = source; given = old }) (record { source = source; given = new }) octets
+handed_on source old new octets rest split moved = record {
+  reading = refl;
+  handed = λ first before handed. record {
+    taken = handed.taken;
+    drained = handed.drained;
+    given_is = ap (λ (t : List ℕ). t ++ octets) handed.given_is ∙ append_assoc handed.taken (take old (part_of source)) octets
+        ∙ ap (λ (t : List ℕ). handed.taken ++ t) (ap (λ (t : List ℕ). take old (part_of source) ++ t) (sym (ap (take (length octets)) split ∙ take-append_seam octets rest))
+        ∙ sym (take-add old (length octets) (part_of source)) ∙ ap (λ (n : ℕ). take n (part_of source)) (sym moved));
+    within = omega (arith, moved, handed.within, ap length split, length-drop old (part_of source), length-append octets rest);
+  };
 }
 
 -- then more was handed
@@ -128,27 +148,33 @@ hands_trans a b c one two front next = record {
   handed = λ first given handed. subst (HasHanded first c) (append_assoc given one two) (next.handed first (given ++ one) (front.handed first given handed));
 }
 
--- the part that is given next was read
-pub hands_part : (old new : Held) → old.part ≡ [] → new.source.reading ≡ old.source.reading
-    → ((first : Option (List ℕ)) (dump : List ℕ) → HasDrained first old.source dump → HasDrained first new.source (dump ++ new.part)) → Hands old new []
-hands_part old new spent reading more = record {
+-- the next part was read
+pub hands_part : (old new : Held) → next_of old ≡ [] → new.given ≡ 0 → new.source.reading ≡ old.source.reading
+    → ((first : Option (List ℕ)) (taken : List ℕ) → HasDrained first old.source taken → HasDrained first new.source (taken ++ part_of old.source)) → Hands old new []
+hands_part old new spent none reading more = record {
   reading = reading;
-  handed = λ first given handed. rw (append-nil given) (more first given (subst (HasDrained first old.source) (rw (spent) (append-nil given)) handed));
+  handed = λ first before handed. record {
+    taken = handed.taken ++ part_of old.source;
+    drained = more first handed.taken handed.drained;
+    given_is = append-nil before ∙ handed.given_is ∙ ap (λ (t : List ℕ). handed.taken ++ t) (all_given old.given (part_of old.source) spent)
+        ∙ sym (append-nil (handed.taken ++ part_of old.source)) ∙ ap (λ (n : ℕ). (handed.taken ++ part_of old.source) ++ take n (part_of new.source)) (sym none);
+    within = omega (arith, none);
+  };
 }
 
 -- the capture was read on, or has ended
-pub drained_on : {T : Type 0} (read : Option T) (old new : CaptureSource) (items : T → List ℕ)
-    → IfSome read (λ part. (first : Option (List ℕ)) (dump : List ℕ) → HasDrained first old dump → HasDrained first new (dump ++ items part))
-    → IfNone read ((first : Option (List ℕ)) (dump : List ℕ) → HasDrained first old dump → HasDrained first new dump)
-    → (first : Option (List ℕ)) (dump : List ℕ) → HasDrained first old dump → (all : List ℕ) × HasDrained first new all
-drained_on (Some part) old new items some none first dump drained = (dump ++ items part, some first dump drained)
-drained_on None old new items some none first dump drained = (dump, none first dump drained)
+pub drained_on : (goes_on : Bool) (old new : CaptureSource)
+    → (goes_on ≡ true → (first : Option (List ℕ)) (taken : List ℕ) → HasDrained first old taken → HasDrained first new (taken ++ part_of old))
+    → (goes_on ≡ false → (new.capture ≡ old.capture) × ((first : Option (List ℕ)) (taken : List ℕ) → HasDrained first old taken → HasDrained first new taken))
+    → (first : Option (List ℕ)) (taken : List ℕ) → HasDrained first old taken → (all : List ℕ) × HasDrained first new all
+drained_on true old new more end first taken drained = (taken ++ part_of old, more refl first taken drained)
+drained_on false old new more end first taken drained = (taken, (end refl).1 first taken drained)
 
 -- a read that meets the end gives nothing
 pub none_given_of : (a b : Option (List ℕ)) (n : ℕ) (buf : List ℕ) → n ≡ 0 → Consumes a b (take n buf) → Consumes a b []
 none_given_of a b n buf none gave = subst (λ (k : ℕ). Consumes a b (take k buf)) none gave
 
-end_reads : {E : Type 0} (read : Result ℕ E) (old new : Held) (buf : List ℕ) → Hands old new [] → new.part ≡ []
+end_reads : {E : Type 0} (read : Result ℕ E) (old new : Held) (buf : List ℕ) → Hands old new [] → next_of new ≡ []
     → IfOk read (λ n. (n ≡ 0) × ((notes : CaptureNotes) × (new.source.end ≡ Some (Ok notes))))
     → MatchResult read (λ n. Hands old new (take n buf) × (n ≡ 0 → 0 < length buf → HasHandedAll new)) (λ _. Hands old new [])
 end_reads (Ok n) old new buf here spent ends =
@@ -156,15 +182,21 @@ end_reads (Ok n) old new buf here spent ends =
 end_reads (Err e) old new buf here spent ends = here
 
 -- nothing is left of the part, and the capture has ended
-pub hands_end : {E : Type 0} (read : Result ℕ E) (old now new : Held) (buf octets : List ℕ) → Hands old now [] → now.part ≡ octets ++ new.part → octets ≡ []
-    → new.part ≡ [] → new.source.reading ≡ now.source.reading
-    → ((first : Option (List ℕ)) (dump : List ℕ) → HasDrained first now.source dump → HasDrained first new.source dump)
-    → IfOk read (λ n. (n ≡ 0) × ((notes : CaptureNotes) × (new.source.end ≡ Some (Ok notes))))
-    → MatchResult read (λ n. Hands old new (take n buf) × (n ≡ 0 → 0 < length buf → HasHandedAll new)) (λ _. Hands old new [])
-hands_end read old now new buf octets before split none spent reading drains ends =
-    let same : now.part ≡ new.part = split ∙ ap (λ (t : List ℕ). t ++ new.part) none in
-    end_reads read old new buf (record {
+pub hands_end : {E : Type 0} (read : Result ℕ E) (old : Held) (now new : CaptureSource) (given : ℕ) (buf : List ℕ) → Hands old (record { source = now; given = given }) []
+    → drop given (part_of now) ≡ [] → new.reading ≡ now.reading → new.capture ≡ now.capture
+    → ((first : Option (List ℕ)) (taken : List ℕ) → HasDrained first now taken → HasDrained first new taken)
+    → IfOk read (λ n. (n ≡ 0) × ((notes : CaptureNotes) × (new.end ≡ Some (Ok notes))))
+    → MatchResult read (λ n. Hands old (record { source = new; given = given }) (take n buf) × (n ≡ 0 → 0 < length buf → HasHandedAll (record { source = new; given = given })))
+    (λ _. Hands old (record { source = new; given = given }) [])
+hands_end read old now new given buf before spent reading same drains ends =
+    end_reads read old (record { source = new; given = given }) buf (record {
       reading = reading ∙ before.reading;
-      handed = λ first given handed. drains first _
-          (subst (λ (t : List ℕ). HasDrained first now.source ((given ++ []) ++ t)) same (before.handed first given handed));
-    }) spent ends
+      handed = λ first octets handed.
+          let here = before.handed first octets handed in
+          record {
+            taken = here.taken;
+            drained = drains first here.taken here.drained;
+            given_is = subst (λ (s : State). octets ++ [] ≡ here.taken ++ take given s.progress.gathering.dump) (sym same) here.given_is;
+            within = subst (λ (s : State). given ≤ length s.progress.gathering.dump) (sym same) here.within;
+          };
+    }) (subst (λ (s : State). drop given s.progress.gathering.dump ≡ []) (sym same) spent) ends

@@ -2,7 +2,7 @@
 use Rattle.std.proofs.Common.{◌≡◌, ◌⊎◌, inl, inr, ℕ, suc, zero, ◌+◌, ◌<◌, ◌≤◌, Bool, true, false, cond, nat_lt, if◌then◌else◌, List, [], ◌∷◌, ◌++◌}
 use Rattle.std.proofs.Common.{length, map, get_or, Option, None, Some, refl, sym, ap, subst, ◌∙◌, arith, eqb-true, eq-eqb}
 use Rattle.std.specs.Prelude.{Result, Ok, Err, count_by, slice_get, find}
-use Rattle.std.specs.List.{AllByRecursion}
+use Rattle.std.specs.List.{AllByRecursion, flat_map}
 use Rattle.std.specs.Option.{option_map}
 use Rattle.std.proofs.lemmas.Bool.{false≢true, ltb-true, lt-ltb}
 use Rattle.std.proofs.lemmas.List.{length-append}
@@ -13,7 +13,7 @@ use Rattle.babel_tlv.specs.declared.fault.Fault.{Fault}
 use Rattle.babel_tlv.specs.declared.reason.Reason.{Reason}
 use Rattle.babel_tlv.specs.declared.reason.Reason.TheVariants as reasons
 use Rattle.babel_tlv.specs.declared.start.Start.{Start}
-use Rattle.babel_tlv.specs.Framing.{ArePackets, ArePlaced, TlvAt, body_octets, laid_out, packet_octets, tlv_octets}
+use Rattle.babel_tlv.specs.Framing.{ArePackets, ArePlaced, TlvAt, laid_out, packet_octets, tlv_octets}
 use Rattle.babel_tlv.specs.Says.{Saying, sayings, sayings_behind}
 use Rattle.babel_table.specs.Counts.{all_reasons, count_at, counts_of, ignored_in, is_ignored_for, reason_place}
 use Rattle.babel_dump.specs.FirstIgnored.{AreNotIgnored, FirstIsFirst, IsFirst, IsIgnoredFor, NoneIsNone, OffsetsOfDumpsRise, OffsetsRise}
@@ -387,16 +387,16 @@ some_octets : (kind : ℕ) (body : List ℕ) → 0 < length (laid_out kind body)
 some_octets zero body = omega arith
 some_octets (suc kind) body = omega arith
 
-within_packet : (start : Start) (at : ℕ) (earlier tlvs : List TlvAt) → ArePlaced at tlvs → RiseWithin at (at + length (body_octets tlvs)) (sayings_behind start earlier tlvs)
+within_packet : (start : Start) (at : ℕ) (earlier tlvs : List TlvAt) → ArePlaced at tlvs → RiseWithin at (at + length (flat_map tlv_octets tlvs)) (sayings_behind start earlier tlvs)
 within_packet start at earlier [] placed = omega arith
 within_packet start at earlier (tlv ∷ tlvs) placed =
     let len = length (tlv_octets tlv) in
     let some : 0 < len = some_octets tlv.kind tlv.body in
-    let whole : length (tlv_octets tlv ++ body_octets tlvs) ≡ len + length (body_octets tlvs) = length-append (tlv_octets tlv) (body_octets tlvs) in
+    let whole : length (tlv_octets tlv ++ flat_map tlv_octets tlvs) ≡ len + length (flat_map tlv_octets tlvs) = length-append (tlv_octets tlv) (flat_map tlv_octets tlvs) in
     let later = within_packet start (at + len) (tlv ∷ earlier) tlvs placed.2 in
-    let end : at + len + length (body_octets tlvs) ≡ at + length (body_octets (tlv ∷ tlvs)) = omega arith in
+    let end : at + len + length (flat_map tlv_octets tlvs) ≡ at + length (flat_map tlv_octets (tlv ∷ tlvs)) = omega arith in
     let told = sayings_behind start (tlv ∷ earlier) tlvs in
-    (omega (arith, placed.0), within_from (at + len) (suc tlv.at) (at + length (body_octets (tlv ∷ tlvs))) told (omega (arith, placed.0)) (subst (λ n. RiseWithin (at + len) n told) end later))
+    (omega (arith, placed.0), within_from (at + len) (suc tlv.at) (at + length (flat_map tlv_octets (tlv ∷ tlvs))) told (omega (arith, placed.0)) (subst (λ n. RiseWithin (at + len) n told) end later))
 
 -- the offset behind the packets
 abbrev end_of : ℕ → List (List TlvAt) → ℕ
@@ -406,7 +406,7 @@ end_of at (tlvs ∷ packets) = end_of (at + length (packet_octets tlvs)) packets
 within_packets : (start : Start) (at : ℕ) (packets : List (List TlvAt)) → ArePackets at packets → RiseWithin at (end_of at packets) (sayings start packets)
 within_packets start at [] are = omega arith
 within_packets start at (tlvs ∷ packets) are =
-    let end : at + length (packet_octets tlvs) ≡ at + 4 + length (body_octets tlvs) = omega arith in
+    let end : at + length (packet_octets tlvs) ≡ at + 4 + length (flat_map tlv_octets tlvs) = omega arith in
     let here = within_packet start (at + 4) [] tlvs are.1 in
     let later = within_packets start (at + length (packet_octets tlvs)) packets are.2 in
     within_append at (at + length (packet_octets tlvs)) (end_of at (tlvs ∷ packets)) (sayings_behind start [] tlvs) (sayings start packets)

@@ -1,8 +1,7 @@
 -- The dump of a sender that a device gives as it reads a capture: what it holds, and what that says
 -- of the octets that it gave. No RFC speaks of devices: these are this project's own.
 use Rattle.std.specs.Prelude.{ℕ, ◌≡◌, ◌≢◌, ◌^◌, ◌≤◌, ◌⊎◌, ⊤, max, Bool, false, true, List, [], ◌++◌}
-use Rattle.std.specs.Prelude.{length, Option, None, Some, Result, Ok, Err}
-use Rattle.std.specs.Option.{unwrap_or}
+use Rattle.std.specs.Prelude.{length, take, drop, Option, None, Some, Result, Ok, Err}
 use Rattle.std.specs.Io.KnownBytes.{Consumes, IsAtEnd}
 use Rattle.babel_capture.specs.Capture.{EndsShort, HasGiven, IsReadToCut, State}
 use Rattle.babel_capture.specs.Gathering.{Gathering, with_taken}
@@ -82,48 +81,55 @@ IsFaultOfFed source fed fault =
     ⊎ (IsAtEnd source.left × (fault ≡ capture_faults.NotCapture)
     × EndsShort source.capture.limit source.capture.progress.gathering.wanted fed fault)
 
--- the capture was fed these octets, all that its reader had; up to a cut they are a capture, which
--- has this dump
-pub record IsWhole (source : CaptureSource) (fed dump : List ℕ) (cut : Option ℕ) : Type 0 where
+-- the capture was fed these octets, all that its reader had; up to a cut they are a capture, whose
+-- dump begins with the octets that were taken out of it
+pub record IsWhole (source : CaptureSource) (fed taken : List ℕ) (cut : Option ℕ) : Type 0 where
   pub all : IsAtEnd source.left
   pub is_read : IsReadToCut source.capture.limit fed
-      (with_taken dump source.capture.progress.gathering) cut
+      (with_taken taken source.capture.progress.gathering) cut
 
 -- a read failed; or the capture has a fault; or it is refused at its end
-abbrev pub IsRefusedFor : CaptureSource → (fed dump : List ℕ) → InputFault → Type 0
-IsRefusedFor source fed dump fault =
+abbrev pub IsRefusedFor : CaptureSource → (fed taken : List ℕ) → InputFault → Type 0
+IsRefusedFor source fed taken fault =
     (fault ≡ input_faults.Read)
     ⊎ ((of : Fault) × (fault ≡ input_faults.Capture of)
     × (of ≢ capture_faults.Memory → IsFaultOfFed source fed of))
-    ⊎ ((cut : Option ℕ) × IsWhole source fed dump cut
+    ⊎ ((cut : Option ℕ) × IsWhole source fed taken cut
     × EndsRefused source.reading.accept_cut source.reading.strict
     source.capture.progress.gathering cut fault)
 
 -- it goes on, or how it ended
 abbrev pub Stands :
-    CaptureSource → (fed dump : List ℕ) → Option (Result CaptureNotes InputFault) → Type 0
-Stands source fed dump None = source.capture.fault ≡ None
-Stands source fed dump (Some (Ok notes)) =
-    (cut : Option ℕ) × IsWhole source fed dump cut
+    CaptureSource → (fed taken : List ℕ) → Option (Result CaptureNotes InputFault) → Type 0
+Stands source fed taken None = source.capture.fault ≡ None
+Stands source fed taken (Some (Ok notes)) =
+    (cut : Option ℕ) × IsWhole source fed taken cut
     × EndsWith source.reading.accept_cut source.capture.progress.gathering cut notes
-Stands source fed dump (Some (Err fault)) = IsRefusedFor source fed dump fault
+Stands source fed taken (Some (Err fault)) = IsRefusedFor source fed taken fault
 
--- of a reader that had this first, a capture was fed what is no longer left, and gave these octets
--- of the dump
+-- Of a reader that had this first, a capture was fed what is no longer left, and these octets were
+-- taken out of its dump. It keeps the part that comes after them, and where packets end in that.
 pub record HasDrained (first : Option (List ℕ)) (source : CaptureSource)
-    (dump : List ℕ) : Type 0 where
+    (taken : List ℕ) : Type 0 where
   pub fed : List ℕ
   pub gave : Consumes first source.left fed
-  pub read : HasGiven source.capture dump fed
+  pub read : HasGiven source.capture taken fed
   pub limit : source.capture.limit ≡ dump_extent source.reading
   pub wanted : source.capture.progress.gathering.wanted ≡ wanted_by source.reading
-  pub no_more : source.capture.progress.gathering.dump ≡ []
-  pub stands : Stands source fed dump source.end
+  pub stands : Stands source fed taken source.end
 
--- what a device holds of a capture: besides, the octets of the dump that it gives next
+-- what a device holds of a capture: besides, how many octets of the part that the capture keeps
+-- were given
 pub record Held : Type 0 where
   pub source : CaptureSource
-  pub part : List ℕ
+  pub given : ℕ
+
+-- the part, and its octets that are given next
+abbrev pub part_of : CaptureSource → List ℕ
+part_of source = source.capture.progress.gathering.dump
+
+abbrev pub next_of : Held → List ℕ
+next_of held = drop held.given (part_of held.source)
 
 abbrev pub source_of : {R : Type 0} → (remaining : R → Option (List ℕ)) → Source R → CaptureSource
 source_of remaining source = record {
@@ -133,21 +139,25 @@ source_of remaining source = record {
   end = source.end;
 }
 
-abbrev pub held_of : {R : Type 0} → (remaining : R → Option (List ℕ)) → Source R
-    → (part : Option (List ℕ)) → Held
-held_of remaining source part =
-    record { source = source_of remaining source; part = unwrap_or part [] }
+abbrev pub held_of : {R : Type 0} → (remaining : R → Option (List ℕ)) → Source R → (given : ℕ)
+    → Held
+held_of remaining source given = record { source = source_of remaining source; given = given }
 
--- the device gave these octets since it was made, over a reader that had this first
-abbrev pub HasHanded : (first : Option (List ℕ)) → Held → (given : List ℕ) → Type 0
-HasHanded first held given = HasDrained first held.source (given ++ held.part)
+-- the device gave these octets since it was made, over a reader that had this first: those that
+-- were taken out of the dump, and the first ones of the part
+pub record HasHanded (first : Option (List ℕ)) (held : Held) (octets : List ℕ) : Type 0 where
+  pub taken : List ℕ
+  pub drained : HasDrained first held.source taken
+  pub given_is : octets ≡ taken ++ take held.given (part_of held.source)
+  pub within : held.given ≤ length (part_of held.source)
 
 -- between the two the device gave these octets
 pub record Hands (old new : Held) (octets : List ℕ) : Type 0 where
   pub reading : new.source.reading ≡ old.source.reading
-  pub handed : (first : Option (List ℕ)) (given : List ℕ) → HasHanded first old given
-      → HasHanded first new (given ++ octets)
+  pub handed : (first : Option (List ℕ)) (before : List ℕ) → HasHanded first old before
+      → HasHanded first new (before ++ octets)
 
 -- the capture has ended, and nothing of its dump is left to give
 abbrev pub HasHandedAll : Held → Type 0
-HasHandedAll held = (notes : CaptureNotes) × (held.source.end ≡ Some (Ok notes)) × (held.part ≡ [])
+HasHandedAll held =
+    (notes : CaptureNotes) × (held.source.end ≡ Some (Ok notes)) × (next_of held ≡ [])

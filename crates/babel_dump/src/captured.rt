@@ -1,13 +1,14 @@
 //! The dump of a sender in a capture, which runs read as they read any dump.
-ghost use Rattle.std.specs.Prelude.{◌≡◌, ◌<◌, ◌⊎◌, ◌++◌, ℕ, List, [], take, length, Option, None};
-ghost use Rattle.std.specs.Prelude.{Some, Ok, Err, IfErr, IfNone, IfOk, IfSome, MatchResult};
+ghost use Rattle.std.specs.Prelude.{◌≡◌, ◌<◌, ◌+◌, ◌^◌, ◌⊎◌, ◌++◌, ℕ, List, [], take, drop, length};
+ghost use Rattle.std.specs.Prelude.{Option, None, Some, Ok, Err, IfErr, IfOk, MatchResult, true};
+ghost use Rattle.std.specs.Prelude.{false};
 ghost use Rattle.std.specs.Io.{ReadsAtMost};
 ghost use Rattle.std.specs.Io.KnownBytes.{IsAtEnd};
 ghost use Rattle.babel_capture.specs.Capture.{HasGiven};
 ghost use Rattle.babel_dump.specs.CapturedDump.{NoDumpCause, capture_with};
 ghost use Rattle.babel_dump.specs.Device.{HasRoomToCount, InputState, fresh};
 ghost use Rattle.babel_dump.specs.Drained.{EndsRefused, EndsWith, HasDrained, HasHanded, Hands};
-ghost use Rattle.babel_dump.specs.Drained.{HasHandedAll, Stands, held_of, source_of};
+ghost use Rattle.babel_dump.specs.Drained.{HasHandedAll, Stands, held_of, part_of, source_of};
 ghost use Rattle.babel_dump.specs.declared.captured.CaptureNotes.{CaptureNotes as CaptureNotesSaid};
 ghost use Rattle.babel_dump.specs.declared.input_fault.InputFault.{InputFault as InputFaultSaid};
 
@@ -16,11 +17,11 @@ use crate::input_fault::InputFault;
 use crate::interfaces::interfaces_of;
 use crate::left_out::{LeftOutDatagram, first_left_out};
 use crate::reading::Reading;
-use babel_capture::{Capture, Fault, Gathered, Report};
+use babel_capture::{Capture, Fault, Gathered, PacketEnd, Report};
 use babel_tlv::Fault as DumpFault;
 use std::alloc::Global;
 use std::io;
-use std::io::{Cursor, ErrorKind, Read};
+use std::io::{ErrorKind, Read};
 
 /// How many octets one read of a capture asks for.
 const PIECE: usize = 65_536;
@@ -40,6 +41,7 @@ struct Source<R> {
     alloc: Global,
     reading: Reading,
     reader: R,
+    /// It keeps the part of the dump that was read last, and where packets end in that.
     capture: Capture,
     /// What the notes say of it, or why it is refused, once it has ended.
     end: Option<Result<CaptureNotes, InputFault>>,
@@ -61,40 +63,50 @@ impl<R: Read + Drop> Source<R> {
         }
     }
 
-    /// Reads more of the capture: the octets that it adds to the dump, if any. `None` where the
-    /// capture has ended, or is refused.
-    fn next_part(&mut self) -> Option<Vec<u8>>
+    /// The octets of the part after so many of them.
+    fn part_after(&self, given: usize) -> &[u8]
+        ensures octets { result.now ≡ drop given (part_of (source_of R.remaining self.now)) }
+        ensures fits { given + length result.now < 2 ^ 64 }
+    {
+        let part = self.capture.gathered().dump();
+        &part[given.min(part.len())..]
+    }
+
+    /// Reads more of the capture, which then keeps the next part of the dump. `false` where it has
+    /// ended, or is refused.
+    fn next_part(&mut self) -> bool
         ensures reading { self.new.reading ≡ self.old.reading }
-        ensures some { IfSome result (λ part. (first : Option (List ℕ)) (dump : List ℕ)
-            → HasDrained first (source_of R.remaining self.old) dump
-            → HasDrained first (source_of R.remaining self.new) (dump ++ part.items)) }
-        ensures none { IfNone result ((first : Option (List ℕ)) (dump : List ℕ)
-            → HasDrained first (source_of R.remaining self.old) dump
-            → HasDrained first (source_of R.remaining self.new) dump) }
+        ensures more { result ≡ true → (first : Option (List ℕ)) (taken : List ℕ)
+            → HasDrained first (source_of R.remaining self.old) taken
+            → HasDrained first (source_of R.remaining self.new)
+            (taken ++ part_of (source_of R.remaining self.old)) }
+        ensures end { result ≡ false → (self.new.capture ≡ self.old.capture)
+            × ((first : Option (List ℕ)) (taken : List ℕ)
+            → HasDrained first (source_of R.remaining self.old) taken
+            → HasDrained first (source_of R.remaining self.new) taken) }
     {
         if self.end.is_some() {
-            return None;
+            return false;
         }
         let mut piece = [0; PIECE];
         match self.reader.read(&mut piece) {
             Ok(0) => {
                 self.end = Some(self.end_here());
-                None
+                false
             }
             Ok(n) => {
-                let fed = self.capture.feed(&piece[..n]);
-                let part = self.capture.take_dump();
-                match fed {
-                    Ok(()) => Some(part),
+                self.capture.take_dump();
+                match self.capture.feed(&piece[..n]) {
+                    Ok(()) => true,
                     Err(fault) => {
                         self.end = Some(Err(InputFault::Capture(fault)));
-                        Some(part)
+                        true
                     }
                 }
             }
             Err(_) => {
                 self.end = Some(Err(InputFault::Read));
-                None
+                false
             }
         }
     }
@@ -113,12 +125,12 @@ impl<R: Read + Drop> Source<R> {
     /// Reads the capture to its end.
     fn read_out(&mut self)
         ensures reading { self.new.reading ≡ self.old.reading }
-        ensures drained { (first : Option (List ℕ)) (dump : List ℕ)
-            → HasDrained first (source_of R.remaining self.old) dump
+        ensures drained { (first : Option (List ℕ)) (taken : List ℕ)
+            → HasDrained first (source_of R.remaining self.old) taken
             → (all : List ℕ) × HasDrained first (source_of R.remaining self.new) all }
     {
         'parts: for _ in 0..u64::MAX {
-            if self.next_part().is_none() {
+            if !self.next_part() {
                 return;
             }
         }
@@ -133,8 +145,8 @@ impl<R: Read + Drop> Source<R> {
     fn refusal_or(self, fault: InputFault) -> InputFault
         ensures refusal { (refusal : InputFaultSaid) → self.end ≡ Some (Err refusal)
             → result ≡ refusal }
-        ensures told { (first : Option (List ℕ)) (dump : List ℕ)
-            → HasDrained first (source_of R.remaining self) dump → (result ≡ fault)
+        ensures told { (first : Option (List ℕ)) (taken : List ℕ)
+            → HasDrained first (source_of R.remaining self) taken → (result ≡ fault)
             ⊎ ((last : InputState)
             × NoDumpCause (capture_with (fresh first) last self.reading) result) }
     {
@@ -148,8 +160,8 @@ impl<R: Read + Drop> Source<R> {
     /// What the notes say of the capture, which ends here, or why it is refused.
     fn end_here(&self) -> Result<CaptureNotes, InputFault>
         ensures { let source = source_of R.remaining self.now in IsAtEnd source.left
-            → source.capture.fault ≡ None → (fed dump : List ℕ)
-            → HasGiven source.capture dump fed → Stands source fed dump (Some result) }
+            → source.capture.fault ≡ None → (fed taken : List ℕ)
+            → HasGiven source.capture taken fed → Stands source fed taken (Some result) }
     {
         match self.capture.cut() {
             Ok(cut) => end_of(self.alloc, self.reading, self.capture.gathered(), cut),
@@ -163,7 +175,8 @@ impl<R: Read + Drop> Source<R> {
 #[derive(Drop)]
 pub struct CapturedDump<R> {
     source: Source<R>,
-    part: Cursor<Vec<u8>>,
+    /// How many octets of the source's part were given.
+    given: usize,
     failures: u64,
     reads: u64,
     ends: u64,
@@ -173,17 +186,32 @@ impl<R: Read + Drop> CapturedDump<R> {
     /// The dump that is read so, of the capture that the reader gives.
     pub fn new(alloc: Global, reading: Reading, reader: R) -> CapturedDump<R>
         ensures reading { result.source.reading ≡ reading }
-        ensures none { HasHanded (R.remaining reader) (held_of R.remaining result.source
-            (⟦<Cursor<Vec<u8>> as Read>⟧.remaining result.part)) [] }
+        ensures none { HasHanded (R.remaining reader)
+            (held_of R.remaining result.source result.given) [] }
         ensures room { HasRoomToCount (⟦<CapturedDump<R> as ByteIn>⟧.state result) }
     {
         CapturedDump {
             source: Source::new(alloc, reading, reader),
-            part: Cursor::new(Vec::new(alloc)),
+            given: 0,
             failures: 0,
             reads: 0,
             ends: 0,
         }
+    }
+
+    /// Where each packet ends in the part of the dump that was read last of the capture, of which a
+    /// read gives octets, and which packet of the capture it came from.
+    pub fn ends(&self) -> &[PacketEnd]
+        ensures { result.now ≡ self.now.source.capture.progress.ends }
+    {
+        self.source.capture.ends()
+    }
+
+    /// How many octets of that part were given: where the next read begins in it.
+    pub fn given(&self) -> usize
+        ensures { result ≡ self.now.given }
+    {
+        self.given
     }
 
     /// What the notes say of the capture, where it was read to its end; `None` where it is refused.
@@ -205,8 +233,8 @@ impl<R: Read + Drop> CapturedDump<R> {
     pub fn told(self, fault: InputFault) -> InputFault
         ensures refusal { fault ≡ InputFault.Read → (refusal : InputFaultSaid)
             → self.source.end ≡ Some (Err refusal) → result ≡ refusal }
-        ensures told { (first : Option (List ℕ)) (dump : List ℕ)
-            → HasDrained first (source_of R.remaining self.source) dump → (result ≡ fault)
+        ensures told { (first : Option (List ℕ)) (taken : List ℕ)
+            → HasDrained first (source_of R.remaining self.source) taken → (result ≡ fault)
             ⊎ ((last : InputState)
             × NoDumpCause (capture_with (fresh first) last self.source.reading) result) }
     {
@@ -228,29 +256,30 @@ impl<R: Read + Drop> CapturedDump<R> {
     }
 }
 
-/// Gives the next octets of the dump: of this part of it, or of the next that the source has.
+/// Gives the next octets of the dump: of the source's part, of which so many were given, or of the
+/// next that it has.
 fn give<R: Read + Drop>(
     source: &mut Source<R>,
-    part: &mut Cursor<Vec<u8>>,
+    given: &mut usize,
     buf: &mut [u8],
 ) -> io::Result<usize>
     ensures bound { ReadsAtMost result buf.new }
-    ensures octets { let old = held_of R.remaining source.old
-        (⟦<Cursor<Vec<u8>> as Read>⟧.remaining part.old) in
-        let new = held_of R.remaining source.new
-        (⟦<Cursor<Vec<u8>> as Read>⟧.remaining part.new) in
+    ensures octets { let old = held_of R.remaining source.old given.old in
+        let new = held_of R.remaining source.new given.new in
         MatchResult result (λ n. Hands old new (take n buf.new)
         × (n ≡ 0 → 0 < length buf.new → HasHandedAll new)) (λ _. Hands old new []) }
 {
     'parts: for _ in 0..u64::MAX {
-        let len = part.read(buf)?;
+        let mut next = source.part_after(*given);
+        let len = next.read(buf)?;
         if len > 0 || buf.is_empty() {
+            *given += len;
             return Ok(len);
         }
-        match source.next_part() {
-            Some(next) => *part = Cursor::new(next),
-            None => return source.answer_at_end(),
+        if !source.next_part() {
+            return source.answer_at_end();
         }
+        *given = 0;
     }
     Err(io::Error::from(ErrorKind::InvalidData))
 }
@@ -260,8 +289,7 @@ impl<R: Read + Drop> ByteIn for CapturedDump<R> {
 
     ghost state = { λ d. record {
       left = None;
-      captured = Some (held_of R.remaining d.source
-          (⟦<Cursor<Vec<u8>> as Read>⟧.remaining d.part));
+      captured = Some (held_of R.remaining d.source d.given);
       left_out = first_of d.source.capture.progress.gathering.report;
       failures = d.failures;
       reads = d.reads;
@@ -270,7 +298,7 @@ impl<R: Read + Drop> ByteIn for CapturedDump<R> {
 
     fn read(&mut self, buf: &mut [u8]) -> io::Result<usize> {
         self.reads += 1;
-        match give(&mut self.source, &mut self.part, buf) {
+        match give(&mut self.source, &mut self.given, buf) {
             Ok(n) => {
                 if n == 0 && !buf.is_empty() {
                     self.ends += 1;

@@ -12,14 +12,15 @@ use Rattle.babel_tlv.specs.declared.fault.Fault.{Fault}
 use Rattle.babel_tlv.specs.declared.fault.Fault.TheVariants as faults
 use Rattle.babel_tlv.specs.declared.mode.Mode.{Mode}
 use Rattle.babel_tlv.specs.FrameFaults.{TlvPastEndAt, HasNoTlvAt, BeginsPacket, HasHeader, HeaderFault, PacketFault, body_len}
-use Rattle.babel_tlv.specs.Framing.{TlvAt, ArePackets, ArePlaced, IsBody, ReadsAs, body_octets, framed, packet_octets, tlvs_of}
+use Rattle.babel_tlv.specs.Framing.{TlvAt, ArePackets, ArePlaced, IsBody, ReadsAs, tlv_octets, framed, packet_octets, tlvs_of}
 use Rattle.babel_tlv.specs.Says.{Saying, sayings, sayings_behind}
 use Rattle.babel_table.specs.DumpFault.{RefusedBy, StreamFault, IsTruncated}
 use Rattle.babel_table.specs.Feeding.{StandsBehind, Takes, Fails, TookPackets, StopsAt, StopsBehind, IsPartial, IsReady, IsLasting, NeedsMemory}
 use Rattle.babel_table.specs.Rows.{Routes}
 use Rattle.babel_table.specs.TableOf.{AreFine}
 use Rattle.babel_table.proofs.FineLaws.{fine-not-refused}
-use Rattle.babel_table.proofs.ReadingLaws.{body_len-framed, length-framed, partial-no_packet, partial-stuck, placed-drop, one_body, placed-no_stop, packets_one}
+use Rattle.babel_table.proofs.ReadingLaws.{body_len-framed, length-framed, partial-no_packet, partial-stuck, placed-drop, one_body, packets_one}
+use Rattle.babel_tlv.proofs.OneReading.{whole-no_stop}
 
 -- ---- packets behind packets
 
@@ -165,9 +166,9 @@ module _ (mode : Mode) (entries : ℕ) (start : Start) where
       by [] whole placed here = absurd (some (omega (arith, here)))
       by (tlvs ∷ packets) whole placed here =
           let behind : List ℕ = flat_map packet_octets packets ++ rest in
-          let is : octets ≡ framed (body_octets tlvs) ++ behind = whole ∙ append_assoc (packet_octets tlvs) (flat_map packet_octets packets) rest in
-          let long : length octets ≡ 4 + (length (body_octets tlvs) + length behind) = ap length is ∙ length-framed (body_octets tlvs) behind in
-          let len : body_len octets ≡ length (body_octets tlvs) = ap body_len is ∙ body_len-framed (body_octets tlvs) behind placed.0 in
+          let is : octets ≡ framed (flat_map tlv_octets tlvs) ++ behind = whole ∙ append_assoc (packet_octets tlvs) (flat_map packet_octets packets) rest in
+          let long : length octets ≡ 4 + (length (flat_map tlv_octets tlvs) + length behind) = ap length is ∙ length-framed (flat_map tlv_octets tlvs) behind in
+          let len : body_len octets ≡ length (flat_map tlv_octets tlvs) = ap body_len is ∙ body_len-framed (flat_map tlv_octets tlvs) behind placed.0 in
           let few : length octets ≤ 4 + body_len octets = one (omega (arith, long)) in
           empty rest (omega (arith, long, len, few, length-append (flat_map packet_octets packets) rest))
         where
@@ -253,7 +254,7 @@ module _ (mode : Mode) (entries : ℕ) (start : Start) where
     stands = subst (λ (s : List Saying). StandsBehind mode entries new s) (sym (sayings-append start taken.packets took.packets)) (took.takes (sayings start taken.packets) taken.stands);
   }
 
-  reads-next : (octets rest : List ℕ) (packets : List (List TlvAt)) (tlvs : List TlvAt) (body behind : List ℕ) → ReadsAs octets packets rest → body ≡ body_octets tlvs → rest ≡ framed body ++ behind
+  reads-next : (octets rest : List ℕ) (packets : List (List TlvAt)) (tlvs : List TlvAt) (body behind : List ℕ) → ReadsAs octets packets rest → body ≡ flat_map tlv_octets tlvs → rest ≡ framed body ++ behind
       → ArePackets (length (flat_map packet_octets packets)) (tlvs ∷ []) → ReadsAs octets (packets ++ tlvs ∷ []) behind
   reads-next octets rest packets tlvs body behind reads is_body is_rest placed = record {
     whole = sym (append-nil octets) ∙ whole-append octets [] rest behind packets (tlvs ∷ []) reads.whole
@@ -353,14 +354,14 @@ partial-truncated place rest fault (inl short) (inr (inl header)) = absurd (omeg
 partial-truncated place rest fault (inr lacks) (inr (inl header)) = absurd (header-good place rest fault header lacks.1 lacks.2)
 partial-truncated place rest fault partial (inr (inr (body, begins, past))) = absurd (partial-no_packet rest body partial begins)
 
-pub packet-no_fault : (place : ℕ) (rest behind : List ℕ) (tlvs : List TlvAt) (fault : Fault) → IsBody (body_octets tlvs) → ArePlaced (place + 4) tlvs
-    → rest ≡ framed (body_octets tlvs) ++ behind → PacketFault place rest fault → ⊥
-packet-no_fault place rest behind tlvs fault fits placed is (inl (is_fault, partial)) = partial-no_packet rest (body_octets tlvs) partial (fits, behind, is)
+pub packet-no_fault : (place : ℕ) (rest behind : List ℕ) (tlvs : List TlvAt) (fault : Fault) → IsBody (flat_map tlv_octets tlvs) → ArePlaced (place + 4) tlvs
+    → rest ≡ framed (flat_map tlv_octets tlvs) ++ behind → PacketFault place rest fault → ⊥
+packet-no_fault place rest behind tlvs fault fits placed is (inl (is_fault, partial)) = partial-no_packet rest (flat_map tlv_octets tlvs) partial (fits, behind, is)
 packet-no_fault place rest behind tlvs fault fits placed is (inr (inl header)) =
     header-good place rest fault header (ap (λ (t : List ℕ). slice_index t 0) is) (ap (λ (t : List ℕ). slice_index t 1) is)
 packet-no_fault place rest behind tlvs fault fits placed is (inr (inr (body, begins, past))) =
-    let same : body ≡ body_octets tlvs = (one_body body (body_octets tlvs) begins.1 behind begins.0 fits (sym begins.2 ∙ is)).0 in
-    placed-no_stop (place + 4) past.0 tlvs placed (subst (λ (b : List ℕ). HasNoTlvAt (place + 4) b past.0) same past.1)
+    let same : body ≡ flat_map tlv_octets tlvs = (one_body body (flat_map tlv_octets tlvs) begins.1 behind begins.0 fits (sym begins.2 ∙ is)).0 in
+    whole-no_stop (place + 4) past.0 tlvs placed (subst (λ (b : List ℕ). HasNoTlvAt (place + 4) b past.0) same past.1)
 
 module _ (mode : Mode) (entries : ℕ) (start : Start) (table : Routes) (at : ℕ) (pending octets : List ℕ) (taken : HasTakenTo mode entries start table at pending octets) where
   pub only_truncated : (fault : Fault) → StreamFault mode entries start octets fault → IsTruncated fault × (pending ≢ [])

@@ -9,7 +9,7 @@ use Rattle.babel_tlv.specs.declared.fault.Fault.{Fault}
 use Rattle.babel_tlv.specs.declared.start.Start.{Start}
 use Rattle.babel_tlv.specs.Context.{Context, context_after}
 use Rattle.babel_tlv.specs.FrameFaults.{BeginsPacket, AreTlvs}
-use Rattle.babel_tlv.specs.Framing.{TlvAt, ArePackets, IsBody, framed, body_octets, packet_octets, tlvs_of}
+use Rattle.babel_tlv.specs.Framing.{TlvAt, ArePackets, IsBody, framed, tlv_octets, packet_octets, tlvs_of}
 use Rattle.babel_tlv.specs.Says.{said}
 use Rattle.std.specs.Prelude.{IfErr, IfOk}
 use Rattle.babel_tlv.specs.declared.mode.Mode.{Mode}
@@ -79,7 +79,7 @@ pub heard-next : (time : ℕ) (start : Start) (at : ℕ) (octets : List ℕ) (ol
     → next ≡ after_all (told_behind time start [] (tlvs_of (place + 4) body)) now → HeardTo time start at octets old next (drop used rest) (place + used)
 heard-next time start at octets old now next rest body place used is_used heard (fits, behind, is_rest) parts goes =
     let tlvs : List TlvAt = tlvs_of (place + 4) body in
-    let is_body : body_octets tlvs ≡ body = sym parts.whole in
+    let is_body : flat_map tlv_octets tlvs ≡ body = sym parts.whole in
     let is_packet : packet_octets tlvs ≡ framed body = ap framed is_body in
     let dropped : drop used rest ≡ behind = ap (drop used) is_rest ∙ drop_at (framed body) behind used (length-framed body ∙ sym is_used) in
     let joined : flat_map packet_octets (heard.packets ++ tlvs ∷ []) ≡ flat_map packet_octets heard.packets ++ framed body =

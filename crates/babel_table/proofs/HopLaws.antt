@@ -1,6 +1,6 @@
 -- Each route of a table has a next hop that fits its key, as what was said of it does.
-use Rattle.std.proofs.Common.{ℕ, suc, Bool, List, [], ◌∷◌, ◌++◌, refl, sym, subst, arith}
-use Rattle.std.specs.Prelude.{Result, IfOk}
+use Rattle.std.proofs.Common.{◌≡◌, ℕ, suc, Bool, true, false, cond, List, [], ◌∷◌, ◌++◌, Option, Some, None, refl, sym, subst, arith}
+use Rattle.std.specs.Prelude.{Result, IfOk, IfSome, fold}
 use Rattle.std.specs.List.{AllByRecursion, Contains}
 use Rattle.babel_tlv.specs.declared.event.Event.{Event}
 use Rattle.babel_tlv.specs.declared.event.Event.TheVariants as events
@@ -8,6 +8,7 @@ use Rattle.babel_tlv.specs.declared.fault.Fault.{Fault}
 use Rattle.babel_tlv.specs.declared.held.Held.{Held}
 use Rattle.babel_tlv.specs.declared.held.Held.TheVariants as helds
 use Rattle.babel_tlv.specs.declared.mode.Mode.{Mode}
+use Rattle.babel_tlv.specs.declared.mode.Mode.TheVariants as modes
 use Rattle.babel_tlv.specs.declared.start.Start.{Start}
 use Rattle.babel_tlv.specs.Framing.{TlvAt}
 use Rattle.babel_tlv.specs.Pair.{Pair}
@@ -16,17 +17,14 @@ use Rattle.babel_tlv.specs.Route.{RouteKey}
 use Rattle.babel_tlv.specs.Says.{Saying, sayings, sayings_behind}
 use Rattle.babel_tlv.proofs.HopsFit.{said_after-fits}
 use Rattle.babel_table.specs.Bounds.{start_of}
-use Rattle.babel_table.specs.Holds.{Holds}
+use Rattle.babel_table.specs.Holds.{same_key, retracted, held_after, Holds}
 use Rattle.babel_table.specs.OneOutcome.{HopsFit}
 use Rattle.babel_table.specs.TableOf.{AreFine}
+use Rattle.babel_table.proofs.HoldsLaws.{same_key-decides}
 
 all_append : {A : Type 0} (P : A → Type 0) (xs ys : List A) → AllByRecursion P xs → AllByRecursion P ys → AllByRecursion P (xs ++ ys)
 all_append P [] ys left right = right
 all_append P (x ∷ xs) ys left right = (left.0, all_append P xs ys left.1 right)
-
-all_middle : {A : Type 0} (P : A → Type 0) (xs : List A) (x : A) (ys : List A) → AllByRecursion P (xs ++ x ∷ ys) → P x
-all_middle P [] x ys all = all.0
-all_middle P (z ∷ xs) x ys all = all_middle P xs x ys all.1
 
 all_of : {A : Type 0} (P : A → Type 0) (xs : List A) → ((x : A) → Contains xs x → P x) → AllByRecursion P xs
 all_of P [] each = tt
@@ -55,10 +53,31 @@ fine_fits via_v6 mode entries before (saying ∷ later) said (event, is, few, fi
 
 -- ---- what is held
 
+left_fits : (via_v6 : Bool) (key : RouteKey) (mode : Mode) (b : Bool) (old : Option Held) → IfSome old (HopFits via_v6 key) → IfSome (cond b (retracted mode) old) (HopFits via_v6 key)
+left_fits via_v6 key modes.Plain true old before = tt
+left_fits via_v6 key modes.Hold true old before = tt
+left_fits via_v6 key mode false old before = before
+
+after_fits : (via_v6 : Bool) (mode : Mode) (key : RouteKey) (old : Option Held) (event : Event) → EventHopFits via_v6 event → IfSome old (HopFits via_v6 key)
+    → IfSome (held_after mode key old event) (HopFits via_v6 key)
+after_fits via_v6 mode key old (events.Announce other ann) fits before = by (same_key other key) refl
+  where
+    by : (b : Bool) → same_key other key ≡ b → IfSome (cond b (Some (helds.Route ann)) old) (HopFits via_v6 key)
+    by true is = subst (λ (k : RouteKey). HopFits via_v6 k (helds.Route ann)) ((same_key-decides other key).0 is) fits
+    by false is = before
+after_fits via_v6 mode key old (events.Retract other) fits before = left_fits via_v6 key mode (same_key other key) old before
+after_fits via_v6 mode key None events.RetractAll fits before = tt
+after_fits via_v6 mode key (Some held) events.RetractAll fits before = left_fits via_v6 key mode true None tt
+after_fits via_v6 mode key old events.Nothing fits before = before
+after_fits via_v6 mode key old (events.Ignored reason) fits before = before
+
+fold_fits : (via_v6 : Bool) (mode : Mode) (key : RouteKey) (old : Option Held) (said : List Event) → AllByRecursion (EventHopFits via_v6) said → IfSome old (HopFits via_v6 key)
+    → IfSome (fold (held_after mode key) old said) (HopFits via_v6 key)
+fold_fits via_v6 mode key old [] fits before = before
+fold_fits via_v6 mode key old (event ∷ later) fits before = fold_fits via_v6 mode key (held_after mode key old event) later fits.1 (after_fits via_v6 mode key old event fits.0 before)
+
 held_fits : (via_v6 : Bool) (mode : Mode) (said : List Event) (key : RouteKey) (held : Held) → AllByRecursion (EventHopFits via_v6) said → Holds mode said key held → HopFits via_v6 key held
-held_fits via_v6 mode said key (helds.Route ann) fits last =
-    all_middle (EventHopFits via_v6) last.before (events.Announce key ann) last.after (subst (λ (es : List Event). AllByRecursion (EventHopFits via_v6) es) last.whole fits)
-held_fits via_v6 mode said key helds.Unreachable fits holds = tt
+held_fits via_v6 mode said key held fits holds = subst (λ (o : Option Held). IfSome o (HopFits via_v6 key)) holds (fold_fits via_v6 mode key None said fits tt)
 
 pub hops_fit : HopsFit
 hops_fit limits mode sender dump table is =

@@ -21,8 +21,7 @@ use Rattle.babel_tlv.specs.declared.held.Held.TheVariants as helds
 use Rattle.babel_tlv.specs.Route.{RouteKey, Announcement}
 use Rattle.babel_tlv.specs.Keys.{key_cmp}
 use Rattle.babel_tlv.proofs.OrderLaws.{key_total}
-use Rattle.babel_table.specs.Holds.{SpeaksOf}
-use Rattle.babel_table.specs.Moments.{AreRowsAt, HasPassed, HoldsAt, IsLastTold, Lasts, Told, When}
+use Rattle.babel_table.specs.Moments.{AreRowsAt, HasPassed, HoldsAt, IsLastTold, Lasts, Told, When, SpeaksOf}
 use Rattle.babel_table.specs.Rows.{IsRising}
 use Rattle.babel_table.specs.Words.{TimedRows, Word, after_all, after_event, after_told, has_passed, lasting_words, rows_of, said}
 use Rattle.babel_table.proofs.Entries.{lookup-remove, sorted-remove}

@@ -8,7 +8,7 @@ use Rattle.babel_tlv.specs.declared.start.Start.{Start}
 use Rattle.babel_tlv.specs.declared.fault.Fault.{Fault}
 use Rattle.babel_tlv.specs.declared.mode.Mode.{Mode}
 use Rattle.babel_tlv.specs.FrameFaults.{BeginsPacket, AreTlvs}
-use Rattle.babel_tlv.specs.Framing.{TlvAt, ArePlaced, ArePackets, IsBody, framed, body_octets, packet_octets, tlvs_of}
+use Rattle.babel_tlv.specs.Framing.{TlvAt, ArePlaced, ArePackets, IsBody, framed, tlv_octets, packet_octets, tlvs_of}
 use Rattle.babel_tlv.specs.Says.{Saying, sayings, sayings_behind}
 use Rattle.babel_table.specs.Feeding.{StandsBehind, Takes, Fails, TookPackets}
 use Rattle.babel_table.specs.Rows.{Routes}
@@ -26,7 +26,7 @@ pub length-framed : (body : List ℕ) → length (framed body) ≡ 4 + length bo
 length-framed body = omega arith
 
 pub placed-push : (at : ℕ) (packets : List (List TlvAt)) (tlvs : List TlvAt) (place : ℕ) → ArePackets at packets
-    → place ≡ at + length (flat_map packet_octets packets) → IsBody (body_octets tlvs) → ArePlaced (place + 4) tlvs
+    → place ≡ at + length (flat_map packet_octets packets) → IsBody (flat_map tlv_octets tlvs) → ArePlaced (place + 4) tlvs
     → ArePackets at (packets ++ tlvs ∷ [])
 placed-push at [] tlvs place placed here fits parts = (fits, subst (λ (p : ℕ). ArePlaced (p + 4) tlvs) (omega (arith, here)) parts, tt)
 placed-push at (first ∷ packets) tlvs place placed here fits parts = (
@@ -42,7 +42,7 @@ pub packets-next : (mode : Mode) (entries : ℕ) (start : Start) (at : ℕ) (oct
     → TookPackets mode entries start at octets old next (drop (4 + length body) rest) (place + (4 + length body))
 packets-next mode entries start at octets old now next rest body place took (fits, behind, is_rest) parts takes =
     let tlvs : List TlvAt = tlvs_of (place + 4) body in
-    let is_body : body_octets tlvs ≡ body = sym parts.whole in
+    let is_body : flat_map tlv_octets tlvs ≡ body = sym parts.whole in
     let is_packet : packet_octets tlvs ≡ framed body = ap framed is_body in
     let dropped : drop (4 + length body) rest ≡ behind = ap (drop (4 + length body)) is_rest ∙ drop_at (framed body) behind (4 + length body) (length-framed body) in
     let joined : flat_map packet_octets (took.packets ++ tlvs ∷ []) ≡ flat_map packet_octets took.packets ++ framed body =

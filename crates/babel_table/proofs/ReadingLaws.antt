@@ -1,13 +1,14 @@
 -- Octets are read as whole packets, and a rest that begins with none, in one way.
-use Rattle.std.proofs.Common.{◌≡◌, ℕ, zero, suc, ◌+◌, List, [], ◌∷◌, ◌++◌, length, take, drop, refl, sym, ap, subst, ◌∙◌, append_assoc, inl, inr, arith}
+use Rattle.std.proofs.Common.{◌≡◌, ℕ, ◌+◌, List, [], ◌∷◌, ◌++◌, length, take, drop, refl, sym, ap, subst, ◌∙◌, append_assoc, inl, inr, arith}
 use Rattle.std.specs.Prelude.{◌⊎◌}
 use Rattle.std.specs.List.{flat_map}
-use Rattle.std.proofs.lemmas.Bool.{lt-ltb}
-use Rattle.std.proofs.lemmas.List.{append-nil, append_cancel_left, length-append, take_at, drop_at}
-use Rattle.babel_tlv.specs.Framing.{TlvAt, ArePlaced, ArePackets, ReadsAs, Framed, IsBody, body_octets, framed, packet_octets, tlv_octets, tlvs_of}
-use Rattle.babel_tlv.specs.FrameFaults.{AreTlvs, BeginsNoTlv, HasNoTlvAt, BeginsPacket, body_len}
-use Rattle.babel_tlv.proofs.Reading.{tlvs_of-append, tlvs_of-AreTlvs}
+use Rattle.std.proofs.lemmas.List.{append-nil, length-append, take_at, drop_at}
+use Rattle.babel_tlv.specs.Framing.{TlvAt, ArePlaced, ArePackets, ReadsAs, IsBody, framed, packet_octets, tlv_octets, tlvs_of}
+use Rattle.babel_tlv.specs.FrameFaults.{HasNoTlvAt, BeginsPacket, body_len}
+use Rattle.babel_tlv.proofs.Reading.{tlvs_of-append}
 use Rattle.babel_table.specs.Feeding.{IsPartial}
+use Rattle.babel_tlv.proofs.OneReading.{tlvs_one}
+use Rattle.babel_tlv.proofs.SubTlvLaws.{tlvs_of-stuck}
 
 -- ---- one packet
 
@@ -34,13 +35,6 @@ one_body body other rest behind fits other_fits same =
 
 -- ---- the TLVs of a body
 
-no_tlv-read : (at : ℕ) (rest : List ℕ) → BeginsNoTlv rest → tlvs_of at rest ≡ []
-no_tlv-read at [] stuck = absurd stuck
-no_tlv-read at (zero ∷ []) stuck = absurd (stuck refl)
-no_tlv-read at (suc kind ∷ []) stuck = refl
-no_tlv-read at (zero ∷ len ∷ octets) stuck = absurd (stuck.0 refl)
-no_tlv-read at (suc kind ∷ len ∷ octets) stuck = rw (lt-ltb (length octets) len stuck.1) refl
-
 front-read : (at : ℕ) (front : List TlvAt) (rest : List ℕ) → ArePlaced at front
     → tlvs_of at (flat_map tlv_octets front ++ rest) ≡ front ++ tlvs_of (at + length (flat_map tlv_octets front)) rest
 front-read at [] rest placed = ap (λ (n : ℕ). tlvs_of n rest) (omega arith)
@@ -56,35 +50,21 @@ front-read at (tlv ∷ front) rest placed =
 stopped-read : (at place : ℕ) (body : List ℕ) (stops : HasNoTlvAt at body place) → tlvs_of at body ≡ stops.0
 stopped-read at place body (front, rest, whole, front_placed, stuck, here) =
     ap (tlvs_of at) whole ∙ front-read at front rest front_placed
-    ∙ ap (λ (t : List TlvAt). front ++ t) (no_tlv-read (at + length (flat_map tlv_octets front)) rest stuck) ∙ append-nil front
+    ∙ ap (λ (t : List TlvAt). front ++ t) (tlvs_of-stuck (at + length (flat_map tlv_octets front)) rest stuck) ∙ append-nil front
 
 -- there is one such place
 pub stop_one : (at place other : ℕ) (body : List ℕ) → HasNoTlvAt at body place → HasNoTlvAt at body other → place ≡ other
 stop_one at place other body stops other_stops =
     stops.5 ∙ ap (λ (t : List TlvAt). at + length (flat_map tlv_octets t)) (sym (stopped-read at place body stops) ∙ stopped-read at other body other_stops) ∙ sym other_stops.5
 
--- in octets that are TLVs there is no place where none begins
-pub placed-no_stop : (at place : ℕ) (tlvs : List TlvAt) → ArePlaced at tlvs → HasNoTlvAt at (body_octets tlvs) place → ⊥
-placed-no_stop at place tlvs placed stops =
-    let parts : AreTlvs at (body_octets tlvs) tlvs = record { whole = refl; placed = placed } in
-    let read : tlvs ≡ stops.0 = sym (tlvs_of-AreTlvs at (body_octets tlvs) tlvs parts) ∙ stopped-read at place (body_octets tlvs) stops in
-    let none : stops.1 ≡ [] = sym (append_cancel_left (body_octets tlvs) [] stops.1 (append-nil (body_octets tlvs) ∙ stops.2 ∙ ap (λ (t : List TlvAt). flat_map tlv_octets t ++ stops.1) (sym read))) in
-    subst BeginsNoTlv none stops.4
-
--- TLVs in one place that have the same octets are the same
-pub one_list : (at : ℕ) (tlvs others : List TlvAt) → ArePlaced at tlvs → ArePlaced at others → body_octets tlvs ≡ body_octets others → tlvs ≡ others
-one_list at tlvs others placed others_placed same =
-    sym (tlvs_of-AreTlvs at (body_octets tlvs) tlvs (record { whole = refl; placed = placed }))
-    ∙ tlvs_of-AreTlvs at (body_octets tlvs) others (record { whole = same; placed = others_placed })
-
 -- ---- packets
 
 -- octets at this place that don't begin with a packet whose body is TLVs
 abbrev pub BeginsNoPacket : ℕ → List ℕ → Type 0
-BeginsNoPacket place rest = (tlvs : List TlvAt) (behind : List ℕ) → IsBody (body_octets tlvs) → ArePlaced (place + 4) tlvs → rest ≡ packet_octets tlvs ++ behind → ⊥
+BeginsNoPacket place rest = (tlvs : List TlvAt) (behind : List ℕ) → IsBody (flat_map tlv_octets tlvs) → ArePlaced (place + 4) tlvs → rest ≡ packet_octets tlvs ++ behind → ⊥
 
 pub partial-stuck : (place : ℕ) (rest : List ℕ) → IsPartial rest → BeginsNoPacket place rest
-partial-stuck place rest partial tlvs behind fits placed is = partial-no_packet rest (body_octets tlvs) partial (fits, behind, is)
+partial-stuck place rest partial tlvs behind fits placed is = partial-no_packet rest (flat_map tlv_octets tlvs) partial (fits, behind, is)
 
 pub placed-drop : (at : ℕ) (a b : List (List TlvAt)) → ArePackets at (a ++ b) → ArePackets (at + length (flat_map packet_octets a)) b
 placed-drop at [] b placed = subst (λ (n : ℕ). ArePackets n b) (omega arith) placed
@@ -102,9 +82,9 @@ pub either_on : (at : ℕ) (packets others : List (List TlvAt)) (rest behind : L
 either_on at packets [] rest behind placed others_placed same = inl (packets, refl, sym same)
 either_on at [] (other ∷ others) rest behind placed others_placed same = inr (other ∷ others, refl, same)
 either_on at (tlvs ∷ packets) (other ∷ others) rest behind placed others_placed same =
-    let both = one_body (body_octets tlvs) (body_octets other) (flat_map packet_octets packets ++ rest) (flat_map packet_octets others ++ behind) placed.0 others_placed.0
+    let both = one_body (flat_map tlv_octets tlvs) (flat_map tlv_octets other) (flat_map packet_octets packets ++ rest) (flat_map packet_octets others ++ behind) placed.0 others_placed.0
     (sym (append_assoc (packet_octets tlvs) (flat_map packet_octets packets) rest) ∙ same ∙ append_assoc (packet_octets other) (flat_map packet_octets others) behind) in
-    let one : tlvs ≡ other = one_list (at + 4) tlvs other placed.1 others_placed.1 both.0 in
+    let one : tlvs ≡ other = tlvs_one (at + 4) tlvs other placed.1 others_placed.1 both.0 in
     elim (either_on (at + length (packet_octets tlvs)) packets others rest behind placed.2
     (subst (λ (t : List TlvAt). ArePackets (at + length (packet_octets t)) others) (sym one) others_placed.2) both.1) [
       | inl later ↦ inl (later.0, ap (λ (t : List TlvAt). t ∷ packets) one ∙ ap (λ (t : List (List TlvAt)). other ∷ t) later.1, later.2)
@@ -141,7 +121,7 @@ readings_one octets rest behind packets others reads other_reads stuck other_stu
         absurd (other_stuck tlvs (flat_map packet_octets more ++ rest) later.0 later.1 (is_behind ∙ append_assoc (packet_octets tlvs) (flat_map packet_octets more) rest))
 
 -- octets are whole packets in one way
-pub framed_one : (octets : List ℕ) (packets others : List (List TlvAt)) → Framed octets packets → Framed octets others → packets ≡ others
+pub framed_one : (octets : List ℕ) (packets others : List (List TlvAt)) → ReadsAs octets packets [] → ReadsAs octets others [] → packets ≡ others
 framed_one octets packets others reads other_reads =
     (readings_one octets [] [] packets others reads other_reads (none (length (flat_map packet_octets packets))) (none (length (flat_map packet_octets others)))).0
   where

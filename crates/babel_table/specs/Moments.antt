@@ -1,7 +1,7 @@
 -- What was said when, and what is held at a moment: RFC 8966, 3.5.4, 4.6.9 and appendix B. A time
 -- is in nanoseconds since the start of 1970. Who uses no times needs none of this page.
 use Rattle.std.specs.Prelude.{◌≡◌, ℕ, ◌<◌, ◌≤◌, ◌+◌, ◌*◌, List, [], ◌∷◌, ◌++◌, map, length, Result}
-use Rattle.std.specs.Prelude.{Ok, Err}
+use Rattle.std.specs.Prelude.{Ok, Err, slice_index}
 use Rattle.std.specs.List.{AllByRecursion, Contains, flat_map}
 use Rattle.babel_prefix.specs.Address.{Address}
 use Rattle.babel_tlv.specs.declared.event.Event.{Event}
@@ -12,12 +12,11 @@ use Rattle.babel_tlv.specs.declared.held.Held.TheVariants as helds
 use Rattle.babel_tlv.specs.declared.mode.Mode.TheVariants as modes
 use Rattle.babel_tlv.specs.declared.start.Start.{Start}
 use Rattle.babel_tlv.specs.Context.{Context, context_after}
-use Rattle.babel_tlv.specs.Forming.{two_octets}
 use Rattle.babel_tlv.specs.Framing.{TlvAt, ArePackets, packet_octets}
 use Rattle.babel_tlv.specs.Route.{RouteKey, Announcement}
 use Rattle.babel_tlv.specs.Says.{said}
 use Rattle.babel_table.specs.Bounds.{Bounds, start_of}
-use Rattle.babel_table.specs.Holds.{SpeaksOf}
+use Rattle.babel_table.specs.Holds.{Names}
 use Rattle.babel_table.specs.Rows.{IsRising, Routes}
 use Rattle.babel_table.specs.TableOf.{IsTableOf}
 
@@ -25,7 +24,7 @@ use Rattle.babel_table.specs.TableOf.{IsTableOf}
 
 -- RFC 8966, 4.6.9: the Interval of an Update, in hundredths of a second
 abbrev pub update_interval : List ℕ → ℕ
-update_interval body = two_octets body 4
+update_interval body = slice_index body 4 * 256 + slice_index body 5
 
 -- when something was said, and the Interval that was said with it
 pub record When : Type 0 where
@@ -69,6 +68,11 @@ abbrev pub told_of : Start → List Heard → List Told
 told_of start all = flat_map (λ heard. told_in start heard.time heard.packets) all
 
 -- ---- what is held at a moment
+
+-- RFC 8966, 4.6.9: the event announces or retracts the key, or retracts all
+abbrev pub SpeaksOf : RouteKey → Event → Type 0
+SpeaksOf key events.RetractAll = Unit {0}
+SpeaksOf key event = Names key event
 
 -- this is the last of what was told that speaks of the key: it announces or retracts the key, or
 -- retracts all

@@ -3,7 +3,7 @@ use Rattle.std.specs.Prelude.{◌≡◌, ℕ, List, [], ◌∷◌, ◌++◌, Ok}
 use Rattle.babel_prefix.specs.Address.{Address}
 use Rattle.babel_tlv.specs.declared.event.Event.{Event}
 use Rattle.babel_tlv.specs.declared.mode.Mode.{Mode}
-use Rattle.babel_tlv.specs.Framing.{TlvAt, Framed}
+use Rattle.babel_tlv.specs.Framing.{TlvAt, ReadsAs}
 use Rattle.babel_tlv.specs.Says.{Saying, sayings}
 use Rattle.babel_table.specs.Bounds.{Bounds, start_of}
 use Rattle.babel_table.specs.Counts.{counts_of}
@@ -26,7 +26,7 @@ pub record IsTableOf (limits : Bounds) (mode : Mode) (sender : Address) (dump : 
     (table : Routes) : Type 0 where
   pub packets : List (List TlvAt)
   pub said : List Event
-  pub reads : Framed dump packets
+  pub reads : ReadsAs dump packets []
   pub fine : AreFine mode limits.entries [] (sayings (start_of limits sender) packets) said
   pub rows : AreRowsOf mode said table.rows
   pub report : table.report ≡ counts_of (sayings (start_of limits sender) packets)

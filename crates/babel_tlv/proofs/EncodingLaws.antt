@@ -1,5 +1,5 @@
 -- The encodings in which Updates have prefixes: by their numbers, and for pairs.
-use Rattle.std.proofs.Common.{inl, inr, ◌≡◌, ℕ, Bool, true, false, cond, eqb, Option, Some, None, refl, subst}
+use Rattle.std.proofs.Common.{inl, inr, ◌≡◌, ℕ, Bool, true, false, cond, eqb, ltb, ◌||◌, Option, Some, None, refl, subst}
 use Rattle.std.specs.Prelude.{◌&&◌, ◌⊎◌, IfSome}
 use Rattle.std.proofs.lemmas.Bool.{eqb-true}
 use Rattle.babel_prefix.specs.declared.family.Family.{Family}
@@ -8,12 +8,15 @@ use Rattle.babel_tlv.specs.declared.held.Held.{Held}
 use Rattle.babel_tlv.specs.declared.held.Held.TheVariants as helds
 use Rattle.babel_tlv.specs.declared.prefix_encoding.PrefixEncoding.{PrefixEncoding}
 use Rattle.babel_tlv.specs.declared.prefix_encoding.PrefixEncoding.TheVariants.{Ipv4, Ipv6, Ipv4ViaIpv6}
-use Rattle.babel_tlv.specs.Encodings.{encoding_of, hop_family, is_read, number_of, prefix_family}
+use Rattle.babel_tlv.specs.Encodings.{encoding_of, hop_family, number_of, prefix_family}
 use Rattle.babel_tlv.specs.Pairs.{HopFits, IsHopFor}
 use Rattle.babel_tlv.specs.Route.{Announcement, RouteKey}
 use Rattle.babel_tlv.specs.Group.{encoding_for}
 
 -- ---- numbers
+
+abbrev pub is_read : Bool → PrefixEncoding → Bool
+is_read via_v6 encoding = ltb (number_of encoding) 4 || via_v6
 
 -- what a number names has this number, and is read
 abbrev Names : Bool → ℕ → Option PrefixEncoding → Type 0

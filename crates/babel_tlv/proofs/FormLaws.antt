@@ -16,7 +16,7 @@ use Rattle.babel_prefix.proofs.OctetLaws.{take-octets, number-octets}
 use Rattle.babel_prefix.specs.Address.{Address, octets_of}
 use Rattle.babel_tlv.specs.Kept.{IsOfFamily}
 use Rattle.babel_tlv.proofs.PrefixLaws.{length-octets, padded-is, pow_256}
-use Rattle.babel_tlv.specs.Forming.{padded, default_octets}
+use Rattle.babel_tlv.specs.Reading.{default_octets, padded}
 
 -- the test of one bit
 pub bit_64 : (n : ℕ) → not (eqb (bit_and n 64) 0) ≡ eqb (n / 64 % 2) 1

@@ -11,7 +11,8 @@ use Rattle.babel_prefix.specs.Width.{width_of, octet_count}
 use Rattle.babel_prefix.specs.Address.{Address, AddressPrefix, octets_of}
 use Rattle.babel_prefix.specs.Covers.{IsAddressPrefix}
 use Rattle.babel_tlv.specs.declared.reason.Reason.{Reason}
-use Rattle.babel_tlv.specs.Forming.{octets_for, default_octets, formed, prefix_from}
+use Rattle.babel_tlv.specs.Forming.{octets_for, formed, prefix_from}
+use Rattle.babel_tlv.specs.Reading.{default_octets}
 use Rattle.babel_tlv.specs.Group.{prefix_octets, shared_octets}
 use Rattle.babel_tlv.proofs.PrefixLaws.{prefix_from-octets}
 use Rattle.babel_tlv.proofs.SourceTold.{octets_for-le, length-prefix_octets}

@@ -9,6 +9,7 @@ use Rattle.babel_prefix.specs.declared.family.Family.{Family}
 use Rattle.babel_prefix.specs.declared.family.Family.TheVariants.{V4, V6}
 use Rattle.babel_prefix.specs.Width.{same_family}
 use Rattle.babel_prefix.specs.Address.{Address, IsAddress}
+use Rattle.babel_prefix.proofs.EntryLaws.{same_family-is}
 use Rattle.babel_tlv.specs.declared.event.Event.{Event}
 use Rattle.babel_tlv.specs.declared.held.Held.{Held}
 use Rattle.babel_tlv.specs.declared.held.Held.TheVariants as helds
@@ -18,14 +19,14 @@ use Rattle.babel_tlv.specs.Keys.{IsAnnouncement}
 use Rattle.babel_tlv.specs.Pairs.{FitsKey, HopFits, IsPair}
 use Rattle.babel_tlv.specs.declared.prefix_encoding.PrefixEncoding.{PrefixEncoding}
 use Rattle.babel_tlv.specs.declared.prefix_encoding.PrefixEncoding.TheVariants.{Ipv4, Ipv6, Ipv4ViaIpv6}
-use Rattle.babel_tlv.specs.Encodings.{hop_family, is_read, number_of}
+use Rattle.babel_tlv.specs.Encodings.{hop_family, number_of}
 use Rattle.babel_tlv.specs.Context.{Context}
 use Rattle.babel_tlv.specs.Kept.{Kept, KeptPrefixes, kept_for, kept_with, prefix_for, prefix_with}
 use Rattle.babel_tlv.specs.Group.{encoding_for, pair_encoding, is_id, is_hop, router_id_tlv, next_hop_tlv, held_seqno, held_metric, update_tlv}
 use Rattle.babel_tlv.specs.Group.{shared_octets, prefix_octets, source_sub, group, groups_behind}
 use Rattle.babel_tlv.specs.Writing.{route_in, Written, written_after, group_in, with_held}
 use Rattle.babel_tlv.specs.News.{spoken, held_event, pair_event}
-use Rattle.babel_tlv.proofs.EncodingLaws.{hop_family-for, prefix_family-for, read-for}
+use Rattle.babel_tlv.proofs.EncodingLaws.{hop_family-for, is_read, prefix_family-for, read-for}
 use Rattle.babel_tlv.proofs.WrittenLaws.{with_pair-written_after, group_in-written_after}
 use Rattle.babel_tlv.proofs.Telling.{Tells, Tells-none, Tells-append}
 use Rattle.babel_tlv.proofs.IdTold.{with_id, id_told}
@@ -138,12 +139,6 @@ kept V6 context hop known = ap (λ (h : Option Address). record context { next_h
 and_true : (a b : Bool) → (a && b) ≡ true → (a ≡ true) × (b ≡ true)
 and_true true b e = (refl, e)
 and_true false b e = absurd cc
-
-same_family-is : (a b : Family) → same_family a b ≡ true → a ≡ b
-same_family-is V4 V4 e = refl
-same_family-is V4 V6 e = absurd cc
-same_family-is V6 V4 e = absurd cc
-same_family-is V6 V6 e = refl
 
 same_hop : (one other : Address) → (same_family one.family other.family && (one.bits == other.bits)) ≡ true → one ≡ other
 same_hop one other e =

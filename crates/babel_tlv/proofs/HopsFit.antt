@@ -7,6 +7,7 @@ use Rattle.babel_prefix.specs.declared.family.Family.{Family}
 use Rattle.babel_prefix.specs.declared.family.Family.TheVariants.{V4, V6}
 use Rattle.babel_prefix.specs.Width.{same_family}
 use Rattle.babel_prefix.specs.Address.{Address}
+use Rattle.babel_prefix.proofs.EntryLaws.{same_family-is}
 use Rattle.babel_tlv.specs.declared.event.Event.{Event}
 use Rattle.babel_tlv.specs.declared.event.Event.TheVariants as events
 use Rattle.babel_tlv.specs.declared.fault.Fault.{Fault}
@@ -26,12 +27,6 @@ use Rattle.babel_tlv.proofs.TellsLaws.{tells-holds, told_key-is}
 
 -- ---- the next hops of a context
 
-same_is : (a b : Family) → same_family a b ≡ true → a ≡ b
-same_is V4 V4 e = refl
-same_is V4 V6 e = absurd cc
-same_is V6 V4 e = absurd cc
-same_is V6 V6 e = refl
-
 abbrev IsOf : Family → Option Address → Type 0
 IsOf family a = IfSome a (λ hop. hop.family ≡ family)
 
@@ -39,7 +34,7 @@ of_family-is : (family : Family) (a : Address) → IsOf family (of_family family
 of_family-is family a = by (same_family a.family family) refl
   where
     by : (same : Bool) → same_family a.family family ≡ same → IsOf family (cond same (Some a) None)
-    by true is = same_is a.family family is
+    by true is = same_family-is a.family family is
     by false is = tt
 
 given_is : (family : Family) (tlv : TlvAt) → IsOf family (given_next_hop family tlv)

@@ -1,13 +1,22 @@
 -- A router-id as a number: RFC 8966, 4.1.3.
-use Rattle.std.proofs.Common.{◌≡◌, ◌≢◌, ℕ, ◌<◌, Bool, true, false, nat_eq, List, [], ◌∷◌, length, get_or, replicate, refl, sym, ap, ◌∙◌, arith}
+use Rattle.std.proofs.Common.{◌≡◌, ◌≢◌, ℕ, ◌^◌, ◌<◌, Bool, true, false, nat_eq, List, [], ◌∷◌, length, get_or, replicate, refl, sym, ap, ◌∙◌, arith}
 use Rattle.std.specs.Prelude.{◌==◌}
 use Rattle.std.specs.List.{list_all}
-use Rattle.std.specs.Int.{w64, from_be_bytes, to_be_bytes}
+use Rattle.std.specs.Int.{byte_at, bytes_high_first, w64, from_be_bytes, to_be_bytes}
 use Rattle.std.specs.Str.{bytes_eq}
 use Rattle.std.proofs.lemmas.Bool.Decides.{nat_tests}
 use Rattle.std.proofs.lemmas.Nat.{be_bytes_8}
 use Rattle.std.proofs.lemmas.Slice.Eq.{bytes_eq-Decides}
 use Rattle.babel_tlv.specs.Route.{is_reserved}
+
+-- the octets of an IPv4 address are the last ones
+pub small_id : (n : ℕ) → n < 2 ^ 32 → bytes_high_first 8 n ≡ 0 ∷ 0 ∷ 0 ∷ 0 ∷ bytes_high_first 4 n
+small_id n small =
+    let a : byte_at 7 n ≡ 0 = omega arith in
+    let b : byte_at 6 n ≡ 0 = omega arith in
+    let c : byte_at 5 n ≡ 0 = omega arith in
+    let d : byte_at 4 n ≡ 0 = omega arith in
+    rw (a, b, c, d) refl
 
 all_same : (k : ℕ) (id : List ℕ) → list_all (λ octet. octet == k) id ≡ true → id ≡ replicate (length id) k
 all_same k [] all = refl

@@ -14,7 +14,8 @@ use Rattle.babel_prefix.specs.Covers.{IsAddressPrefix}
 use Rattle.babel_tlv.specs.declared.place.Place.TheVariants as places
 use Rattle.babel_tlv.specs.Left.{BeginsTlv}
 use Rattle.babel_tlv.specs.Forming.{octets_for, prefix_from}
-use Rattle.babel_tlv.specs.SubTlv.{is_bad_source, item_read, source_prefix, sub_tlvs}
+use Rattle.babel_tlv.specs.SubTlv.{is_bad_source, item_read, sub_tlvs}
+use Rattle.babel_tlv.specs.Reading.{source_prefix}
 use Rattle.babel_tlv.specs.Group.{prefix_octets, source_sub}
 use Rattle.babel_tlv.proofs.Reading.{one}
 use Rattle.babel_tlv.proofs.SubTlvLaws.{rest_read-begins}

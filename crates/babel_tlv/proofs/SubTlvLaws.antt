@@ -14,11 +14,15 @@ use Rattle.babel_tlv.specs.declared.reason.Reason.TheVariants as reasons
 use Rattle.babel_tlv.specs.FrameFaults.{BeginsNoTlv}
 use Rattle.babel_tlv.specs.Framing.{TlvAt, laid_out, tlv_octets, tlvs_of}
 use Rattle.babel_tlv.specs.Left.{BeginsTlv}
-use Rattle.babel_tlv.specs.SubTlv.{and_then, are_all_of, is_bad_source, item_read, items_read, skipped, source_prefix, sub_tlvs}
+use Rattle.babel_tlv.specs.SubTlv.{and_then, is_bad_source, item_read, items_read, skipped, sub_tlvs}
+use Rattle.babel_tlv.specs.Reading.{source_prefix}
 use Rattle.babel_tlv.proofs.Reading.{one, tlvs_of-begins}
 
 abbrev Given : Type 0
 Given = Result (Option AddressPrefix) Reason
+
+abbrev are_all_of : List ℕ → List TlvAt → Bool
+are_all_of octets items = eqb (length (flat_map tlv_octets items)) (length octets)
 
 -- nothing is read where no TLV begins
 pub tlvs_of-stuck : (at : ℕ) (octets : List ℕ) → BeginsNoTlv octets → tlvs_of at octets ≡ []
@@ -80,26 +84,6 @@ SubTlvsSoFar-on place octets rest behind source given kind body so_far begins is
   same = so_far.same ∙ rest_read-begins place source so_far.at rest kind body behind (Ok given) begins is;
 }
 
--- an item decides
-pub SubTlvsSoFar-fault : (place : Place) (octets rest behind : List ℕ) (source : Option AddressPrefix) (kind : ℕ) (body : List ℕ) (reason : Reason) → SubTlvsSoFar place octets rest source
-    → BeginsTlv rest kind body behind → item_read place source (one 0 kind body) ≡ Err reason → sub_tlvs place octets ≡ Err reason
-SubTlvsSoFar-fault place octets rest behind source kind body reason so_far begins is =
-    so_far.same ∙ rest_read-begins place source so_far.at rest kind body behind (Err reason) begins is
-
--- no item begins
-pub SubTlvsSoFar-stuck : (place : Place) (octets rest : List ℕ) (source : Option AddressPrefix) → SubTlvsSoFar place octets rest source
-    → BeginsNoTlv rest → sub_tlvs place octets ≡ Err reasons.BadSub
-SubTlvsSoFar-stuck place octets [] source so_far stuck = absurd stuck
-SubTlvsSoFar-stuck place octets (x ∷ rest) source so_far stuck =
-    let none : eqb 0 (suc (length rest)) ≡ false = grind (arith, nat_tests) in
-    so_far.same ∙ ap (λ (items : List TlvAt). items_read place (are_all_of (x ∷ rest) items) source items) (tlvs_of-stuck so_far.at (x ∷ rest) stuck)
-    ∙ ap (λ (whole : Bool). items_read place whole source []) none
-
--- all items were read
-pub SubTlvsSoFar-end : (place : Place) (octets rest : List ℕ) (source : Option AddressPrefix) → SubTlvsSoFar place octets rest source → length rest ≡ 0 → sub_tlvs place octets ≡ Ok source
-SubTlvsSoFar-end place octets [] source so_far none = so_far.same
-SubTlvsSoFar-end place octets (x ∷ rest) source so_far none = absurd (omega arith)
-
 other_read : (place : Place) (source : Option AddressPrefix) (kind : ℕ) (body : List ℕ) → eqb kind 128 ≡ false → item_read place source (one 0 kind body) ≡ skipped source (one 0 kind body)
 other_read (places.InUpdate family) source kind body other = rw other refl
 other_read places.InWildcard source kind body other = rw other refl
@@ -110,17 +94,6 @@ pub optional_read : (place : Place) (source : Option AddressPrefix) (kind : ℕ)
 optional_read place source kind body optional =
     let low : nat_le 128 kind ≡ false = grind (arith, nat_tests) in
     other_read place source kind body (grind (arith, nat_tests)) ∙ rw low refl
-
--- one that is mandatory, and no Source Prefix, is not known
-pub mandatory_read : (place : Place) (source : Option AddressPrefix) (kind : ℕ) (body : List ℕ) → kind ≢ 128 → 128 ≤ kind → item_read place source (one 0 kind body) ≡ Err reasons.UnknownMandatory
-mandatory_read place source kind body other mandatory =
-    let high : nat_le 128 kind ≡ true = grind (arith, nat_tests) in
-    other_read place source kind body (grind (arith, nat_tests)) ∙ rw high refl
-
--- what is left after an item is shorter
-pub BeginsTlv-shorter : (octets : List ℕ) (kind : ℕ) (body rest : List ℕ) → BeginsTlv octets kind body rest → length rest < length octets
-BeginsTlv-shorter octets zero body rest begins = omega (arith, ap length begins.whole)
-BeginsTlv-shorter octets (suc kind) body rest begins = omega (arith, ap length begins.whole, length-append body rest)
 
 -- ---- what a source prefix is, whatever its octets
 

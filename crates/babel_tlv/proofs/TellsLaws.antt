@@ -1,6 +1,7 @@
 -- Where a TLV is ignored, or refuses the dump, it tells nothing; and what holds of all that TLVs tell.
 use Rattle.std.proofs.Common.{◌≡◌, ℕ, Bool, true, false, cond, eqb, leb, List, ◌&&◌, not, length, Option, Some, None, Result, Ok, Err, refl, ap, subst, arith, ltb, drop, ◌+◌}
 use Rattle.std.specs.Prelude.{is_none, is_ok, IfOk, IfSome, unwrap_or}
+use Rattle.std.specs.Option.{option_map}
 use Rattle.std.specs.Result.{result_err}
 use Rattle.std.proofs.lemmas.Bool.Decides.{nat_tests}
 use Rattle.babel_prefix.specs.declared.family.Family.{Family}
@@ -12,13 +13,14 @@ use Rattle.babel_tlv.specs.declared.place.Place.TheVariants as places
 use Rattle.babel_tlv.specs.declared.prefix_encoding.PrefixEncoding.{PrefixEncoding}
 use Rattle.babel_tlv.specs.declared.reason.Reason.{Reason}
 use Rattle.babel_tlv.specs.declared.reason.Reason.TheVariants as reasons
-use Rattle.babel_tlv.specs.Context.{Context, formed_by}
-use Rattle.babel_tlv.specs.Encodings.{encoding_of, prefix_family}
+use Rattle.babel_tlv.specs.Context.{Context}
+use Rattle.babel_tlv.specs.Reading.{formed_by}
+use Rattle.babel_tlv.specs.Encodings.{encoding_of, hop_family, prefix_family}
 use Rattle.babel_tlv.specs.Forming.{field_len, formed, omitted, prefix_from, prefix_len, sets_router_id, update_encoding, update_metric}
 use Rattle.babel_tlv.specs.Framing.{TlvAt}
-use Rattle.babel_tlv.specs.Kept.{prefix_for}
+use Rattle.babel_tlv.specs.Kept.{kept_for, prefix_for}
 use Rattle.babel_tlv.specs.Route.{RouteKey, is_reserved}
-use Rattle.babel_tlv.specs.Says.{IgnoredTellsNothing, current_next_hop, current_router_id, encoded_reason, encoded_tells, hop_reason, key_of, key_reason, key_tells, refuses}
+use Rattle.babel_tlv.specs.Says.{IgnoredTellsNothing, current_router_id, encoded_reason, hop_reason, key_of, key_reason, key_tells, refuses}
 use Rattle.babel_tlv.specs.Says.{route_reason, route_tells, router_id_reason, source_of, tells, wildcard_reason, wildcard_tells}
 use Rattle.babel_tlv.specs.SubTlv.{and_then, sub_tlvs}
 use Rattle.babel_tlv.proofs.SubTlvLaws.{sub_tlvs_are}
@@ -54,11 +56,14 @@ route_quiet key body (Some id) (Some hop) = by (is_reserved id) _
 key_quiet : (context : Context) (encoding : PrefixEncoding) (body : List ℕ) (key : Result RouteKey Reason) → IsQuiet (key_reason context encoding body key) (key_tells context encoding body key)
 key_quiet context encoding body (Err reason) = λ r is. refl
 key_quiet context encoding body (Ok key) =
-    by (eqb (update_metric body) 65535) _ _ (route_quiet key body (current_router_id context body key.dst) (current_next_hop context encoding))
+    by (eqb (update_metric body) 65535) _ _ (route_quiet key body (current_router_id context body key.dst) (kept_for (hop_family encoding) context.next_hops))
   where
     by : (infinite : Bool) (reason : Option Reason) (event : Event) → IsQuiet reason event → IsQuiet (cond infinite None reason) (cond infinite (events.Retract key) event)
     by true reason event quiet = λ r is. absurd cc
     by false reason event quiet = quiet
+
+abbrev encoded_tells : Context → List ℕ → Option PrefixEncoding → Event
+encoded_tells context body encoding = unwrap_or (option_map (λ e. key_tells context e body (key_of context e body)) encoding) events.Nothing
 
 encoded_quiet : (context : Context) (body : List ℕ) (encoding : Option PrefixEncoding) → IsQuiet (encoded_reason context body encoding) (encoded_tells context body encoding)
 encoded_quiet context body None = λ r is. refl
@@ -144,7 +149,7 @@ told_key-is Is context encoding body key each whole told =
 module _ (P : Event → Type 0) (context : Context) (nothing : P events.Nothing) (retract_all : P events.RetractAll)
     (retract : (encoding : PrefixEncoding) (body : List ℕ) (key : RouteKey) → IsToldIn context encoding body key → P (events.Retract key))
     (route : (encoding : PrefixEncoding) (body : List ℕ) (key : RouteKey) → IsToldIn context encoding body key → (id : Option (List ℕ)) (hop : Option Address)
-    → hop ≡ current_next_hop context encoding → P (route_tells key body id hop)) where
+    → hop ≡ kept_for (hop_family encoding) context.next_hops → P (route_tells key body id hop)) where
   one_of : (b : Bool) (x y : Event) → P x → P y → P (cond b x y)
   one_of true x y here there = here
   one_of false x y here there = there
@@ -154,7 +159,7 @@ module _ (P : Event → Type 0) (context : Context) (nothing : P events.Nothing)
   key_holds encoding body read (Err reason) is = nothing
   key_holds encoding body read (Ok key) is =
       let told : IsToldIn context encoding body key = record { is_read = read; is_key = is } in
-      let hop = current_next_hop context encoding in
+      let hop = kept_for (hop_family encoding) context.next_hops in
       one_of (eqb (update_metric body) 65535) (events.Retract key) (route_tells key body (current_router_id context body key.dst) hop)
       (retract encoding body key told) (route encoding body key told (current_router_id context body key.dst) hop refl)
 

@@ -12,18 +12,19 @@ use Rattle.babel_tlv.specs.declared.fault.Fault.{Fault}
 use Rattle.babel_tlv.specs.declared.place.Place.TheVariants as places
 use Rattle.babel_tlv.specs.declared.prefix_encoding.PrefixEncoding.{PrefixEncoding}
 use Rattle.babel_tlv.specs.declared.reason.Reason.{Reason}
-use Rattle.babel_tlv.specs.Context.{Context, formed_by}
-use Rattle.babel_tlv.specs.Encodings.{encoding_of, is_read, number_of, prefix_family}
+use Rattle.babel_tlv.specs.Context.{Context}
+use Rattle.babel_tlv.specs.Reading.{formed_by}
+use Rattle.babel_tlv.specs.Encodings.{encoding_of, hop_family, number_of, prefix_family}
 use Rattle.babel_tlv.specs.Forming.{formed, update_seqno, update_metric}
 use Rattle.babel_tlv.specs.Framing.{laid_out}
 use Rattle.babel_tlv.specs.Group.{prefix_octets, source_sub}
-use Rattle.babel_tlv.specs.Kept.{prefix_for, prefix_with}
+use Rattle.babel_tlv.specs.Kept.{kept_for, prefix_for, prefix_with}
 use Rattle.babel_tlv.specs.News.{spoken}
 use Rattle.babel_tlv.specs.Route.{RouteKey, Announcement, is_reserved}
-use Rattle.babel_tlv.specs.Says.{current_next_hop, key_of, key_reason, key_tells, source_of, unless_ignored}
+use Rattle.babel_tlv.specs.Says.{key_of, key_reason, key_tells, source_of, unless_ignored}
 use Rattle.babel_tlv.specs.SubTlv.{and_then, sub_tlvs}
 use Rattle.babel_tlv.proofs.Advance.{said-read, updated-flags}
-use Rattle.babel_tlv.proofs.EncodingLaws.{encoding_of-read}
+use Rattle.babel_tlv.proofs.EncodingLaws.{encoding_of-read, is_read}
 use Rattle.babel_tlv.proofs.FormedTold.{Omits, update_octets, formed_told, behind_field, length-field}
 use Rattle.babel_tlv.proofs.Reading.{one}
 use Rattle.babel_tlv.proofs.SourceTold.{ReadsSource, source_told, length-source_sub, octets_for-small}
@@ -51,7 +52,7 @@ announced key ann seqno metric = events.Announce key (record { router_id = ann.r
 -- a metric that is finite announces, by the current router-id and next hop
 pub route_told : (encoding : PrefixEncoding) (context : Context) (key : RouteKey) (ae len omit : ℕ) (field sub : List ℕ) (ann : Announcement)
     → ann.seqno < 2 ^ 16 → ann.metric < 2 ^ 16 → ann.metric ≢ 65535 → IsFalse (is_reserved ann.router_id)
-    → context.router_id ≡ Some ann.router_id → current_next_hop context encoding ≡ Some ann.next_hop
+    → context.router_id ≡ Some ann.router_id → kept_for (hop_family encoding) context.next_hops ≡ Some ann.next_hop
     → key_event encoding context (update_octets ae len omit ann.seqno ann.metric field sub) key ≡ events.Announce key ann
 route_told encoding context key ae len omit field sub ann seqno_fits metric_fits finite unreserved has_id has_hop =
     let seqno : update_seqno (update_octets ae len omit ann.seqno ann.metric field sub) ≡ ann.seqno = two_back ann.seqno seqno_fits in

@@ -1,6 +1,6 @@
 -- The address encodings: RFC 8966, 4.1.4; RFC 9229, 4.1.
-use Rattle.std.specs.Prelude.{◌≡◌, ℕ, ◌<◌, Bool, true, ◌==◌, ◌&&◌, List, [], ◌∷◌, find, Option}
-use Rattle.std.specs.Prelude.{Some, None}
+use Rattle.std.specs.Prelude.{◌≡◌, ℕ, ◌<◌, Bool, ◌==◌, ◌&&◌, ◌||◌, nat_lt, List, [], ◌∷◌, find}
+use Rattle.std.specs.Prelude.{Option, Some, None}
 use Rattle.babel_prefix.specs.declared.family.Family.{Family}
 use Rattle.babel_prefix.specs.declared.family.Family.TheVariants.{V4, V6}
 use Rattle.babel_tlv.specs.declared.encoding.Encoding.{Encoding}
@@ -29,16 +29,11 @@ hop_family Ipv4 = V4
 hop_family Ipv6 = V6
 hop_family Ipv4ViaIpv6 = V6
 
--- whether it is read: IPv4 prefixes with IPv6 next hops (RFC 9229) only where this is asked
-abbrev pub is_read : Bool → PrefixEncoding → Bool
-is_read via_v6 Ipv4 = true
-is_read via_v6 Ipv6 = true
-is_read via_v6 Ipv4ViaIpv6 = via_v6
-
--- the encoding of this number, if it is one of these and is read
+-- the encoding of this number, if it is one of these and is read: encoding 4, IPv4 prefixes with
+-- IPv6 next hops (RFC 9229), only where this is asked
 abbrev pub encoding_of : Bool → ℕ → Option PrefixEncoding
 encoding_of via_v6 number =
-    find (λ encoding. number == number_of encoding && is_read via_v6 encoding)
+    find (λ encoding. number == number_of encoding && (nat_lt (number_of encoding) 4 || via_v6))
     (Ipv4 ∷ Ipv6 ∷ Ipv4ViaIpv6 ∷ [])
 
 -- ---- all encodings

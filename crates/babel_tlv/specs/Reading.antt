@@ -1,7 +1,9 @@
 -- What the readings of one TLV give: RFC 8966, 4.6.8, 4.6.9.
-use Rattle.std.specs.Prelude.{◌≡◌, ℕ, ◌+◌, ◌++◌, List, drop, take, slice_index, Option, Some}
-use Rattle.std.specs.Prelude.{Result, Ok, MatchResult, if◌then◌else◌}
-use Rattle.babel_prefix.specs.Address.{Address}
+use Rattle.std.specs.Prelude.{◌≡◌, ℕ, ◌+◌, ◌++◌, List, drop, replicate, take, slice_index, Option}
+use Rattle.std.specs.Prelude.{Some, Result, Ok, MatchResult, if◌then◌else◌, unwrap_or, []}
+use Rattle.std.specs.Option.{option_map}
+use Rattle.babel_prefix.specs.declared.family.Family.{Family}
+use Rattle.babel_prefix.specs.Address.{Address, AddressPrefix, octets_of}
 use Rattle.babel_tlv.specs.declared.event.Event.{Event}
 use Rattle.babel_tlv.specs.declared.event.Event.TheVariants as events
 use Rattle.babel_tlv.specs.declared.next_hop.NextHop.{NextHop}
@@ -11,10 +13,11 @@ use Rattle.babel_tlv.specs.declared.route.Route.{Route}
 use Rattle.babel_tlv.specs.declared.router_id.RouterId.{RouterId}
 use Rattle.babel_tlv.specs.declared.event_kind.EventKind.{EventKind}
 use Rattle.babel_tlv.specs.Context.{Context}
-use Rattle.babel_tlv.specs.Forming.{default_octets, field_len, hop_len, id_of, next_hop_in}
-use Rattle.babel_tlv.specs.Forming.{omitted, router_id_in, sets_default, sets_router_id}
+use Rattle.babel_tlv.specs.Forming.{field_len, formed, hop_len, id_of, next_hop_in, octets_for}
+use Rattle.babel_tlv.specs.Forming.{omitted, prefix_from, sets_default, sets_router_id}
+use Rattle.babel_tlv.specs.Encodings.{prefix_family}
 use Rattle.babel_tlv.specs.Framing.{TlvAt}
-use Rattle.babel_tlv.specs.Kept.{prefix_with}
+use Rattle.babel_tlv.specs.Kept.{prefix_for, prefix_with}
 use Rattle.babel_tlv.specs.Route.{Announcement}
 use Rattle.babel_tlv.specs.Says.{key_of, key_reason, key_tells, unless_ignored}
 use Rattle.babel_tlv.specs.EventKinds.{event_of}
@@ -29,6 +32,24 @@ hop_sub_tlvs body = drop (2 + hop_len (slice_index body 0)) body
 
 abbrev pub update_sub_tlvs : List ℕ → List ℕ
 update_sub_tlvs body = drop (10 + field_len body) body
+
+-- the octets of a default prefix, none if it is undefined
+abbrev pub default_octets : Option Address → List ℕ
+default_octets default = unwrap_or (option_map octets_of default) []
+
+-- RFC 9079, 7.1: the prefix of a Source Prefix that is not faulty
+abbrev pub source_prefix : Family → List ℕ → AddressPrefix
+source_prefix family body =
+    prefix_from family (slice_index body 0) (take (octets_for (slice_index body 0)) (drop 1 body))
+
+-- the prefix that an Update of an encoding forms
+abbrev pub formed_by : Context → PrefixEncoding → List ℕ → Result AddressPrefix Reason
+formed_by context encoding body =
+    formed (prefix_family encoding) (prefix_for encoding context.defaults) body
+
+-- the first n of these octets, and zeros where there are fewer
+abbrev pub padded : ℕ → List ℕ → List ℕ
+padded n octets = take n (octets ++ replicate n 0)
 
 -- the octets of an Update's prefix: those omitted, of the default prefix, and those that it brings
 abbrev pub joined_octets : Option Address → List ℕ → List ℕ
@@ -61,7 +82,8 @@ GivesEvent event route result =
 
 -- RFC 8966, 4.6.7: the router-id, and the sub-TLVs after it
 abbrev pub IsRouterIdIn : List ℕ → RouterId → Type 0
-IsRouterIdIn body read = (read.router_id ≡ router_id_in body) × (read.sub_tlvs.now ≡ drop 10 body)
+IsRouterIdIn body read =
+    (read.router_id ≡ take 8 (drop 2 body)) × (read.sub_tlvs.now ≡ drop 10 body)
 
 -- RFC 8966, 4.6.8: the next hop, and the sub-TLVs after it
 abbrev pub IsNextHopIn : List ℕ → NextHop → Type 0

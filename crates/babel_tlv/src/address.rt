@@ -5,7 +5,8 @@ ghost use Rattle.babel_prefix.specs.Width.{octet_count, width_of};
 ghost use Rattle.babel_prefix.specs.Address.{address_of, octets_of};
 ghost use Rattle.babel_prefix.specs.declared.family.Family.TheVariants.{V6};
 ghost use Rattle.babel_tlv.specs.Kept.{IsOfFamily};
-ghost use Rattle.babel_tlv.specs.Forming.{link_local, padded, default_octets};
+ghost use Rattle.babel_tlv.specs.Forming.{link_local};
+ghost use Rattle.babel_tlv.specs.Reading.{default_octets, padded};
 
 use babel_prefix::{Addr, Family};
 

@@ -29,6 +29,7 @@ impl<'a> RouterId<'a> {
 
 /// The router-id of an Update's address: its last 8 octets, or 4 zero octets and an IPv4 address:
 /// RFC 8966, 4.6.9.
+#[tactic(auto, using(crate::proofs::IdLaws::small_id))]
 pub(crate) fn address_router_id(addr: Addr) -> [u8; 8]
     ensures { result ≡ id_of addr }
 {

@@ -3,7 +3,7 @@ use Rattle.std.proofs.Common.{◌≡◌, ℕ, ◌+◌, ◌-◌, ◌*◌, ◌^◌
 use Rattle.std.specs.Int.Digits.{number_from_digits, number_from_digits_after}
 use Rattle.babel_prefix.specs.Width.{octet_count}
 use Rattle.babel_prefix.specs.Address.{Address}
-use Rattle.babel_tlv.specs.Forming.{default_octets}
+use Rattle.babel_tlv.specs.Reading.{default_octets}
 use Rattle.babel_tlv.proofs.FormLaws.{few_octets, pow_256-le, length-omitted, number-formed}
 use Rattle.babel_tlv.proofs.address.completed.Goals as goal
 

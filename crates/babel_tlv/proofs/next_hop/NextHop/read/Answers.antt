@@ -1,15 +1,19 @@
 -- A Next Hop of an encoding with an address gives it where all its octets are there; its sub-TLVs are behind them.
-use Rattle.std.proofs.Common.{◌≡◌, ℕ, ◌+◌, ◌-◌, ◌<◌, ◌≤◌, false, List, Some, length, get_or, take, drop, Ok, sym, ap, ◌∙◌, arith, rules}
+use Rattle.std.proofs.Common.{◌≡◌, ℕ, ◌+◌, ◌-◌, ◌<◌, ◌≤◌, false, cond, ◌++◌, List, Some, length, get_or, take, drop, Ok, sym, ap, ◌∙◌, arith, rules}
 use Rattle.std.specs.Prelude.{◌==◌, nat_lt}
 use Rattle.std.proofs.lemmas.Bool.Decides.{nat_tests}
 use Rattle.std.proofs.lemmas.List.{drop-drop, length-drop, take_rest}
-use Rattle.babel_prefix.specs.Address.{Address}
-use Rattle.babel_tlv.specs.Forming.{hop_address, hop_len, next_hop_in}
+use Rattle.babel_prefix.specs.Address.{Address, address_of}
+use Rattle.babel_prefix.specs.declared.family.Family.TheVariants.{V4, V6}
+use Rattle.babel_tlv.specs.Forming.{hop_len, link_local, next_hop_in}
 use Rattle.babel_tlv.specs.Encodings.{encoding_of}
 use Rattle.babel_tlv.specs.Reading.{hop_sub_tlvs}
 use Rattle.babel_tlv.specs.declared.prefix_encoding.PrefixEncoding.TheVariants.{Ipv4, Ipv6}
 use Rattle.babel_tlv.proofs.EncodingLaws.{named}
 use Rattle.babel_tlv.proofs.next_hop.NextHop.read.Goals as goal
+
+abbrev hop_address : ℕ → List ℕ → Address
+hop_address ae octets = cond (ae == 1) (address_of V4 octets) (cond (ae == 2) (address_of V6 octets) (address_of V6 (link_local ++ octets)))
 
 hop_read : (body : List ℕ) (number : ℕ) (hop : Address) → 2 ≤ length body → get_or body 0 0 ≡ number → 0 < number → number ≤ 3
     → hop_len number ≤ length (take (length body - 2) (drop 2 body)) → hop ≡ hop_address number (take (hop_len number) (take (length body - 2) (drop 2 body)))
