@@ -9,6 +9,7 @@ use Rattle.jiff_core.specs.declared.civil.date.Date.{Date}
 use Rattle.jiff_core.proofs.CalendarLemmas.{day_count-day, day_count-day_of_year, day_count-epoch, day_count-lt_month, day_count-lt_year, days_from_civil-day_count, days_in_month_bounds}
 use Rattle.jiff_core.proofs.DateLemmas.{civil}
 use Rattle.jiff_core.proofs.SignedLemmas.{signed_arith}
+use borrow.Author.Differences.{down, up}
 use Rattle.babel_dump.specs.TimeText.{begun, day_of_month, first_day, month_of, year_of}
 
 -- ---- counting what has begun
@@ -22,21 +23,22 @@ module _ (first : ℕ → ℕ) (day k most : ℕ) (before : (n : ℕ) → n < k 
       let rest = begun-before n (omega (arith, few)) in
       rw has (omega (arith, rest))
 
+  begun-more : (n : ℕ) (b : Bool) → nat_le k n ≡ b → (k ≤ n → begun first n day ≡ k) → suc n ≤ most → k ≤ suc n → begun first (suc n) day ≡ k
+  unfolding begun
+  begun-more n true is earlier few all =
+      let later : k ≤ n = grind (arith, nat_tests) in
+      let not : nat_le (first n) day ≡ false = (let late = after n later (omega (arith, few)) in grind (arith, nat_tests)) in
+      let rest = earlier later in
+      rw not (omega (arith, rest))
+  begun-more n false is earlier few all =
+      let fewer : n < k = grind (arith, nat_tests) in
+      let same : suc n ≡ k = omega (arith, fewer, all) in
+      begun-before (suc n) (omega (arith, same)) ∙ same
+
   pub begun-all : (n : ℕ) → n ≤ most → k ≤ n → begun first n day ≡ k
   unfolding begun
   begun-all zero few all = omega (arith, all)
-  begun-all (suc n) few all = by (nat_le k n) refl
-    where
-      by : (b : Bool) → nat_le k n ≡ b → begun first (suc n) day ≡ k
-      by true is =
-          let later : k ≤ n = grind (arith, nat_tests) in
-          let not : nat_le (first n) day ≡ false = (let late = after n later (omega (arith, few)) in grind (arith, nat_tests)) in
-          let rest = begun-all n (omega (arith, few)) later in
-          rw not (omega (arith, rest))
-      by false is =
-          let fewer : n < k = grind (arith, nat_tests) in
-          let same : suc n ≡ k = omega (arith, fewer, all) in
-          begun-before (suc n) (omega (arith, same)) ∙ same
+  begun-all (suc n) few all = begun-more n (nat_le k n) refl (λ later. begun-all n (omega (arith, few)) later) few all
 
 -- ---- days after 1 January 1970
 
@@ -54,8 +56,13 @@ from_epoch y m low high some few = by_lt_z (pos 1970) (pos y)
     (λ no. let same : pos y ≡ pos 1970 = ap pos (omega (arith, signed_arith, no, low)) in
     rw same (omega (arith, day_count-epoch, in_year (pos 1970) m 1 (omega arith))))
 
+from_difference : (z : ℤ) (n : ℕ) → up z + 4371953 ≡ down z + n → 4371953 ≤ n → unsigned_abs z + 4371953 ≡ n
+from_difference (pos m) n is later = omega (arith, signed_arith, is)
+from_difference (negsuc m) n is later = absurd (omega (arith, signed_arith, is, later))
+
 first_count : (y m : ℕ) → 1970 ≤ y → y ≤ 9999 → 1 ≤ m → m ≤ 12 → first_day y m + 4371953 ≡ day_count (pos y) m 1
-first_count y m low high some few = omega (arith, signed_arith, days_from_civil-day_count (pos y) m 1, from_epoch y m low high some few)
+first_count y m low high some few =
+    from_difference (days_from_civil (pos y) m 1) (day_count (pos y) m 1) (days_from_civil-day_count (pos y) m 1) (from_epoch y m low high some few)
 
 -- ---- the date of a day
 
@@ -123,18 +130,20 @@ module _ (d : Date) (day y : ℕ) (is : epoch_day d ≡ pos day) (is_y : d.year 
   pub is_day : d.day ≡ day_of_month day
   is_day = day_in ∙ ap (λ (z : ℕ). day - first_day z d.month + 1) is_year ∙ ap (λ (m : ℕ). day - first_day (year_of day) m + 1) is_month
 
+in_years : (z : ℤ) → pos 1970 ≤ℤ z → z ≤ℤ pos 9999 → (z ≡ pos (unsigned_abs z)) × (1970 ≤ unsigned_abs z) × (unsigned_abs z ≤ 9999)
+in_years (pos n) low high = (refl, omega (arith, signed_arith, low), omega (arith, signed_arith, high))
+in_years (negsuc n) low high = absurd (omega (arith, signed_arith, low))
+
 -- from its number on
-pub dated : (d : Date) (day : ℕ) → epoch_day d ≡ pos day → (unsigned_abs d.year ≡ year_of day) × (d.month ≡ month_of day) × (d.day ≡ day_of_month day)
+dated : (d : Date) (day : ℕ) → epoch_day d ≡ pos day → (unsigned_abs d.year ≡ year_of day) × (d.month ≡ month_of day) × (d.day ≡ day_of_month day)
 dated d day is =
     let low : pos 1970 ≤ℤ d.year = by_lt_z d.year (pos 1970)
     (λ earlier. let less = day_count-lt_year d.year d.month d.day (pos 1970) 1 1 (civil d) (omega arith) earlier in
     absurd (omega (arith, signed_arith, is, less, day_count-epoch, days_from_civil-day_count d.year d.month d.day)))
     (λ no. no) in
     let y = unsigned_abs d.year in
-    let is_y : d.year ≡ pos y = omega (arith, signed_arith, low) in
-    let from : 1970 ≤ y = omega (arith, signed_arith, low) in
-    let to : y ≤ 9999 = omega (arith, signed_arith, low, d.year_in.1) in
-    (is_year d day y is is_y from to, is_month d day y is is_y from to, is_day d day y is is_y from to)
+    let are = in_years d.year low d.year_in.1 in
+    (is_year d day y is are.0 are.1 are.2, is_month d day y is are.0 are.1 are.2, is_day d day y is are.0 are.1 are.2)
 
 -- as the date's call says it, by the first date of the calendar
 module _ (d : Date) (day : ℕ) (is : epoch_day d +ℤ pos 4371587 ≡ pos (day + 4371587)) where
