@@ -1,5 +1,5 @@
 -- The date of a day is the stated one.
-use Rattle.std.proofs.Common.{◌≡◌, ℕ, zero, suc, ◌+◌, ◌-◌, ◌<◌, ◌≤◌, Bool, true, false, refl, sym, ap, ◌∙◌, subst, arith, ℤ, pos, negsuc, ◌+ℤ◌, ◌<ℤ◌, ◌≤ℤ◌, unsigned_abs}
+use Rattle.std.proofs.Common.{◌≡◌, ℕ, zero, suc, ◌+◌, ◌-◌, ◌<◌, ◌≤◌, Bool, true, false, refl, sym, ap, ◌∙◌, subst, arith, ℤ, pos, negsuc, ◌+ℤ◌, ◌<ℤ◌, ◌≤ℤ◌, neg_ℤ, of_z, to_z, unsigned_abs}
 use Rattle.std.specs.Prelude.{nat_le}
 use Rattle.std.proofs.lemmas.Bool.Decides.{nat_tests}
 use Rattle.std.proofs.lemmas.Int.{by_lt_z}
@@ -8,7 +8,8 @@ use Rattle.jiff_core.specs.Date.{epoch_day}
 use Rattle.jiff_core.specs.declared.civil.date.Date.{Date}
 use Rattle.jiff_core.proofs.CalendarLemmas.{day_count-day, day_count-day_of_year, day_count-epoch, day_count-lt_month, day_count-lt_year, days_from_civil-day_count, days_in_month_bounds}
 use Rattle.jiff_core.proofs.DateLemmas.{civil}
-use Rattle.jiff_core.proofs.SignedLemmas.{signed_arith}
+use Rattle.jiff_core.proofs.SignedLemmas.{back_small, signed_arith}
+use Rattle.std.specs.Int.{w16}
 use borrow.Author.Differences.{down, up}
 use Rattle.babel_dump.specs.TimeText.{begun, day_of_month, first_day, month_of, year_of}
 
@@ -158,3 +159,11 @@ module _ (d : Date) (day : ℕ) (is : epoch_day d +ℤ pos 4371587 ≡ pos (day 
 
   pub day_by : d.day ≡ day_of_month day
   day_by = (dated d day from_epoch_is).2
+
+-- the year is read from its bits
+from_bits : (z : ℤ) → neg_ℤ (pos 9999) ≤ℤ z → z ≤ℤ pos 9999 → to_z w16 (of_z w16 z) ≡ z
+from_bits (pos n) low high = back_small w16 (pos n) (omega (arith, signed_arith, high))
+from_bits (negsuc n) low high = back_small w16 (negsuc n) (omega (arith, signed_arith, low))
+
+pub year_back : (d : Date) → to_z w16 (of_z w16 d.year) ≡ d.year
+year_back d = from_bits d.year d.year_in.0 d.year_in.1
