@@ -1,5 +1,5 @@
 -- Each TLV is taken; behind one that fails, the rest of the body may still be no TLVs.
-use Rattle.std.proofs.Common.{◌≡◌, ◌≤◌, length, arith, refl, ap, subst, ◌∙◌, inl, inr}
+use Rattle.std.proofs.Common.{◌≡◌, ◌≤◌, [], rules, length, arith, refl, ap, subst, ◌∙◌, inl, inr}
 use Rattle.std.proofs.lemmas.Result.{err_from_is_err_and}
 use Rattle.babel_tlv.specs.Framing.{tlvs_of}
 use Rattle.babel_tlv.specs.Frames.{tlv_value}
@@ -68,5 +68,6 @@ pub returns-in-Err-clause-time : goal.returns-in-Err-clause-time
 returns-in-Err-clause-time c = (c.take_tlv.ensures.time.0 ∙ c.loop-tlv.invariant.time.0, c.take_tlv.ensures.time.1 ∙ c.loop-tlv.invariant.time.1)
 
 pub returns-clause-words : goal.returns-clause-words
-returns-clause-words c = λ runs. on_ok c.check_rest.result _
-    (leads-end c.args.self.now.rows.when.time c.args.start.now c.loop-tlv.state (tlvs_left c.loop-tlv.tlvs) c.loop-tlv.self.rows.words _ c.in-None.ensures.next.0 (c.loop-tlv.invariant.leads runs))
+returns-clause-words c =
+    let none : tlvs_left c.loop-tlv.tlvs ≡ [] = search rules in λ runs. on_ok c.check_rest-2.result _
+    (leads-end c.args.self.now.rows.when.time c.args.start.now c.loop-tlv.state (tlvs_left c.loop-tlv.tlvs) c.loop-tlv.self.rows.words _ none (c.loop-tlv.invariant.leads runs))
