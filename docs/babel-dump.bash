@@ -33,8 +33,8 @@ _babel_dump_valued="$_babel_dump_valued --source --id"
 
 # The options of a command.
 _babel_dump_options() {
-    local options="--from --interface --accept-cut --hold --v4-via-v6 --strict --quiet --json --short"
-    options="$options --max-routes --max-octets --help"
+    local options="--from --interface --accept-cut --hold --v4-via-v6 --strict --quiet --json"
+    options="$options --short --max-routes --max-octets --help"
     local filters="--within --match --source --id"
     case $1 in
         show) options="${options/ --strict/} $filters --summary" ;;
