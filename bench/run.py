@@ -61,7 +61,11 @@ COMPARED = (
 NESTED = ("nested", "nested-sources")
 COUNTED = ("hidden-16k", "hidden-64k", "router-ids-16k", "router-ids-64k", "router-ids-256k")
 MANY_DIFFERENCES = (
-    "network-or-hosts-1k", "network-or-hosts-2k", "network-or-hosts-4k", "deepest-16k", "deepest-64k"
+    "network-or-hosts-1k",
+    "network-or-hosts-2k",
+    "network-or-hosts-4k",
+    "deepest-16k",
+    "deepest-64k",
 )
 SIZES = (1, 4, 16, 64, 256)
 CAPTURES = ("frames.pcap", "one-sender.pcap", "small-packets.pcapng", "many-senders.pcap")

@@ -9,7 +9,7 @@ use Rattle.babel_tlv.specs.declared.fault.Fault.{Fault}
 use Rattle.babel_tlv.specs.declared.mode.Mode.{Mode}
 use Rattle.babel_tlv.specs.declared.start.Start.{Start}
 use Rattle.babel_tlv.specs.Framing.{ArePackets, packet_octets}
-use Rattle.babel_tlv.specs.Says.{Saying, sayings, sayings_behind}
+use Rattle.babel_tlv.specs.Says.{Saying, sayings, sayings_after}
 use Rattle.babel_tlv.specs.Pair.{Pair}
 use Rattle.babel_tlv.specs.News.{spoken, pair_event}
 use Rattle.babel_tlv.proofs.Telling.{as_ok, what_of}
@@ -111,7 +111,7 @@ no_stream_fault mode entries start octets pairs fault tells room faulty =
     let place : length (flat_map packet_octets front) ≡ 0 + length (flat_map packet_octets front) = omega arith in
     let placed : ArePackets (length (flat_map packet_octets front)) on.later = subst (λ (a : ℕ). ArePackets a on.later) (sym place) on.placed in
     let all : sayings start tells.packets ≡ sayings start front ++ sayings start on.later =
-    ap (sayings start) on.parts ∙ flat_map-append (sayings_behind start []) front on.later in
+    ap (sayings start) on.parts ∙ flat_map-append (sayings_after start []) front on.later in
     let fine : map what_of (sayings start front ++ sayings start on.later) ≡ map as_ok tells.said = ap (λ (ss : List Saying). map what_of ss) (sym all) ∙ tells.fine in
     elim (faulty.3) as (λ _. ⊥) [
       | inl framing ↦ packets_fine (length (flat_map packet_octets front)) on.later rest fault placed on.rest_is framing.2 framing.3

@@ -14,9 +14,9 @@ use Rattle.babel_tlv.specs.declared.start.Start.{Start}
 use Rattle.babel_tlv.specs.Context.{Context, context_after, first_context, updated}
 use Rattle.babel_tlv.specs.Framing.{TlvAt, ReadsAs}
 use Rattle.babel_tlv.specs.Route.{RouteKey, Announcement, is_reserved}
-use Rattle.babel_tlv.specs.Says.{ignored_for, refuses, route_tells, said, sayings, sayings_behind, tells, told, told_by, unless_ignored}
+use Rattle.babel_tlv.specs.Says.{ignored_for, refuses, route_tells, said, sayings, sayings_after, tells, told, told_by, unless_ignored}
 use Rattle.babel_tlv.proofs.HopsFit.{via_after}
-use Rattle.babel_tlv.proofs.Telling.{as_ok, says_in, what_of, sayings_behind-says_in}
+use Rattle.babel_tlv.proofs.Telling.{as_ok, says_in, what_of, sayings_after-says_in}
 use Rattle.babel_tlv.proofs.TellsLaws.{ignored_tells_nothing, tells-holds}
 use Rattle.babel_table.specs.Bounds.{Bounds, start_of}
 use Rattle.babel_table.specs.Rows.{Routes}
@@ -78,9 +78,9 @@ told_by-says_in context (tlv ∷ tlvs) =
 told-sayings : (start : Start) (packets : List (List TlvAt)) → told start packets ≡ map quiet_of (map what_of (sayings start packets))
 told-sayings start [] = refl
 told-sayings start (tlvs ∷ packets) =
-    let here = sayings_behind start [] tlvs in
+    let here = sayings_after start [] tlvs in
     ap (λ (es : List Event). es ++ told start packets)
-    (told_by-says_in (first_context start) tlvs ∙ ap (map quiet_of) (sym (sayings_behind-says_in start [] tlvs)))
+    (told_by-says_in (first_context start) tlvs ∙ ap (map quiet_of) (sym (sayings_after-says_in start [] tlvs)))
     ∙ ap (λ (es : List Event). map quiet_of (map what_of here) ++ es) (told-sayings start packets)
     ∙ sym (ap (map quiet_of) (map-append what_of here (sayings start packets)) ∙ map-append quiet_of (map what_of here) (map what_of (sayings start packets)))
 
@@ -98,7 +98,7 @@ said-read context tlv = by (refuses context.via_v6 tlv) (faults.EncodingSetsRout
     by true fault event ok = absurd ok
     by false fault event ok = refl
 
-both_ok : (start : Start) (earlier tlvs : List TlvAt) (later : List (Result Event Fault)) → AllByRecursion IsOk (map what_of (sayings_behind start earlier tlvs) ++ later)
+both_ok : (start : Start) (earlier tlvs : List TlvAt) (later : List (Result Event Fault)) → AllByRecursion IsOk (map what_of (sayings_after start earlier tlvs) ++ later)
     → IsFalse (list_any (refuses start.via_v6) tlvs) × AllByRecursion IsOk later
 both_ok start earlier [] later ok = (refl, ok)
 both_ok start earlier (tlv ∷ tlvs) later ok =
@@ -109,7 +109,7 @@ both_ok start earlier (tlv ∷ tlvs) later ok =
 none_refuse : (start : Start) (packets : List (List TlvAt)) → AllByRecursion IsOk (map what_of (sayings start packets)) → IsFalse (list_any (list_any (refuses start.via_v6)) packets)
 none_refuse start [] ok = refl
 none_refuse start (tlvs ∷ packets) ok =
-    let both = both_ok start [] tlvs (map what_of (sayings start packets)) (subst (AllByRecursion IsOk) (map-append what_of (sayings_behind start [] tlvs) (sayings start packets)) ok) in
+    let both = both_ok start [] tlvs (map what_of (sayings start packets)) (subst (AllByRecursion IsOk) (map-append what_of (sayings_after start [] tlvs) (sayings start packets)) ok) in
     ap (λ (b : Bool). b || list_any (list_any (refuses start.via_v6)) packets) both.0 ∙ none_refuse start packets both.1
 
 events_ok : (said : List Event) → AllByRecursion IsOk (map as_ok said)

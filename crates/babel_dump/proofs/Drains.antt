@@ -1,5 +1,6 @@
 -- A capture that is read for the dump of a sender, piece by piece.
-use Rattle.std.proofs.Common.{◌≡◌, ◌≢◌, refl, arith, Bool, true, false, ℕ, ◌+◌, ◌≤◌, List, [], ◌++◌, take, drop, length, length-append, Option, None, Some, Result, Ok, Err, IfOk, IfErr, ◌<◌, ap, sym, subst, ◌∙◌, inl, inr, append-nil, append_assoc}
+use Rattle.std.proofs.Common.{◌≡◌, ◌≢◌, refl, arith, Bool, true, false, ℕ, ◌+◌, ◌≤◌, List, [], ◌++◌, take, drop, length, length-append}
+use Rattle.std.proofs.Common.{Option, None, Some, Result, Ok, Err, IfOk, IfErr, ◌<◌, ap, sym, subst, ◌∙◌, inl, inr, append-nil, append_assoc}
 use Rattle.std.specs.Prelude.{MatchResult}
 use Rattle.std.specs.Io.KnownBytes.{Consumes, IsAtEnd, Keeps}
 use Rattle.std.proofs.KnownBytes.{Consumes-trans}

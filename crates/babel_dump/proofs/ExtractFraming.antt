@@ -13,7 +13,7 @@ use Rattle.babel_tlv.specs.declared.start.Start.{Start}
 use Rattle.babel_tlv.specs.Context.{Context}
 use Rattle.babel_tlv.specs.FrameFaults.{PacketFault}
 use Rattle.babel_tlv.specs.Framing.{TlvAt, packet_octets}
-use Rattle.babel_tlv.specs.Says.{Saying, refuses, said, sayings, sayings_behind}
+use Rattle.babel_tlv.specs.Says.{Saying, refuses, said, sayings, sayings_after}
 use Rattle.babel_table.specs.Bounds.{Bounds, start_of}
 use Rattle.babel_table.specs.DumpFault.{DumpFault, IsTruncated, RefusedBy, Refuses, StreamFault}
 use Rattle.babel_table.proofs.DumpLaws.{begins-more, header-more}
@@ -54,14 +54,14 @@ all_middle : (xs : List Saying) (x : Saying) (ys : List Saying) → AllByRecursi
 all_middle [] x ys all = all.0
 all_middle (z ∷ xs) x ys all = all_middle xs x ys all.1
 
-packet_none : (start : Start) (earlier tlvs : List TlvAt) → AllByRecursion SaysNone (sayings_behind start earlier tlvs)
+packet_none : (start : Start) (earlier tlvs : List TlvAt) → AllByRecursion SaysNone (sayings_after start earlier tlvs)
 packet_none start earlier [] = tt
 packet_none start earlier (tlv ∷ tlvs) = ((said_none _ tlv).none, packet_none start (tlv ∷ earlier) tlvs)
 
 packets_none : (start : Start) (packets : List (List TlvAt)) → AllByRecursion SaysNone (sayings start packets)
 packets_none start [] = tt
 packets_none start (packet ∷ packets) =
-    all_append (sayings_behind start [] packet) (sayings start packets) (packet_none start [] packet) (packets_none start packets)
+    all_append (sayings_after start [] packet) (sayings start packets) (packet_none start [] packet) (packets_none start packets)
 
 refuses_none : (mode : Mode) (entries : ℕ) (before : List Event) (at : ℕ) (what : Result Event Fault) (fault : Fault)
     → IfErr what (λ refused. ¬ IsOfFraming refused) → Refuses mode entries before at what fault → ¬ IsOfFraming fault

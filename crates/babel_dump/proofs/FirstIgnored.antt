@@ -14,7 +14,7 @@ use Rattle.babel_tlv.specs.declared.reason.Reason.{Reason}
 use Rattle.babel_tlv.specs.declared.reason.Reason.TheVariants as reasons
 use Rattle.babel_tlv.specs.declared.start.Start.{Start}
 use Rattle.babel_tlv.specs.Framing.{ArePackets, ArePlaced, TlvAt, laid_out, packet_octets, tlv_octets}
-use Rattle.babel_tlv.specs.Says.{Saying, sayings, sayings_behind}
+use Rattle.babel_tlv.specs.Says.{Saying, sayings, sayings_after}
 use Rattle.babel_table.specs.Counts.{all_reasons, count_at, counts_of, ignored_in, is_ignored_for, reason_place}
 use Rattle.babel_dump.specs.FirstIgnored.{AreNotIgnored, FirstIsFirst, IsFirst, IsIgnoredFor, NoneIsNone, OffsetsOfDumpsRise, OffsetsRise}
 use Rattle.babel_dump.specs.Ignored.{IgnoresNone, first_among, first_counted, sooner}
@@ -387,7 +387,7 @@ some_octets : (kind : ℕ) (body : List ℕ) → 0 < length (laid_out kind body)
 some_octets zero body = omega arith
 some_octets (suc kind) body = omega arith
 
-within_packet : (start : Start) (at : ℕ) (earlier tlvs : List TlvAt) → ArePlaced at tlvs → RiseWithin at (at + length (flat_map tlv_octets tlvs)) (sayings_behind start earlier tlvs)
+within_packet : (start : Start) (at : ℕ) (earlier tlvs : List TlvAt) → ArePlaced at tlvs → RiseWithin at (at + length (flat_map tlv_octets tlvs)) (sayings_after start earlier tlvs)
 within_packet start at earlier [] placed = omega arith
 within_packet start at earlier (tlv ∷ tlvs) placed =
     let len = length (tlv_octets tlv) in
@@ -395,7 +395,7 @@ within_packet start at earlier (tlv ∷ tlvs) placed =
     let whole : length (tlv_octets tlv ++ flat_map tlv_octets tlvs) ≡ len + length (flat_map tlv_octets tlvs) = length-append (tlv_octets tlv) (flat_map tlv_octets tlvs) in
     let later = within_packet start (at + len) (tlv ∷ earlier) tlvs placed.2 in
     let end : at + len + length (flat_map tlv_octets tlvs) ≡ at + length (flat_map tlv_octets (tlv ∷ tlvs)) = omega arith in
-    let told = sayings_behind start (tlv ∷ earlier) tlvs in
+    let told = sayings_after start (tlv ∷ earlier) tlvs in
     (omega (arith, placed.0), within_from (at + len) (suc tlv.at) (at + length (flat_map tlv_octets (tlv ∷ tlvs))) told (omega (arith, placed.0)) (subst (λ n. RiseWithin (at + len) n told) end later))
 
 -- the offset behind the packets
@@ -409,8 +409,8 @@ within_packets start at (tlvs ∷ packets) are =
     let end : at + length (packet_octets tlvs) ≡ at + 4 + length (flat_map tlv_octets tlvs) = omega arith in
     let here = within_packet start (at + 4) [] tlvs are.1 in
     let later = within_packets start (at + length (packet_octets tlvs)) packets are.2 in
-    within_append at (at + length (packet_octets tlvs)) (end_of at (tlvs ∷ packets)) (sayings_behind start [] tlvs) (sayings start packets)
-    (within_from (at + 4) at (at + length (packet_octets tlvs)) (sayings_behind start [] tlvs) (omega arith) (subst (λ n. RiseWithin (at + 4) n (sayings_behind start [] tlvs)) (sym end) here))
+    within_append at (at + length (packet_octets tlvs)) (end_of at (tlvs ∷ packets)) (sayings_after start [] tlvs) (sayings start packets)
+    (within_from (at + 4) at (at + length (packet_octets tlvs)) (sayings_after start [] tlvs) (omega arith) (subst (λ n. RiseWithin (at + 4) n (sayings_after start [] tlvs)) (sym end) here))
     later
 
 pub offsets_of_dumps_rise : OffsetsOfDumpsRise

@@ -5,7 +5,6 @@ mod forms;
 mod notes;
 mod one_call;
 mod one_command;
-mod packet_ends;
 mod pairs_files;
 mod places;
 mod refusals;

@@ -13,7 +13,7 @@ use Rattle.babel_tlv.specs.declared.fault.Fault.TheVariants as faults
 use Rattle.babel_tlv.specs.declared.mode.Mode.{Mode}
 use Rattle.babel_tlv.specs.FrameFaults.{TlvPastEndAt, HasNoTlvAt, BeginsPacket, HasHeader, HeaderFault, PacketFault, body_len}
 use Rattle.babel_tlv.specs.Framing.{TlvAt, ArePackets, ArePlaced, IsBody, ReadsAs, tlv_octets, framed, packet_octets, tlvs_of}
-use Rattle.babel_tlv.specs.Says.{Saying, sayings, sayings_behind}
+use Rattle.babel_tlv.specs.Says.{Saying, sayings, sayings_after}
 use Rattle.babel_table.specs.DumpFault.{RefusedBy, StreamFault, IsTruncated}
 use Rattle.babel_table.specs.Feeding.{StandsBehind, Takes, Fails, TookPackets, StopsAt, StopsBehind, IsPartial, IsReady, IsLasting, NeedsMemory}
 use Rattle.babel_table.specs.Rows.{Routes}
@@ -31,7 +31,7 @@ length-flat : (a b : List (List TlvAt)) → length (flat_map packet_octets (a ++
 length-flat a b = ap length (flat-append a b) ∙ length-append (flat_map packet_octets a) (flat_map packet_octets b)
 
 pub sayings-append : (start : Start) (a b : List (List TlvAt)) → sayings start (a ++ b) ≡ sayings start a ++ sayings start b
-sayings-append start a b = flat_map-append (sayings_behind start []) a b
+sayings-append start a b = flat_map-append (sayings_after start []) a b
 
 pub placed-append : (at place : ℕ) (a b : List (List TlvAt)) → ArePackets at a → place ≡ at + length (flat_map packet_octets a) → ArePackets place b → ArePackets at (a ++ b)
 placed-append at place [] b placed here later = subst (λ (n : ℕ). ArePackets n b) (omega (arith, here)) later
@@ -254,8 +254,8 @@ module _ (mode : Mode) (entries : ℕ) (start : Start) where
     stands = subst (λ (s : List Saying). StandsBehind mode entries new s) (sym (sayings-append start taken.packets took.packets)) (took.takes (sayings start taken.packets) taken.stands);
   }
 
-  reads-next : (octets rest : List ℕ) (packets : List (List TlvAt)) (tlvs : List TlvAt) (body behind : List ℕ) → ReadsAs octets packets rest → body ≡ flat_map tlv_octets tlvs → rest ≡ framed body ++ behind
-      → ArePackets (length (flat_map packet_octets packets)) (tlvs ∷ []) → ReadsAs octets (packets ++ tlvs ∷ []) behind
+  reads-next : (octets rest : List ℕ) (packets : List (List TlvAt)) (tlvs : List TlvAt) (body behind : List ℕ) → ReadsAs octets packets rest
+      → body ≡ flat_map tlv_octets tlvs → rest ≡ framed body ++ behind → ArePackets (length (flat_map packet_octets packets)) (tlvs ∷ []) → ReadsAs octets (packets ++ tlvs ∷ []) behind
   reads-next octets rest packets tlvs body behind reads is_body is_rest placed = record {
     whole = sym (append-nil octets) ∙ whole-append octets [] rest behind packets (tlvs ∷ []) reads.whole
         (append-nil rest ∙ is_rest ∙ ap (λ (b : List ℕ). framed b ++ behind) is_body ∙ ap (λ (t : List ℕ). t ++ behind) (sym (append-nil (packet_octets tlvs))));
@@ -297,14 +297,14 @@ module _ (mode : Mode) (entries : ℕ) (start : Start) where
       )
   stops-stream table at rest octets packets fault reads here stands (inr (body, begins, inr (parts, fails))) =
       let tlvs : List TlvAt = tlvs_of (at + 4) body in
-      let said : List Saying = sayings_behind start [] tlvs in
+      let said : List Saying = sayings_after start [] tlvs in
       let more_read : ReadsAs octets (packets ++ tlvs ∷ []) begins.1 =
       reads-next octets rest packets tlvs body begins.1 reads parts.whole begins.2
       (subst IsBody parts.whole begins.0, subst (λ (n : ℕ). ArePlaced (n + 4) tlvs) here parts.placed, tt) in
       by tlvs begins.1 more_read fails
     where
       by : (tlvs : List TlvAt) (behind : List ℕ) → ReadsAs octets (packets ++ tlvs ∷ []) behind
-          → Fails mode entries (sayings_behind start [] tlvs) table fault → HasStopped mode entries start octets fault
+          → Fails mode entries (sayings_after start [] tlvs) table fault → HasStopped mode entries start octets fault
       by tlvs behind reads_on (inl (lasting, refuses)) =
           inr (
             lasting,
@@ -313,7 +313,7 @@ module _ (mode : Mode) (entries : ℕ) (start : Start) where
               behind ++ more,
               record { whole = ap (λ (t : List ℕ). t ++ more) reads_on.whole ∙ append_assoc (flat_map packet_octets (packets ++ tlvs ∷ [])) behind more; placed = reads_on.placed },
               inr (subst (λ (s : List Saying). RefusedBy mode entries s fault)
-                  (append_assoc (sayings start packets) (sayings_behind start [] tlvs) [] ∙ sym (sayings-append start packets (tlvs ∷ [])))
+                  (append_assoc (sayings start packets) (sayings_after start [] tlvs) [] ∙ sym (sayings-append start packets (tlvs ∷ [])))
                   (refuses (sayings start packets) [] stands)),
             ),
           )
@@ -327,8 +327,8 @@ module _ (mode : Mode) (entries : ℕ) (start : Start) where
               (
                 saying,
                 subst (λ (s : List Saying). Contains s saying) (sym (sayings-append start packets (tlvs ∷ [])))
-                    (Contains-append_right (sayings start packets) (sayings_behind start [] tlvs ++ []) saying
-                    (subst (λ (s : List Saying). Contains s saying) (sym (append-nil (sayings_behind start [] tlvs))) is_said)),
+                    (Contains-append_right (sayings start packets) (sayings_after start [] tlvs ++ []) saying
+                    (subst (λ (s : List Saying). Contains s saying) (sym (append-nil (sayings_after start [] tlvs))) is_said)),
                 grows,
               ),
             ),

@@ -14,7 +14,7 @@ use Rattle.babel_tlv.specs.Framing.{TlvAt}
 use Rattle.babel_tlv.specs.Pair.{Pair}
 use Rattle.babel_tlv.specs.Pairs.{EventHopFits, HopFits}
 use Rattle.babel_tlv.specs.Route.{RouteKey}
-use Rattle.babel_tlv.specs.Says.{Saying, sayings, sayings_behind}
+use Rattle.babel_tlv.specs.Says.{Saying, sayings, sayings_after}
 use Rattle.babel_tlv.proofs.HopsFit.{said_after-fits}
 use Rattle.babel_table.specs.Bounds.{start_of}
 use Rattle.babel_table.specs.Holds.{same_key, retracted, held_after, Holds}
@@ -35,14 +35,14 @@ all_of P (x ∷ xs) each = (each x (0, omega arith, refl), all_of P xs (λ y c. 
 abbrev SaysFit : Bool → Saying → Type 0
 SaysFit via_v6 saying = IfOk saying.what (EventHopFits via_v6)
 
-packet_fits : (start : Start) (earlier tlvs : List TlvAt) → AllByRecursion (SaysFit start.via_v6) (sayings_behind start earlier tlvs)
+packet_fits : (start : Start) (earlier tlvs : List TlvAt) → AllByRecursion (SaysFit start.via_v6) (sayings_after start earlier tlvs)
 packet_fits start earlier [] = tt
 packet_fits start earlier (tlv ∷ tlvs) = (said_after-fits start earlier tlv, packet_fits start (tlv ∷ earlier) tlvs)
 
 packets_fit : (start : Start) (packets : List (List TlvAt)) → AllByRecursion (SaysFit start.via_v6) (sayings start packets)
 packets_fit start [] = tt
 packets_fit start (packet ∷ packets) =
-    all_append (SaysFit start.via_v6) (sayings_behind start [] packet) (sayings start packets) (packet_fits start [] packet) (packets_fit start packets)
+    all_append (SaysFit start.via_v6) (sayings_after start [] packet) (sayings start packets) (packet_fits start [] packet) (packets_fit start packets)
 
 fine_fits : (via_v6 : Bool) (mode : Mode) (entries : ℕ) (before : List Event) (sayings : List Saying) (said : List Event) → AreFine mode entries before sayings said
     → AllByRecursion (EventHopFits via_v6) before → AllByRecursion (SaysFit via_v6) sayings → AllByRecursion (EventHopFits via_v6) said

@@ -14,7 +14,7 @@ use Rattle.babel_tlv.specs.declared.start.Start.{Start}
 use Rattle.babel_tlv.specs.FrameFaults.{HeaderFault, PacketFault, HasNoTlvAt, BeginsPacket}
 use Rattle.babel_tlv.specs.Framing.{TlvAt, ReadsAs, packet_octets}
 use Rattle.babel_tlv.specs.Route.{RouteKey, Announcement}
-use Rattle.babel_tlv.specs.Says.{Saying, sayings, sayings_behind}
+use Rattle.babel_tlv.specs.Says.{Saying, sayings, sayings_after}
 use Rattle.babel_table.specs.Bounds.{Bounds, start_of}
 use Rattle.babel_table.specs.Counts.{Counts, counts_of}
 use Rattle.babel_table.specs.DumpFault.{Refuses, RefusedBy, StreamFault, DumpFault, IsTruncated}
@@ -215,13 +215,13 @@ all_middle : (xs : List Saying) (x : Saying) (ys : List Saying) → AllByRecursi
 all_middle [] x ys all = all.0
 all_middle (z ∷ xs) x ys all = all_middle xs x ys all.1
 
-packet_lasts : (start : Start) (earlier tlvs : List TlvAt) → AllByRecursion Lasting (sayings_behind start earlier tlvs)
+packet_lasts : (start : Start) (earlier tlvs : List TlvAt) → AllByRecursion Lasting (sayings_after start earlier tlvs)
 packet_lasts start earlier [] = tt
 packet_lasts start earlier (tlv ∷ tlvs) = ((said_lasts _ tlv).lasts, packet_lasts start (tlv ∷ earlier) tlvs)
 
 packets_last : (start : Start) (packets : List (List TlvAt)) → AllByRecursion Lasting (sayings start packets)
 packets_last start [] = tt
-packets_last start (packet ∷ packets) = all_append (sayings_behind start [] packet) (sayings start packets) (packet_lasts start [] packet) (packets_last start packets)
+packets_last start (packet ∷ packets) = all_append (sayings_after start [] packet) (sayings start packets) (packet_lasts start [] packet) (packets_last start packets)
 
 refuses-lasting : (mode : Mode) (entries : ℕ) (before : List Event) (at : ℕ) (what : Result Event Fault) (fault : Fault) → IfErr what IsLasting
     → Refuses mode entries before at what fault → IsLasting fault

@@ -9,7 +9,7 @@ use Rattle.babel_tlv.specs.declared.fault.Fault.{Fault}
 use Rattle.babel_tlv.specs.declared.mode.Mode.{Mode}
 use Rattle.babel_tlv.specs.FrameFaults.{BeginsPacket, AreTlvs}
 use Rattle.babel_tlv.specs.Framing.{TlvAt, ArePlaced, ArePackets, IsBody, framed, tlv_octets, packet_octets, tlvs_of}
-use Rattle.babel_tlv.specs.Says.{Saying, sayings, sayings_behind}
+use Rattle.babel_tlv.specs.Says.{Saying, sayings, sayings_after}
 use Rattle.babel_table.specs.Feeding.{StandsBehind, Takes, Fails, TookPackets}
 use Rattle.babel_table.specs.Rows.{Routes}
 
@@ -38,7 +38,7 @@ placed-push at (first ∷ packets) tlvs place placed here fits parts = (
 
 pub packets-next : (mode : Mode) (entries : ℕ) (start : Start) (at : ℕ) (octets : List ℕ) (old now next : Routes) (rest body : List ℕ) (place : ℕ)
     → TookPackets mode entries start at octets old now rest place
-    → BeginsPacket rest body → AreTlvs (place + 4) body (tlvs_of (place + 4) body) → Takes mode entries (sayings_behind start [] (tlvs_of (place + 4) body)) now next
+    → BeginsPacket rest body → AreTlvs (place + 4) body (tlvs_of (place + 4) body) → Takes mode entries (sayings_after start [] (tlvs_of (place + 4) body)) now next
     → TookPackets mode entries start at octets old next (drop (4 + length body) rest) (place + (4 + length body))
 packets-next mode entries start at octets old now next rest body place took (fits, behind, is_rest) parts takes =
     let tlvs : List TlvAt = tlvs_of (place + 4) body in
@@ -47,8 +47,8 @@ packets-next mode entries start at octets old now next rest body place took (fit
     let dropped : drop (4 + length body) rest ≡ behind = ap (drop (4 + length body)) is_rest ∙ drop_at (framed body) behind (4 + length body) (length-framed body) in
     let joined : flat_map packet_octets (took.packets ++ tlvs ∷ []) ≡ flat_map packet_octets took.packets ++ framed body =
     flat_map-append packet_octets took.packets (tlvs ∷ []) ∙ ap (λ (t : List ℕ). flat_map packet_octets took.packets ++ t) (append-nil (packet_octets tlvs) ∙ is_packet) in
-    let said : sayings start (took.packets ++ tlvs ∷ []) ≡ sayings start took.packets ++ sayings_behind start [] tlvs =
-    flat_map-append (sayings_behind start []) took.packets (tlvs ∷ []) ∙ ap (λ (t : List Saying). sayings start took.packets ++ t) (append-nil (sayings_behind start [] tlvs)) in
+    let said : sayings start (took.packets ++ tlvs ∷ []) ≡ sayings start took.packets ++ sayings_after start [] tlvs =
+    flat_map-append (sayings_after start []) took.packets (tlvs ∷ []) ∙ ap (λ (t : List Saying). sayings start took.packets ++ t) (append-nil (sayings_after start [] tlvs)) in
     record {
       packets = took.packets ++ tlvs ∷ [];
       whole = took.whole ∙ ap (λ (t : List ℕ). flat_map packet_octets took.packets ++ t) is_rest ∙ sym (append_assoc (flat_map packet_octets took.packets) (framed body) behind)
@@ -56,7 +56,7 @@ packets-next mode entries start at octets old now next rest body place took (fit
       placed = placed-push at took.packets tlvs place took.placed took.here (subst IsBody (sym is_body) fits) parts.placed;
       here = rw joined (omega (arith, took.here, length-append (flat_map packet_octets took.packets) (framed body), length-framed body));
       takes = λ before stands. subst (λ (s : List Saying). StandsBehind mode entries next s)
-          (append_assoc before (sayings start took.packets) (sayings_behind start [] tlvs) ∙ ap (λ (s : List Saying). before ++ s) (sym said))
+          (append_assoc before (sayings start took.packets) (sayings_after start [] tlvs) ∙ ap (λ (s : List Saying). before ++ s) (sym said))
           (takes (before ++ sayings start took.packets) (took.takes before stands));
     }
 
@@ -78,7 +78,7 @@ body-stops m mode e entries is_m is_e said now fault (inr (whole, fails)) = inr 
 
 pub packets-next_used : (mode : Mode) (entries : ℕ) (start : Start) (at : ℕ) (octets : List ℕ) (old now next : Routes) (rest body : List ℕ)
     (place used : ℕ) → used ≡ 4 + length body → TookPackets mode entries start at octets old now rest place
-    → BeginsPacket rest body → AreTlvs (place + 4) body (tlvs_of (place + 4) body) → Takes mode entries (sayings_behind start [] (tlvs_of (place + 4) body)) now next
+    → BeginsPacket rest body → AreTlvs (place + 4) body (tlvs_of (place + 4) body) → Takes mode entries (sayings_after start [] (tlvs_of (place + 4) body)) now next
     → TookPackets mode entries start at octets old next (drop used rest) (place + used)
 packets-next_used mode entries start at octets old now next rest body place used is took begins parts takes =
     subst (λ (n : ℕ). TookPackets mode entries start at octets old next (drop n rest) (place + n)) (sym is)

@@ -10,7 +10,7 @@ use Rattle.babel_tlv.specs.declared.fault.Fault.{Fault}
 use Rattle.babel_tlv.specs.declared.mode.Mode.{Mode}
 use Rattle.babel_tlv.specs.Framing.{TlvAt, tlvs_past, tlvs_of}
 use Rattle.babel_tlv.specs.Context.{Context, context_after}
-use Rattle.babel_tlv.specs.Says.{Saying, refuses, said, sayings_behind}
+use Rattle.babel_tlv.specs.Says.{Saying, refuses, said, sayings_after}
 use Rattle.babel_table.specs.DumpFault.{Refuses, RefusedBy}
 use Rattle.babel_table.specs.Feeding.{StandsBehind, Fails, TookSome, MayGrowAt, IsRefused, IsLasting, event_at}
 use Rattle.babel_table.specs.Rows.{Routes}
@@ -51,53 +51,53 @@ module _ (mode : Mode) (entries : ℕ) (start : Start) (old : Routes) (all : Lis
         earlier = tlv ∷ some.earlier;
         done = some.done ++ event_at tlv event ∷ [];
         context_is = goes some.earlier some.context_is;
-        whole = some.whole ∙ ap (λ (s : Saying). some.done ++ s ∷ sayings_behind start (tlv ∷ some.earlier) left) here
-            ∙ sym (append_assoc some.done (event_at tlv event ∷ []) (sayings_behind start (tlv ∷ some.earlier) left));
+        whole = some.whole ∙ ap (λ (s : Saying). some.done ++ s ∷ sayings_after start (tlv ∷ some.earlier) left) here
+            ∙ sym (append_assoc some.done (event_at tlv event ∷ []) (sayings_after start (tlv ∷ some.earlier) left));
         stands = λ before stands. subst (StandsBehind mode entries next) (append_assoc before some.done (event_at tlv event ∷ [])) (takes (before ++ some.done) (some.stands before stands));
       }
 
   -- the TLV refuses the dump
   pub took-refused : (now : Routes) (context : Context) (tlv : TlvAt) (left : List TlvAt) (fault : Fault) → TookSome mode entries start old all now context (tlv ∷ left)
-      → said context tlv ≡ Err fault → Fails mode entries (sayings_behind start [] all) old fault
+      → said context tlv ≡ Err fault → Fails mode entries (sayings_after start [] all) old fault
   took-refused now context tlv left fault some is_said =
       let here : said (context_after start some.earlier) tlv ≡ Err fault = subst (λ (c : Context). said c tlv ≡ Err fault) some.context_is is_said in
       let one : Saying = what tlv (said (context_after start some.earlier) tlv) in
-      let rest : List Saying = sayings_behind start (tlv ∷ some.earlier) left in
-      let whole : sayings_behind start [] all ≡ some.done ++ (one ∷ rest) = some.whole in
+      let rest : List Saying = sayings_after start (tlv ∷ some.earlier) left in
+      let whole : sayings_after start [] all ≡ some.done ++ (one ∷ rest) = some.whole in
       inl (
         said-lasting (context_after start some.earlier) tlv fault here,
         λ before later stands.
             subst (λ (s : List Saying). RefusedBy mode entries s fault)
             (append_assoc before some.done (one ∷ rest ++ later)
             ∙ ap (λ (s : List Saying). before ++ s) (sym (append_assoc some.done (one ∷ rest) later))
-            ∙ ap (λ (s : List Saying). before ++ (s ++ later)) (sym whole) ∙ sym (append_assoc before (sayings_behind start [] all) later))
+            ∙ ap (λ (s : List Saying). before ++ (s ++ later)) (sym whole) ∙ sym (append_assoc before (sayings_after start [] all) later))
             (refused_by mode entries now (before ++ some.done) one (rest ++ later) fault (some.stands before stands)
             (λ events are. subst (λ (r : Result Event Fault). Refuses mode entries events tlv.at r fault) (sym here) refl)),
       )
 
   -- there would be too many rows, or there is no memory
   pub took-failed : (now : Routes) (context : Context) (tlv : TlvAt) (left : List TlvAt) (event : Event) (fault : Fault) → TookSome mode entries start old all now context (tlv ∷ left)
-      → said context tlv ≡ Ok event → IsRefused mode entries tlv.at event now.rows fault → Fails mode entries (sayings_behind start [] all) old fault
+      → said context tlv ≡ Ok event → IsRefused mode entries tlv.at event now.rows fault → Fails mode entries (sayings_after start [] all) old fault
   took-failed now context tlv left event fault some is_said (inl (is, over)) =
       let here : said (context_after start some.earlier) tlv ≡ Ok event = here_said context tlv some.earlier event some.context_is is_said in
       let one : Saying = what tlv (said (context_after start some.earlier) tlv) in
-      let rest : List Saying = sayings_behind start (tlv ∷ some.earlier) left in
-      let whole : sayings_behind start [] all ≡ some.done ++ (one ∷ rest) = some.whole in
+      let rest : List Saying = sayings_after start (tlv ∷ some.earlier) left in
+      let whole : sayings_after start [] all ≡ some.done ++ (one ∷ rest) = some.whole in
       inl (
         subst IsLasting (sym is) tt,
         λ before later stands.
             subst (λ (s : List Saying). RefusedBy mode entries s fault)
             (append_assoc before some.done (one ∷ rest ++ later)
             ∙ ap (λ (s : List Saying). before ++ s) (sym (append_assoc some.done (one ∷ rest) later))
-            ∙ ap (λ (s : List Saying). before ++ (s ++ later)) (sym whole) ∙ sym (append_assoc before (sayings_behind start [] all) later))
+            ∙ ap (λ (s : List Saying). before ++ (s ++ later)) (sym whole) ∙ sym (append_assoc before (sayings_after start [] all) later))
             (refused_by mode entries now (before ++ some.done) one (rest ++ later) fault (some.stands before stands)
             (λ events are. subst (λ (r : Result Event Fault). Refuses mode entries events tlv.at r fault) (sym here) (is, over events are))),
       )
   took-failed now context tlv left event fault some is_said (inr (memory, grow)) =
       let here : said (context_after start some.earlier) tlv ≡ Ok event = here_said context tlv some.earlier event some.context_is is_said in
       let one : Saying = what tlv (said (context_after start some.earlier) tlv) in
-      let rest : List Saying = sayings_behind start (tlv ∷ some.earlier) left in
-      let whole : sayings_behind start [] all ≡ some.done ++ (one ∷ rest) = some.whole in
+      let rest : List Saying = sayings_after start (tlv ∷ some.earlier) left in
+      let whole : sayings_after start [] all ≡ some.done ++ (one ∷ rest) = some.whole in
       inr (
         memory,
         (
@@ -136,7 +136,7 @@ module _ (mode : Mode) (entries : ℕ) (now next : Routes) (context after : Cont
 
   pub tlv-failed : {T : Type 0} (event : Event) (taken : Result T Fault) → Ok event ≡ said context tlv → IfErr taken (IsRefused mode entries tlv.at event now.rows)
       → IfErr taken (λ fault. (start : Start) (old : Routes) (all left : List TlvAt) → TookSome mode entries start old all now context
-      (tlv ∷ left) → Fails mode entries (sayings_behind start [] all) old fault)
+      (tlv ∷ left) → Fails mode entries (sayings_after start [] all) old fault)
   tlv-failed event (Ok x) is_said refused = tt
   tlv-failed event (Err fault) is_said refused = λ start old all left some. took-failed mode entries start old all now context tlv left event fault some (sym is_said) refused
 
@@ -148,10 +148,10 @@ module _ (mode m : Mode) (entries e : ℕ) (is_m : m ≡ mode) (is_e : e ≡ ent
       (subst (λ (n : ℕ). TookSome mode n start old all now context (tlv ∷ left)) (sym is_e) (subst (λ (l : List TlvAt). TookSome mode entries start old all now context l) is_left some))
 
   pub body-failed : (fault : Fault) → TookSome mode entries start old all now context all_left
-      → (TookSome m e start old all now context (tlv ∷ left) → Fails m e (sayings_behind start [] all) old fault)
-      → Fails mode entries (sayings_behind start [] all) old fault
+      → (TookSome m e start old all now context (tlv ∷ left) → Fails m e (sayings_after start [] all) old fault)
+      → Fails mode entries (sayings_after start [] all) old fault
   body-failed fault some fails =
-      subst (λ (o : Mode). Fails o entries (sayings_behind start [] all) old fault) is_m (subst (λ (n : ℕ). Fails m n (sayings_behind start [] all) old fault) is_e (fails (here some)))
+      subst (λ (o : Mode). Fails o entries (sayings_after start [] all) old fault) is_m (subst (λ (n : ℕ). Fails m n (sayings_after start [] all) old fault) is_e (fails (here some)))
 
   pub body-taken : (next : Routes) (after : Context) → TookSome mode entries start old all now context all_left
       → (TookSome m e start old all now context (tlv ∷ left) → TookSome m e start old all next after left)
@@ -165,6 +165,6 @@ took-start mode entries start old all context left is_context is_left = record {
   earlier = [];
   done = [];
   context_is = is_context;
-  whole = ap (λ (l : List TlvAt). sayings_behind start [] l) (sym is_left);
+  whole = ap (λ (l : List TlvAt). sayings_after start [] l) (sym is_left);
   stands = λ before stands. subst (StandsBehind mode entries old) (sym (append-nil before)) stands;
 }

@@ -17,7 +17,7 @@ use Rattle.babel_tlv.specs.declared.start.Start.{Start}
 use Rattle.babel_tlv.specs.Framing.{TlvAt, ReadsAs, packet_octets, ArePackets, tlvs_of}
 use Rattle.babel_tlv.specs.FrameFaults.{LacksBody, HeaderFault, BeginsPacket, TlvPastEndAt, AreTlvs}
 use Rattle.babel_tlv.specs.Route.{RouteKey}
-use Rattle.babel_tlv.specs.Says.{Saying, sayings, sayings_behind}
+use Rattle.babel_tlv.specs.Says.{Saying, sayings, sayings_after}
 use Rattle.babel_tlv.specs.Context.{Context, context_after}
 use Rattle.babel_table.specs.Bounds.{Bounds, start_of}
 use Rattle.babel_table.specs.Counts.{Counts, counts_of}
@@ -87,7 +87,7 @@ pub record TookSome (mode : Mode) (entries : ℕ) (start : Start) (old : Routes)
   pub earlier : List TlvAt
   pub done : List Saying
   pub context_is : context ≡ context_after start earlier
-  pub whole : sayings_behind start [] all ≡ done ++ sayings_behind start earlier left
+  pub whole : sayings_after start [] all ≡ done ++ sayings_after start earlier left
   pub stands : (said : List Saying) → StandsBehind mode entries old said →
       StandsBehind mode entries now (said ++ done)
 
@@ -135,7 +135,7 @@ StopsAt mode entries start now rest place fault =
     HeaderFault place rest fault
     ⊎ ((body : List ℕ) × BeginsPacket rest body × (TlvPastEndAt (place + 4) body fault
     ⊎ (AreTlvs (place + 4) body (tlvs_of (place + 4) body)
-    × Fails mode entries (sayings_behind start [] (tlvs_of (place + 4) body)) now fault)))
+    × Fails mode entries (sayings_after start [] (tlvs_of (place + 4) body)) now fault)))
 
 -- some packets are taken, and then comes the fault
 pub record StopsBehind (mode : Mode) (entries : ℕ) (start : Start) (at : ℕ) (octets : List ℕ)

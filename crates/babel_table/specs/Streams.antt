@@ -6,7 +6,7 @@ use Rattle.babel_tlv.specs.declared.start.Start.{Start}
 use Rattle.babel_tlv.specs.Context.{Context}
 use Rattle.babel_tlv.specs.Framing.{TlvAt, tlvs_of}
 use Rattle.babel_tlv.specs.FrameFaults.{AreTlvs, TlvPastEndAt}
-use Rattle.babel_tlv.specs.Says.{Saying, sayings_behind}
+use Rattle.babel_tlv.specs.Says.{Saying, sayings_after}
 use Rattle.babel_table.specs.declared.so_far.SoFar.{SoFar}
 use Rattle.babel_table.specs.declared.stream.Stream.{Stream}
 use Rattle.babel_table.specs.Feeding.{Fails, StopsBehind, StopsWithin, Takes, TookPackets, TookSome}
@@ -36,14 +36,14 @@ abbrev pub FailsAtTlv : SoFar → Context → TlvAt → Fault → Type 0
 FailsAtTlv old before tlv fault =
     (start : Start) (from : Routes) (all left : List TlvAt)
     → TookSome old.rows.mode old.rows.entries start from all (table_of old) before (tlv ∷ left)
-    → Fails old.rows.mode old.rows.entries (sayings_behind start [] all) from fault
+    → Fails old.rows.mode old.rows.entries (sayings_after start [] all) from fault
 
 -- a body at this offset is not TLVs to its end, or one of its TLVs fails
 abbrev pub FailsInBody : SoFar → Start → ℕ → List ℕ → Fault → Type 0
 FailsInBody old start at body fault =
     TlvPastEndAt at body fault
     ⊎ (AreTlvs at body (tlvs_of at body)
-    × Fails old.rows.mode old.rows.entries (sayings_behind start [] (tlvs_of at body))
+    × Fails old.rows.mode old.rows.entries (sayings_after start [] (tlvs_of at body))
     (table_of old) fault)
 
 -- it takes the packets that the octets at this offset begin with, and the rest begins at this place

@@ -3,7 +3,7 @@ ghost use Rattle.std.specs.Prelude.{OnOk, IfOk, IfErr, List, true};
 ghost use Rattle.babel_table.specs.Feeding.{IsRefused, IsPartial, event_at};
 ghost use Rattle.babel_tlv.specs.Pairs.{EventFits};
 ghost use Rattle.babel_tlv.specs.EventKinds.{event_of};
-ghost use Rattle.babel_tlv.specs.Says.{sayings_behind};
+ghost use Rattle.babel_tlv.specs.Says.{sayings_after};
 ghost use Rattle.babel_tlv.specs.Framing.{tlvs_of};
 ghost use Rattle.babel_tlv.specs.FrameFaults.{AreTlvs};
 ghost use Rattle.babel_tlv.specs.Frames.{tlv_value};
@@ -92,7 +92,7 @@ impl SoFar {
         // The table after some TLVs is then that after these and those of the body.
         ensures whole { OnOk result (AreTlvs at body.now (tlvs_of at body.now)) }
         ensures ok { OnOk result
-            (TakesSayings self.old (sayings_behind start.now [] (tlvs_of at body.now)) self.new) }
+            (TakesSayings self.old (sayings_after start.now [] (tlvs_of at body.now)) self.new) }
         ensures fails { IfErr result (FailsInBody self.old start.now at body.now) }
         ensures time { KeepsTime self.old.rows self.new.rows }
         ensures words { self.old.rows.runs ≡ true → OnOk result (self.new.rows.words

@@ -9,7 +9,7 @@ use Rattle.babel_tlv.specs.declared.event.Event.TheVariants as events
 use Rattle.babel_tlv.specs.declared.fault.Fault.{Fault}
 use Rattle.babel_tlv.specs.Framing.{TlvAt, IsTlv, ArePlaced, laid_out, tlv_octets}
 use Rattle.babel_tlv.specs.Context.{Context, context_after, updated}
-use Rattle.babel_tlv.specs.Says.{Saying, said, sayings_behind}
+use Rattle.babel_tlv.specs.Says.{Saying, said, sayings_after}
 use Rattle.babel_tlv.specs.News.{spoken}
 use Rattle.babel_tlv.proofs.Reading.{one}
 
@@ -104,7 +104,7 @@ Tells-append context middle behind at front back first later one_told other_told
 abbrev pub what_of : Saying → Result Event Fault
 what_of saying = saying.what
 
-pub sayings_behind-says_in : (start : Start) (earlier tlvs : List TlvAt) → map what_of (sayings_behind start earlier tlvs) ≡ says_in (context_after start earlier) tlvs
-sayings_behind-says_in start earlier [] = refl
-sayings_behind-says_in start earlier (tlv ∷ tlvs) =
-    ap (λ (rs : List (Result Event Fault)). said (context_after start earlier) tlv ∷ rs) (sayings_behind-says_in start (tlv ∷ earlier) tlvs)
+pub sayings_after-says_in : (start : Start) (earlier tlvs : List TlvAt) → map what_of (sayings_after start earlier tlvs) ≡ says_in (context_after start earlier) tlvs
+sayings_after-says_in start earlier [] = refl
+sayings_after-says_in start earlier (tlv ∷ tlvs) =
+    ap (λ (rs : List (Result Event Fault)). said (context_after start earlier) tlv ∷ rs) (sayings_after-says_in start (tlv ∷ earlier) tlvs)

@@ -17,7 +17,7 @@ use Rattle.babel_tlv.specs.Framing.{TlvAt, ArePackets, IsBody, framed, packet_oc
 use Rattle.babel_tlv.specs.Encodings.{hop_family, number_of}
 use Rattle.babel_tlv.specs.Forming.{link_local}
 use Rattle.babel_tlv.specs.Context.{context_after}
-use Rattle.babel_tlv.specs.Says.{Saying, sayings, sayings_behind}
+use Rattle.babel_tlv.specs.Says.{Saying, sayings, sayings_after}
 use Rattle.babel_tlv.specs.Group.{pair_encoding, is_id, is_hop, router_id_tlv, next_hop_tlv, next_hop_octets, held_seqno, held_metric}
 use Rattle.babel_tlv.specs.Group.{shared_octets, update_tlv, update_body, group, groups_behind, body_of, ArePacked}
 use Rattle.babel_tlv.specs.Kept.{kept_for, prefix_for}
@@ -26,7 +26,7 @@ use Rattle.babel_tlv.specs.Pair.{Pair}
 use Rattle.babel_tlv.specs.Pairs.{FitsKey, HopFits, IsPair}
 use Rattle.babel_tlv.specs.News.{spoken, pair_event}
 use Rattle.babel_tlv.proofs.UpdateTold.{length-update}
-use Rattle.babel_tlv.proofs.Telling.{as_ok, what_of, spoken-append, oks-append, sayings_behind-says_in}
+use Rattle.babel_tlv.proofs.Telling.{as_ok, what_of, spoken-append, oks-append, sayings_after-says_in}
 use Rattle.babel_tlv.proofs.WrittenLaws.{group_in-written_after}
 use Rattle.babel_tlv.proofs.GroupTold.{Agrees-start, HopsFit, groups_told}
 
@@ -79,8 +79,8 @@ text_told start at body pairs (packet ∷ packets) room are_packed fits hops =
       told = groups.told ++ later.told;
       whole = ap (λ (o : List ℕ). o ++ packed packets) framed_is ∙ ap (λ (o : List ℕ). packet_octets groups.tlvs ++ o) later.whole;
       placed = (in_body, groups.placed, subst (λ (o : List ℕ). ArePackets (at + length o) later.packets) framed_is later.placed);
-      fine = whats-append (sayings_behind start [] groups.tlvs) (sayings start later.packets)
-          ∙ ap (λ (rs : List (Result Event Fault)). rs ++ map what_of (sayings start later.packets)) (sayings_behind-says_in start [] groups.tlvs ∙ groups.fine)
+      fine = whats-append (sayings_after start [] groups.tlvs) (sayings start later.packets)
+          ∙ ap (λ (rs : List (Result Event Fault)). rs ++ map what_of (sayings start later.packets)) (sayings_after-says_in start [] groups.tlvs ∙ groups.fine)
           ∙ ap (λ (rs : List (Result Event Fault)). map as_ok groups.told ++ rs) later.fine
           ∙ sym (oks-append groups.told later.told);
       news_are = spoken-append groups.told later.told

@@ -4,7 +4,7 @@ use Rattle.std.proofs.Math.Seq.{take-length}
 use Rattle.std.proofs.lemmas.Bool.{cases_lt}
 use Rattle.babel_prefix.proofs.Members.{Listed}
 use Rattle.babel_trie.specs.Boxes.{Answers, SameAnswers}
-use Rattle.babel_trie.specs.Runs.{said_at, AreRuns, StartBehind, run_answers}
+use Rattle.babel_trie.specs.Runs.{said_at, AreRuns, StartAfter, run_answers}
 use Rattle.babel_trie.specs.Spans.{start_or}
 use Rattle.babel_trie.specs.Differs.{AgreeBelow, DifferFirst, AgreeBelowBoth, DifferFirstAt, IsFirstPair}
 use Rattle.babel_trie.specs.Held.{sources_at}
@@ -28,7 +28,7 @@ module _ {F : Type 0} where
   runs-rest x (y ∷ ys) runs = runs.2
 
   -- starts rise
-  pub runs-above : (x : Change F) (xs : List (Change F)) → AreRuns (x ∷ xs) → StartBehind x.start xs
+  pub runs-above : (x : Change F) (xs : List (Change F)) → AreRuns (x ∷ xs) → StartAfter x.start xs
   runs-above x [] runs y t = elim t [ ]
   runs-above x (y ∷ ys) runs z t = elim t [
     | inl here ↦ subst (λ (a : Change F). x.start < a.start) here runs.0
@@ -36,7 +36,7 @@ module _ {F : Type 0} where
   ]
 
   -- all start with the first or behind it
-  pub first-lowest : (list : List (Change F)) (other : Change F) (at : ℕ) → 0 < length list → AreRuns list → at < (get_or list 0 other).start → StartBehind at list
+  pub first-lowest : (list : List (Change F)) (other : Change F) (at : ℕ) → 0 < length list → AreRuns list → at < (get_or list 0 other).start → StartAfter at list
   first-lowest [] other at some runs lt y t = elim t [ ]
   first-lowest (x ∷ xs) other at some runs lt y (inl here) = subst (λ (a : Change F). at < a.start) here lt
   first-lowest (x ∷ xs) other at some runs lt y (inr there) = omega (arith, runs-above x xs runs y there)
@@ -51,9 +51,9 @@ module _ {F : Type 0} where
   tail-runs [] some runs = absurd (omega arith)
   tail-runs (x ∷ xs) some runs = subst AreRuns (tail-is x xs) (runs-rest x xs runs)
 
-  pub tail-behind : (list : List (Change F)) (other : Change F) (at : ℕ) → 0 < length list → AreRuns list → at ≤ (get_or list 0 other).start → StartBehind at (take (length list - 1) (drop 1 list))
+  pub tail-behind : (list : List (Change F)) (other : Change F) (at : ℕ) → 0 < length list → AreRuns list → at ≤ (get_or list 0 other).start → StartAfter at (take (length list - 1) (drop 1 list))
   tail-behind [] other at some runs le = absurd (omega arith)
-  tail-behind (x ∷ xs) other at some runs le = subst (StartBehind at) (tail-is x xs) (λ y t. omega (arith, runs-above x xs runs y t))
+  tail-behind (x ∷ xs) other at some runs le = subst (StartAfter at) (tail-is x xs) (λ y t. omega (arith, runs-above x xs runs y t))
 
   pub tail-said : (none : F) (list : List (Change F)) (other : Change F) (d : ℕ) → 0 < length list → (get_or list 0 other).start ≤ d →
       said_at (get_or list 0 other).sources (take (length list - 1) (drop 1 list)) d ≡ said_at none list d
@@ -64,7 +64,7 @@ module _ {F : Type 0} where
   -- what a list says from an address up to the next change
   pub said-step : (none here says : F) (list rest tail : List (Change F)) (at d : ℕ) → ((e : ℕ) → at ≤ e → said_at here rest e ≡ said_at none list e)
       → ((e : ℕ) → at ≤ e → said_at says tail e ≡ said_at here rest e) →
-      StartBehind d tail → at ≤ d → said_at none list d ≡ says
+      StartAfter d tail → at ≤ d → said_at none list d ≡ says
   said-step none here says list rest tail at d p q ahead le = sym (p d le) ∙ sym (q d le) ∙ said-before says tail d ahead
 
   -- a list that says something of the first address says the same whatever came before

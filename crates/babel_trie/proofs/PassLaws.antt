@@ -18,7 +18,7 @@ use Rattle.babel_trie.specs.Interned.{Represents, HasTrie}
 use Rattle.babel_trie.specs.Laid.{HasOneDestination, IsOverlaid}
 use Rattle.babel_trie.specs.Pass.{IsFilled, StartInOrder, IsLaidAt, IsReachedAt, AreLaid, IsUnderWay, AreQuietUpTo}
 use Rattle.babel_trie.specs.Rows.{InOrder, IsNoLater, InBlock, Overlays, source_block}
-use Rattle.babel_trie.specs.Runs.{said_at, AreRuns, StartBelow, StartBehind}
+use Rattle.babel_trie.specs.Runs.{said_at, AreRuns, StartBelow, StartAfter}
 use Rattle.babel_trie.specs.Shape.{Shape, leaf, value_at}
 use Rattle.babel_trie.specs.Sound.{KeepsNodes}
 use Rattle.babel_trie.specs.declared.pass.Reached.{Reached}
@@ -61,7 +61,7 @@ module _ {F : Type 0} where
       })
 
   -- where the nearest change ahead lies behind an address all do
-  pub nearest-behind : (ahead rest : List (Change F)) (next : Change F) (at : ℕ) → ahead ≡ next ∷ rest → StartInOrder ahead → at < next.start → StartBehind at ahead
+  pub nearest-behind : (ahead rest : List (Change F)) (next : Change F) (at : ℕ) → ahead ≡ next ∷ rest → StartInOrder ahead → at < next.start → StartAfter at ahead
   nearest-behind ahead rest next at is order lt x t =
       let both : StartInOrder (next ∷ rest) = subst StartInOrder is order in
       elim (subst (λ xs. Listed xs x) is t) [ inl here ↦ subst (λ (y : Change F). at < y.start) here lt | inr there ↦ omega (arith, both.0 x there) ]
@@ -250,7 +250,7 @@ module _ {V : Type 0} where
 
   -- before all changes ahead the one come to counts
   are_laid-here : (w : ℕ) (rows : List (Entry V)) (nodes : List (Node (Option V))) (now : Change (Reached V)) (ahead : List (Change (Reached V))) → AreLaid w rows nodes now ahead →
-      (d : ℕ) → now.start ≤ d → d < 2 ^ w → StartBehind d ahead → IsLaidAt w d rows nodes now.sources.trie
+      (d : ℕ) → now.start ≤ d → d < 2 ^ w → StartAfter d ahead → IsLaidAt w d rows nodes now.sources.trie
   are_laid-here w rows nodes now [] l d low d_in behind = laid-grows w d rows (take now.sources.made nodes) nodes now.sources.trie (slice_get-taken nodes now.sources.made) (l d low d_in)
   are_laid-here w rows nodes now (next ∷ ahead) l d low d_in behind = laid-grows w d rows (take now.sources.made nodes) nodes now.sources.trie
       (slice_get-taken nodes now.sources.made) (l.0 d low (behind next (inl refl)))
@@ -378,7 +378,7 @@ module _ {V : Type 0} where
         (λ x t c. let low : (block_of x.0).start ≤ d = (covers_range w (block_of x.0) d (prefixes x (listed x t)).0 c).0 in omega (arith, quiet.rows x t)))
 
     -- they stand for a trie
-    pub way-held : (d : ℕ) → now.start ≤ d → d < 2 ^ w → StartBehind d ahead → HasTrie w nodes now.sources.trie
+    pub way-held : (d : ℕ) → now.start ≤ d → d < 2 ^ w → StartAfter d ahead → HasTrie w nodes now.sources.trie
     way-held d low d_in behind = (are_laid-here w p.gone nodes now ahead p.laid d low d_in behind).held
 
   -- the rows that are left begin with those of a next destination
@@ -427,7 +427,7 @@ module _ {V : Type 0} where
     starts_before =
         let f = first own n.some in subst (λ (a : Block). now.start ≤ a.start) (n.one f.0 f.1) (p.from f.0 (Listed-append_left own others f.0 f.1))
 
-    module _ (behind : StartBehind b.start ahead) where
+    module _ (behind : StartAfter b.start ahead) where
       -- no block ahead ends before the destination does
       ends_ahead : (x : Change (Reached V)) → Listed ahead x → b.start + size w b ≤ x.start
       ends_ahead x t =

@@ -9,7 +9,7 @@ use Rattle.babel_prefix.specs.Members.{Listed}
 use Rattle.babel_trie.specs.Held.{RowOrder}
 use Rattle.babel_trie.specs.Interned.{HasTrie}
 use Rattle.babel_trie.specs.Rows.{InOrder, Overlays}
-use Rattle.babel_trie.specs.Runs.{said_at, AreRuns, StartBelow, StartBehind}
+use Rattle.babel_trie.specs.Runs.{said_at, AreRuns, StartBelow, StartAfter}
 use Rattle.babel_trie.specs.Shape.{value_at}
 use Rattle.babel_trie.specs.Split.{rows_of_split}
 use Rattle.babel_trie.specs.declared.pass.Pass.{Pass}
@@ -77,7 +77,7 @@ module _ {V : Type 0} where
   -- no change ahead and no row that is left starts up to the address
   pub record AreQuietUpTo (at : ℕ) (ahead : List (Change (Reached V)))
       (left : List (Entry V)) : Type 0 where
-    pub changes : StartBehind at ahead
+    pub changes : StartAfter at ahead
     pub rows : (row : Entry V) → Listed left row → at < (block_of row.0).start
 
 module _ {V R : Type 0} where

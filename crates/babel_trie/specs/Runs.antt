@@ -27,21 +27,12 @@ module _ {F : Type 0} where
   StartBelow at list = (x : Change F) → Listed list x → x.start < at
 
   -- each starts after the address
-  abbrev pub StartBehind : ℕ → List (Change F) → Type 0
-  StartBehind at list = (x : Change F) → Listed list x → at < x.start
+  abbrev pub StartAfter : ℕ → List (Change F) → Type 0
+  StartAfter at list = (x : Change F) → Listed list x → at < x.start
 
   -- each starts there or later
   abbrev pub StartFrom : ℕ → List (Change F) → Type 0
   StartFrom at list = (x : Change F) → Listed list x → at ≤ x.start
-
-  -- the lists say these two different things at this address, and the same below it
-  pub record AreFirstApart (none : F) (left right : List (Change F)) (last at : ℕ)
-      (here there : F) : Type 0 where
-    pub in_range : at ≤ last
-    pub here_is : here ≡ said_at none left at
-    pub there_is : there ≡ said_at none right at
-    pub apart : here ≢ there
-    pub same_below : (d : ℕ) → d < at → said_at none left d ≡ said_at none right d
 
 module _ {V : Type 0} where
   -- the answers of a list of changes

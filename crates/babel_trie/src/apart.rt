@@ -3,7 +3,7 @@ ghost use Rattle.std.specs.Prelude.{◌≡◌, ℕ, ◌^◌, ◌<◌, ◌≤◌,
 ghost use Rattle.babel_prefix.specs.Width.{width_of};
 ghost use Rattle.babel_trie.specs.Boxes.{Answers, SameAnswers, IsLeastDifference};
 ghost use Rattle.babel_trie.specs.Differs.{IsFirstPair};
-ghost use Rattle.babel_trie.specs.Runs.{said_at, AreRuns, StartBehind, StartFrom, HasRuns};
+ghost use Rattle.babel_trie.specs.Runs.{said_at, AreRuns, StartAfter, StartFrom, HasRuns};
 
 use crate::difference::Tables;
 use crate::fit::last_address;
@@ -21,7 +21,7 @@ pub fn behind<V: Copy>(
     requires runs { AreRuns list.now }
     requires from { StartFrom at list.now }
     ensures runs { AreRuns result.0.now }
-    ensures behind { StartBehind at result.0.now }
+    ensures behind { StartAfter at result.0.now }
     ensures same { (d : ℕ) → at ≤ d → said_at result.1 result.0.now d ≡ said_at before list.now d }
 {
     if list.is_empty() {
@@ -37,9 +37,9 @@ pub fn behind<V: Copy>(
 /// The last address before the next change.
 pub fn last_before<V>(list: &[Change<Sources<V>>], at: u128) -> u128
     requires runs { AreRuns list.now }
-    requires behind { StartBehind at list.now }
+    requires behind { StartAfter at list.now }
     ensures from { at ≤ result }
-    ensures behind { StartBehind result list.now }
+    ensures behind { StartAfter result list.now }
 {
     if list.is_empty() {
         return u128::MAX;

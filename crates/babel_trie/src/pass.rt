@@ -15,12 +15,12 @@ ghost use Rattle.babel_trie.specs.Pass.{IsFilled, StartInOrder, IsPassOver, IsQu
 ghost use Rattle.babel_trie.specs.Pass.{StartRowsFrom, ahead_of, changes_left, rows_left};
 ghost use Rattle.babel_trie.specs.Split.{rows_of_split};
 ghost use Rattle.babel_trie.specs.Rows.{InOrder};
-ghost use Rattle.babel_trie.specs.Runs.{AreRuns, StartBelow, StartBehind, HasRuns};
+ghost use Rattle.babel_trie.specs.Runs.{AreRuns, StartBelow, StartAfter, HasRuns};
 ghost use Rattle.babel_trie.specs.Sound.{IsSound, KeepsNodes};
 ghost use Rattle.babel_trie.specs.declared.runs.Change.{Change};
 ghost use Rattle.babel_trie.specs.declared.table.Node.{Node};
 ghost use Rattle.babel_trie.specs.declared.table.Sources.{Sources};
-ghost use Rattle.babel_trie.specs.declared.table.Sources.TheVariants.{Constant};
+ghost use Rattle.babel_trie.specs.declared.table.Sources.TheVariants.{Constant, Stored};
 
 use crate::fit::last_address;
 use crate::lawful::{LawfulOrd, are_same};
@@ -113,7 +113,7 @@ pub struct Pass<V, R> {
 /// Where the nearest of the changes ahead starts, which is the last of them.
 fn last_start<F: Copy>(ahead: &[Change<F>]) -> Option<u128>
     requires { StartInOrder (reverse ahead.now) }
-    ensures nearest { (at : ℕ) → StartBehind at (reverse ahead.now)
+    ensures nearest { (at : ℕ) → StartAfter at (reverse ahead.now)
         ↔ IfSome result (λ start. at < start) }
     ensures one { IfSome result (λ start. (x : Change F) × Listed (reverse ahead.now) x
         × (x.start ≡ start)) }
@@ -211,10 +211,10 @@ impl<V: LawfulOrd, R: Rows<V>> Pass<V, R> {
             → IsPassOver width R.rows rows nodes self.old
             → IsPassOver width R.rows rows nodes self.new }
         ensures reached { self.new.now.start ≤ at }
-        ensures behind { StartBehind at (ahead_of self.new) }
+        ensures behind { StartAfter at (ahead_of self.new) }
         ensures rest { self.new.rest ≡ self.old.rest }
         ensures few { length self.new.ahead.items ≤ length self.old.ahead.items }
-        ensures fewer { (StartBehind at (ahead_of self.old) → ⊥)
+        ensures fewer { (StartAfter at (ahead_of self.old) → ⊥)
             → length self.new.ahead.items < length self.old.ahead.items }
     {
         while let Some(next) = self.ahead.last() {
@@ -241,7 +241,7 @@ impl<V: LawfulOrd, R: Rows<V>> Pass<V, R> {
         requires pass { (rows : List (Entry V))
             × IsPassOver width R.rows rows table.old.nodes.items self.old }
         requires next { self.old.rest ≡ Some (first, behind) }
-        requires reached { StartBehind (block_of first.0).start (ahead_of self.old) }
+        requires reached { StartAfter (block_of first.0).start (ahead_of self.old) }
         requires width { width ≤ 128 }
         ensures sound { OnOk result (IsSound ⟦<Sources<Option<V>> as Ord>⟧.cmp
             ⟦<Sources<Option<V>> as LawfulOrd>⟧.mark table.new.nodes.items table.new.numbers) }
@@ -354,7 +354,8 @@ impl<V: LawfulOrd, R: Rows<V>> Pass<V, R> {
 
 /// How many nodes at the front are kept once these sources are said too: all, if they name one.
 fn kept_with<V: Copy>(kept: usize, sources: Sources<V>, all: usize) -> usize
-    ensures { ((v : V) × (sources ≡ Constant v) × (result ≡ kept)) ⊎ (result ≡ all) }
+    ensures { ((v : V) × (sources ≡ Constant v) × (result ≡ kept))
+        ⊎ ((n : _) × (sources ≡ Stored n) × (result ≡ all)) }
 {
     match sources {
         Sources::Constant(_) => kept,

@@ -2,7 +2,7 @@
 use Rattle.std.proofs.Common.{◌≡◌, ℕ, ◌+◌, ◌-◌, ◌^◌, ◌<◌, ◌≤◌, Some, None, ◌∙◌, subst, arith, Option}
 use Rattle.std.proofs.Math.Pow.{pow_mono}
 use Rattle.babel_trie.specs.Interned.{HasTrie}
-use Rattle.babel_trie.specs.Runs.{said_at, StartBehind, run_answers}
+use Rattle.babel_trie.specs.Runs.{said_at, StartAfter, run_answers}
 use Rattle.babel_trie.specs.declared.table.Sources.{Sources}
 use Rattle.babel_trie.proofs.ApartLaws.{no_sources, said-step, said-first, answers-agree, answers-first, first-same}
 use Rattle.babel_trie.proofs.RunBoxes.{some_change, from_zero}
@@ -64,9 +64,9 @@ first_difference-requires-clause-trie g c =
     let at_in : at < 2 ^ w = omega (arith, i.in_range, c.last_address-last.ensures) in
     let here = c.behind.result.1 in
     let there = c.behind-in-loop-src.result.1 in
-    let here_is : (d : ℕ) → at ≤ d → StartBehind d c.behind.result.0.now → said_at no_sources left d ≡ here = λ d le ahead.
+    let here_is : (d : ℕ) → at ≤ d → StartAfter d c.behind.result.0.now → said_at no_sources left d ≡ here = λ d le ahead.
     said-step no_sources c.loop-src.here here left c.loop-src.lefts.now c.behind.result.0.now at d i.left_same c.behind.ensures.same ahead le in
-    let there_is : (d : ℕ) → at ≤ d → StartBehind d c.behind-in-loop-src.result.0.now → said_at no_sources right d ≡ there = λ d le ahead.
+    let there_is : (d : ℕ) → at ≤ d → StartAfter d c.behind-in-loop-src.result.0.now → said_at no_sources right d ≡ there = λ d le ahead.
     said-step no_sources c.loop-src.there there right c.loop-src.rights.now c.behind-in-loop-src.result.0.now at d i.right_same c.behind-in-loop-src.ensures.same ahead le in
     let h : HasTrie w sources here = subst (λ (n : Sources (Option g.row.V.Denot)). HasTrie w sources n)
     (here_is at (omega arith) c.behind.ensures.behind) (c.requires.left.1.each no_sources at at_in) in
@@ -87,9 +87,9 @@ first_difference-requires-clause-other_trie g c =
     let at_in : at < 2 ^ w = omega (arith, i.in_range, c.last_address-last.ensures) in
     let here = c.behind.result.1 in
     let there = c.behind-in-loop-src.result.1 in
-    let here_is : (d : ℕ) → at ≤ d → StartBehind d c.behind.result.0.now → said_at no_sources left d ≡ here = λ d le ahead.
+    let here_is : (d : ℕ) → at ≤ d → StartAfter d c.behind.result.0.now → said_at no_sources left d ≡ here = λ d le ahead.
     said-step no_sources c.loop-src.here here left c.loop-src.lefts.now c.behind.result.0.now at d i.left_same c.behind.ensures.same ahead le in
-    let there_is : (d : ℕ) → at ≤ d → StartBehind d c.behind-in-loop-src.result.0.now → said_at no_sources right d ≡ there = λ d le ahead.
+    let there_is : (d : ℕ) → at ≤ d → StartAfter d c.behind-in-loop-src.result.0.now → said_at no_sources right d ≡ there = λ d le ahead.
     said-step no_sources c.loop-src.there there right c.loop-src.rights.now c.behind-in-loop-src.result.0.now at d i.right_same c.behind-in-loop-src.ensures.same ahead le in
     let h : HasTrie w sources here = subst (λ (n : Sources (Option g.row.V.Denot)). HasTrie w sources n)
     (here_is at (omega arith) c.behind.ensures.behind) (c.requires.left.1.each no_sources at at_in) in
@@ -110,9 +110,9 @@ returns-in-Some g c f f' p q =
     let at_in : at < 2 ^ w = omega (arith, i.in_range, c.last_address-last.ensures) in
     let here = c.behind.result.1 in
     let there = c.behind-in-loop-src.result.1 in
-    let here_is : (d : ℕ) → at ≤ d → StartBehind d c.behind.result.0.now → said_at no_sources left d ≡ here = λ d le ahead.
+    let here_is : (d : ℕ) → at ≤ d → StartAfter d c.behind.result.0.now → said_at no_sources left d ≡ here = λ d le ahead.
     said-step no_sources c.loop-src.here here left c.loop-src.lefts.now c.behind.result.0.now at d i.left_same c.behind.ensures.same ahead le in
-    let there_is : (d : ℕ) → at ≤ d → StartBehind d c.behind-in-loop-src.result.0.now → said_at no_sources right d ≡ there = λ d le ahead.
+    let there_is : (d : ℕ) → at ≤ d → StartAfter d c.behind-in-loop-src.result.0.now → said_at no_sources right d ≡ there = λ d le ahead.
     said-step no_sources c.loop-src.there there right c.loop-src.rights.now c.behind-in-loop-src.result.0.now at d i.right_same c.behind-in-loop-src.ensures.same ahead le in
     let h : HasTrie w sources here = subst (λ (n : Sources (Option g.row.V.Denot)). HasTrie w sources n)
     (here_is at (omega arith) c.behind.ensures.behind) (c.requires.left.1.each no_sources at at_in) in
@@ -136,17 +136,17 @@ returns-then-last-end g c f f' p q =
     let at_in : at < 2 ^ w = omega (arith, i.in_range, c.last_address-last.ensures) in
     let here = c.behind.result.1 in
     let there = c.behind-in-loop-src.result.1 in
-    let here_is : (d : ℕ) → at ≤ d → StartBehind d c.behind.result.0.now → said_at no_sources left d ≡ here = λ d le ahead.
+    let here_is : (d : ℕ) → at ≤ d → StartAfter d c.behind.result.0.now → said_at no_sources left d ≡ here = λ d le ahead.
     said-step no_sources c.loop-src.here here left c.loop-src.lefts.now c.behind.result.0.now at d i.left_same c.behind.ensures.same ahead le in
-    let there_is : (d : ℕ) → at ≤ d → StartBehind d c.behind-in-loop-src.result.0.now → said_at no_sources right d ≡ there = λ d le ahead.
+    let there_is : (d : ℕ) → at ≤ d → StartAfter d c.behind-in-loop-src.result.0.now → said_at no_sources right d ≡ there = λ d le ahead.
     said-step no_sources c.loop-src.there there right c.loop-src.rights.now c.behind-in-loop-src.result.0.now at d i.right_same c.behind-in-loop-src.ensures.same ahead le in
     let h : HasTrie w sources here = subst (λ (n : Sources (Option g.row.V.Denot)). HasTrie w sources n)
     (here_is at (omega arith) c.behind.ensures.behind) (c.requires.left.1.each no_sources at at_in) in
     let k : HasTrie w others there = subst (λ (n : Sources (Option g.row.V.Denot)). HasTrie w others n)
     (there_is at (omega arith) c.behind-in-loop-src.ensures.behind) (c.requires.right.1.each no_sources at at_in) in
     let end = c.nearer-end.result in
-    let ahead : (d : ℕ) → d ≤ end → StartBehind d c.behind.result.0.now = λ d le x t. omega (arith, c.last_before.ensures.behind x t, c.nearer-end.ensures.first) in
-    let ahead' : (d : ℕ) → d ≤ end → StartBehind d c.behind-in-loop-src.result.0.now = λ d le x t. omega (arith, c.last_before-in-loop-src.ensures.behind x t, c.nearer-end.ensures.second) in
+    let ahead : (d : ℕ) → d ≤ end → StartAfter d c.behind.result.0.now = λ d le x t. omega (arith, c.last_before.ensures.behind x t, c.nearer-end.ensures.first) in
+    let ahead' : (d : ℕ) → d ≤ end → StartAfter d c.behind-in-loop-src.result.0.now = λ d le x t. omega (arith, c.last_before-in-loop-src.ensures.behind x t, c.nearer-end.ensures.second) in
     let same = c.in_default.ensures h.trie k.trie h.stands k.stands in
     first-same w (run_answers w sources no_sources left) (run_answers w others no_sources right) f f' (p.answers no_sources) (q.answers no_sources) None
     (answers-agree w no_sources sources others left right here there h k at i.below end (λ d low high. here_is d low (ahead d high)) (λ d low high. there_is d low (ahead' d high)) same (2 ^ w)
@@ -165,17 +165,17 @@ loop-src-preserved g c =
     let at_in : at < 2 ^ w = omega (arith, i.in_range, c.last_address-last.ensures) in
     let here = c.behind.result.1 in
     let there = c.behind-in-loop-src.result.1 in
-    let here_is : (d : ℕ) → at ≤ d → StartBehind d c.behind.result.0.now → said_at no_sources left d ≡ here = λ d le ahead.
+    let here_is : (d : ℕ) → at ≤ d → StartAfter d c.behind.result.0.now → said_at no_sources left d ≡ here = λ d le ahead.
     said-step no_sources c.loop-src.here here left c.loop-src.lefts.now c.behind.result.0.now at d i.left_same c.behind.ensures.same ahead le in
-    let there_is : (d : ℕ) → at ≤ d → StartBehind d c.behind-in-loop-src.result.0.now → said_at no_sources right d ≡ there = λ d le ahead.
+    let there_is : (d : ℕ) → at ≤ d → StartAfter d c.behind-in-loop-src.result.0.now → said_at no_sources right d ≡ there = λ d le ahead.
     said-step no_sources c.loop-src.there there right c.loop-src.rights.now c.behind-in-loop-src.result.0.now at d i.right_same c.behind-in-loop-src.ensures.same ahead le in
     let h : HasTrie w sources here = subst (λ (n : Sources (Option g.row.V.Denot)). HasTrie w sources n)
     (here_is at (omega arith) c.behind.ensures.behind) (c.requires.left.1.each no_sources at at_in) in
     let k : HasTrie w others there = subst (λ (n : Sources (Option g.row.V.Denot)). HasTrie w others n)
     (there_is at (omega arith) c.behind-in-loop-src.ensures.behind) (c.requires.right.1.each no_sources at at_in) in
     let end = c.nearer-end.result in
-    let ahead : (d : ℕ) → d ≤ end → StartBehind d c.behind.result.0.now = λ d le x t. omega (arith, c.last_before.ensures.behind x t, c.nearer-end.ensures.first) in
-    let ahead' : (d : ℕ) → d ≤ end → StartBehind d c.behind-in-loop-src.result.0.now = λ d le x t. omega (arith, c.last_before-in-loop-src.ensures.behind x t, c.nearer-end.ensures.second) in
+    let ahead : (d : ℕ) → d ≤ end → StartAfter d c.behind.result.0.now = λ d le x t. omega (arith, c.last_before.ensures.behind x t, c.nearer-end.ensures.first) in
+    let ahead' : (d : ℕ) → d ≤ end → StartAfter d c.behind-in-loop-src.result.0.now = λ d le x t. omega (arith, c.last_before-in-loop-src.ensures.behind x t, c.nearer-end.ensures.second) in
     let same = c.in_default.ensures h.trie k.trie h.stands k.stands in
     let from : at ≤ end = c.nearer-end.ensures.from at c.last_before.ensures.from c.last_before-in-loop-src.ensures.from in
     record {

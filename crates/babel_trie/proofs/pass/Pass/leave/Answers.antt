@@ -8,7 +8,7 @@ use Rattle.babel_prefix.specs.Address.{block_of}
 use Rattle.babel_prefix.specs.Entries.{Entry}
 use Rattle.babel_prefix.proofs.Members.{Listed}
 use Rattle.babel_trie.specs.Pass.{IsUnderWay}
-use Rattle.babel_trie.specs.Runs.{StartBehind}
+use Rattle.babel_trie.specs.Runs.{StartAfter}
 use Rattle.babel_trie.specs.Split.{rows_of_split}
 use Rattle.babel_trie.specs.declared.pass.Reached.{Reached}
 use Rattle.babel_trie.specs.declared.runs.Change.{Change}
@@ -74,7 +74,7 @@ pub returns-in_default-clause-few : goal.returns-in_default-clause-few
 returns-in_default-clause-few g c = c.loop-next.invariant.few
 
 -- nothing is ahead where nothing comes last
-none_ahead : {F : Type 0} (list : List (Change F)) (at : ℕ) → None ≡ slice_get list (length list - 1) → StartBehind at (reverse list)
+none_ahead : {F : Type 0} (list : List (Change F)) (at : ℕ) → None ≡ slice_get list (length list - 1) → StartAfter at (reverse list)
 none_ahead [] at none x t = elim t [ ]
 none_ahead (y ∷ ys) at none x t =
     let last = length (y ∷ ys) - 1 in

@@ -2,7 +2,7 @@
 use Rattle.std.proofs.Common.{◌≡◌, ◌⊎◌, ℕ, ◌<◌, ◌≤◌, List, length, Option}
 use Rattle.babel_prefix.specs.Entries.{Entry}
 use Rattle.babel_trie.specs.Pass.{IsPassOver, ahead_of}
-use Rattle.babel_trie.specs.Runs.{StartBehind}
+use Rattle.babel_trie.specs.Runs.{StartAfter}
 use Rattle.babel_trie.specs.declared.table.Node.{Node}
 use Rattle.babel_trie.proofs.pass.Pass.leave.Given as goal
 
@@ -12,7 +12,7 @@ invariant-loop-next g l = record {
   reached : l.self.now.start ≤ l.at;
   rest : l.self.rest ≡ l.fn.self.rest;
   few : length l.self.ahead.items ≤ length l.fn.self.ahead.items;
-  fewer : (StartBehind l.at (ahead_of l.fn.self) → ⊥) → (StartBehind l.at (ahead_of l.self) → ⊥) ⊎ (length l.self.ahead.items < length l.fn.self.ahead.items);
+  fewer : (StartAfter l.at (ahead_of l.fn.self) → ⊥) → (StartAfter l.at (ahead_of l.self) → ⊥) ⊎ (length l.self.ahead.items < length l.fn.self.ahead.items);
 }
 
 abbrev pub decreases-loop-next : goal.decreases-loop-next

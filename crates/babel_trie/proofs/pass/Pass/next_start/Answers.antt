@@ -5,7 +5,7 @@ use Rattle.babel_prefix.specs.Address.{block_of}
 use Rattle.babel_prefix.specs.Entries.{Entry}
 use Rattle.babel_prefix.proofs.Members.{Listed}
 use Rattle.babel_trie.specs.Pass.{StartInOrder, rows_left}
-use Rattle.babel_trie.specs.Runs.{StartBehind}
+use Rattle.babel_trie.specs.Runs.{StartAfter}
 use Rattle.babel_trie.specs.declared.pass.Reached.{Reached}
 use Rattle.babel_trie.specs.declared.runs.Change.{Change}
 use Rattle.babel_trie.proofs.PassLaws.{left_order, left_in}
@@ -21,7 +21,7 @@ first_start-requires g c = let r = c.requires.pass in left_order r.3
 
 pub returns-clause-next : goal.returns-clause-next
 returns-clause-next g c at =
-    let Behind = λ (xs : List (Change (Reached g.row.V.Denot))). StartBehind at (reverse xs) in
+    let Behind = λ (xs : List (Change (Reached g.row.V.Denot))). StartAfter at (reverse xs) in
     let near = c.nearer_start.ensures.behind at in
     let back = c.last_start.ensures.nearest at in
     let row = c.first_start.ensures.first at in (

@@ -6,7 +6,7 @@ use Rattle.babel_prefix.proofs.Members.{Listed}
 use Rattle.babel_trie.specs.Held.{RowOrder}
 use Rattle.babel_trie.specs.Pass.{IsQuietUpTo, ahead_of, rows_left}
 use Rattle.babel_trie.specs.Rows.{InOrder}
-use Rattle.babel_trie.specs.Runs.{StartBehind}
+use Rattle.babel_trie.specs.Runs.{StartAfter}
 use Rattle.babel_trie.specs.Split.{rows_of_split}
 use Rattle.babel_trie.specs.declared.table.Sources.TheVariants.{Constant, Stored}
 use Rattle.babel_trie.proofs.NodeLaws.{sound_by}
@@ -157,7 +157,7 @@ enter-requires-clause-next g c = c.leave.ensures.rest ∙ c.in-Some.is
 
 pub enter-requires-clause-reached : goal.enter-requires-clause-reached
 enter-requires-clause-reached g c =
-    subst (λ start. StartBehind start (ahead_of c.leave.new.self)) (c.bits-start.ensures.value ∙ ap (λ (x : Address). x.bits) c.addr.ensures.value) c.leave.ensures.behind
+    subst (λ start. StartAfter start (ahead_of c.leave.new.self)) (c.bits-start.ensures.value ∙ ap (λ (x : Address). x.bits) c.addr.ensures.value) c.leave.ensures.behind
 
 pub returns-clause-keeps : goal.returns-clause-keeps
 returns-clause-keeps g c = c.loop-self.invariant.keeps

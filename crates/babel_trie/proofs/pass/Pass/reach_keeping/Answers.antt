@@ -5,7 +5,7 @@ use Rattle.std.proofs.lemmas.List.{length-take}
 use Rattle.std.specs.List.{slice_get}
 use Rattle.babel_prefix.proofs.Members.{Listed}
 use Rattle.babel_trie.specs.Pass.{IsPassOver, IsQuietUpTo, ahead_of, rows_left}
-use Rattle.babel_trie.specs.Runs.{StartBehind}
+use Rattle.babel_trie.specs.Runs.{StartAfter}
 use Rattle.babel_trie.specs.Split.{rows_of_split}
 use Rattle.babel_trie.proofs.NumberLaws.{slice_get-take, slice_get-taken, slice_get_in}
 use Rattle.babel_trie.proofs.pass.Pass.reach_keeping.Goals as goal
@@ -52,7 +52,7 @@ returns-clause-fewer g c some =
     elim (cases_lt (length new.ahead.items) (length old.ahead.items)) [
       | inl lt ↦ omega (arith, lt, left, c.in_ok-next.ensures.few)
       | inr ge ↦
-          let never : (StartBehind at (ahead_of old) → ⊥) → ⊥ = λ no. (let lt = leave.fewer no in omega arith) in
+          let never : (StartAfter at (ahead_of old) → ⊥) → ⊥ = λ no. (let lt = leave.fewer no in omega arith) in
           let comes : IsQuietUpTo at rows new → ⊥ = λ q. never
           (λ behind. some (record { changes = behind; rows = λ row t. q.rows row (subst (λ split. Listed (rows_of_split rows split) row) (sym leave.rest) t) })) in
           omega (arith, c.in_ok-next.ensures.fewer comes, leave.few, left)

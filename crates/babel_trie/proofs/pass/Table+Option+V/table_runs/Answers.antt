@@ -12,6 +12,7 @@ use Rattle.babel_trie.specs.Pass.{IsQuietUpTo, ahead_of, rows_left}
 use Rattle.babel_trie.specs.Runs.{AreRuns, StartBelow, HasRuns}
 use Rattle.babel_trie.specs.declared.runs.Change.{Change}
 use Rattle.babel_trie.specs.declared.table.Node.{Node}
+use Rattle.babel_trie.specs.declared.table.NodeNumber.{NodeNumber}
 use Rattle.babel_trie.specs.declared.table.Sources.{Sources}
 use Rattle.babel_trie.specs.declared.table.Sources.TheVariants.{Constant, Stored}
 use Rattle.babel_trie.proofs.NodeLaws.{sound_by}
@@ -27,9 +28,9 @@ all_taken : {A : Type 0} (xs ys : List A) → ys ≡ xs → take (length ys) xs 
 all_taken {A = A} xs ys is = ap (λ (zs : List A). take (length zs) xs) is ∙ take-length xs
 
 kept_so : {V : Type 0} (kept : ℕ) (s : Sources (Option V)) (more nodes : List (Node (Option V))) (after : ℕ) → nodes ≡ more
-    → IsKeptWith kept s nodes after → IsKeptWith kept s more after
+    → ((v : Option V) × (s ≡ Constant v) × (after ≡ kept)) ⊎ ((n : NodeNumber) × (s ≡ Stored n) × (after ≡ length nodes)) → IsKeptWith kept s more after
 kept_so kept s more nodes after is (inl one) = inl one
-kept_so kept s more nodes after is (inr all) = inr (all ∙ ap length is)
+kept_so kept s more nodes after is (inr all) = inr (all.2 ∙ ap length is)
 
 -- nothing is said
 none_said : {V : Type 0} (w : ℕ) (f : Answers V) (nodes : List (Node (Option V))) (list : List (Change (Sources (Option V)))) → list ≡ []
