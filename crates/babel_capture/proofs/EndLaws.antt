@@ -1,5 +1,6 @@
 -- Where packets end in a dump, taken one by one.
-use Rattle.std.proofs.Common.{◌≡◌, ◌<◌, ℕ, ◌+◌, ◌++◌, ◌⊎◌, List, [], ◌∷◌, length, refl, sym, ap, subst, ◌∙◌, append_assoc, length-append, inl, inr, arith, nat_lt, if◌then◌else◌, true, false, Option, None}
+use Rattle.std.proofs.Common.{◌≡◌, ◌<◌, ℕ, ◌+◌, ◌++◌, ◌⊎◌, List, [], ◌∷◌, length, refl, sym, ap, subst, ◌∙◌, append_assoc, length-append, inl, inr, arith}
+use Rattle.std.proofs.Common.{nat_lt, if◌then◌else◌, true, false, Option, None}
 use Rattle.std.specs.List.{flat_map}
 use Rattle.std.proofs.lemmas.List.{append-nil}
 use Rattle.std.proofs.lemmas.List.Concat.{flat_map-append}
@@ -177,7 +178,8 @@ none-more wanted taken dump more number time before made others ends are are_too
 -- a packet more
 packet-after : (wanted : Wanted) (taken dump more : List ℕ) (number count : ℕ) (here : Sighting) (before : List Sighting) (made others : List Made) (ends : List PacketEnd)
     → here.number ≡ number → number ≡ length before + 1 → count ≡ length (before ++ here ∷ []) → AreMade wanted before made → AreMade wanted (before ++ here ∷ []) others
-    → taken ++ dump ≡ dump_of wanted made → taken ++ more ≡ dump_of wanted others → AreEnds wanted taken made ends → AreEnds wanted taken others (noted (length dump) (length more) count (time_of here.came) ends)
+    → taken ++ dump ≡ dump_of wanted made → taken ++ more ≡ dump_of wanted others → AreEnds wanted taken made ends
+    → AreEnds wanted taken others (noted (length dump) (length more) count (time_of here.came) ends)
 packet-after wanted taken dump more number count here before made others ends numbered is_number is_count are are_too is is_more ended = by (last-made wanted before here others are_too)
   where
     by : IsLast wanted before here others → AreEnds wanted taken others (noted (length dump) (length more) count (time_of here.came) ends)

@@ -53,7 +53,8 @@ senders-push : (made : List Made) (one : Made) → senders_of (made ++ one ∷ [
 senders-push made one = fold-append (λ (s : Senders) (m : Made). senders_with s (time_of m.came) m.what) [] made (one ∷ [])
 
 pub gathered-push : (before : List Sighting) (next : Sighting) (old new : Gathering) (what : Found) → new.wanted ≡ old.wanted
-    → new.dump ≡ dump_with old.wanted old.dump (octets_found what) → new.dumps ≡ dumps_with old.wanted old.dumps next.number what → new.report ≡ counted (counted_at old.report next.came) next.link what
+    → new.dump ≡ dump_with old.wanted old.dump (octets_found what) → new.dumps ≡ dumps_with old.wanted old.dumps next.number what
+    → new.report ≡ counted (counted_at old.report next.came) next.link what
     → new.senders ≡ senders_with old.senders (time_of next.came) what → length new.senders ≤ 65536 → IsTaken what
     → IsGathered before old → next.number ≡ old.report.packets + 1 → Finds old.wanted next.what what → IsGathered (before ++ next ∷ []) new
 gathered-push before next old new what same dump dumps report senders few takes gathered number finds =
@@ -132,8 +133,8 @@ module _ (before : List Sighting) (next : Sighting) (old new : Gathering) (findi
       (few_kept before old new senders gathered) tt gathered number
       (subst (Finds old.wanted next.what) is finds)
 
-  pub left-push : (reason : Reason) → finding ≡ left reason → new.wanted ≡ old.wanted → new.dump ≡ old.dump → new.dumps ≡ old.dumps → new.report ≡ counted_with (counted_at old.report next.came) (Some reason)
-      → new.senders ≡ old.senders → Goes
+  pub left-push : (reason : Reason) → finding ≡ left reason → new.wanted ≡ old.wanted → new.dump ≡ old.dump → new.dumps ≡ old.dumps
+      → new.report ≡ counted_with (counted_at old.report next.came) (Some reason) → new.senders ≡ old.senders → Goes
   left-push reason is same dump dumps report senders gathered number finds =
       gathered-push before next old new (left reason) same (dump ∙ dump-stays old.wanted old.dump) (dumps ∙ dumps-stay old.wanted old.dumps next.number (left reason) refl) report senders
       (few_kept before old new senders gathered) tt gathered number

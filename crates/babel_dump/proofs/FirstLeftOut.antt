@@ -269,5 +269,5 @@ refused_is_first reader datagram gave =
     let read = gave.given.is_read in
     let made = made_of reader.reading.accept_cut (extent_of reader.reading) gave.given.octets gave.gathering gave.cut read in
     let counted : gave.gathering.report ≡ counts_of made = counted_in reader.reading.accept_cut (extent_of reader.reading) gave.given.octets gave.gathering gave.cut read in
-    first_of made datagram (rises_of reader.reading.accept_cut reader.reading.limit gave.given.octets gave.gathering gave.cut read)
+    first_of made datagram (rises_of reader.reading.accept_cut (extent_of reader.reading) gave.given.octets gave.gathering gave.cut read)
     (is_least (counts_of made) all_reasons datagram (sym (ap (λ (c : Counts). first_among c all_reasons) counted) ∙ gave.first))

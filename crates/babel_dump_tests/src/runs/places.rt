@@ -55,10 +55,14 @@ static CAPTURE: [u8; 504] = [
 #[rattlefmt::skip]
 static WRITTEN: [(&str, &str); 5] = [
     ("senders", "\
-        fe80:0:0:0:0:0:0:1 interface 0 (eth0) packets 1 octets 4 updates 0 interval - first - last -\n\
-        fe80:0:0:0:0:0:0:1 interface 0 (eth0) vlan 10.20 packets 1 octets 16 updates 1 interval 16.00 first - last -\n\
-        192.0.2.1 interface 1 (a\\x20b\\x5c\\xff) link 3 vlan 5 packets 1 octets 4 updates 0 interval - first - last -\n\
-        fe80:0:0:0:0:0:0:1 interface 1 (a\\x20b\\x5c\\xff) link 7 packets 1 octets 4 updates 0 interval - first - last -\n"),
+        fe80:0:0:0:0:0:0:1 interface 0 (eth0) packets 1 octets 4 updates 0 \
+            interval - first - last -\n\
+        fe80:0:0:0:0:0:0:1 interface 0 (eth0) vlan 10.20 packets 1 octets 16 updates 1 \
+            interval 16.00 first - last -\n\
+        192.0.2.1 interface 1 (a\\x20b\\x5c\\xff) link 3 vlan 5 packets 1 octets 4 updates 0 \
+            interval - first - last -\n\
+        fe80:0:0:0:0:0:0:1 interface 1 (a\\x20b\\x5c\\xff) link 7 packets 1 octets 4 updates 0 \
+            interval - first - last -\n"),
     ("senders --json", concat!(
         r#"{"address":"fe80:0:0:0:0:0:0:1","interface":0,"link":null,"vlans":[]"#,
         r#","name":"eth0","packets":1,"octets":4,"updates":0"#,

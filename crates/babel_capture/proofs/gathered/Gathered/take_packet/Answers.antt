@@ -120,7 +120,8 @@ returns-in-Lacking-clause-ok c =
     lacked-push before (sighting_of (c.args.self.now.report.packets + 1) c.args.at (captured_of c.args.packet.now)) (with_taken taken c.args.self.now) (with_taken taken c.add_lack.new.self) _
     place sender c.in-Lacking.lack (ap finding_of c.in-Lacking.is) (each_wanted _ _ _ _ _ finds) (c.add_lack.ensures.wanted ∙ wanted)
     (ap (λ d. taken ++ d) (c.add_lack.ensures.dump ∙ ap (λ (g : Gathering). g.dump) c.self.view_is))
-    (dumps ∙ ap (λ (n : ℕ). dumps_by c.self.inside.dumps n (lacked place sender c.in-Lacking.lack)) (ap (λ (r : Counts). r.packets) c.count-in-Lacking.ensures ∙ ap (λ (r : Counts). r.packets + 1) c.take_time.ensures)
+    (dumps ∙ ap (λ (n : ℕ). dumps_by c.self.inside.dumps n (lacked place sender c.in-Lacking.lack)) (ap (λ (r : Counts). r.packets) c.count-in-Lacking.ensures
+    ∙ ap (λ (r : Counts). r.packets + 1) c.take_time.ensures)
     ∙ ap (λ (g : Gathering). dumps_by g.dumps (g.report.packets + 1) (lacked place sender c.in-Lacking.lack)) c.self.view_is)
     (c.add_lack.ensures.report ∙ c.count-in-Lacking.ensures ∙ ap (λ (r : Counts). counted_with r None) timed)
     (c.add_lack.ensures.senders ∙ ap (λ (g : Gathering). g.senders) c.self.view_is)
