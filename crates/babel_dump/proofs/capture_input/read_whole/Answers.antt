@@ -13,6 +13,14 @@ returns g c =
       called = search rules;
     }
 
+pub returns-in_err-feed_all : goal.returns-in_err-feed_all
+returns-in_err-feed_all g c =
+    let exit = err_from_is_err_and c.from_residual.result c.from_residual.ensures.1 in record {
+      made = search rules;
+      cause = rw (exit.1, exit.2, ← c.within-capture.ensures.made.1) c.in_err-feed_all.ensures.gathered.cause;
+      called = search rules;
+    }
+
 pub returns-in_err-read : goal.returns-in_err-read
 returns-in_err-read g c =
     let fed = c.in_ok-feed_all.ensures in
