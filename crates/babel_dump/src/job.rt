@@ -308,21 +308,26 @@ impl Job {
     /// The option that is for captures alone and was given for a dump, by whether FILE and OTHER
     /// are captures.
     pub fn misplaced(&self, is_capture: bool, other_is_capture: bool) -> Option<&'static str> {
-        let reading = self.reading()?;
+        let Reading {
+            place,
+            time_option,
+            accept_cut,
+            ..
+        } = self.reading()?;
         let (other_place, other_option) = match self.other_reading() {
             Some(other) => (other.place, other.time_option),
             None => (None, None),
         };
-        if reading.place.is_some() && !is_capture {
+        if place.is_some() && !is_capture {
             return Some("--interface");
         }
         if other_place.is_some() && !other_is_capture {
             return Some("--other-interface");
         }
-        if reading.accept_cut && !is_capture && !other_is_capture {
+        if accept_cut && !is_capture && !other_is_capture {
             return Some("--accept-cut");
         }
-        match reading.time_option {
+        match time_option {
             Some(TimeOption::Since) if !is_capture && !other_is_capture => return Some("--since"),
             Some(TimeOption::Until) if !is_capture && !other_is_capture => return Some("--until"),
             _ => {}
@@ -339,13 +344,9 @@ impl Job {
         if let Job::Senders { reading, .. } | Job::Extract { reading, .. } = self {
             return reading.is_timed();
         }
-        let reading = match side {
-            Side::First => self.reading(),
-            Side::Other => self.other_reading(),
-        };
-        match reading {
-            Some(reading) => reading.of_capture().is_timed(),
-            None => false,
+        match side {
+            Side::First => is_timed(self.reading()),
+            Side::Other => is_timed(self.other_reading()),
         }
     }
 
@@ -415,5 +416,13 @@ pub enum Refusal {
 impl From<AllocError> for Refusal {
     fn from(_error: AllocError) -> Refusal {
         Refusal::Memory
+    }
+}
+
+/// Whether a time is asked for of a capture that is read so.
+fn is_timed(reading: Option<Reading>) -> bool {
+    match reading {
+        Some(reading) => reading.of_capture().is_timed(),
+        None => false,
     }
 }
