@@ -4,7 +4,7 @@ use Rattle.std.proofs.lemmas.List.{length-map}
 use Rattle.babel_tlv.specs.Route.{RouteKey}
 use Rattle.babel_table.specs.Live.{Kept, lasting, word_of, words_of}
 use Rattle.babel_table.specs.Moments.{When}
-use Rattle.babel_table.specs.Words.{TimedRows, lasting_words}
+use Rattle.babel_table.specs.Words.{TimedRows, Word, lasting_words}
 use Rattle.babel_table.proofs.TimeLaws.{words-lasting}
 use Rattle.babel_table.proofs.live.LiveRows.count_passed.Goals as goal
 
@@ -14,7 +14,7 @@ returns c =
     let kept = c.self.inside.kept in
     let factor = c.args.factor in
     let time = c.args.time in
-    let timed = λ (e : RouteKey × Kept). (e.0, word_of stamps e.1) in
+    let timed : RouteKey × Kept → RouteKey × Word = λ e. (e.0, word_of stamps e.1) in
     let few : length (lasting_words factor time (words_of stamps kept)) ≡ length (lasting stamps factor time kept) =
     sym (ap (λ (t : TimedRows). length t) (words-lasting stamps factor time kept)) ∙ length-map (lasting stamps factor time kept) timed in
     let all : length (words_of stamps kept) ≡ length kept = length-map kept timed in
