@@ -11,7 +11,7 @@ use Rattle.std.proofs.lemmas.Cmp.{eq_by_cmp_equiv}
 use Rattle.std.proofs.lemmas.List.{append-nil}
 use Rattle.std.proofs.lemmas.Map.Entries.{lookup-filter-values, option_filter}
 use Rattle.std.proofs.lemmas.Map.Keys.{IsDistinct-from_sorted}
-use Rattle.std.proofs.lemmas.Map.Made.{lookup-map_values}
+use Rattle.std.proofs.lemmas.Map.Made.{keys_of-map_values, lookup-map_values}
 use Rattle.std.proofs.lemmas.Map.Views.{Contains-from_lookup, lookup-from_Contains}
 use Rattle.babel_prefix.proofs.Insertion.{lookup-insert, sorted-insert}
 use Rattle.babel_tlv.specs.declared.event.Event.{Event}
@@ -27,7 +27,6 @@ use Rattle.babel_table.specs.Words.{TimedRows, Word, after_all, after_event, aft
 use Rattle.babel_table.proofs.Entries.{lookup-remove, sorted-remove}
 use Rattle.babel_table.proofs.HoldsLaws.{same, same-is, same-of, same-refl}
 use Rattle.babel_table.proofs.PassedLaws.{rising-filter}
-use Rattle.babel_table.proofs.TimeLaws.{mapped-keys}
 
 -- ---- one word more
 
@@ -241,7 +240,7 @@ module _ (factor moment : ℕ) where
 
     rising-rows : IsRising rows
     unfolding rows lasts
-    rising-rows = subst (IsStrictlySortedBy key_cmp) (sym (mapped-keys (λ (w : Word). w.held) (lasting_words factor moment words))) (rising-filter lasts words rising)
+    rising-rows = subst (IsStrictlySortedBy key_cmp) (sym (keys_of-map_values (λ (w : Word). w.held) (lasting_words factor moment words))) (rising-filter lasts words rising)
 
     at-rows : (key : RouteKey) → lookup (is_at (key_cmp key)) rows ≡ option_map held_of (option_filter lasts (stands_from key None told))
     unfolding rows lasts held_of

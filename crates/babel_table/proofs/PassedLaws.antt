@@ -1,5 +1,6 @@
 -- Rows whose words have passed.
-use Rattle.std.proofs.Common.{◌≡◌, ℕ, zero, suc, ◌+◌, ◌-◌, ◌≤◌, Bool, true, false, cond, List, [], ◌∷◌, ◌++◌, length, map, take, drop, Option, Some, None, refl, sym, ap, subst, ◌∙◌, arith, length-append}
+use Rattle.std.proofs.Common.{◌≡◌, ℕ, zero, suc, ◌+◌, ◌-◌, ◌≤◌, Bool, true, false, cond, List, [], ◌∷◌, ◌++◌, length, map, take, drop, refl, sym, ap, subst, ◌∙◌, arith, length-append}
+use Rattle.std.proofs.Common.{Option, Some, None}
 use mir.Val.{bool_byte}
 use Rattle.std.specs.Prelude.{not, count_by}
 use Rattle.std.proofs.Common.{◌<◌, get_or, slice_set, slice_index_or}
@@ -17,7 +18,8 @@ use Rattle.std.specs.BTreeMap.{is_at}
 use Rattle.std.proofs.lemmas.Cmp.{eq_by_cmp_equiv}
 use Rattle.std.proofs.lemmas.Map.Entries.{lookup-filter-values, option_filter}
 use Rattle.std.proofs.lemmas.Map.Keys.{IsDistinct-from_sorted}
-use Rattle.std.proofs.lemmas.Map.Made.{lookup-map_values}
+use Rattle.std.proofs.lemmas.List.Elements.{filter-append}
+use Rattle.std.proofs.lemmas.Map.Made.{keys_of-map_values, lookup-map_values}
 use Rattle.babel_prefix.specs.declared.family.Family.{Family}
 use Rattle.babel_tlv.specs.Route.{RouteKey}
 use Rattle.babel_tlv.specs.Keys.{key_cmp}
@@ -29,7 +31,7 @@ use Rattle.babel_table.specs.Rows.{IsRising}
 use Rattle.babel_table.specs.Said.{AreCounted, AreDistinct, AreIndexed, Places, Words, is_passed, passed_count, say, standing, unless_passed, unpassed}
 use Rattle.babel_table.specs.Words.{has_passed, when_at}
 use Rattle.babel_table.proofs.SaidLaws.{found, found-standing, length-said, length-unsaid, same_entries, sorted-standing, word_of}
-use Rattle.babel_table.proofs.TimeLaws.{length-filter, mapped-keys}
+use Rattle.babel_table.proofs.TimeLaws.{length-filter}
 
 -- ---- entries that pass a test
 
@@ -59,14 +61,6 @@ module _ {V : Type 0} (p : V → Bool) where
       by : AreOf f (filter (λ e. p e.1) es) → (b : Bool) → AreOf f (cond b (e ∷ filter (λ e. p e.1) es) (filter (λ e. p e.1) es))
       by again true = (are.0, again)
       by again false = again
-
-pub filter-append : {X : Type 0} (p : X → Bool) (xs ys : List X) → filter p (xs ++ ys) ≡ filter p xs ++ filter p ys
-filter-append p [] ys = refl
-filter-append p (x ∷ xs) ys = by (filter-append p xs ys) (p x)
-  where
-    by : filter p (xs ++ ys) ≡ filter p xs ++ filter p ys → (b : Bool) → cond b (x ∷ filter p (xs ++ ys)) (filter p (xs ++ ys)) ≡ cond b (x ∷ filter p xs) (filter p xs) ++ filter p ys
-    by again true = ap (λ t. x ∷ t) again
-    by again false = again
 
 -- ---- what stands once the words that have passed are not said any more
 
@@ -147,7 +141,9 @@ module _ (stamps : List When) (factor moment : ℕ) where
 
   passed-first : (ws : Words) → passed_count stamps factor moment ws ≡ passed_first ws
   unfolding passed_first
-  passed-first ws = sym (is_count_by passed_first (λ (w : RouteKey × Option Kept). is_passed stamps factor moment w.1) refl (λ w later. by (is_passed stamps factor moment w.1) (passed_first later)) ws)
+  passed-first ws =
+      sym (is_count_by passed_first (λ (w : RouteKey × Option Kept). is_passed stamps factor moment w.1) refl
+      (λ w later. by (is_passed stamps factor moment w.1) (passed_first later)) ws)
     where
       by : (b : Bool) (n : ℕ) → cond b 1 0 + n ≡ cond b (1 + n) n
       by true n = omega arith
@@ -155,7 +151,7 @@ module _ (stamps : List When) (factor moment : ℕ) where
 
   module _ (ws : Words) (distinct : AreDistinct (keys_of ws)) where
     keys-unpassed : keys_of (unpassed stamps factor moment ws) ≡ keys_of ws
-    keys-unpassed = mapped-keys (unless_passed stamps factor moment) ws
+    keys-unpassed = keys_of-map_values (unless_passed stamps factor moment) ws
 
     pub count-passed : passed_count stamps factor moment ws + length (lasting stamps factor moment (standing ws)) ≡ length (standing ws)
     count-passed =

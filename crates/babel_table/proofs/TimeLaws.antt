@@ -5,7 +5,7 @@ use Rattle.std.specs.List.{filter}
 use Rattle.std.specs.declared.cmp.Ordering.{Ordering}
 use Rattle.std.specs.declared.cmp.Ordering.TheVariants.{Less, Equal, Greater}
 use Rattle.std.specs.Ordering.{match_ordering}
-use Rattle.std.specs.Map.{keys_of, lookup, remove_entry}
+use Rattle.std.specs.Map.{remove_entry}
 use Rattle.std.specs.BTreeMap.{insert_entry, is_at}
 use Rattle.babel_tlv.specs.declared.held.Held.{Held}
 use Rattle.babel_tlv.specs.Route.{RouteKey}
@@ -40,14 +40,6 @@ module _ {V W : Type 0} (f : V → W) where
           → mapped (cond b es (e ∷ remove_entry test es)) ≡ cond b (mapped es) ((e.0, f e.1) ∷ remove_entry test (mapped es))
       by again true = refl
       by again false = ap (λ (t : List (RouteKey × W)). (e.0, f e.1) ∷ t) again
-
-  pub mapped-keys : (es : List (RouteKey × V)) → keys_of (mapped es) ≡ keys_of es
-  mapped-keys [] = refl
-  mapped-keys (e ∷ es) = ap (λ (t : List RouteKey). e.0 ∷ t) (mapped-keys es)
-
-  pub mapped-length : (es : List (RouteKey × V)) → length (mapped es) ≡ length es
-  mapped-length [] = refl
-  mapped-length (e ∷ es) = ap suc (mapped-length es)
 
   -- those whose values pass a test
   pub mapped-filter : (p : W → Bool) (es : List (RouteKey × V)) → mapped (filter (λ e. p (f e.1)) es) ≡ filter (λ e. p e.1) (mapped es)

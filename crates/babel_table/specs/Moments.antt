@@ -1,20 +1,18 @@
 -- What was said when, and what is held at a moment: RFC 8966, 3.5.4, 4.6.9 and appendix B. A time
 -- is in nanoseconds since the start of 1970. Who uses no times needs none of this page.
-use Rattle.std.specs.Prelude.{◌≡◌, ℕ, ◌<◌, ◌≤◌, ◌+◌, ◌*◌, List, [], ◌∷◌, ◌++◌, map, length, Result}
-use Rattle.std.specs.Prelude.{Ok, Err, slice_index}
+use Rattle.std.specs.Prelude.{◌≡◌, ℕ, ◌<◌, ◌≤◌, ◌+◌, ◌*◌, List, [], ◌∷◌, ◌++◌, map, slice_index}
 use Rattle.std.specs.List.{AllByRecursion, Contains, flat_map}
 use Rattle.babel_prefix.specs.Address.{Address}
 use Rattle.babel_tlv.specs.declared.event.Event.{Event}
 use Rattle.babel_tlv.specs.declared.event.Event.TheVariants as events
-use Rattle.babel_tlv.specs.declared.fault.Fault.{Fault}
 use Rattle.babel_tlv.specs.declared.held.Held.{Held}
 use Rattle.babel_tlv.specs.declared.held.Held.TheVariants as helds
 use Rattle.babel_tlv.specs.declared.mode.Mode.TheVariants as modes
 use Rattle.babel_tlv.specs.declared.start.Start.{Start}
-use Rattle.babel_tlv.specs.Context.{Context, context_after}
+use Rattle.babel_tlv.specs.Context.{Context, first_context, updated}
 use Rattle.babel_tlv.specs.Framing.{TlvAt, ArePackets, packet_octets}
 use Rattle.babel_tlv.specs.Route.{RouteKey, Announcement}
-use Rattle.babel_tlv.specs.Says.{said}
+use Rattle.babel_tlv.specs.Says.{tells}
 use Rattle.babel_table.specs.Bounds.{Bounds, start_of}
 use Rattle.babel_table.specs.Holds.{Names}
 use Rattle.babel_table.specs.Rows.{IsRising, Routes}
@@ -36,32 +34,27 @@ pub record Told : Type 0 where
   pub when : When
   pub event : Event
 
--- a TLV that refuses the dump tells nothing
-abbrev pub event_in : Result Event Fault → Event
-event_in (Ok event) = event
-event_in (Err fault) = events.Nothing
-
 -- what a TLV that came at this time tells in its context
 abbrev pub told_at : ℕ → Context → TlvAt → Told
 told_at time context tlv = record {
   when = record { time = time; interval = update_interval tlv.body };
-  event = event_in (said context tlv);
+  event = tells context tlv;
 }
 
--- what the TLVs of a packet that came at this time tell, after the earlier ones of the packet
-abbrev pub told_behind : ℕ → Start → List TlvAt → List TlvAt → List Told
-told_behind time start earlier [] = []
-told_behind time start earlier (tlv ∷ tlvs) =
-    told_at time (context_after start earlier) tlv ∷ told_behind time start (tlv ∷ earlier) tlvs
+-- what TLVs that came at this time tell, in order, from a context on
+abbrev pub told_from : ℕ → Context → List TlvAt → List Told
+told_from time context [] = []
+told_from time context (tlv ∷ tlvs) =
+    told_at time context tlv ∷ told_from time (updated context tlv) tlvs
 
 -- packets that came at one time, each as its TLVs
 pub record Heard : Type 0 where
   pub time : ℕ
   pub packets : List (List TlvAt)
 
--- what they tell
+-- what they tell; the context begins anew with each packet
 abbrev pub told_in : Start → ℕ → List (List TlvAt) → List Told
-told_in start time packets = flat_map (told_behind time start []) packets
+told_in start time packets = flat_map (told_from time (first_context start)) packets
 
 -- what all packets tell, in the order in which they were heard
 abbrev pub told_of : Start → List Heard → List Told

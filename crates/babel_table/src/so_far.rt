@@ -8,10 +8,10 @@ ghost use Rattle.babel_tlv.specs.Framing.{tlvs_of};
 ghost use Rattle.babel_tlv.specs.FrameFaults.{AreTlvs};
 ghost use Rattle.babel_tlv.specs.Frames.{tlv_value};
 ghost use Rattle.babel_tlv.specs.declared.start.Start.{Start as StartValue};
-ghost use Rattle.babel_tlv.specs.Context.{context_after};
+ghost use Rattle.babel_tlv.specs.Context.{context_after, first_context};
 ghost use Rattle.babel_tlv.specs.Framing.{TlvAt};
 ghost use Rattle.babel_table.specs.Live.{KeepsTime};
-ghost use Rattle.babel_table.specs.Moments.{told_at, told_behind};
+ghost use Rattle.babel_table.specs.Moments.{told_at, told_from};
 ghost use Rattle.babel_table.specs.Words.{HearsPackets, after_all, after_told, told_then};
 
 use crate::live::LiveRows;
@@ -96,8 +96,8 @@ impl SoFar {
         ensures fails { IfErr result (FailsInBody self.old start.now at body.now) }
         ensures time { KeepsTime self.old.rows self.new.rows }
         ensures words { self.old.rows.runs ≡ true → OnOk result (self.new.rows.words
-            ≡ after_all (told_behind self.old.rows.when.time start.now [] (tlvs_of at body.now))
-            self.old.rows.words) }
+            ≡ after_all (told_from self.old.rows.when.time (first_context start.now)
+            (tlvs_of at body.now)) self.old.rows.words) }
     {
         let mut state = State::at(*start);
         let mut route = Route::unwritten();
