@@ -57,6 +57,7 @@ usual_reading limits mode sender = record {
   place = None;
   window = windows.Whole;
   time_option = None;
+  expiry = None;
   accept_cut = false;
   strict = false;
 }

@@ -51,6 +51,7 @@ read_by keys origin = record {
   place = Some origin.place;
   window = keys.window;
   time_option = None;
+  expiry = keys.expiry;
   accept_cut = keys.accept_cut;
   strict = keys.strict;
 }

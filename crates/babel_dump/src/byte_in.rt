@@ -3,6 +3,7 @@ ghost use Rattle.std.specs.Io.{ReadsAtMost};
 ghost use Rattle.babel_dump.specs.Device.{InputState, ReadGave, failed_calls, ended_reads};
 
 use crate::left_out::LeftOutDatagram;
+use babel_capture::Time;
 use babel_table::USUAL_SEED;
 use std::io;
 use std::io::Read;
@@ -34,6 +35,28 @@ pub trait ByteIn {
     /// The first datagram that was left out of what it gave, if that was cut from a capture.
     fn left_out(&self) -> Option<LeftOutDatagram>
         ensures { result ≡ (state self.now).left_out };
+
+    /// Whether it may tell when what it gives came.
+    fn has_times(&self) -> bool {
+        false
+    }
+
+    /// When the packet came whose octets it gave last, if it tells that.
+    fn time(&self) -> Option<Time> {
+        None
+    }
+
+    /// The moment up to which the packets were read that it gave, in nanoseconds since the start
+    /// of 1970, if it tells when each came.
+    fn moment(&self) -> Option<u128> {
+        None
+    }
+
+    /// Keeps how many rows of the table of what it gave were not said again in time, for the notes.
+    fn keep_passed(&mut self, _passed: usize)
+        ensures { state self.new ≡ state self.old }
+    {
+    }
 
     /// The seed by which keys are found in what it gave: `Feeder::with_seed`.
     fn seed(&self) -> u128 {

@@ -8,6 +8,7 @@ use crate::captured::{CaptureNotes, CapturedDump};
 use crate::input_fault::InputFault;
 use crate::left_out::LeftOutDatagram;
 use crate::reading::Reading;
+use babel_capture::Time;
 use std::alloc::Global;
 use std::io;
 use std::io::{Chain, Cursor, Read, Take};
@@ -140,6 +141,34 @@ impl<R: Read + Drop> ByteIn for DumpInput<R> {
         match self {
             DumpInput::Stream(stream) => stream.left_out(),
             DumpInput::Captured(dump) => dump.left_out(),
+        }
+    }
+
+    fn has_times(&self) -> bool {
+        match self {
+            DumpInput::Stream(stream) => stream.has_times(),
+            DumpInput::Captured(dump) => dump.has_times(),
+        }
+    }
+
+    fn time(&self) -> Option<Time> {
+        match self {
+            DumpInput::Stream(stream) => stream.time(),
+            DumpInput::Captured(dump) => dump.time(),
+        }
+    }
+
+    fn moment(&self) -> Option<u128> {
+        match self {
+            DumpInput::Stream(stream) => stream.moment(),
+            DumpInput::Captured(dump) => dump.moment(),
+        }
+    }
+
+    fn keep_passed(&mut self, passed: usize) {
+        match self {
+            DumpInput::Stream(stream) => stream.keep_passed(passed),
+            DumpInput::Captured(dump) => dump.keep_passed(passed),
         }
     }
 }

@@ -2,6 +2,7 @@ ghost use Rattle.std.specs.Prelude.{◌≡◌};
 
 use crate::byte_in::ByteIn;
 use crate::left_out::LeftOutDatagram;
+use babel_capture::Time;
 use std::io;
 
 /// A device whose octets were made by somebody who does not know the seed.
@@ -30,6 +31,22 @@ impl<R: ByteIn> ByteIn for Seeded<R> {
 
     fn left_out(&self) -> Option<LeftOutDatagram> {
         self.device.left_out()
+    }
+
+    fn has_times(&self) -> bool {
+        self.device.has_times()
+    }
+
+    fn time(&self) -> Option<Time> {
+        self.device.time()
+    }
+
+    fn moment(&self) -> Option<u128> {
+        self.device.moment()
+    }
+
+    fn keep_passed(&mut self, passed: usize) {
+        self.device.keep_passed(passed);
     }
 
     fn seed(&self) -> u128 {

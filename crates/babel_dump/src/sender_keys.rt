@@ -16,6 +16,7 @@ use crate::byte_out::ByteOut;
 use crate::capture_input::{CaptureRead, read_capture};
 use crate::capture_reading::CaptureReading;
 use crate::diff::{ROOM, push_place};
+use crate::factor::Factor;
 use crate::input_fault::InputFault;
 use crate::job::DumpFile;
 use crate::key::{MadeKey, make_key};
@@ -44,6 +45,8 @@ pub struct SenderKeys {
     pub place: Option<Place>,
     /// Which packets are read, by when they came: `--since`, `--until`.
     pub window: Window,
+    /// After how many times its Interval a row is gone: `--expiry`. None is where it is left out.
+    pub expiry: Option<Factor>,
     /// Whether a capture that is cut short is read to its last whole record: `--accept-cut`.
     pub accept_cut: bool,
     /// Whether the capture is refused if a datagram was left out of it, and a dump if a TLV of it
@@ -68,6 +71,7 @@ impl SenderKeys {
             place: Some(origin.place),
             window: self.window,
             time_option: None,
+            expiry: self.expiry,
             accept_cut: self.accept_cut,
             strict: self.strict,
         }
