@@ -203,7 +203,7 @@ pub struct CapturedDump<R> {
     /// How many octets of the source's part were given.
     given: usize,
     packet: AtPacket,
-    /// How many rows of the dump's table were not announced again in time.
+    /// How many rows of the dump's table were not announced again in time, if it was told.
     passed: usize,
     failures: u64,
     reads: u64,
@@ -327,12 +327,15 @@ fn give<R: Read + Drop>(
 }
 
 impl<R: Read + Drop> ByteIn for CapturedDump<R> {
+    ghost use Rattle.babel_capture.specs.Capture.{moment_read};
+    ghost use Rattle.babel_dump.specs.Device.{told_of};
     ghost use Rattle.babel_dump.specs.LeftOut.{first_left_out as first_of};
 
     ghost state = { λ d. record {
       left = None;
       captured = Some (held_of R.remaining d.source d.given);
       left_out = first_of d.source.capture.progress.gathering.report;
+      times = told_of d.packet.time (moment_read d.source.capture);
       failures = d.failures;
       reads = d.reads;
       ends = d.ends;
@@ -362,8 +365,8 @@ impl<R: Read + Drop> ByteIn for CapturedDump<R> {
         true
     }
 
-    fn time(&self) -> Option<Time> {
-        self.packet.time
+    fn time(&self) -> Option<u128> {
+        Some(self.packet.time?.nanoseconds())
     }
 
     fn moment(&self) -> Option<u128> {

@@ -8,7 +8,6 @@ use crate::captured::{CaptureNotes, CapturedDump};
 use crate::input_fault::InputFault;
 use crate::left_out::LeftOutDatagram;
 use crate::reading::Reading;
-use babel_capture::Time;
 use std::alloc::Global;
 use std::io;
 use std::io::{Chain, Cursor, Read, Take};
@@ -151,7 +150,7 @@ impl<R: Read + Drop> ByteIn for DumpInput<R> {
         }
     }
 
-    fn time(&self) -> Option<Time> {
+    fn time(&self) -> Option<u128> {
         match self {
             DumpInput::Stream(stream) => stream.time(),
             DumpInput::Captured(dump) => dump.time(),

@@ -9,6 +9,7 @@ use crate::byte_out::ByteOut;
 use crate::captured::CaptureNotes;
 use crate::ignored_note::IgnoredNote;
 use crate::job::Job;
+use crate::key::MadeKey;
 use crate::left_out::LeftOutNote;
 use crate::note::{Note, SideNote};
 use crate::outcome::{Outcome, Reports};
@@ -119,14 +120,15 @@ impl Notes {
         self.add_capture(Side::First, capture, is_timed)
     }
 
-    /// What there is to know of the dump of a sender in it, of which this is the report.
-    pub fn gather_sender(&mut self, keys: &SenderKeys, report: Report) -> Result<(), AllocError> {
+    /// What there is to know of the dump of a sender in it, which has this key.
+    pub fn gather_sender(&mut self, keys: &SenderKeys, key: &MadeKey) -> Result<(), AllocError> {
         self.list.clear();
         if keys.quiet {
             return Ok(());
         }
-        self.add_ignored(Side::First, report)?;
-        self.add_updates(Side::First, report)
+        self.add_ignored(Side::First, key.report)?;
+        self.add_passed(Side::First, key.passed)?;
+        self.add_updates(Side::First, key.report)
     }
 
     fn add(&mut self, side: Side, note: Note) -> Result<(), AllocError> {

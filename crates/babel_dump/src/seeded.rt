@@ -2,7 +2,6 @@ ghost use Rattle.std.specs.Prelude.{◌≡◌};
 
 use crate::byte_in::ByteIn;
 use crate::left_out::LeftOutDatagram;
-use babel_capture::Time;
 use std::io;
 
 /// A device whose octets were made by somebody who does not know the seed.
@@ -37,7 +36,7 @@ impl<R: ByteIn> ByteIn for Seeded<R> {
         self.device.has_times()
     }
 
-    fn time(&self) -> Option<Time> {
+    fn time(&self) -> Option<u128> {
         self.device.time()
     }
 

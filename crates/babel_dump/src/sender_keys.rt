@@ -1,6 +1,6 @@
 //! `key` without `--from`: the key of each sender in a capture.
 ghost use Rattle.std.specs.Prelude.{◌≡◌, ◌+◌, ◌-◌, ◌^◌, ◌<◌, ◌≤◌, IfErr, IfNone, IfOk, IfSome};
-ghost use Rattle.std.specs.Prelude.{filter};
+ghost use Rattle.std.specs.Prelude.{filter, ℕ, List};
 ghost use Rattle.std.specs.Map.{keys_of};
 ghost use Rattle.babel_dump.specs.CaptureGiven.{GaveSound};
 ghost use Rattle.babel_dump.specs.CaptureRun.{CaptureCause, IsNoFault, capture_calls};
@@ -8,10 +8,10 @@ ghost use Rattle.babel_dump.specs.Device.{HasRoomToCount};
 ghost use Rattle.babel_dump.specs.Run.{Called, output};
 ghost use Rattle.babel_dump.specs.SenderKeys.{IsKeyOfDump, IsSenderKey, NoKeyOfDump, NoSenderKey};
 ghost use Rattle.babel_dump.specs.SenderKeys.{capture_read_by, each_from, is_asked, read_by};
-ghost use Rattle.babel_dump.specs.SenderKeys.{sender_name};
+ghost use Rattle.babel_dump.specs.SenderKeys.{HasDump, sender_name};
 ghost use Rattle.babel_dump.specs.Slices.{WroteText};
 
-use crate::byte_in::{ByteIn, FromReader};
+use crate::byte_in::ByteIn;
 use crate::byte_out::ByteOut;
 use crate::capture_input::{CaptureRead, read_capture};
 use crate::capture_reading::CaptureReading;
@@ -27,6 +27,7 @@ use crate::reading::{Reading, capture_limit};
 use crate::run_fault::RunFault;
 use crate::seeded::Seeded;
 use crate::spelling::Spelling;
+use crate::timed_dump::TimedDump;
 use crate::write::write_text;
 use babel_capture::{Gathered, Origin, Place, Wanted, Window};
 use babel_table::Limits;
@@ -127,15 +128,19 @@ impl SenderKeys {
     pub fn key_of(
         &self,
         alloc: Global,
-        gathered: &Gathered,
+        read: &CaptureRead,
         origin: Origin,
         seed: u128,
     ) -> Result<MadeKey, InputFault>
-        ensures ok { IfOk result (IsSenderKey self.now gathered.now origin) }
-        ensures err { IfErr result (NoSenderKey self.now gathered.now origin) }
+        ensures ok { IfOk result (IsSenderKey self.now read.now.gathered origin) }
+        ensures err { IfErr result (NoSenderKey self.now read.now.gathered origin) }
     {
-        match gathered.dump_of(&origin) {
-            Ok(dump) => self.key_of_dump(alloc, origin, dump, seed),
+        match read.gathered.dump_of(&origin) {
+            Ok(dump) => {
+                let times = read.gathered.times_of(&origin);
+                let device = TimedDump::new(dump, times, read.moment);
+                self.key_of_dump(alloc, origin, device, seed)
+            }
             Err(at) => Err(InputFault::LeftOut(LeftOutDatagram {
                 packet: at.packet,
                 reason: at.lack.reason(),
@@ -148,22 +153,34 @@ impl SenderKeys {
         &self,
         alloc: Global,
         origin: Origin,
-        dump: &[u8],
+        device: TimedDump<'_>,
         seed: u128,
     ) -> Result<MadeKey, InputFault>
-        ensures ok { IfOk result (IsKeyOfDump self.now origin dump.now) }
-        ensures err { IfErr result (NoKeyOfDump self.now origin dump.now) }
+        ensures ok { (dump : List ℕ)
+            → HasDump (⟦<TimedDump<'_> as ByteIn>⟧.state device) dump
+            → IfOk result (IsKeyOfDump self.now origin dump) }
+        ensures err { (dump : List ℕ)
+            → HasDump (⟦<TimedDump<'_> as ByteIn>⟧.state device) dump
+            → IfErr result (NoKeyOfDump self.now origin dump) }
     {
         let name = sender_name(alloc, self.file.name(), Origin { ..origin })?;
-        let mut reader = Seeded::new(FromReader::new(dump), seed);
-        make_key(
+        let mut reader = Seeded::new(device, seed);
+        let MadeKey {
+            line, report, rows, ..
+        } = make_key(
             alloc,
             self.reading(origin),
             self.view,
             self.routes,
             &name,
             &mut reader,
-        )
+        )?;
+        Ok(MadeKey {
+            line,
+            report,
+            rows,
+            passed: reader.device.passed(),
+        })
     }
 
     /// How many rows tables have in all, where some have so many, and one more so many; `None` if
