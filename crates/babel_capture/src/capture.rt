@@ -138,7 +138,8 @@ impl Capture {
         }
         match self.window {
             Window::Between {
-                until: Some(until), ..
+                until: Some(until),
+                ..
             } => Some(until.from(self.stream.reader.start()?)),
             _ => Some(timing.last?.nanoseconds()),
         }

@@ -54,8 +54,7 @@ pub trait ByteIn {
     /// Keeps how many rows of the table of what it gave were not said again in time, for the notes.
     fn keep_passed(&mut self, _passed: usize)
         ensures { state self.new ≡ state self.old }
-    {
-    }
+    {}
 
     /// The seed by which keys are found in what it gave: `Feeder::with_seed`.
     fn seed(&self) -> u128 {

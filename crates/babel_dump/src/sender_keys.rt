@@ -166,7 +166,10 @@ impl SenderKeys {
         let name = sender_name(alloc, self.file.name(), Origin { ..origin })?;
         let mut reader = Seeded::new(device, seed);
         let MadeKey {
-            line, report, rows, ..
+            line,
+            report,
+            rows,
+            ..
         } = make_key(
             alloc,
             self.reading(origin),
