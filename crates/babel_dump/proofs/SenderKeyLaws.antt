@@ -9,7 +9,7 @@ use Rattle.babel_dump.specs.Device.{InputState, fresh}
 use Rattle.babel_dump.specs.Given.{Input, IsFaultOfOctets, read_from}
 use Rattle.babel_dump.specs.Files.{name_of}
 use Rattle.babel_dump.specs.Run.{InputCause}
-use Rattle.babel_dump.specs.SenderKeys.{IsKeyOfDump, IsSenderKey, MakesKey, NoKeyOfDump, NoSenderKey, ReadsDump, read_by, sender_name}
+use Rattle.babel_dump.specs.SenderKeys.{HasDump, IsKeyOfDump, IsSenderKey, MakesKey, NoKeyOfDump, NoSenderKey, ReadsDump, read_by, sender_name}
 use Rattle.babel_dump.specs.declared.input_fault.InputFault.{InputFault}
 use Rattle.babel_dump.specs.declared.input_fault.InputFault.TheVariants as input_faults
 use Rattle.babel_dump.specs.declared.key.MadeKey.{MadeKey}
@@ -19,7 +19,7 @@ use Rattle.babel_dump.specs.declared.sender_keys.SenderKeys.{SenderKeys}
 module _ (keys : SenderKeys) (origin : Origin) (dump : List ℕ) where
   -- ---- from a run over the dump
 
-  module _ (old new : InputState) (reading : Reading) (reading_is : reading ≡ read_by keys origin) (has : old ≡ fresh (Some dump)) where
+  module _ (old new : InputState) (reading : Reading) (reading_is : reading ≡ read_by keys origin) (has : HasDump old dump) where
     reads : ReadsDump keys origin dump (read_from old new reading)
     reads = record { reading = reading_is; has = has }
 

@@ -1,18 +1,18 @@
 -- What readers gave, as dumps. No RFC speaks of readers: these are this project's own.
 use Rattle.std.specs.Prelude.{ℕ, ◌≡◌, ◌≢◌, ◌⊎◌, Bool, false, true, List, Option, None, Some}
-use Rattle.std.specs.List.{flat_map}
 use Rattle.babel_prefix.specs.Address.{Address}
 use Rattle.babel_capture.specs.declared.window.Window.TheVariants as windows
 use Rattle.babel_tlv.specs.declared.fault.Fault.{Fault}
 use Rattle.babel_tlv.specs.declared.fault.Fault.TheVariants as faults
 use Rattle.babel_tlv.specs.declared.mode.Mode.{Mode}
+use Rattle.babel_tlv.specs.declared.mode.Mode.TheVariants as modes
 use Rattle.babel_tlv.specs.declared.view.View.{View}
 use Rattle.babel_tlv.specs.Group.{IsCanonicalText}
 use Rattle.babel_tlv.specs.Pair.{Pair}
 use Rattle.babel_tlv.specs.Views.{keeps_all}
 use Rattle.babel_table.specs.Bounds.{Bounds}
 use Rattle.babel_table.specs.Counts.{Counts}
-use Rattle.babel_table.specs.Moments.{IsTableAt}
+use Rattle.babel_table.specs.Moments.{IsTableAt, dump_of as dump_heard}
 use Rattle.babel_table.specs.TableOf.{IsTableOf}
 use Rattle.babel_table.specs.DumpFault.{DumpFault, HasNoFault}
 use Rattle.babel_table.specs.Rows.{Routes}
@@ -27,7 +27,7 @@ use Rattle.babel_canon.specs.Sent.{Sent, sent}
 use Rattle.babel_canon.specs.Normalises.{NormaliseFault, Normalises, SaysFewest, as_they_are}
 use Rattle.babel_canon.specs.Views.{AnswerTheSameUnder, ReadsAgainSeen}
 use Rattle.babel_dump.specs.Device.{Gave, GaveOctets, InputState}
-use Rattle.babel_dump.specs.Reads.{AreTimed, AreUncut, GaveReads, Read}
+use Rattle.babel_dump.specs.Reads.{AreUncut, GaveReads}
 use Rattle.babel_dump.specs.Strict.{IsNotReadWhole, IsReadWhole}
 use Rattle.babel_dump.specs.declared.input.Expired.{Expired}
 use Rattle.babel_dump.specs.declared.input_fault.InputFault.{InputFault}
@@ -85,14 +85,14 @@ expired factor moment = None
 abbrev pub expired_of : Input → Option Expired
 expired_of reader = expired reader.reading.expiry reader.new.times.moment
 
--- The reader gave the dump read by read, and told after each when that came. Where it told a time
--- each time, and no read cut a packet, this is the table at the moment.
+-- The reader gave the dump read by read, each read with the time that it told. Where it tells times,
+-- and no read cut a packet, this is in mode Plain the table at the moment.
 pub record IsTableThen (reader : Input) (at : Expired) (dump : List ℕ) (table : Routes) :
     Type 0 where
-  pub reads : List Read
-  pub gave : GaveReads reader.old reader.new reads
-  pub whole : dump ≡ flat_map (λ read. read.octets) reads
-  pub is_table : (given : List (ℕ × List ℕ)) → AreTimed reads given → AreUncut given
+  pub given : List (ℕ × List ℕ)
+  pub gave : GaveReads reader.old reader.new given
+  pub whole : dump ≡ dump_heard given
+  pub is_table : reader.reading.mode ≡ modes.Plain → reader.old.times.told ≡ true → AreUncut given
       → IsTableAt reader.reading.limits reader.reading.sender given at.factor at.moment table
 
 -- the table of the dump, without what is left out of it
