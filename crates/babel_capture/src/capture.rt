@@ -126,8 +126,8 @@ impl Capture {
         self.stream.reader.ends()
     }
 
-    /// The moment up to which packets were read, in nanoseconds since the start of 1970: the last of
-    /// the window, if it names one, or else when the last packet came, by place. `None` where a
+    /// The moment up to which packets were read, in nanoseconds since the start of 1970: the last
+    /// of the window, if it names one, or else when the last packet came, by place. `None` where a
     /// packet that was read has no time, and where none was read.
     pub fn moment(&self) -> Option<u128>
         ensures { result ≡ moment_read self.now }

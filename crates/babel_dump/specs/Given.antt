@@ -75,8 +75,8 @@ input limits mode sender old new = read_from old new (usual_reading limits mode 
 abbrev pub GaveAll : Input → List ℕ → Type 0
 GaveAll reader = GaveOctets reader.old reader.new
 
--- what is left out of a table: what was not said again within so many ten-millionths of its Interval
--- at this moment, where that is asked and the moment is told
+-- what is left out of a table: what was not said again within so many ten-millionths of its
+-- Interval at this moment, where that is asked and the moment is told
 abbrev pub expired : (factor moment : Option ℕ) → Option Expired
 expired (Some factor) (Some moment) = Some (record { factor = factor; moment = moment })
 expired factor moment = None
@@ -85,8 +85,8 @@ expired factor moment = None
 abbrev pub expired_of : Input → Option Expired
 expired_of reader = expired reader.reading.expiry reader.new.times.moment
 
--- The reader gave the dump read by read, each read with the time that it told. Where it tells times,
--- and no read cut a packet, this is in mode Plain the table at the moment.
+-- The reader gave the dump read by read, each read with the time that it told. Where it tells
+-- times, and no read cut a packet, this is in mode Plain the table at the moment.
 pub record IsTableThen (reader : Input) (at : Expired) (dump : List ℕ) (table : Routes) :
     Type 0 where
   pub given : List (ℕ × List ℕ)

@@ -36,13 +36,13 @@ pub trait ByteIn {
     fn left_out(&self) -> Option<LeftOutDatagram>
         ensures { result ≡ (state self.now).left_out };
 
-    /// Whether it may tell when what it gives came: it then gives octets of one packet a read, and a
-    /// packet whole where there is room.
+    /// Whether it tells times: it then gives octets of one packet a read, and a packet whole where
+    /// there is room.
     fn has_times(&self) -> bool
         ensures { result ≡ (state self.now).times.told };
 
-    /// When the packet came whose octets it gave last, in nanoseconds since the start of 1970, if it
-    /// tells that.
+    /// When the packet came whose octets it gave last, in nanoseconds since the start of 1970, if
+    /// it tells that.
     fn time(&self) -> Option<u128>
         ensures time { result ≡ (state self.now).times.last }
         ensures fits { IfSome result (λ time. time < 2 ^ 96) };
