@@ -1,11 +1,11 @@
 -- The key of a sender is that of a run over its dump.
-use Rattle.std.proofs.Common.{◌≡◌, ℕ, List, Option, None, Some, Result, Ok, Err, refl, inl, inr, subst, sym}
+use Rattle.std.proofs.Common.{◌≡◌, ℕ, List, Option, None, Some, Result, Ok, Err, refl, inl, inr, ap, subst, sym, ◌∙◌}
 use Rattle.std.specs.Prelude.{IfErr, IfOk}
 use Rattle.babel_capture.specs.Dumps.{dump_at}
 use Rattle.babel_capture.specs.Gathering.{Gathering}
 use Rattle.babel_capture.specs.declared.tallies.Origin.{Origin}
 use Rattle.babel_tlv.specs.declared.fault.Fault.TheVariants as faults
-use Rattle.babel_dump.specs.Device.{InputState, fresh}
+use Rattle.babel_dump.specs.Device.{InputState, TimesTold, fresh}
 use Rattle.babel_dump.specs.Given.{Input, IsFaultOfOctets, read_from}
 use Rattle.babel_dump.specs.Files.{name_of}
 use Rattle.babel_dump.specs.Run.{InputCause}
@@ -15,6 +15,10 @@ use Rattle.babel_dump.specs.declared.input_fault.InputFault.TheVariants as input
 use Rattle.babel_dump.specs.declared.key.MadeKey.{MadeKey}
 use Rattle.babel_dump.specs.declared.reading.Reading.{Reading}
 use Rattle.babel_dump.specs.declared.sender_keys.SenderKeys.{SenderKeys}
+
+-- a reader that tells this of times, and has the dump
+pub has_dump : (state : InputState) (times : TimesTold) (dump : List ℕ) → state ≡ record (fresh (Some dump)) { times = times } → HasDump state dump
+has_dump state times dump is = is ∙ ap (λ (t : TimesTold). record (fresh (Some dump)) { times = t }) (sym (ap (λ (s : InputState). s.times) is))
 
 module _ (keys : SenderKeys) (origin : Origin) (dump : List ℕ) where
   -- ---- from a run over the dump

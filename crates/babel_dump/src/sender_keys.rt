@@ -1,6 +1,6 @@
 //! `key` without `--from`: the key of each sender in a capture.
 ghost use Rattle.std.specs.Prelude.{◌≡◌, ◌+◌, ◌-◌, ◌^◌, ◌<◌, ◌≤◌, IfErr, IfNone, IfOk, IfSome};
-ghost use Rattle.std.specs.Prelude.{filter, ℕ, List};
+ghost use Rattle.std.specs.Prelude.{filter};
 ghost use Rattle.std.specs.Map.{keys_of};
 ghost use Rattle.babel_dump.specs.CaptureGiven.{GaveSound};
 ghost use Rattle.babel_dump.specs.CaptureRun.{CaptureCause, IsNoFault, capture_calls};
@@ -8,7 +8,7 @@ ghost use Rattle.babel_dump.specs.Device.{HasRoomToCount};
 ghost use Rattle.babel_dump.specs.Run.{Called, output};
 ghost use Rattle.babel_dump.specs.SenderKeys.{IsKeyOfDump, IsSenderKey, NoKeyOfDump, NoSenderKey};
 ghost use Rattle.babel_dump.specs.SenderKeys.{capture_read_by, each_from, is_asked, read_by};
-ghost use Rattle.babel_dump.specs.SenderKeys.{HasDump, sender_name};
+ghost use Rattle.babel_dump.specs.SenderKeys.{sender_name};
 ghost use Rattle.babel_dump.specs.Slices.{WroteText};
 
 use crate::byte_in::ByteIn;
@@ -136,11 +136,7 @@ impl SenderKeys {
         ensures err { IfErr result (NoSenderKey self.now read.now.gathered origin) }
     {
         match read.gathered.dump_of(&origin) {
-            Ok(dump) => {
-                let times = read.gathered.times_of(&origin);
-                let device = TimedDump::new(dump, times, read.moment);
-                self.key_of_dump(alloc, origin, device, seed)
-            }
+            Ok(dump) => self.key_of_dump(alloc, read, origin, dump, seed),
             Err(at) => Err(InputFault::LeftOut(LeftOutDatagram {
                 packet: at.packet,
                 reason: at.lack.reason(),
@@ -148,22 +144,20 @@ impl SenderKeys {
         }
     }
 
-    /// The key of this dump, which is that of a sender at its place.
+    /// The key of this dump, which is that of a sender at its place in the capture.
     fn key_of_dump(
         &self,
         alloc: Global,
+        read: &CaptureRead,
         origin: Origin,
-        device: TimedDump<'_>,
+        dump: &[u8],
         seed: u128,
     ) -> Result<MadeKey, InputFault>
-        ensures ok { (dump : List ℕ)
-            → HasDump (⟦<TimedDump<'_> as ByteIn>⟧.state device) dump
-            → IfOk result (IsKeyOfDump self.now origin dump) }
-        ensures err { (dump : List ℕ)
-            → HasDump (⟦<TimedDump<'_> as ByteIn>⟧.state device) dump
-            → IfErr result (NoKeyOfDump self.now origin dump) }
+        ensures ok { IfOk result (IsKeyOfDump self.now origin dump.now) }
+        ensures err { IfErr result (NoKeyOfDump self.now origin dump.now) }
     {
         let name = sender_name(alloc, self.file.name(), Origin { ..origin })?;
+        let device = TimedDump::new(dump, read.gathered.times_of(&origin), read.moment);
         let mut reader = Seeded::new(device, seed);
         let MadeKey {
             line,
