@@ -1,5 +1,6 @@
 -- The key of a sender is that of a run over its dump.
-use Rattle.std.proofs.Common.{◌≡◌, ℕ, List, Option, None, Some, Result, Ok, Err, refl, inl, inr, ap, subst, sym, ◌∙◌}
+use Rattle.babel_tlv.specs.declared.view.View.{View}
+use Rattle.std.proofs.Common.{◌≡◌, ℕ, Bool, List, Option, None, Some, Result, Ok, Err, refl, inl, inr, ap, subst, sym, ◌∙◌}
 use Rattle.std.specs.Prelude.{IfErr, IfOk}
 use Rattle.babel_capture.specs.Dumps.{dump_at}
 use Rattle.babel_capture.specs.Gathering.{Gathering}
@@ -19,6 +20,11 @@ use Rattle.babel_dump.specs.declared.sender_keys.SenderKeys.{SenderKeys}
 -- a reader that tells this of times, and has the dump
 pub has_dump : (state : InputState) (times : TimesTold) (dump : List ℕ) → state ≡ record (fresh (Some dump)) { times = times } → HasDump state dump
 has_dump state times dump is = is ∙ ap (λ (t : TimesTold). record (fresh (Some dump)) { times = t }) (sym (ap (λ (s : InputState). s.times) is))
+
+-- how many rows have passed is no part of what a key is made of
+pub told_key : (reader : Input) (view : View) (routes : Bool) (name : List ℕ) (key : MadeKey) (passed : ℕ) → MakesKey reader view routes name key
+    → MakesKey reader view routes name (record key { passed = passed })
+told_key reader view routes name key passed makes = record { writes = makes.writes; table = makes.table; gave = makes.gave; rows_is = makes.rows_is }
 
 module _ (keys : SenderKeys) (origin : Origin) (dump : List ℕ) where
   -- ---- from a run over the dump

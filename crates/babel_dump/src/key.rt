@@ -34,6 +34,17 @@ pub struct MadeKey {
     pub passed: usize,
 }
 
+impl MadeKey {
+    /// The same of a table of which so many rows were not announced again in time.
+    pub(crate) fn with_passed(self, passed: usize) -> MadeKey
+        ensures { result ≡ record self { passed = passed } }
+    {
+        let mut key = self;
+        key.passed = passed;
+        key
+    }
+}
+
 /// Reads a dump to its end, or to its first fault, and makes the line of its key, which names this
 /// file: the SHA-256 of what `normalise` writes of it under a view, with `--routes` or without it.
 pub(crate) fn find_key<R: ByteIn>(

@@ -159,12 +159,7 @@ impl SenderKeys {
         let name = sender_name(alloc, self.file.name(), Origin { ..origin })?;
         let device = TimedDump::new(dump, read.gathered.times_of(&origin), read.moment);
         let mut reader = Seeded::new(device, seed);
-        let MadeKey {
-            line,
-            report,
-            rows,
-            ..
-        } = make_key(
+        let key = make_key(
             alloc,
             self.reading(origin),
             self.view,
@@ -172,12 +167,7 @@ impl SenderKeys {
             &name,
             &mut reader,
         )?;
-        Ok(MadeKey {
-            line,
-            report,
-            rows,
-            passed: reader.device.passed(),
-        })
+        Ok(key.with_passed(reader.device.passed()))
     }
 
     /// How many rows tables have in all, where some have so many, and one more so many; `None` if
