@@ -1,4 +1,4 @@
-use Rattle.std.proofs.Common.{rules, IfSome, subst, sym}
+use Rattle.std.proofs.Common.{rules}
 use Rattle.std.proofs.lemmas.Result.{err_from_is_err_and}
 use Rattle.babel_dump.proofs.Feeders.{given_read, given_fault}
 use Rattle.babel_dump.proofs.input.read_dump.Goals as goal
@@ -7,7 +7,7 @@ pub returns : goal.returns
 returns g c =
     let same = c.in_ok-feed_all.ensures.same in
     rw c.tell_passed.ensures (record {
-      made = given_read _ c.in_ok-feeder.feeder c.feed_all.new.feeder _ c.expired.result c.expired.ensures (λ plain tells. c.feeder_for.ensures.heard plain tells)
+      made = given_read _ c.in_ok-feeder.feeder c.feed_all.new.feeder _ c.expired.result c.expired.ensures c.in_ok-feeder.ensures.heard
           (record { limits = same.0; mode = same.1; sender = same.2 }) c.in_ok-feed_all.ensures.gathered.made
           c.in_ok-table.ensures.whole c.in_ok-table.ensures.no_fault c.in_ok-table.ensures.at;
       cause = search rules;
