@@ -1,5 +1,6 @@
 -- Rows whose words have passed.
-use Rattle.std.proofs.Common.{◌≡◌, ℕ, zero, suc, ◌+◌, ◌-◌, ◌≤◌, Bool, true, false, cond, List, [], ◌∷◌, ◌++◌, length, map, take, drop, Option, Some, None, refl, sym, ap, subst, ◌∙◌, arith, length-append}
+use Rattle.std.proofs.Common.{◌≡◌, ℕ, zero, suc, ◌+◌, ◌-◌, ◌≤◌, Bool, true, false, cond, List, [], ◌∷◌, ◌++◌, length, map, take, drop, refl, sym, ap, subst, ◌∙◌, arith, length-append}
+use Rattle.std.proofs.Common.{Option, Some, None}
 use mir.Val.{bool_byte}
 use Rattle.std.specs.Prelude.{not, count_by}
 use Rattle.std.proofs.Common.{◌<◌, get_or, slice_set, slice_index_or}
@@ -147,7 +148,9 @@ module _ (stamps : List When) (factor moment : ℕ) where
 
   passed-first : (ws : Words) → passed_count stamps factor moment ws ≡ passed_first ws
   unfolding passed_first
-  passed-first ws = sym (is_count_by passed_first (λ (w : RouteKey × Option Kept). is_passed stamps factor moment w.1) refl (λ w later. by (is_passed stamps factor moment w.1) (passed_first later)) ws)
+  passed-first ws =
+      sym (is_count_by passed_first (λ (w : RouteKey × Option Kept). is_passed stamps factor moment w.1) refl
+      (λ w later. by (is_passed stamps factor moment w.1) (passed_first later)) ws)
     where
       by : (b : Bool) (n : ℕ) → cond b 1 0 + n ≡ cond b (1 + n) n
       by true n = omega arith
