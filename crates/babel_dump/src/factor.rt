@@ -1,5 +1,5 @@
 //! After how many times its Interval a route is gone, as `--expiry` has it.
-ghost use Rattle.std.specs.Prelude.{◌≡◌, ◌<◌, ◌≤◌, ◌*◌, IfSome, SomeIff, ◌×◌};
+ghost use Rattle.std.specs.Prelude.{◌≡◌, ◌<◌, ◌≤◌, SomeIff};
 
 use crate::place_word::parse_number;
 use std::marker::Model;
