@@ -1,6 +1,7 @@
 -- A capture, its faults, and what a reader has made of the octets that it was fed. Reading in
 -- pieces is this project's own.
 use Rattle.std.specs.Prelude.{◌≡◌, ◌≢◌, ℕ, List, [], ◌++◌, length, Option, Some, None, ◌⊎◌}
+use Rattle.std.specs.Prelude.{if◌then◌else◌}
 use Rattle.babel_capture.specs.declared.fault.Fault.{Fault}
 use Rattle.babel_capture.specs.declared.fault.Fault.TheVariants as faults
 use Rattle.babel_capture.specs.declared.wanted.Wanted.{Wanted}
@@ -10,7 +11,8 @@ use Rattle.babel_capture.specs.Context.{Before}
 use Rattle.babel_capture.specs.Counts.{Made}
 use Rattle.babel_capture.specs.Gathering.{Gathering, IsGathered, AreTaken}
 use Rattle.babel_capture.specs.Reading.{Account, Progress, HasStarted, HasTaken, Stops}
-use Rattle.babel_capture.specs.Window.{Extent}
+use Rattle.babel_capture.specs.Window.{Extent, moment_up_to}
+use Rattle.babel_capture.specs.declared.timing.Timing.{Timing}
 
 -- the octets are a capture, whole blocks from the first to the last, and this is what its packets
 -- give
@@ -65,6 +67,13 @@ pub record State : Type 0 where
   pub progress : Progress
   pub pending : List ℕ
   pub fault : Option Fault
+
+-- the moment up to which packets were read; none where one that was read has no time
+abbrev pub moment_read : State → Option ℕ
+moment_read state =
+    let timing : Timing = state.progress.gathering.report.timing in
+    if timing.has_untimed then None
+    else moment_up_to state.limit.window state.progress.context.start timing.last
 
 -- out of memory, or the fault of the octets
 abbrev pub HasFailed : State → Fault → List ℕ → Type 0

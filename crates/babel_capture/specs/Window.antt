@@ -1,6 +1,7 @@
 -- Which packets of a capture are read, by when they came. It is this project's own.
 use Rattle.std.specs.Prelude.{ℕ, ◌+◌, ◌*◌, Bool, true, ◌&&◌, nat_le, Option, None}
 use Rattle.std.specs.Prelude.{Some}
+use Rattle.std.specs.Option.{option_map}
 use Rattle.babel_capture.specs.declared.window.Moment.{Moment}
 use Rattle.babel_capture.specs.declared.window.Moment.TheVariants as moments
 use Rattle.babel_capture.specs.declared.window.Window.{Window}
@@ -20,6 +21,14 @@ abbrev pub moment_from : ℕ → Moment → ℕ
 moment_from first (moments.At time) = time
 moment_from first (moments.After seconds nanoseconds) =
     first + (seconds * 1000000000 + nanoseconds)
+
+-- The moment up to which packets are read, of a capture whose first packet came at `start`, and the
+-- last one, by place, at `last`: that of the window, if it names one.
+abbrev pub moment_up_to : Window → (start last : Option ℕ) → Option ℕ
+moment_up_to (windows.Between since (Some until)) start last =
+    option_map (λ first. moment_from first until) start
+moment_up_to (windows.Between since None) start last = last
+moment_up_to windows.Whole start last = last
 
 -- a packet of such a capture came neither before the one moment nor after the other
 abbrev pub is_since : ℕ → ℕ → Option Moment → Bool

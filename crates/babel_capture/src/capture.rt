@@ -1,6 +1,7 @@
 ghost use Rattle.std.specs.Prelude.{◌≡◌, ◌≢◌, ◌++◌, ◌⊎◌, ℕ, List, [], Some, None, Err, IfOk, IfErr};
 ghost use Rattle.std.specs.Prelude.{IfSome, OnOk};
 ghost use Rattle.babel_capture.specs.Capture.{CaptureFault, HasGiven, HasRead, IsRead, IsReadToCut};
+ghost use Rattle.babel_capture.specs.Capture.{moment_read};
 ghost use Rattle.babel_capture.specs.Gathering.{with_taken};
 ghost use Rattle.babel_capture.specs.Reading.{NeedsMemory, without_dump};
 ghost use Rattle.babel_capture.specs.Window.{all_times};
@@ -123,6 +124,25 @@ impl Capture {
         ensures { result.now ≡ self.now.progress.ends }
     {
         self.stream.reader.ends()
+    }
+
+    /// The moment up to which packets were read, in nanoseconds since the start of 1970: the last
+    /// of the window, if it names one, or else when the last packet came, by place. `None` where a
+    /// packet that was read has no time, and where none was read.
+    pub fn moment(&self) -> Option<u128>
+        ensures { result ≡ moment_read self.now }
+    {
+        let timing = self.gathered().report().timing();
+        if timing.has_untimed {
+            return None;
+        }
+        match self.window {
+            Window::Between {
+                until: Some(until),
+                ..
+            } => Some(until.from(self.stream.reader.start()?)),
+            _ => Some(timing.last?.nanoseconds()),
+        }
     }
 
     /// Takes the octets of the dump that were gathered since the last call, with the ends of their

@@ -107,6 +107,11 @@ impl Gathered {
         self.dumps.of(origin)
     }
 
+    /// When each packet of such a dump came; the start of 1970 where it has no time.
+    pub fn times_of(&self, origin: &Origin) -> &[Time] {
+        self.dumps.times_of(origin)
+    }
+
     /// The senders at their places that have a dump, by place, then by address, where those of each
     /// are wanted.
     pub fn origins(&self, alloc: Global) -> Result<Vec<Origin>, AllocError>
@@ -277,7 +282,8 @@ impl Gathered {
         ensures err { IfErr result (λ fault. fault ≡ Fault.Memory) }
     {
         let packet = self.report.packets();
-        self.dumps.add(&origin, &[], Some(LackAt { packet, lack }))
+        self.dumps
+            .add(&origin, &[], None, Some(LackAt { packet, lack }))
     }
 
     /// Counts a packet for its sender, and adds it to a dump, if one is wanted.
@@ -309,7 +315,10 @@ impl Gathered {
         self.senders.add(at, origin, time, packet, updates)?;
         match self.wanted {
             Wanted::Everyone => {}
-            Wanted::Each => self.dumps.add(&origin, packet, None)?,
+            Wanted::Each => {
+                let came = time.unwrap_or(Time::first());
+                self.dumps.add(&origin, packet, Some(came), None)?;
+            }
             Wanted::Sender { .. } => self.dump.extend_from_slice(packet)?,
         }
         Ok(())

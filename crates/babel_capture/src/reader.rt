@@ -183,6 +183,13 @@ impl Reader {
         !matches!(self.context.layout(), Layout::Start)
     }
 
+    /// When the first packet came, where times are asked for.
+    pub fn start(&self) -> Option<Time>
+        ensures { result ≡ self.now.context.start }
+    {
+        self.context.start()
+    }
+
     /// What was gathered so far.
     pub fn gathered(&self) -> &Gathered
         ensures { result.now ≡ self.now.gathering }

@@ -25,6 +25,13 @@ impl Model for Time {
 }
 
 impl Time {
+    /// The start of 1970.
+    pub fn first() -> Time
+        ensures { result ≡ 0 }
+    {
+        Time { nanoseconds: 0 }
+    }
+
     /// The moment so many nanoseconds after the start of 1970; `None` exactly if it is after the
     /// year 9999.
     pub fn new(nanoseconds: u128) -> Option<Time>

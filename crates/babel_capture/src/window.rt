@@ -28,7 +28,7 @@ pub enum Window {
 impl Moment {
     /// The moment in nanoseconds since the start of 1970, of a capture whose first packet came
     /// then.
-    fn from(self, first: Time) -> u128
+    pub(crate) fn from(self, first: Time) -> u128
         ensures { result ≡ moment_from first self }
     {
         match self {

@@ -9,7 +9,7 @@ use Rattle.babel_capture.specs.Window.{Extent}
 use Rattle.babel_capture.specs.declared.fault.Fault.TheVariants as faults
 use Rattle.babel_dump.specs.CaptureGiven.{extent_of, CaptureInput, GaveCapture, GaveWhole, IsReadSo}
 use Rattle.babel_dump.specs.CapturedDump.{HandedIsDump, IsDumpIn, NoDumpCause, RefusalHasCause, capture_with}
-use Rattle.babel_dump.specs.Device.{HandsOf, InputState, fresh}
+use Rattle.babel_dump.specs.Device.{HandsOf, InputState, fresh, no_times}
 use Rattle.babel_dump.specs.Drained.{CaptureSource, EndsRefused, Hands, HasDrained, HasHandedAll, Held, IsAccepted, IsWhole, Stands, part_of}
 use Rattle.babel_dump.proofs.Devices.{gave_known}
 use Rattle.babel_dump.proofs.Drains.{all_given}
@@ -111,7 +111,7 @@ ends_with_taken source dump cut input_faults.Read ends = ends
 
 -- the device's reader, when its capture has ended, or a read has failed
 abbrev pub last_state : CaptureSource → InputState
-last_state source = record { left = source.left; captured = None; left_out = None; failures = 1; reads = 1; ends = 1 }
+last_state source = record { left = source.left; captured = None; left_out = None; times = no_times; failures = 1; reads = 1; ends = 1 }
 
 abbrev pub reader_of : Option (List ℕ) → CaptureSource → CaptureInput
 reader_of first source = capture_with (fresh first) (last_state source) source.reading
@@ -119,7 +119,7 @@ reader_of first source = capture_with (fresh first) (last_state source) source.r
 given_whole : (first : Option (List ℕ)) (source : CaptureSource) (fed : List ℕ) → Consumes first source.left fed → IsAtEnd source.left
     → GaveWhole (reader_of first source) fed
 given_whole first source fed gave at_end = record {
-  gave = gave_known (fresh first) (last_state source) fed refl refl refl gave;
+  gave = gave_known (fresh first) (last_state source) fed refl refl refl (λ none. none) gave;
   all = (at_end, tt);
   met_end = omega arith;
 }
@@ -155,12 +155,12 @@ drained_refused first source dump fault drained is = elim (subst (Stands source 
   | inr (inl (of, is_of, refused)) ↦ rw is_of (λ not_memory. elim (refused not_memory) [
     | inl stops ↦ record {
       given = drained.fed;
-      gave = gave_known (fresh first) (last_state source) drained.fed refl refl refl drained.gave;
+      gave = gave_known (fresh first) (last_state source) drained.fed refl refl refl (λ none. none) drained.gave;
       refused = inl (rw (← drained.limit, ← drained.wanted) stops);
     }
     | inr (at_end, not_capture, short) ↦ record {
       given = drained.fed;
-      gave = gave_known (fresh first) (last_state source) drained.fed refl refl refl drained.gave;
+      gave = gave_known (fresh first) (last_state source) drained.fed refl refl refl (λ none. none) drained.gave;
       refused = inr (record {
         all = given_whole first source drained.fed drained.gave at_end;
         short = rw (← drained.limit, ← drained.wanted) short;

@@ -16,7 +16,7 @@ use Rattle.babel_dump.specs.declared.input_fault.InputFault.{InputFault}
 use Rattle.babel_dump.specs.declared.input_fault.InputFault.TheVariants as input_faults
 use Rattle.babel_dump.specs.declared.reading.Reading.{Reading}
 
-none_given : (a : Option (List ℕ)) → Consumes a a []
+pub none_given : (a : Option (List ℕ)) → Consumes a a []
 none_given None = tt
 none_given (Some xs) = refl
 
@@ -126,6 +126,10 @@ all_given n part spent = sym (append-nil (take n part)) ∙ ap (λ (t : List ℕ
 
 pub nothing_left : (n : ℕ) (buf all rest : List ℕ) → n ≡ 0 → all ≡ take n buf ++ rest → rest ≡ [] → all ≡ []
 nothing_left n buf all rest zero split none = split ∙ ap (λ (k : ℕ). take k buf ++ rest) zero ∙ none
+
+-- octets that begin what others begin with
+pub begins_so : (all front first more rest : List ℕ) → all ≡ front ++ rest → front ≡ first ++ more → all ≡ first ++ (more ++ rest)
+begins_so all front first more rest whole split = whole ∙ ap (λ (t : List ℕ). t ++ rest) split ∙ append_assoc first more rest
 
 -- the next octets of the part were given
 pub handed_on : (source : CaptureSource) (old new : ℕ) (octets rest : List ℕ) → drop old (part_of source) ≡ octets ++ rest → new ≡ old + length octets

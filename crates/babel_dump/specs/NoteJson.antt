@@ -28,6 +28,7 @@ note_name (notes.CaptureCut at) = codes "capture-cut"
 note_name (notes.TooShort frames) = codes "too-short"
 note_name (notes.Backwards packet) = codes "backwards"
 note_name (notes.ShortSpan span interval) = codes "short-span"
+note_name (notes.Expired routes) = codes "expired"
 note_name notes.NoUpdates = codes "no-updates"
 note_name (notes.RoutesDiffer routes) = codes "routes-differ"
 note_name (notes.Source spelling source) = codes "source"
@@ -64,6 +65,7 @@ note_members (notes.TooShort frames) = number_member (codes "frames") frames
 note_members (notes.Backwards packet) = number_member (codes "packet") packet
 note_members (notes.ShortSpan span interval) =
     number_member (codes "span") span ++ number_member (codes "interval") interval
+note_members (notes.Expired routes) = number_member (codes "routes") routes
 note_members (notes.RoutesDiffer routes) = number_member (codes "routes") routes
 note_members (notes.Source spelling source) = source_member spelling source
 note_members notes.Cooked = []

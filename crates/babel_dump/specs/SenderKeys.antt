@@ -51,6 +51,7 @@ read_by keys origin = record {
   place = Some origin.place;
   window = keys.window;
   time_option = None;
+  expiry = keys.expiry;
   accept_cut = keys.accept_cut;
   strict = keys.strict;
 }
@@ -76,11 +77,15 @@ pub record MakesKey (reader : Input) (view : View) (routes : Bool) (name : List 
   pub gave : GaveTable reader table
   pub rows_is : key.rows ≡ length table.rows
 
+-- a reader that has this dump and nothing else, whatever it tells of times
+abbrev pub HasDump : InputState → (dump : List ℕ) → Type 0
+HasDump state dump = state ≡ record (fresh (Some dump)) { times = state.times }
+
 -- a reader of this dump, which is that of a sender at its place, and nothing else
 pub record ReadsDump (keys : SenderKeys) (origin : Origin) (dump : List ℕ) (reader : Input) :
     Type 0 where
   pub reading : reader.reading ≡ read_by keys origin
-  pub has : reader.old ≡ fresh (Some dump)
+  pub has : HasDump reader.old dump
 
 -- the key of such a dump
 abbrev pub IsKeyOfDump : SenderKeys → Origin → (dump : List ℕ) → MadeKey → Type 0

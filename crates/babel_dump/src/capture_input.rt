@@ -26,6 +26,8 @@ pub struct CaptureRead {
     pub gathered: babel_capture::Gathered,
     /// The offset where it is cut short, if it is and that is accepted.
     pub cut: Option<u64>,
+    /// The moment up to which its packets were read, if each has a time: `Capture::moment`.
+    pub moment: Option<u128>,
 }
 
 /// Reads a capture to its end, or to its first fault. One that is read strictly is refused where a
@@ -87,14 +89,20 @@ fn finished(capture: Capture, accept_cut: bool) -> Result<CaptureRead, Fault>
     ensures accepted { capture.fault ≡ None → accept_cut ≡ true
         → IfErr result (λ fault. fault ≡ Fault.NotCapture) }
 {
+    let moment = capture.moment();
     if accept_cut {
         let (gathered, cut) = capture.finish_at_cut()?;
-        return Ok(CaptureRead { gathered, cut });
+        return Ok(CaptureRead {
+            gathered,
+            cut,
+            moment,
+        });
     }
     let gathered = capture.finish()?;
     Ok(CaptureRead {
         gathered,
         cut: None,
+        moment,
     })
 }
 

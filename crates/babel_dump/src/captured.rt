@@ -17,7 +17,7 @@ use crate::input_fault::InputFault;
 use crate::interfaces::interfaces_of;
 use crate::left_out::{LeftOutDatagram, first_left_out};
 use crate::reading::Reading;
-use babel_capture::{Capture, Fault, Gathered, PacketEnd, Report};
+use babel_capture::{Capture, Fault, Gathered, PacketEnd, Report, Time};
 use babel_tlv::Fault as DumpFault;
 use std::alloc::Global;
 use std::io;
@@ -33,6 +33,9 @@ pub struct CaptureNotes {
     pub report: Report,
     /// The offset where it is cut short, if it is and that is accepted.
     pub cut: Option<u64>,
+    /// How many rows of the dump's table were not announced again in time, if none was left out
+    /// for that.
+    pub passed: usize,
 }
 
 /// A capture that is read for the dump of a sender.
@@ -63,13 +66,26 @@ impl<R: Read + Drop> Source<R> {
         }
     }
 
-    /// The octets of the part after so many of them.
-    fn part_after(&self, given: usize) -> &[u8]
-        ensures octets { result.now ≡ drop given (part_of (source_of R.remaining self.now)) }
+    /// The octets of the part after so many of them, up to the end of the packet with this place
+    /// in it.
+    fn packet_after(&self, given: usize, place: usize) -> &[u8]
+        ensures octets { (rest : List ℕ) × (drop given (part_of (source_of R.remaining self.now))
+            ≡ result.now ++ rest) }
+        ensures some { result.now ≡ []
+            → drop given (part_of (source_of R.remaining self.now)) ≡ [] }
         ensures fits { given + length result.now < 2 ^ 64 }
     {
         let part = self.capture.gathered().dump();
-        &part[given.min(part.len())..]
+        let rest = &part[given.min(part.len())..];
+        match self.capture.ends().get(place) {
+            Some(packet) if packet.end > given => &rest[..rest.len().min(packet.end - given)],
+            _ => rest,
+        }
+    }
+
+    /// When the packet with this place in the part came.
+    fn time_at(&self, place: usize) -> Option<Time> {
+        self.capture.ends().get(place)?.time
     }
 
     /// Reads more of the capture, which then keeps the next part of the dump. `false` where it has
@@ -170,6 +186,15 @@ impl<R: Read + Drop> Source<R> {
     }
 }
 
+/// Where a device is in the packets of the source's part.
+#[derive(Drop)]
+struct AtPacket {
+    /// How many of them were given whole.
+    place: usize,
+    /// When the one came whose octets were given last.
+    time: Option<Time>,
+}
+
 /// The dump of a sender in a capture: its packets, end to end, as the capture is read. Where the
 /// capture is refused, it has those before what refuses it, and then a read fails.
 #[derive(Drop)]
@@ -177,6 +202,9 @@ pub struct CapturedDump<R> {
     source: Source<R>,
     /// How many octets of the source's part were given.
     given: usize,
+    packet: AtPacket,
+    /// How many rows of the dump's table were not announced again in time, if it was told.
+    passed: usize,
     failures: u64,
     reads: u64,
     ends: u64,
@@ -193,6 +221,11 @@ impl<R: Read + Drop> CapturedDump<R> {
         CapturedDump {
             source: Source::new(alloc, reading, reader),
             given: 0,
+            packet: AtPacket {
+                place: 0,
+                time: None,
+            },
+            passed: 0,
             failures: 0,
             reads: 0,
             ends: 0,
@@ -217,12 +250,15 @@ impl<R: Read + Drop> CapturedDump<R> {
     /// What the notes say of the capture, where it was read to its end; `None` where it is refused.
     pub fn notes(&self) -> Option<CaptureNotes>
         ensures some { (notes : CaptureNotesSaid) → self.now.source.end ≡ Some (Ok notes)
-            → result ≡ Some notes }
+            → result ≡ Some (record notes { passed = self.now.passed }) }
         ensures none { (fault : InputFaultSaid) → self.now.source.end ≡ Some (Err fault)
             → result ≡ None }
     {
         match &self.source.end {
-            Some(Ok(notes)) => Some(*notes),
+            Some(Ok(notes)) => Some(CaptureNotes {
+                passed: self.passed,
+                ..*notes
+            }),
             _ => None,
         }
     }
@@ -256,11 +292,12 @@ impl<R: Read + Drop> CapturedDump<R> {
     }
 }
 
-/// Gives the next octets of the dump: of the source's part, of which so many were given, or of the
-/// next that it has.
+/// Gives the next octets of the dump, of one packet: of the source's part, of which so many were
+/// given, or of the next that it has.
 fn give<R: Read + Drop>(
     source: &mut Source<R>,
     given: &mut usize,
+    packet: &mut AtPacket,
     buf: &mut [u8],
 ) -> io::Result<usize>
     ensures bound { ReadsAtMost result buf.new }
@@ -270,27 +307,35 @@ fn give<R: Read + Drop>(
         × (n ≡ 0 → 0 < length buf.new → HasHandedAll new)) (λ _. Hands old new []) }
 {
     'parts: for _ in 0..u64::MAX {
-        let mut next = source.part_after(*given);
+        let mut next = source.packet_after(*given, packet.place);
         let len = next.read(buf)?;
         if len > 0 || buf.is_empty() {
             *given += len;
+            packet.time = source.time_at(packet.place);
+            if next.is_empty() {
+                packet.place = packet.place.saturating_add(1);
+            }
             return Ok(len);
         }
         if !source.next_part() {
             return source.answer_at_end();
         }
         *given = 0;
+        packet.place = 0;
     }
     Err(io::Error::from(ErrorKind::InvalidData))
 }
 
 impl<R: Read + Drop> ByteIn for CapturedDump<R> {
+    ghost use Rattle.babel_capture.specs.Capture.{moment_read};
+    ghost use Rattle.babel_dump.specs.Device.{told_of};
     ghost use Rattle.babel_dump.specs.LeftOut.{first_left_out as first_of};
 
     ghost state = { λ d. record {
       left = None;
       captured = Some (held_of R.remaining d.source d.given);
       left_out = first_of d.source.capture.progress.gathering.report;
+      times = told_of d.packet.time (moment_read d.source.capture);
       failures = d.failures;
       reads = d.reads;
       ends = d.ends;
@@ -298,7 +343,7 @@ impl<R: Read + Drop> ByteIn for CapturedDump<R> {
 
     fn read(&mut self, buf: &mut [u8]) -> io::Result<usize> {
         self.reads += 1;
-        match give(&mut self.source, &mut self.given, buf) {
+        match give(&mut self.source, &mut self.given, &mut self.packet, buf) {
             Ok(n) => {
                 if n == 0 && !buf.is_empty() {
                     self.ends += 1;
@@ -314,6 +359,22 @@ impl<R: Read + Drop> ByteIn for CapturedDump<R> {
 
     fn left_out(&self) -> Option<LeftOutDatagram> {
         first_left_out(&self.source.capture.gathered().report())
+    }
+
+    fn has_times(&self) -> bool {
+        true
+    }
+
+    fn time(&self) -> Option<u128> {
+        Some(self.packet.time?.nanoseconds())
+    }
+
+    fn moment(&self) -> Option<u128> {
+        self.source.capture.moment()
+    }
+
+    fn keep_passed(&mut self, passed: usize) {
+        self.passed = passed;
     }
 }
 
@@ -339,7 +400,11 @@ fn end_of(
     }
     match places {
         0 => Err(InputFault::NoPackets(reading.sender)),
-        1 => Ok(CaptureNotes { report, cut }),
+        1 => Ok(CaptureNotes {
+            report,
+            cut,
+            passed: 0,
+        }),
         _ => Err(InputFault::SeveralInterfaces(interfaces_of(alloc, gathered.senders())?)),
     }
 }

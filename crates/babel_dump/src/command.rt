@@ -58,7 +58,7 @@ const AFTER_SHOW: &str = after_help!(
     "show --hold --from fe80::1 x.pcap | grep -v unreachable",
     "show --quiet --match 10.1.2.3 --from fe80::1 x.pcap",
     "show --summary --from fe80::1 x.pcap",
-    "show --until 2026-11-25T13:30:22Z --from fe80::1 x.pcap";
+    "show --until 2026-11-25T13:30:22Z --expiry 3.5 --from fe80::1 x.pcap";
     "0  done"
 );
 
@@ -476,10 +476,12 @@ fn with_reading<'a>(alloc: Global, command: Command<'a>) -> Result<Command<'a>, 
     with_settings(alloc, command.arg(from)?.arg(interface(alloc))?)
 }
 
-/// The command with what each command has that reads a dump: when its packets came, how retractions
-/// and IPv4 routes with IPv6 next hops are read, whether there are notes, and the limits.
+/// The command with what each command has that reads a dump: when its packets came, which routes
+/// have expired, how retractions and IPv4 routes with IPv6 next hops are read, whether there are
+/// notes, and the limits.
 fn with_settings<'a>(alloc: Global, command: Command<'a>) -> Result<Command<'a>, AllocError> {
     with_times(alloc, command)?
+        .arg(expiry(alloc))?
         .arg(hold(alloc))?
         .arg(v4_via_v6(alloc))?
         .arg(quiet(alloc))?
@@ -521,6 +523,18 @@ fn moment<'a>(alloc: Global, id: &'a str, help: &'a str) -> Arg<'a> {
         .value_name("TIME")
         .action(ArgAction::Set)
         .help(help)
+}
+
+/// The option for routes that were not announced again.
+fn expiry<'a>(alloc: Global) -> Arg<'a> {
+    Arg::new(alloc, "expiry")
+        .long("expiry")
+        .value_name("FACTOR")
+        .action(ArgAction::Set)
+        .help(
+            "Leave out what was not announced again within FACTOR times its Interval, at --until \
+             or else at the end of a capture; 3.5 in RFC 8966, appendix B",
+        )
 }
 
 /// An option whose value is a number from 1 to this one.

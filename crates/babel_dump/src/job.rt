@@ -330,6 +330,9 @@ impl Job {
         match time_option {
             Some(TimeOption::Since) if !is_capture && !other_is_capture => return Some("--since"),
             Some(TimeOption::Until) if !is_capture && !other_is_capture => return Some("--until"),
+            Some(TimeOption::Expiry) if !is_capture && !other_is_capture => {
+                return Some("--expiry");
+            }
             _ => {}
         }
         match other_option {

@@ -25,6 +25,9 @@ pub enum Note {
     /// What was read of a capture spans so many hundredths of a second, which is less than the
     /// greatest Interval of an Update that announces.
     ShortSpan { span: u64, interval: u16 },
+    /// So many rows of a table were not announced again within 3.5 times their Interval, and are in
+    /// it all the same.
+    Expired(u64),
     /// A dump has no Update.
     NoUpdates,
     /// So many routes differ of two dumps that answer the same.
@@ -52,6 +55,15 @@ impl fmt::Display for Note {
                 "the capture spans {} s, the Interval is {} s: routes may be missing",
                 Hundredths(*span),
                 Hundredths(u64::from(*interval))
+            ),
+            Note::Expired(1) => f.write_str(
+                "1 route was not announced again within 3.5 times its Interval; --expiry 3.5 \
+                 leaves it out",
+            ),
+            Note::Expired(routes) => write!(
+                f,
+                "{routes} routes were not announced again within 3.5 times their Interval; \
+                 --expiry 3.5 leaves them out"
             ),
             Note::NoUpdates => f.write_str("no Updates"),
             Note::RoutesDiffer(routes) => {

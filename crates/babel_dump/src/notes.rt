@@ -9,6 +9,7 @@ use crate::byte_out::ByteOut;
 use crate::captured::CaptureNotes;
 use crate::ignored_note::IgnoredNote;
 use crate::job::Job;
+use crate::key::MadeKey;
 use crate::left_out::LeftOutNote;
 use crate::note::{Note, SideNote};
 use crate::outcome::{Outcome, Reports};
@@ -20,8 +21,8 @@ use babel_capture::{Report as CaptureReport, Window};
 use babel_table::Report;
 use std::alloc::{AllocError, Global};
 
-/// No job has more notes: seven about each dump of a comparison, and one about both.
-const MOST: usize = 15;
+/// No job has more notes: eight about each dump of a comparison, and one about both.
+const MOST: usize = 17;
 
 /// The nanoseconds of a hundredth of a second.
 const HUNDREDTH: u128 = 10_000_000;
@@ -89,7 +90,12 @@ impl Notes {
             }
             Reports::Capture { report, cut } => {
                 let is_timed = job.is_timed(Side::First);
-                self.add_capture(Side::First, CaptureNotes { report, cut }, is_timed)?;
+                let notes = CaptureNotes {
+                    report,
+                    cut,
+                    passed: 0,
+                };
+                self.add_capture(Side::First, notes, is_timed)?;
                 match (job, report.short()) {
                     (Job::Senders { .. }, 1..) => {
                         self.add(Side::First, Note::TooShort(report.short()))
@@ -114,14 +120,15 @@ impl Notes {
         self.add_capture(Side::First, capture, is_timed)
     }
 
-    /// What there is to know of the dump of a sender in it, of which this is the report.
-    pub fn gather_sender(&mut self, keys: &SenderKeys, report: Report) -> Result<(), AllocError> {
+    /// What there is to know of the dump of a sender in it, which has this key.
+    pub fn gather_sender(&mut self, keys: &SenderKeys, key: &MadeKey) -> Result<(), AllocError> {
         self.list.clear();
         if keys.quiet {
             return Ok(());
         }
-        self.add_ignored(Side::First, report)?;
-        self.add_updates(Side::First, report)
+        self.add_ignored(Side::First, key.report)?;
+        self.add_passed(Side::First, key.passed)?;
+        self.add_updates(Side::First, key.report)
     }
 
     fn add(&mut self, side: Side, note: Note) -> Result<(), AllocError> {
@@ -129,8 +136,8 @@ impl Notes {
         Ok(())
     }
 
-    /// Adds what was ignored of the dump on this side, what was left out of the capture that has
-    /// it, and that it has no Update.
+    /// Adds what was ignored of the dump on this side, what there is to know of the capture that
+    /// has it, and that it has no Update.
     fn add_dump(
         &mut self,
         job: &Job,
@@ -143,8 +150,17 @@ impl Notes {
         }
         if let Some(capture) = capture {
             self.add_capture(side, capture, job.is_timed(side))?;
+            self.add_passed(side, capture.passed)?;
         }
         self.add_updates(side, report)
+    }
+
+    /// Adds how many rows of a dump's table were not announced again in time, if any.
+    fn add_passed(&mut self, side: Side, passed: usize) -> Result<(), AllocError> {
+        match passed {
+            0 => Ok(()),
+            _ => self.add(side, Note::Expired(passed as u64)),
+        }
     }
 
     /// Adds what was ignored of a dump.

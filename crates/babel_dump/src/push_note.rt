@@ -45,6 +45,7 @@ fn name(note: &Note) -> &'static str
         Note::TooShort(_) => "too-short",
         Note::Backwards(_) => "backwards",
         Note::ShortSpan { .. } => "short-span",
+        Note::Expired(_) => "expired",
         Note::NoUpdates => "no-updates",
         Note::RoutesDiffer(_) => "routes-differ",
         Note::Source(_, _) => "source",
@@ -78,7 +79,9 @@ fn push_members(buffer: &mut Vec<u8>, note: &Note)
             push_member(buffer, "span", *span);
             push_member(buffer, "interval", u64::from(*interval));
         }
-        Note::RoutesDiffer(routes) => push_member(buffer, "routes", *routes),
+        Note::Expired(routes) | Note::RoutesDiffer(routes) => {
+            push_member(buffer, "routes", *routes);
+        }
         Note::Source(spelling, source) => push_source(buffer, *spelling, *source),
         Note::Cooked | Note::NoUpdates => {}
     }

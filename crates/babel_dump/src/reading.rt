@@ -4,6 +4,7 @@ ghost use Rattle.babel_dump.specs.Drained.{capture_limit, wanted_by};
 ghost use Rattle.babel_dump.specs.Given.{usual_reading};
 
 use crate::capture_reading::CaptureReading;
+use crate::factor::Factor;
 use babel_capture::{Place, Wanted, Window};
 use babel_prefix::Addr;
 use babel_table::Limits;
@@ -12,11 +13,12 @@ use babel_tlv::Mode;
 /// How many octets a capture may have where its dump may not have more.
 const USUAL_CAPTURE: u32 = 1_073_741_824;
 
-/// An option that names a moment.
+/// An option that asks for times.
 #[derive(Clone, Copy, Debug, PartialEq, Eq)]
 pub enum TimeOption {
     Since,
     Until,
+    Expiry,
 }
 
 /// How a dump is read, or the dump of its sender in a capture.
@@ -37,6 +39,9 @@ pub struct Reading {
     pub window: Window,
     /// The first of these options, if one was given for this input.
     pub time_option: Option<TimeOption>,
+    /// After how many times its Interval a row of a capture's table is gone: `--expiry`. None is
+    /// where it is left out.
+    pub expiry: Option<Factor>,
     /// Whether a capture that is cut short is read to its last whole record: `--accept-cut`.
     pub accept_cut: bool,
     /// Whether the dump is refused if a TLV of it is ignored, a datagram was left out of it, or it
@@ -56,6 +61,7 @@ impl Reading {
             place: None,
             window: Window::Whole,
             time_option: None,
+            expiry: None,
             accept_cut: false,
             strict: false,
         }

@@ -119,6 +119,12 @@ truncated-none P (Err fault) truncated = λ not_memory not. absurd (not truncate
 
 -- ---- the table at a moment
 
+-- the octets have no fault, whether times were kept or not
+pub sound-at : {T : Type 0} (p : Progress) → p.fault ≡ None → p.pending ≡ [] → (r : Result T Fault)
+    → IfOk r (λ table. (fed : List ℕ) → HasRead p fed → HasNoFault p.limits p.mode p.sender fed)
+sound-at p none empty (Ok table) = λ fed read. no_fault p fed (read-taken p fed none read) empty
+sound-at p none empty (Err fault) = tt
+
 pub finished-at : (p : Progress) → p.fault ≡ None → p.pending ≡ [] → (factor moment : ℕ) (r : Result Routes Fault)
     → IfOk r (λ table. table.report ≡ p.table.report) → (p.runs ≡ true → IfOk r (λ table. table.rows ≡ rows_of (lasting_words factor moment p.words)))
     → IfOk r (λ table. (given : List (ℕ × List ℕ)) → HasHeard p given → HasNoFault p.limits p.mode p.sender (dump_of given) × IsTableAt p.limits p.sender given factor moment table)

@@ -3,15 +3,17 @@ use Rattle.std.proofs.Common.{◌≡◌, true, subst}
 use Rattle.std.specs.Prelude.{IfOk}
 use Rattle.std.proofs.lemmas.Result.{err_from_is_err_and}
 use Rattle.babel_table.specs.Feeding.{Progress}
-use Rattle.babel_table.specs.Moments.{dump_of}
 use Rattle.babel_table.specs.Words.{lasting_words, rows_of}
-use Rattle.babel_table.proofs.TimedLaws.{finished-at}
+use Rattle.babel_table.proofs.TimedLaws.{finished-at, sound-at}
 use Rattle.babel_table.proofs.feeder.Feeder.finish_at.Goals as goal
 
 pub returns-in_err-check_end-clause-fault : goal.returns-in_err-check_end-clause-fault
 returns-in_err-check_end-clause-fault c =
     let exit = err_from_is_err_and c.from_residual.result c.from_residual.ensures.1 in
-    rw (exit.1, exit.2) (λ not given heard. c.in_err-check_end.ensures.fault not (dump_of given) heard.read)
+    rw (exit.1, exit.2) c.in_err-check_end.ensures.fault
+
+pub returns-clause-no_fault : goal.returns-clause-no_fault
+returns-clause-no_fault c = sound-at c.args.self c.in_ok-check_end.ensures.ok.0 c.in_ok-check_end.ensures.ok.1 c.at.result
 
 pub returns-clause-ok : goal.returns-clause-ok
 returns-clause-ok c =
