@@ -1,7 +1,7 @@
 """The plain programs of reference/ beside the proved one: over dumps changed at random and the
-golden files; of captures, over those of extract.py. And all beside the definitions, over small
-random tables, and small random captures with times; the proved one also over random dumps that meet
-each reason and each fault."""
+golden files; of captures, over those of extract.py. And both beside the definitions, over small
+random tables; the proved one also over random dumps that meet each reason and each fault, the plain
+one over small random captures with times."""
 
 import pathlib
 import tempfile
@@ -51,6 +51,6 @@ def check(tally, long):
         plain = build(PLAIN_OF_CAPTURES, folder)
         extract.check_cases(plain, extract.cases_of(tally), tally, extract.without_notes)
         captures = CAPTURES_LONG if long else CAPTURES
-        for side, is_plain in (program, False), (plain, True):
+        for side, is_plain in ((plain, True),):
             for command, _, problem in checked_captures(side, captures, SEED, is_plain):
                 tally.check(f"the moments beside {command} of {side.name}", problem)

@@ -3,7 +3,6 @@ reader of captures."""
 
 import concurrent.futures
 import functools
-import itertools
 import os
 import random
 import resource
@@ -411,80 +410,9 @@ def name_cases():
     yield from both_of("names in two sections", two)
 
 
-POWERS = None, 0, 1, 3, 6, 7, 9, 10, 12, 20, 28, 29, 127, 128, 129, 138, 157, 158, 160, 191, 255
-CLOCK_OFFSETS = None, 0, 1, -1, -3_600, -(2**63), 2**63 - 1, made.TIME // made.SECOND
-UNITS = 0, 1, 999_999, 2**32 - 1, 2**32, 2**63, 2**64 - 1
-
-
-def clock_cases():
-    """Times of each resolution and offset, and with options that have other lengths."""
-    records = records_of(dump_of())[:3]
-    for order in ORDERS:
-        head = made.section(order)
-        for power in POWERS:
-            for offset in CLOCK_OFFSETS:
-                options = made.counted(power, offset, order)
-                capture = head + made.interface(1, order, options=options)
-                for place, record in enumerate(records):
-                    own = made.units_of(record.time_at(place), 6 if power is None else power)
-                    capture += made.enhanced(record, order, time=own % 2**64)
-                what = f"resolution {power}, offset {offset}, {order}"
-                yield senders_of(what, capture)
-                yield senders_of(what, capture, since="@0")
-                yield extract_of(what, capture, until="+1.000001")
-            for units in UNITS:
-                options = made.counted(power, None, order)
-                capture = head + made.interface(1, order, options=options)
-                capture += made.enhanced(records[0], order, time=units)
-                yield senders_of(f"resolution {power}, units {units}, {order}", capture)
-        for what, options in (
-            ("two resolutions", made.option(9, b"\3", order) + made.counted(9, 1, order)),
-            ("two offsets", made.counted(None, 5, order)[:-4] + made.counted(None, 7, order)),
-            ("no octet of a resolution", made.option(9, b"", order)),
-            ("two octets of a resolution", made.option(9, b"\6\6", order)),
-            ("four octets of an offset", made.option(14, bytes(4), order)),
-            ("nine octets of an offset", made.option(14, bytes(9), order)),
-            ("a resolution after the options", made.option(0, b"") + made.option(9, b"", order)),
-            ("another option of any length", made.option(8, bytes(99), order)),
-        ):
-            capture = head + made.interface(1, order, options=options)
-            yield from both_of(f"{what}, {order}", capture + made.enhanced(records[0], order))
-
-
-WINDOWS = "@0", "+0", "+1.000001", "+2.5", "+99", "2023-11-14T22:13:22Z", "2023-11-14T23:13+01:00"
-
-
-def window_cases():
-    """Records before and after moments; packets without a time; times that run backwards."""
-    records = list(among_others(dump_of()))
-    for what, capture in (
-        ("pcap", made.pcap(records)),
-        ("pcapng", made.pcapng(records)),
-        ("of nanoseconds", made.pcap(records, nanoseconds=True)),
-        ("backwards", made.pcap(list(made.at_times(records, range(len(records), 0, -1))))),
-        ("without time", made.pcapng(records[:3]) + made.simple(records[3])),
-        ("cut short", made.pcap(records)[:-1]),
-    ):
-        for since, until in itertools.product((None, *WINDOWS), (None, *WINDOWS)):
-            asked = {"since": since, "until": until}
-            asked = {name: word for name, word in asked.items() if word}
-            yield senders_of(what, capture, accept_cut=True, **asked)
-            yield extract_of(what, capture, strict=True, **asked)
-            yield extract_of(what, capture, as_hex=True, accept_cut=True, **asked)
-    # What is skipped has no datagram that could refuse the dump, but an interface and a link type.
-    first = made.ip(SENDER, made.udp(b"\x2a\2\0\0"), headers=[made.fragment_header(0, True)])
-    fragment = made.Record(made.ethernet(first))
-    yield extract_of("a fragment", made.pcap([*records[:9], fragment]), until="+8.9")
-    yield senders_of("a fragment", made.pcap([*records[:9], fragment]), strict=True, until="+8.9")
-    other = made.pcapng([records[0], made.Record(fragment.frame, 1)], (1, 147))
-    yield from (senders_of("another link", other, until=time) for time in ("+0", "+9"))
-    other = made.pcapng([records[0], made.Record(fragment.frame, 2)], (1, 1))
-    yield from (senders_of("no interface", other, until=time) for time in ("+0", "+9"))
-
-
 # What one octet says of how many units of time a second has, and the seconds that are added.
-RESOLUTIONS = 0, 3, 6, 9, 12, 19, 20, 39, 127, 128, 131, 138, 191, 192, 255
-OFFSETS = 0, 1, -3_600, 1_700_000_000, -(2**63), 2**63 - 1
+RESOLUTIONS = None, 0, 3, 6, 9, 12, 19, 20, 28, 29, 39, 127, 128, 131, 138, 157, 191, 192, 255
+OFFSETS = None, 1, -3_600, 1_700_000_000, -(2**63), 2**63 - 1
 STAMPS = 0, 1, 999_999, 1_700_000_000, 1_764_077_422_123_456, 2**60 + 1, 2**63, 2**64 - 1
 # Between these moments, and at them, a capture is read.
 MOMENTS = "+0", "+2", "+2.000001999", "+2.000002", "+2.000002001", "+90", "@1700000003.000003"
@@ -495,11 +423,9 @@ def time_cases():
     """The times of packets, and captures between two moments."""
     record, *_ = records = records_of(dump_of())[:6]
     for order in ORDERS:
-        option = lambda code, text, order=order: made.option(code, text, order)
         for resolution in RESOLUTIONS:
             for offset in OFFSETS:
-                options = option(9, bytes((resolution,)))
-                options += option(14, (offset % 2**64).to_bytes(8, order))
+                options = made.counted(resolution, offset, order)
                 head = made.section(order) + made.interface(1, order, options=options)
                 for time in STAMPS:
                     capture = head + made.enhanced(record, order, time=time)
@@ -508,8 +434,8 @@ def time_cases():
                     yield senders_of(what, capture, since="@0.5")
         # Each interface counts on its own, over all sections.
         both = made.section(order)
-        both += made.interface(1, order, options=option(9, b"\x09"))
-        both += made.interface(1, order, options=option(9, b"\0") + option(14, bytes(8)))
+        both += made.interface(1, order, options=made.counted(9, None, order))
+        both += made.interface(1, order, options=made.counted(0, 0, order))
         for interface, time in (0, 1_700_000_000 * 10**9 + 7), (1, 1_700_000_001):
             both += made.enhanced(made.Record(record.frame, interface), order, time=time)
         yield senders_of(f"two resolutions, {order}", both + both)
@@ -543,6 +469,21 @@ def time_cases():
     for word in "now", "+", "@", "+1.", "2023-11-14", "2023-11-14T22:13:60Z", "1969-12-31T23:59Z":
         yield senders_of("no time", captures[0], since=word)
         yield extract_of("no time", captures[0], until=word)
+    yield from skipped_cases(records)
+
+
+def skipped_cases(records):
+    """What is skipped has no datagram that could refuse the dump, but an interface and a link
+    type."""
+    first = made.ip(SENDER, made.udp(b"\x2a\2\0\0"), headers=[made.fragment_header(0, True)])
+    fragment = made.Record(made.ethernet(first))
+    capture = made.pcap([*records, fragment])
+    for until in "+5.9", "+6.1":
+        yield extract_of("a fragment at the end", capture, until=until)
+        yield senders_of("a fragment at the end", capture, until=until, strict=True)
+    for what, number, links in ("another link type", 1, (1, 147)), ("no interface", 2, (1, 1)):
+        other = made.pcapng([records[0], made.Record(fragment.frame, number)], links)
+        yield from (senders_of(what, other, until=until) for until in ("+0", "+9"))
 
 
 def version_cases():
@@ -885,8 +826,6 @@ def cases_of(tally):
     yield from option_cases()
     yield from place_cases()
     yield from name_cases()
-    yield from clock_cases()
-    yield from window_cases()
     yield from time_cases()
     yield from version_cases()
     yield from snapped_cases()
