@@ -5,7 +5,9 @@ have until then, and no line changes nothing.
     events.py [--most N] [--quick] PROGRAM CAPTURE..
 
 At each moment of a capture, or at N of them; with `--quick` without the options that the plain
-program lacks. Captures of which the times of a sender at a place run backwards are left out.
+program lacks. It leaves out a capture in which the times of the packets of a sender at a place run
+backwards; with `--expiry` one in which those of all records do, since an expiry is told before the
+first record of its time or later, whoever sent that.
 """
 
 import argparse
@@ -221,7 +223,9 @@ def problems_of(program, capture, factor, options, most, pool):
     window = reader.window_of(options[1] if "--since" in options else None, None) or reader.Window()
     found = find(octets, window)
     origins = dict(origins_of(found))
-    if any(sorted(times) != times for times in origins.values()) or not found.records:
+    every = [time for _, time in found.records]
+    in_order = origins.values() if factor is None else [every]
+    if any(sorted(times) != times for times in in_order) or not every:
         return None
     events, problem = events_of(program, words, capture)
     if problem:
