@@ -409,6 +409,11 @@ def factor_of(word):
     return factor if 0 < factor <= 1_000 * FACTOR else None
 
 
+def pair_of(options):
+    """The texts of the destination and of the source that are asked for."""
+    return options.to, options.src
+
+
 def sender_of(origin):
     return (None, ipaddress.IPv4Address, ipaddress.IPv6Address)[origin[1] // 2 - 1](origin[2])
 
@@ -481,13 +486,13 @@ def show(octets, options):
 
 def lookup(octets, options):
     rows, notes = table_of(octets, options)
-    found = answer(rows, *map(ipaddress.ip_address, (options.to, options.src)))
+    found = answer(rows, *map(ipaddress.ip_address, pair_of(options)))
     return Answer(int(not isinstance(found, tuple)), f"{what_text(found)}\n".encode(), notes)
 
 
 def events(octets, options):
     found, window, fault = read(octets, options)
-    pair = options.to and list(map(ipaddress.ip_address, (options.to, options.src)))
+    pair = options.to and list(map(ipaddress.ip_address, pair_of(options)))
     factor = options.expiry and factor_of(options.expiry)
     told = Timeline(factor, (options.ignore or "").split(","), pair, options.max_routes)
     try:
@@ -567,6 +572,8 @@ def answer_of(words, octets):
         return Answer(2, errors=(str(error),))
     if options.expiry is not None and not factor_of(options.expiry):
         return Answer(2, errors=(f"not a factor: {options.expiry}",))
+    if options.to and len({ipaddress.ip_address(each).version for each in pair_of(options)}) > 1:
+        return Answer(2, errors=("--to and --src are of different families",))
     return run(octets, options)
 
 
