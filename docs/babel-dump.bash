@@ -30,12 +30,12 @@ _babel_dump_senders() {
 _babel_dump_valued="--from --other-from --interface --other-interface --to --src --each --ignore"
 _babel_dump_valued="$_babel_dump_valued --color --body --max-routes --max-octets --within --match"
 _babel_dump_valued="$_babel_dump_valued --source --id --since --until --other-since"
-_babel_dump_valued="$_babel_dump_valued --other-until"
+_babel_dump_valued="$_babel_dump_valued --other-until --expiry"
 
 # The options of a command.
 _babel_dump_options() {
     local options="--from --interface --accept-cut --hold --v4-via-v6 --strict --quiet --json --short"
-    options="$options --max-routes --max-octets --since --until --help"
+    options="$options --max-routes --max-octets --since --until --expiry --help"
     local other="--other-from --other-interface --other-since --other-until"
     local filters="--within --match --source --id"
     case $1 in

@@ -4,7 +4,7 @@
 function __babel_dump_senders
     set -l valued from other-from interface other-interface to src each ignore color body
     set -a valued max-routes max-octets within match source id since until
-    set -a valued other-since other-until
+    set -a valued other-since other-until expiry
     set -l words (commandline -po)
     set -l before (commandline -poc)
     # The word at the cursor may be empty: something has to stand there.
@@ -59,6 +59,7 @@ __babel_dump_option "$commands" -l until -x -d 'Skip what came after a time'
 __babel_dump_option "$commands" -l help -d 'Print help'
 __babel_dump_option "$of_dumps extract" -l from -x -a '(__babel_dump_senders 1)' -d 'The sender'
 __babel_dump_option "$of_dumps extract" -l interface -x -d 'The place in a capture'
+__babel_dump_option "$of_dumps" -l expiry -x -d 'Leave out what was not announced again'
 __babel_dump_option "$of_dumps" -l hold -d 'Keep retracted routes as unreachable'
 __babel_dump_option "$of_dumps" -l v4-via-v6 -d 'Read IPv4 routes with an IPv6 next hop'
 __babel_dump_option "$of_dumps" -l max-routes -x -d 'How many routes there may be'
