@@ -6,8 +6,10 @@ layer gives the octets of the next one.
 """
 
 import datetime
+import fractions
 import ipaddress
 import json
+import math
 import re
 from dataclasses import dataclass, field
 
@@ -18,13 +20,8 @@ LONGEST_BLOCK = 16_777_216
 BABEL = 6_696
 UDP = 17
 UPDATE = 8
-RETRACTED = 0xFFFF
-SECOND = 1_000_000_000
-# The start of the year 10000, in nanoseconds since that of 1970.
-END = 253_402_300_800 * SECOND
+INFINITY = 0xFFFF
 LISTED_PLACES = 16
-# The lengths of the options that say how an interface's times count.
-TIME_OPTIONS = {9: 1, 14: 8}
 REASONS = (
     "truncated",
     "bad-magic",
@@ -42,16 +39,27 @@ LACKS = {
     "snapped": "datagram cut by the recorder",
 }
 OTHER, SHORT = "other", "too short to tell"
+SECOND = 1_000_000_000
+CENTISECOND = SECOND // 100
+# The start of the year 10000, in seconds since that of 1970.
+YEAR_10000 = 253_402_300_800
+# The options of an interface, with the length that they must have: draft-ietf-opsawg-pcapng, 4.2.
+NAME, RESOLUTION, OFFSET = 2, 9, 14
+LENGTHS = {RESOLUTION: 1, OFFSET: 8}
 
 
 class Fault(Exception):
     """Why a capture is refused: the line that says so."""
 
 
+class NoTime(Exception):
+    """A word that is no time."""
+
+
 @dataclass
 class Packet:
     """A captured packet: the offset of its block, its interface and link type, the octets kept, how
-    many there were, and when it came, in nanoseconds since the start of 1970."""
+    many there were, and when it came, in nanoseconds since 1970, where its block tells."""
 
     at: int
     interface: int
@@ -75,16 +83,20 @@ class Seen:
 
 @dataclass
 class Found:
-    """What a capture gives: each sender's packets at each place, with their times, for each reason
-    the numbers of the packets left out, how many frames were too short to tell, how many packets
-    came in frames that name no interface, and the numbers and times of the packets read."""
+    """What a capture gives: each sender's packets at each place, for each reason the numbers of the
+    packets left out, how many frames were too short to tell, and how many packets came in frames
+    that name no interface. The time of the first record; of each that was read its number and its
+    time, where it has one that can be told; and in their order the origin, the packet and the place
+    among these records of all packets."""
 
     packets: dict = field(default_factory=dict)
+    start: int = None
+    records: list = field(default_factory=list)
+    sent: list = field(default_factory=list)
     left_out: dict = field(default_factory=dict)
     short: int = 0
     cooked: int = 0
     names: list = field(default_factory=list)
-    times: list = field(default_factory=list)
     cut: int = None
 
 
@@ -131,29 +143,29 @@ def refuse_version(block, begin, place, order, read):
 
 
 def options_in(options, order, at):
-    """draft-ietf-opsawg-pcapng, 3.5, 4.2: the name among the options of an interface, how many
-    units of time a second has, and the seconds that are added; the first if there are several."""
-    name, place, found = b"", 0, {}
+    """draft-ietf-opsawg-pcapng, 3.5, 4.2: the name, resolution and offset among the options of an
+    interface; of each the first if there are several, of names the first that is not empty."""
+    found, place = {}, 0
     while place + 4 <= len(options):
         code, length = (
             int.from_bytes(options[here : here + 2], order) for here in (place, place + 2)
         )
         if code == 0:
             break
-        if place + 4 + length > len(options) or length != TIME_OPTIONS.get(code, length):
+        if place + 4 + length > len(options) or LENGTHS.get(code, length) != length:
             raise Fault(f"bad length at {at}")
-        value = options[place + 4 : place + 4 + length]
-        found.setdefault(code, value)
-        if code == 2 and not name:
-            name = value
+        if not found.get(code):
+            found[code] = options[place + 4 : place + 4 + length]
         place += 4 + (length + 3) // 4 * 4
-    power = found.get(9, b"\6")[0]
-    units = 2 ** (power - 128) if power >= 128 else 10**power
-    return name, units, int.from_bytes(found.get(14, b""), order, signed=True)
+    power = found.get(RESOLUTION, b"\6")[0]
+    unit = fractions.Fraction(SECOND, 2 ** (power - 128) if power >= 128 else 10**power)
+    seconds = int.from_bytes(found.get(OFFSET, bytes(8)), order, signed=True)
+    return found.get(NAME, b""), lambda units: math.floor(seconds * SECOND + units * unit)
 
 
 def pcap_packets(octets, order, limit, _names):
-    """The packets of a pcap file, and then where it is cut, if it is."""
+    """The packets of a pcap file, and then where it is cut, if it is: draft-ietf-opsawg-pcap, 4 and
+    5."""
     number = lambda block, at: int.from_bytes(block[at : at + 4], order)
     if limit < 24:
         raise Fault("capture too long at 0")
@@ -193,12 +205,11 @@ def pcapng_packets(octets, limit, names):
             raise Fault(f"bad length at {at}")
         return total
 
-    def packet(interface, frame, whole, stamp=None):
+    def packet(interface, frame, whole, units=None):
         if interface >= len(interfaces):
             raise Fault(f"no such interface at {at}")
-        link, _, units, offset = interfaces[interface]
-        time = None if stamp is None else stamp * SECOND // units + offset * SECOND
-        return Packet(at, interface, link, frame, whole, time)
+        link, _, time_of = interfaces[interface]
+        return Packet(at, interface, link, frame, whole, None if units is None else time_of(units))
 
     while at < len(octets):
         block = block_of(octets, at, length, 24 if order is None else 12, limit)
@@ -219,8 +230,8 @@ def pcapng_packets(octets, limit, names):
         if kind == 1:
             if len(interfaces) == MOST_INTERFACES:
                 raise Fault(f"too many interfaces at {at}")
-            name, units, offset = options_in(block[16:-4], order, at)
-            interfaces.append((number(block, 8, 2), number(block, 12), units, offset))
+            name, time_of = options_in(block[16:-4], order, at)
+            interfaces.append((number(block, 8, 2), number(block, 12), time_of))
             names.append(name)
         elif kind == 3:
             if first >= len(interfaces):
@@ -238,7 +249,7 @@ def pcapng_packets(octets, limit, names):
                 first + number(block, 8, 2 if kind == 2 else 4),
                 block[28 : 28 + kept],
                 number(block, 24),
-                (number(block, 12) << 32) + number(block, 16),
+                number(block, 12) << 32 | number(block, 16),
             )
         at += len(block)
 
@@ -413,6 +424,124 @@ def in_udp(sender, is_fragment, is_cut, carried, whole):
 LINKS = {0, 1, 12, 14, 101, 108, 113, 228, 229, 276}
 
 
+# ---- times
+
+
+def told(time):
+    """A time that can be told: of the years 1970 to 9999."""
+    return time if time is not None and 0 <= time < YEAR_10000 * SECOND else None
+
+
+def time_text(time):
+    """ISO 8601, with nine digits after the point."""
+    seconds, nanoseconds = divmod(time, SECOND)
+    moment = datetime.datetime(1970, 1, 1) + datetime.timedelta(seconds=seconds)
+    return f"{moment:%Y-%m-%dT%H:%M:%S}.{nanoseconds:09}Z"
+
+
+FRACTION = r"(?:\.([0-9]{1,9}))?"
+DATE = (
+    r"([0-9]{4})-([0-9]{2})-([0-9]{2})T([0-9]{2}):([0-9]{2})(?::([0-9]{2})"
+    + FRACTION
+    + r")?(?:Z|([+-])([0-9]{2}):([0-9]{2}))"
+)
+
+
+def nanoseconds(seconds, fraction):
+    return int(seconds) * SECOND + int((fraction or "").ljust(9, "0"))
+
+
+@dataclass
+class Moment:
+    """A moment in nanoseconds: since 1970, or from the capture's first record."""
+
+    nanoseconds: int
+    from_start: bool = False
+
+    def is_one(self):
+        """It is later than the start, or can be told."""
+        return self.from_start or told(self.nanoseconds) is not None
+
+    def at(self, start):
+        return self.nanoseconds + (start if self.from_start else 0)
+
+
+def moment_of(word):
+    """The moment that a word says, if it says one."""
+    if found := re.fullmatch(r"([@+])([0-9]+)" + FRACTION, word):
+        sign, seconds, fraction = found.groups()
+        moment = Moment(nanoseconds(seconds, fraction), sign == "+")
+        return moment if moment.is_one() and int(seconds) < 2**64 else None
+    if found := re.fullmatch(DATE, word):
+        *fields, second, fraction, sign, hours, minutes = found.groups()
+        try:
+            date = datetime.datetime(*map(int, fields), int(second or 0))
+        except ValueError:
+            return None
+        if int(hours or 0) > 23 or int(minutes or 0) > 59:
+            return None
+        offset = int(f"{sign or '+'}1") * (int(hours or 0) * 60 + int(minutes or 0)) * 60
+        since = date - datetime.datetime(1970, 1, 1)
+        moment = Moment(nanoseconds(since.days * 86_400 + since.seconds - offset, fraction))
+        return moment if moment.is_one() else None
+    return None
+
+
+@dataclass
+class Window:
+    """The records of some time: those that are not before the one moment, nor after the other."""
+
+    since: Moment = None
+    until: Moment = None
+
+    def has(self, start, time):
+        return (self.since is None or self.since.at(start) <= time) and (
+            self.until is None or time <= self.until.at(start)
+        )
+
+
+def window_of(since, until):
+    """What is read by these words, where one is given."""
+    if since is None and until is None:
+        return None
+    moments = [word if word is None else moment_of(word) for word in (since, until)]
+    for word, moment in zip((since, until), moments):
+        if word is not None and moment is None:
+            raise NoTime(f"not a time: {word}")
+    return Window(*moments)
+
+
+def span_of(found):
+    """From the earliest to the latest time of the records that were read, where each has one."""
+    times = [time for _, time in found.records]
+    return None if None in times or not times else max(times) - min(times)
+
+
+def hundredths(centiseconds):
+    """So many hundredths of a second, in seconds without zeros at the end."""
+    whole, part = divmod(centiseconds, 100)
+    return f"{whole}.{part:02}".rstrip("0").rstrip(".")
+
+
+def time_notes(found, intervals, window):
+    """The notes on times: that they run backwards, and that what was read spans less than the
+    greatest of these Intervals."""
+    for (_, before), (number, time) in zip(found.records, found.records[1:]):
+        if window and time < before:
+            text = f"times run backwards at packet {number}"
+            yield text, {"note": "backwards", "packet": number}
+            break
+    interval = max((each for each in intervals if each is not None), default=None)
+    span = span_of(found)
+    if None not in (interval, span) and span < interval * CENTISECOND:
+        spans = span // CENTISECOND
+        yield (
+            f"the capture spans {hundredths(spans)} s, the Interval is {hundredths(interval)} s: "
+            "routes may be missing",
+            {"note": "short-span", "span": spans, "interval": interval},
+        )
+
+
 # ---- Babel packets
 
 
@@ -429,141 +558,90 @@ def packet_in(payload):
 
 
 def updates_in(packet):
-    """How many Updates a packet has: RFC 8966, 4.3, 4.6.9; none if a TLV runs past its end."""
-    count, at = 0, 4
+    """The bodies of the Updates that a packet has: RFC 8966, 4.3, 4.6.9; none if a TLV runs past
+    its end."""
+    bodies, at = [], 4
     while at < len(packet):
         if packet[at] == 0:
             at += 1
             continue
         if at + 2 > len(packet) or at + 2 + packet[at + 1] > len(packet):
-            return 0
-        count += packet[at] == UPDATE
+            return []
+        if packet[at] == UPDATE:
+            bodies.append(packet[at + 2 : at + 2 + packet[at + 1]])
         at += 2 + packet[at + 1]
-    return count
+    return bodies
 
 
-def interval_in(packet):
-    """The greatest Interval of a packet's Updates that announce: RFC 8966, 4.6.9; none if a TLV
-    runs past its end."""
-    greatest, at = None, 4
-    while at < len(packet):
-        if packet[at] == 0:
-            at += 1
-            continue
-        if at + 2 > len(packet) or at + 2 + packet[at + 1] > len(packet):
-            return None
-        body = packet[at + 2 : at + 2 + packet[at + 1]]
-        if packet[at] == UPDATE and len(body) >= 10 and big(body, 8, 2) != RETRACTED:
-            greatest = max(greatest or 0, big(body, 4, 2))
-        at += 2 + packet[at + 1]
-    return greatest
+def interval_of(packets):
+    """The greatest Interval of the Updates that announce, in hundredths of a second."""
+    updates = [body for packet in packets for body in updates_in(packet) if len(body) >= 10]
+    return max((big(body, 4, 2) for body in updates if big(body, 8, 2) != INFINITY), default=None)
 
 
-TIME_WORD = re.compile(
-    r"(\d{4}-\d\d-\d\d)T(\d\d):(\d\d)(?::(\d\d)(?:\.(\d{1,9}))?)?(?:Z|([+-])(\d\d):(\d\d))",
-    re.ASCII,
-)
-SECONDS_WORD = re.compile(r"([+@])(\d+)(?:\.(\d{1,9}))?", re.ASCII)
-
-
-def moment_of(word):
-    """The moment that `--since` or `--until` names: nanoseconds, and whether they count from the
-    capture's first record."""
-    fraction = lambda digits: int((digits or "0").ljust(9, "0"))
-    if match := SECONDS_WORD.fullmatch(word):
-        mark, seconds, digits = match.groups()
-        time, is_later = int(seconds) * SECOND + fraction(digits), mark == "+"
-        if int(seconds) < 2**64 and (is_later or time < END):
-            return time, is_later
-    elif match := TIME_WORD.fullmatch(word):
-        date, hour, minute, second, digits, sign, hours, minutes = match.groups()
-        hour, minute, second, hours, minutes = (
-            int(each or 0) for each in (hour, minute, second, hours, minutes)
-        )
-        try:
-            day = (datetime.date.fromisoformat(date) - datetime.date(1970, 1, 1)).days
-        except ValueError:
-            day = None
-        if day is not None and max(hour, hours) < 24 and max(minute, second, minutes) < 60:
-            offset = (hours * 60 + minutes) * (-1 if sign == "-" else 1)
-            seconds = ((day * 24 + hour) * 60 + minute - offset) * 60 + second
-            time = seconds * SECOND + fraction(digits)
-            if 0 <= time < END:
-                return time, False
-    raise NoTime(word)
-
-
-class NoTime(Exception):
-    """A word is not a time."""
-
-
-class Window:
-    """Which packets are read, by when they came."""
-
-    def __init__(self, since, until):
-        self.since, self.until = (each and moment_of(each) for each in (since, until))
-        self.first = None
-
-    def asks(self):
-        return bool(self.since or self.until)
-
-    def reads(self, packet):
-        if not self.asks():
-            return True
-        if packet.time is None:
-            raise Fault(f"packet without a time at {packet.at}")
-        if not 0 <= packet.time < END:
-            raise Fault(f"bad time at {packet.at}")
-        if self.first is None:
-            self.first = packet.time
-        since, until = (
-            each and each[0] + (self.first if each[1] else 0) for each in (self.since, self.until)
-        )
-        return (since is None or since <= packet.time) and (until is None or packet.time <= until)
-
-
-def find(octets, limit, wanted, accept_cut, window):
-    """What a capture gives of the senders that are wanted, in this window."""
-    found, number = Found(), 0
+def find(octets, limit, wanted, accept_cut, window=None, found=None):
+    """What a capture gives of the senders that are wanted, in what is found so far: all, or the
+    records between two moments, where times are asked for."""
+    found, number = Found() if found is None else found, 0
     for packet in packets(octets, limit, found.names):
         if isinstance(packet, int):
             if not accept_cut:
                 raise Fault(f"capture cut short at {packet}")
             found.cut = packet
             return found
+        number += 1
         if packet.link not in LINKS:
             raise Fault(f"link type {packet.link} not read at {packet.at}")
-        number += 1
-        if not window.reads(packet):
+        time = told(packet.time)
+        if window and time is None:
+            what = "packet without a time" if packet.time is None else "bad time"
+            raise Fault(f"{what} at {packet.at}")
+        found.start = time if found.start is None else found.start
+        if window and not window.has(found.start, time):
             continue
-        time = packet.time if packet.time is not None and 0 <= packet.time < END else None
-        found.times.append((number, time))
-        seen = seen_in(packet.link, packet.frame, packet.whole)
-        if seen == SHORT:
-            found.short += 1
-        if not isinstance(seen, Seen):
-            continue
-        place = packet.interface, seen.link, seen.vlans
-        if not wanted(seen.sender, place):
-            continue
-        reason = seen.what
-        if reason in LACKS and wanted is not everyone:
-            raise Fault(f"{LACKS[reason]} at {packet.at}")
-        if reason == "whole":
-            babel, reason = packet_in(seen.payload)
-        if reason:
-            found.left_out.setdefault(reason, []).append(number)
-            continue
-        origin = place, seen.sender.version, int(seen.sender)
-        if origin not in found.packets and len(found.packets) == MOST_SENDERS:
-            raise Fault(f"too many senders at {packet.at}")
-        found.packets.setdefault(origin, []).append((babel, time))
-        found.cooked += packet.link == 113
+        take(found, packet, number, wanted)
+        found.records.append((number, time))
     return found
 
 
-def everyone(_sender, _place):
-    return True
+def take(found, packet, number, wanted):
+    """What is found with this packet, which has such a number in its capture."""
+    seen = seen_in(packet.link, packet.frame, packet.whole)
+    found.short += seen == SHORT
+    if not isinstance(seen, Seen):
+        return
+    place = packet.interface, seen.link, seen.vlans
+    if not wanted(seen.sender, place):
+        return
+    reason = seen.what
+    if reason in LACKS and wanted.names:
+        raise Fault(f"{LACKS[reason]} at {packet.at}")
+    if reason == "whole":
+        babel, reason = packet_in(seen.payload)
+    if reason:
+        found.left_out.setdefault(reason, []).append(number)
+        return
+    origin = place, seen.sender.version, int(seen.sender)
+    if origin not in found.packets and len(found.packets) == MOST_SENDERS:
+        raise Fault(f"too many senders at {packet.at}")
+    found.packets.setdefault(origin, []).append(babel)
+    found.sent.append((origin, babel, len(found.records)))
+    found.cooked += packet.link == 113
+
+
+@dataclass
+class Wanted:
+    """Which datagrams are looked at: of one sender, or of all; at one place, or at all."""
+
+    sender: object = None
+    interface: str = None
+
+    @property
+    def names(self):
+        return self.sender is not None
+
+    def __call__(self, sender, place):
+        return self.sender in (None, sender) and self.interface in (None, place_asked(place))
 
 
 def by_place(origin):
@@ -607,30 +685,14 @@ def place_text(place, name):
     return " ".join(words)
 
 
-def time_text(time):
-    """ISO 8601, with nine digits after the point."""
-    day = datetime.date(1970, 1, 1) + datetime.timedelta(days=time // (86_400 * SECOND))
-    second = time // SECOND % 86_400
-    clock = f"{second // 3600:02}:{second // 60 % 60:02}:{second % 60:02}"
-    return f"{day.year:04}-{day.month:02}-{day.day:02}T{clock}.{time % SECOND:09}Z"
-
-
-def interval_of(packets):
-    """The greatest Interval of packets."""
-    return max((each for each in map(interval_in, packets) if each is not None), default=None)
-
-
-def sender_line(origin, packets, found, as_json):
+def sender_line(origin, found, as_json):
     place, version, bits = origin
     interface, link, vlans = place
-    name = found.names[interface] if interface < len(found.names) else b""
-    sent, times = zip(*packets)
-    address, octets, updates = text_of(version, bits), sum(map(len, sent)), sum(
-        map(updates_in, sent)
-    )
-    interval = interval_of(sent)
-    all_timed = all(time is not None for _, time in found.times)
-    first, last = (time_text(each(times)) if all_timed else None for each in (min, max))
+    name = name_at(place, found.names)
+    sent = found.packets[origin]
+    address, octets = text_of(version, bits), sum(map(len, sent))
+    updates, interval = sum(len(updates_in(packet)) for packet in sent), interval_of(sent)
+    first, last = ends_of(origin, found)
     if as_json:
         says = {
             "address": address,
@@ -648,6 +710,19 @@ def sender_line(origin, packets, found, as_json):
     return f"{address} {place_text(place, name)} {counts} {times}\n"
 
 
+def name_at(place, names):
+    return names[place[0]] if place[0] < len(names) else b""
+
+
+def ends_of(origin, found):
+    """The texts of a sender's first and last time, or none if not each record that was read has a
+    time."""
+    if span_of(found) is None:
+        return None, None
+    times = [found.records[place][1] for of, _, place in found.sent if of == origin]
+    return time_text(min(times)), time_text(max(times))
+
+
 COOKED = (
     "frames of Linux cooked, version 1, name no interface, so links can't be told apart; record "
     "with -y LINUX_SLL2"
@@ -661,9 +736,8 @@ def short_note(found):
         yield f"{frames} too short to tell", {"note": "too-short", "frames": found.short}
 
 
-def notes_of(found, asks):
-    """The notes on a capture, as text and as an object: what was left out, where it is cut, and
-    what there is to know of its times."""
+def notes_of(found):
+    """The notes on a capture, as text and as an object: what was left out, and where it is cut."""
     reasons = [
         {"reason": reason, "count": len(numbers), "first": numbers[0]}
         for reason in REASONS
@@ -679,37 +753,6 @@ def notes_of(found, asks):
     if found.cut is not None:
         text = f"capture cut short at {found.cut}, and read up to there"
         yield text, {"note": "capture-cut", "at": found.cut}
-    yield from time_notes(found, asks)
-
-
-def time_notes(found, asks):
-    """That times run backwards, where times are asked for, and that a capture is shorter than an
-    Interval."""
-    numbers, times = zip(*found.times) if found.times else ((), ())
-    all_timed = None not in times
-    backwards = [
-        number
-        for number, before, time in zip(numbers[1:], times, times[1:])
-        if all_timed and time < before
-    ]
-    if asks and backwards:
-        text = f"times run backwards at packet {backwards[0]}"
-        yield text, {"note": "backwards", "packet": backwards[0]}
-    interval = interval_of(babel for packets in found.packets.values() for babel, _ in packets)
-    if times and all_timed and interval is not None:
-        span = max(times) - min(times)
-        if span < interval * SECOND // 100:
-            hundredths = span * 100 // SECOND
-            text = (
-                f"the capture spans {seconds_text(hundredths)} s, the Interval is "
-                f"{seconds_text(interval)} s: routes may be missing"
-            )
-            yield text, {"note": "short-span", "span": hundredths, "interval": interval}
-
-
-def seconds_text(hundredths):
-    """In seconds, without zeros at the end."""
-    return f"{hundredths // 100}.{hundredths % 100:02}".rstrip("0").rstrip(".")
 
 
 def texts_of(notes):
@@ -738,19 +781,27 @@ def senders(
 ):
     """What `senders` answers for a capture."""
     try:
-        window = Window(since, until)
-        found = find(octets, limit, everyone, accept_cut, window)
+        window = window_of(since, until)
+        found = find(octets, limit, Wanted(), accept_cut, window)
         refuse_if_strict(found, strict)
-    except NoTime as word:
-        return Answer(2, errors=(f"not a time: {word}",))
-    except Fault as fault:
-        return Answer(3, errors=(str(fault),))
+    except (Fault, NoTime) as fault:
+        return Answer(2 if isinstance(fault, NoTime) else 3, errors=(str(fault),))
     origins = sorted(found.packets, key=by_place)
-    lines = [sender_line(origin, found.packets[origin], found, as_json) for origin in origins]
+    lines = [sender_line(origin, found, as_json) for origin in origins]
     status, none = (0, ()) if lines else (1, ("no Babel packets",))
-    notes = [*notes_of(found, window.asks()), *short_note(found)]
+    intervals = [interval_of(found.packets[origin]) for origin in origins]
+    notes = [*notes_of(found), *time_notes(found, intervals, window), *short_note(found)]
     lines += [json_line(says) for _, says in notes if as_json]
     return Answer(status, "".join(lines).encode(), none + texts_of(notes))
+
+
+def only_place(found):
+    """The one place of the sender that was asked for is all that there is of it."""
+    if len(found.packets) > 1:
+        places = [place_asked(place) for place, *_ in sorted(found.packets, key=by_place)]
+        more = len(places) - LISTED_PLACES
+        listed = ", ".join(places[:LISTED_PLACES]) + (f", and {more} more" if more > 0 else "")
+        raise Fault(f"packets from this sender on several interfaces: {listed}")
 
 
 def extract(
@@ -766,25 +817,17 @@ def extract(
 ):
     """What `extract` answers for a capture."""
     sender = ipaddress.ip_address(sender)
-    wanted = lambda of, place: of == sender and interface in (None, place_asked(place))
     try:
-        window = Window(since, until)
-        found = find(octets, limit, wanted, accept_cut, window)
+        window = window_of(since, until)
+        found = find(octets, limit, Wanted(sender, interface), accept_cut, window)
         refuse_if_strict(found, strict)
-        name = text_of(sender.version, int(sender))
-        if len(found.packets) > 1:
-            places = [place_asked(place) for place, *_ in sorted(found.packets, key=by_place)]
-            more = len(places) - LISTED_PLACES
-            listed = ", ".join(places[:LISTED_PLACES]) + (f", and {more} more" if more > 0 else "")
-            raise Fault(f"packets from this sender on several interfaces: {listed}")
-    except NoTime as word:
-        return Answer(2, errors=(f"not a time: {word}",))
-    except Fault as fault:
-        return Answer(3, errors=(str(fault),))
-    if not found.packets:
-        notes = texts_of(notes_of(found, window.asks()))
-        return Answer(1, errors=(f"no packets from {name}", *notes))
-    (sent,) = found.packets.values()
-    dump = b"".join(babel for babel, _ in sent)
+        only_place(found)
+    except (Fault, NoTime) as fault:
+        return Answer(2 if isinstance(fault, NoTime) else 3, errors=(str(fault),))
+    sent = sum(found.packets.values(), [])
+    notes = texts_of([*notes_of(found), *time_notes(found, [interval_of(sent)], window)])
+    if not sent:
+        return Answer(1, errors=(f"no packets from {text_of(sender.version, int(sender))}", *notes))
+    dump = b"".join(sent)
     output = (dump.hex() + "\n").encode() if as_hex else dump
-    return Answer(0, output, texts_of(notes_of(found, window.asks())))
+    return Answer(0, output, notes)

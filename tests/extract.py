@@ -411,8 +411,8 @@ def name_cases():
 
 
 # What one octet says of how many units of time a second has, and the seconds that are added.
-RESOLUTIONS = 0, 3, 6, 9, 12, 19, 20, 39, 127, 128, 131, 138, 191, 192, 255
-OFFSETS = 0, 1, -3_600, 1_700_000_000, -(2**63), 2**63 - 1
+RESOLUTIONS = None, 0, 3, 6, 9, 12, 19, 20, 28, 29, 39, 127, 128, 131, 138, 157, 191, 192, 255
+OFFSETS = None, 1, -3_600, 1_700_000_000, -(2**63), 2**63 - 1
 STAMPS = 0, 1, 999_999, 1_700_000_000, 1_764_077_422_123_456, 2**60 + 1, 2**63, 2**64 - 1
 # Between these moments, and at them, a capture is read.
 MOMENTS = "+0", "+2", "+2.000001999", "+2.000002", "+2.000002001", "+90", "@1700000003.000003"
@@ -423,11 +423,9 @@ def time_cases():
     """The times of packets, and captures between two moments."""
     record, *_ = records = records_of(dump_of())[:6]
     for order in ORDERS:
-        option = lambda code, text, order=order: made.option(code, text, order)
         for resolution in RESOLUTIONS:
             for offset in OFFSETS:
-                options = option(9, bytes((resolution,)))
-                options += option(14, (offset % 2**64).to_bytes(8, order))
+                options = made.counted(resolution, offset, order)
                 head = made.section(order) + made.interface(1, order, options=options)
                 for time in STAMPS:
                     capture = head + made.enhanced(record, order, time=time)
@@ -436,8 +434,8 @@ def time_cases():
                     yield senders_of(what, capture, since="@0.5")
         # Each interface counts on its own, over all sections.
         both = made.section(order)
-        both += made.interface(1, order, options=option(9, b"\x09"))
-        both += made.interface(1, order, options=option(9, b"\0") + option(14, bytes(8)))
+        both += made.interface(1, order, options=made.counted(9, None, order))
+        both += made.interface(1, order, options=made.counted(0, 0, order))
         for interface, time in (0, 1_700_000_000 * 10**9 + 7), (1, 1_700_000_001):
             both += made.enhanced(made.Record(record.frame, interface), order, time=time)
         yield senders_of(f"two resolutions, {order}", both + both)
@@ -471,6 +469,21 @@ def time_cases():
     for word in "now", "+", "@", "+1.", "2023-11-14", "2023-11-14T22:13:60Z", "1969-12-31T23:59Z":
         yield senders_of("no time", captures[0], since=word)
         yield extract_of("no time", captures[0], until=word)
+    yield from skipped_cases(records)
+
+
+def skipped_cases(records):
+    """What is skipped has no datagram that could refuse the dump, but an interface and a link
+    type."""
+    first = made.ip(SENDER, made.udp(b"\x2a\2\0\0"), headers=[made.fragment_header(0, True)])
+    fragment = made.Record(made.ethernet(first))
+    capture = made.pcap([*records, fragment])
+    for until in "+5.9", "+6.1":
+        yield extract_of("a fragment at the end", capture, until=until)
+        yield senders_of("a fragment at the end", capture, until=until, strict=True)
+    for what, number, links in ("another link type", 1, (1, 147)), ("no interface", 2, (1, 1)):
+        other = made.pcapng([records[0], made.Record(fragment.frame, number)], links)
+        yield from (senders_of(what, other, until=until) for until in ("+0", "+9"))
 
 
 def version_cases():

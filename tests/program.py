@@ -1,4 +1,4 @@
-"""The program as a process: program.txt, and what a shell's words can't bring about."""
+"""The program as a process: program.txt, time.txt, and what a shell's words can't bring about."""
 
 import ipaddress
 import itertools
@@ -427,6 +427,7 @@ def check(tally, _long):
         transcript.link(program, folder)
         transcript.link_examples(folder)
         transcript.play(TOP / "tests/program.txt", folder, tally)
+        transcript.play(TOP / "tests/time.txt", folder, tally)
         transcript.put(dict(large_dumps()), folder)
         transcript.play(TOP / "tests/limits.txt", folder, tally)
         check_closed_pipe(program, tally)
