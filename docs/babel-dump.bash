@@ -58,13 +58,18 @@ _babel_dump_options() {
             options="--from --interface --hex --accept-cut --strict --quiet --max-octets --since"
             options="$options --until --help"
             ;;
+        events)
+            options="--from --interface --since --until --expiry --ignore --to --src --v4-via-v6"
+            options="$options --accept-cut --max-routes --json --quiet --help"
+            ;;
         *) options= ;;
     esac
     printf '%s\n' "$options"
 }
 
 _babel_dump() {
-    local names="show lookup pairs normalise key compare diff senders extract help --help --version"
+    local names="show lookup pairs normalise key compare diff senders extract events help --help"
+    names="$names --version"
     local line=${COMP_LINE:0:COMP_POINT} words word option front= found=
     # COMP_WORDS is cut at colons, which addresses have.
     read -ra words <<<"$line"

@@ -33,6 +33,7 @@ import timed
 from agree import SENDERS
 
 TIMELINE = TOP / "examples/timeline"
+DRILL = TOP / "examples/drill/drill.pcap"
 FACTORS = None, "3.5", "1"
 # Of a capture, factor and sender: so many moments and pairs of addresses, from among all.
 MOMENTS = 40
@@ -249,7 +250,7 @@ def problems_of(program, capture, factor, options, most, pool):
 def captures_of(folder, long):
     """Captures of the repository, and made of its dumps and at random, whose times do not run
     backwards."""
-    yield ROUTERS / "babeld-basic-a.pcap"
+    yield from (ROUTERS / "babeld-basic-a.pcap", DRILL)
     for name, sender in SENDERS.items():
         records = extract.records_of((ROUTERS / f"{name}.dump").read_bytes(), sender)
         path = folder / f"{name}.pcap"
@@ -299,9 +300,20 @@ def check_picture(program, capture, tally):
     xml.etree.ElementTree.fromstring(run.stdout)
 
 
+def check_drill(program, tally):
+    """The picture in docs/ is that of examples/drill."""
+    _, events, _ = run(program, ["events", "--quiet", "--expiry", "3.5", "--json"], DRILL)
+    last = max(time for _, time in find(DRILL.read_bytes(), reader.Window()).records)
+    command, told = [TIMELINE, "--end", reader.time_text(last)], "\n".join(events)
+    drawn = subprocess.run(command, input=told, capture_output=True, text=True).stdout
+    problem = "" if drawn == (TOP / "docs/drill.svg").read_text() else "it is another one"
+    tally.check("docs/drill.svg", problem)
+
+
 def check(tally, long):
     program = built_program()
     check_picture(program, ROUTERS / "babeld-basic-a.pcap", tally)
+    check_drill(program, tally)
     with tempfile.TemporaryDirectory() as folder:
         most = 10 * MOMENTS if long else MOMENTS
         check_captures(program, captures_of(pathlib.Path(folder), long), tally, most)

@@ -30,7 +30,7 @@ MANY = 1_001
 LITTLE_MEMORY = 8 << 20
 SHOW = ["show", "--from", "192.0.2.1"]
 COMMANDS = (
-    "show", "lookup", "pairs", "normalise", "key", "compare", "diff", "senders", "extract"
+    "show", "lookup", "pairs", "normalise", "key", "compare", "diff", "senders", "extract", "events"
 )
 ONE_ROUTE = TOP / "examples/one-route.dump"
 ONE_ROUTE_SHOWN = (
@@ -255,6 +255,7 @@ def check_manual(program, tally):
 COMPLETED = (
     ("babel-dump nor", ["normalise"]),
     ("babel-dump key --ro", ["--routes"]),
+    ("babel-dump events --ma", ["--max-routes"]),
     ("babel-dump show x.pcap --from f", ["fe80:0:0:0:0:0:0:1", "fe80:0:0:0:0:0:0:2"]),
     ("babel-dump compare x.pcap now.pcap --other-from f", ["fe80:0:0:0:0:0:0:1"]),
     ("babel-dump show x.dump --from f", []),
