@@ -1,0 +1,4 @@
+pub mod Subjects
+pub mod LastLaws
+pub mod AccountLaws
+pub mod KeptLaws
