@@ -1,5 +1,5 @@
 -- The queue of a timeline, as its rows change.
-use Rattle.std.proofs.Common.{◌≡◌, ◌≢◌, ℕ, ◌+◌, ◌<◌, ◌≤◌, Bool, true, false, cond, inl, inr, Option, Some, None, refl, sym, ap, subst, ◌∙◌, arith}
+use Rattle.std.proofs.Common.{◌≡◌, ◌≢◌, ℕ, ◌+◌, ◌<◌, ◌≤◌, Bool, true, false, cond, inl, inr, List, Option, Some, None, refl, sym, ap, subst, ◌∙◌, arith}
 use Rattle.std.specs.Prelude.{◌==◌, ◌&&◌, ◌||◌, is_some, nat_lt, not}
 use Rattle.std.specs.declared.cmp.Ordering.{Ordering}
 use Rattle.std.specs.declared.cmp.Ordering.TheVariants.{Less, Equal, Greater}
@@ -248,7 +248,7 @@ module _ {S : Type 0} (cmp : S → S → Ordering) (total : IsTotalOrder cmp) (e
   none_ends until rows queue queues empty = λ subject time ends.
       let queued : contains (expiry_cmp cmp) queue (expiry_of time subject) ≡ true = queues (expiry_of time subject) ∙ due_of rows subject time ends in
       let none : contains (expiry_cmp cmp) queue (expiry_of time subject) ≡ false =
-      ap (λ keys. list_any (is_at (expiry_cmp cmp (expiry_of time subject))) keys) empty in
+      ap (λ (keys : List (Expiry S)). list_any (is_at (expiry_cmp cmp (expiry_of time subject))) keys) empty in
       absurd cc
 
   pub later_ends : (until : ℕ) (rows : Rows S) (queue : BTreeSet (Expiry S)) (first : Expiry S) → Queues cmp factor rows queue → IsLeast queue first → until < first.time

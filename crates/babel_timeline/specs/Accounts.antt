@@ -45,6 +45,11 @@ pub record Said (S : Type 0) : Type 0 where
 abbrev pub said : {S : Type 0} → S → When → Event → Said S
 said sender when event = record { sender = sender; told = says when event }
 
+-- of this sender all is about to be retracted
+abbrev pub IsLeaving : {S : Type 0} → Option S → S → Type 0
+IsLeaving None sender = ⊥
+IsLeaving (Some leaving) sender = sender ≡ leaving
+
 module _ {S : Type 0} (cmp : S → S → Ordering) where
   -- what one of them says
   abbrev pub said_by : S → List (Said S) → List Told
@@ -61,11 +66,6 @@ module _ {S : Type 0} (cmp : S → S → Ordering) where
   abbrev pub EachTurns : List (Change S) → Type 0
   EachTurns changes = (before after : List (Change S)) (told : Change S)
       → changes ≡ before ++ told ∷ after → Turns before told
-
-  -- of this sender all is about to be retracted
-  abbrev pub IsLeaving : Option S → S → Type 0
-  IsLeaving None sender = ⊥
-  IsLeaving (Some leaving) sender = sender ≡ leaving
 
   -- the changes up to the moment account for the rows, and the rows are what was said last and has
   -- not ended before the moment, but for a sender of whom all is about to be retracted
