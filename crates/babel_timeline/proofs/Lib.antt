@@ -2,3 +2,4 @@ pub mod Subjects
 pub mod LastLaws
 pub mod AccountLaws
 pub mod KeptLaws
+pub mod EdgeLaws
