@@ -3,14 +3,16 @@ use Rattle.std.proofs.Common.{◌≡◌, ◌≢◌, ℕ, ◌+◌, ◌<◌, ◌�
 use Rattle.std.specs.Prelude.{◌==◌, ◌&&◌, ◌||◌, is_some, nat_lt, not}
 use Rattle.std.specs.declared.cmp.Ordering.{Ordering}
 use Rattle.std.specs.declared.cmp.Ordering.TheVariants.{Less, Equal, Greater}
-use Rattle.std.specs.Ordering.{is_eq, nat_cmp, ordering_then}
+use Rattle.std.specs.Ordering.{is_eq, is_gt, nat_cmp, ordering_reverse, ordering_then}
 use Rattle.std.specs.Cmp.{IsTotalOrder}
 use Rattle.std.specs.BTreeMap.{insert_entry, is_at}
 use Rattle.std.specs.BTreeSet.{BTreeSet, IsEmpty, contains}
 use Rattle.std.specs.List.{list_any}
 use Rattle.std.proofs.lemmas.Bool.Decides.{nat_tests}
+use Rattle.std.proofs.lemmas.Cmp.{nat_cmp_total, on_total, then_total}
 use Rattle.std.proofs.lemmas.Map.Lookups.{CmpEqualImpliesEq}
 use Rattle.babel_tlv.specs.Keys.{key_cmp}
+use Rattle.babel_tlv.proofs.OrderLaws.{key_total}
 use Rattle.babel_table.specs.Moments.{When}
 use Rattle.babel_timeline.specs.declared.queue.Expiry.{Expiry}
 use Rattle.babel_timeline.specs.declared.row.Row.{Row}
@@ -97,6 +99,19 @@ few_more None before after limit is room few = let more = room refl in omega (ar
 few_more (Some row) before after limit is room few = omega (arith, is, few)
 
 -- ---- the queue
+
+turned : (a b : Ordering) → a ≡ ordering_reverse b → is_gt a ≡ false → ¬ (b ≡ Less)
+turned a Less e f = λ less. absurd (let greater : is_gt a ≡ true = ap is_gt e in cc)
+turned a Equal e f = λ less. absurd cc
+turned a Greater e f = λ less. absurd cc
+
+module _ {S : Type 0} (cmp : S → S → Ordering) (total : IsTotalOrder cmp) where
+  expiry_total : IsTotalOrder (expiry_cmp cmp)
+  expiry_total = then_total (on_total (λ (e : Expiry S). e.time) nat_cmp_total) (then_total (on_total (λ (e : Expiry S). e.key) key_total) (on_total (λ (e : Expiry S). e.sender) total))
+
+  -- no other expiry is before the least
+  pub least_law : (first other : Expiry S) → is_gt (expiry_cmp cmp first other) ≡ false → ¬ (expiry_cmp cmp other first ≡ Less)
+  least_law first other le = turned (expiry_cmp cmp first other) (expiry_cmp cmp other first) (expiry_total.antisymm first other) le
 
 module _ {S : Type 0} (cmp : S → S → Ordering) where
   is_queued : (time : ℕ) (subject : Subject S) (other : Expiry S) → is_at (expiry_cmp cmp (expiry_of time subject)) other ≡ is_expiry cmp subject (Some time) other

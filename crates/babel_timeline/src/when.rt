@@ -49,6 +49,7 @@ impl When {
         if self.interval == 0 {
             return None;
         }
-        Some(self.time + u128::from(factor) * u128::from(self.interval))
+        let wait = u128::from(factor) * u128::from(self.interval);
+        Some(self.time + wait)
     }
 }
