@@ -12,6 +12,8 @@ mod prefix;
 #[cfg(test)]
 mod table;
 #[cfg(test)]
+mod timeline;
+#[cfg(test)]
 mod tlv;
 #[cfg(test)]
 mod trie;

@@ -1,0 +1,5 @@
+pub mod Rows
+pub mod Kept
+pub mod Changes
+pub mod Accounts
+pub mod Laws
