@@ -1,6 +1,6 @@
 -- The queue of a timeline, as its rows change.
-use Rattle.std.proofs.Common.{◌≡◌, ◌≢◌, ℕ, ◌+◌, ◌<◌, ◌≤◌, Bool, true, false, cond, inl, inr, List, Option, Some, None, refl, sym, ap, subst, ◌∙◌, arith}
-use Rattle.std.specs.Prelude.{◌==◌, ◌&&◌, ◌||◌, is_some, nat_lt, not}
+use Rattle.std.proofs.Common.{◌≡◌, ◌≢◌, Bor, ℕ, ◌+◌, ◌<◌, ◌≤◌, Bool, true, false, cond, inl, inr, List, Option, Some, None, refl, sym, ap, subst, ◌∙◌, arith}
+use Rattle.std.specs.Prelude.{◌==◌, ◌&&◌, ◌||◌, is_some, nat_eq, nat_lt, not}
 use Rattle.std.specs.declared.cmp.Ordering.{Ordering}
 use Rattle.std.specs.declared.cmp.Ordering.TheVariants.{Less, Equal, Greater}
 use Rattle.std.specs.Ordering.{is_eq, is_gt, nat_cmp, ordering_reverse, ordering_then}
@@ -8,6 +8,7 @@ use Rattle.std.specs.Cmp.{IsTotalOrder}
 use Rattle.std.specs.BTreeMap.{insert_entry, is_at}
 use Rattle.std.specs.BTreeSet.{BTreeSet, IsEmpty, contains}
 use Rattle.std.specs.List.{list_any}
+use Rattle.std.specs.Option.{IfSome, option_copied, option_eq}
 use Rattle.std.proofs.lemmas.Bool.Decides.{nat_tests}
 use Rattle.std.proofs.lemmas.Cmp.{nat_cmp_total, on_total, then_total}
 use Rattle.std.proofs.lemmas.Map.Lookups.{CmpEqualImpliesEq}
@@ -83,6 +84,17 @@ or_other true false c apart = refl
 or_other false true c apart = refl
 or_other false false c apart = refl
 
+of_not : (b : Bool) → false ≡ not b → b ≡ true
+of_not true e = refl
+of_not false e = absurd cc
+
+-- times that a test tells to be the same
+pub same_times : (from to : Option ℕ) → false ≡ not (option_eq nat_eq from to) → from ≡ to
+same_times None None e = refl
+same_times None (Some to) e = absurd cc
+same_times (Some from) None e = absurd cc
+same_times (Some from) (Some to) e = ap Some (same_is from to (of_not (nat_eq from to) e))
+
 time_is : (end : Option ℕ) (time : ℕ) → is_time end time ≡ true → end ≡ Some time
 time_is None time e = absurd cc
 time_is (Some end) time e = ap Some (same_is end time e)
@@ -97,6 +109,13 @@ not_before later time rest not_less = by (nat_lt later time) refl
 pub few_more : (old : Option Row) (before after limit : ℕ) → after ≡ before + cond (is_some old) 0 1 → (old ≡ None → before < limit) → before ≤ limit → after ≤ limit
 few_more None before after limit is room few = let more = room refl in omega (arith, is, more)
 few_more (Some row) before after limit is room few = omega (arith, is, few)
+
+pub no_more : (before after fewer limit : ℕ) → after + fewer ≡ before → before ≤ limit → after ≤ limit
+no_more before after fewer limit is few = omega (arith, is, few)
+
+pub copied_if : {X : Type 0} (P : X → Type 0) (lent : Option (Bor X)) (copied : Option X) → copied ≡ option_copied lent → IfSome lent (λ x. P x.now) → IfSome copied P
+copied_if {X = X} P None copied is all = subst (λ (o : Option X). IfSome o P) (sym is) tt
+copied_if {X = X} P (Some x) copied is all = subst (λ (o : Option X). IfSome o P) (sym is) all
 
 -- ---- the queue
 
