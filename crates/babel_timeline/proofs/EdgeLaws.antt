@@ -3,7 +3,7 @@ use Rattle.std.proofs.Common.{◌≡◌, ◌≢◌, ℕ, Bool, true, false, cond
 use Rattle.std.specs.Prelude.{◌==◌, IsSome, is_some, nat_lt}
 use Rattle.std.specs.declared.cmp.Ordering.{Ordering}
 use Rattle.std.specs.declared.cmp.Ordering.TheVariants.{Less, Equal, Greater}
-use Rattle.std.specs.declared.ops.bounds.Bound.TheVariants.{Included, Unbounded}
+use Rattle.std.specs.declared.ops.Bound.TheVariants.{Included, Unbounded}
 use Rattle.std.specs.Ordering.{is_gt, is_lt, nat_cmp, ordering_reverse, ordering_then}
 use Rattle.std.specs.Cmp.{IsTotalOrder}
 use Rattle.std.specs.BTreeMap.{BTreeMap, get}
@@ -92,8 +92,8 @@ to_greatest {R = R} total m most range last rest is whole other le held =
 -- ---- the subjects of a sender
 
 not_some : (row : Option Row) → ¬ IsSome row → row ≡ None
-not_some None no = refl
-not_some (Some row) no = absurd (no refl)
+not_some None without = refl
+not_some (Some row) without = absurd (without refl)
 
 module _ {S : Type 0} (cmp : S → S → Ordering) (total : IsTotalOrder cmp) (exact : CmpEqualImpliesEq cmp) where
   own_le : (sender : S) (key other : RouteKey) → IsLeBy key_cmp key other → IsLeBy (subject_cmp cmp) (subject_of sender key) (subject_of sender other)
