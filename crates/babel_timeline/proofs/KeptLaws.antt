@@ -1,5 +1,5 @@
 -- The queue of a timeline, as its rows change.
-use Rattle.std.proofs.Common.{◌≡◌, ◌≢◌, Bor, ℕ, ◌+◌, ◌<◌, ◌≤◌, Bool, true, false, cond, inl, inr, List, Option, Some, None, refl, sym, ap, subst, ◌∙◌, arith}
+use Rattle.std.proofs.Common.{◌≡◌, Bor, ℕ, ◌+◌, ◌<◌, ◌≤◌, Bool, true, false, cond, inl, inr, List, Option, Some, None, refl, sym, ap, subst, ◌∙◌, arith}
 use Rattle.std.specs.Prelude.{◌==◌, ◌&&◌, ◌||◌, is_some, nat_eq, nat_lt, not}
 use Rattle.std.specs.declared.cmp.Ordering.{Ordering}
 use Rattle.std.specs.declared.cmp.Ordering.TheVariants.{Less, Equal, Greater}
@@ -14,12 +14,11 @@ use Rattle.std.proofs.lemmas.Cmp.{nat_cmp_total, on_total, then_total}
 use Rattle.std.proofs.lemmas.Map.Lookups.{CmpEqualImpliesEq}
 use Rattle.babel_tlv.specs.Keys.{key_cmp}
 use Rattle.babel_tlv.proofs.OrderLaws.{key_total}
-use Rattle.babel_table.specs.Moments.{When}
 use Rattle.babel_timeline.specs.declared.queue.Expiry.{Expiry}
 use Rattle.babel_timeline.specs.declared.row.Row.{Row}
 use Rattle.babel_timeline.specs.declared.subject.Subject.{Subject}
-use Rattle.babel_timeline.specs.Kept.{IsKept, expiring, is_due, is_expiry, is_time}
-use Rattle.babel_timeline.specs.Rows.{AllLast, Ends, EndsFirst, Rows, end_at, end_of, expiry_cmp, expiry_of, row_at, subject_cmp, subject_of}
+use Rattle.babel_timeline.specs.Kept.{expiring, is_due, is_expiry, is_time}
+use Rattle.babel_timeline.specs.Rows.{AllLast, Ends, EndsFirst, Rows, end_at, end_of, expiry_cmp, expiry_of, row_at, subject_cmp}
 use Rattle.babel_timeline.proofs.Subjects.{Becomes, becomes_cases, becomes_inserted, same_of, same_self}
 
 -- ---- tests
@@ -62,10 +61,6 @@ and_swap true false = refl
 and_swap false true = refl
 and_swap false false = refl
 
-and_first : (a b : Bool) → a && b ≡ true → a ≡ true
-and_first true b e = refl
-and_first false b e = absurd cc
-
 cond_or : (a b : Bool) → cond a true b ≡ a || b
 cond_or true b = refl
 cond_or false b = refl
@@ -77,12 +72,6 @@ cond_and false b = refl
 or_self : (a b : Bool) → a || b ≡ a || (not a && b)
 or_self true b = refl
 or_self false b = refl
-
-or_other : (a b c : Bool) → (a ≡ true → b ≡ true → ⊥) → not a && (b || c) ≡ b || (not a && c)
-or_other true true c apart = absurd (apart refl refl)
-or_other true false c apart = refl
-or_other false true c apart = refl
-or_other false false c apart = refl
 
 of_not : (b : Bool) → false ≡ not b → b ≡ true
 of_not true e = refl
@@ -163,15 +152,6 @@ module _ {S : Type 0} (cmp : S → S → Ordering) where
       → now ≡ is_expiry cmp subject to other || (not (is_expiry cmp subject from other) && was)
   same_law subject from to other was now same is =
       is ∙ or_self (is_expiry cmp subject to other) was ∙ ap (λ (t : Option ℕ). is_expiry cmp subject to other || (not (is_expiry cmp subject t other) && was)) (sym same)
-
-  -- moved to another time
-  pub other_law : (subject : Subject S) (from to : Option ℕ) (other : Expiry S) (was between now : Bool) → from ≢ to → between ≡ is_expiry cmp subject to other || was
-      → now ≡ not (is_expiry cmp subject from other) && between → now ≡ is_expiry cmp subject to other || (not (is_expiry cmp subject from other) && was)
-  other_law subject from to other was between now apart put taken =
-      let at_once : is_expiry cmp subject from other ≡ true → is_expiry cmp subject to other ≡ true → ⊥ = λ a b. apart
-      (time_is from other.time (and_first (is_time from other.time) (is_at (subject_cmp cmp subject) (expiring other)) a)
-      ∙ sym (time_is to other.time (and_first (is_time to other.time) (is_at (subject_cmp cmp subject) (expiring other)) b))) in
-      taken ∙ ap (λ (b : Bool). not (is_expiry cmp subject from other) && b) put ∙ or_other (is_expiry cmp subject from other) (is_expiry cmp subject to other) was at_once
 
   -- ---- rows that change
 

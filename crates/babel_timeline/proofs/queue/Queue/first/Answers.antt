@@ -1,5 +1,5 @@
 -- The first of the set, which no other is before.
-use Rattle.std.proofs.Common.{◌≡◌, true, IfSome}
+use Rattle.std.proofs.Common.{◌≡◌, true}
 use Rattle.std.proofs.lemmas.Option.{IfSome_then}
 use Rattle.std.specs.declared.cmp.Ordering.TheVariants.{Less}
 use Rattle.std.specs.BTreeSet.{contains}

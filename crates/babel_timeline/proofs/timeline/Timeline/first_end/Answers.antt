@@ -5,7 +5,8 @@ use Rattle.babel_timeline.proofs.timeline.Timeline.first_end.Goals as goal
 pub returns-in_err-first-clause-none : goal.returns-in_err-first-clause-none
 returns-in_err-first-clause-none g c =
     rw (c.from_residual.ensures, ← c.self.view_is)
-    (none_ends g.S.Ord.cmp g.met.S.Ord.total g.met.S.Sender.exact c.self.inside.factor c.args.until c.self.inside.rows.entries c.self.inside.queue.expiries c.self.invariant.queued c.in_err-first.ensures.none)
+    (none_ends g.S.Ord.cmp g.met.S.Ord.total g.met.S.Sender.exact c.self.inside.factor c.args.until c.self.inside.rows.entries c.self.inside.queue.expiries
+    c.self.invariant.queued c.in_err-first.ensures.none)
 
 pub returns-then-first-until-clause-first : goal.returns-then-first-until-clause-first
 returns-then-first-until-clause-first g c =
