@@ -8,30 +8,27 @@ use Rattle.std.specs.Cmp.{IsTotalOrder}
 use Rattle.std.specs.BTreeMap.{insert_entry, is_at}
 use Rattle.std.specs.List.{AllByRecursion}
 use Rattle.std.specs.List.Sorted.{IsStrictlySortedBy}
-use Rattle.std.specs.Map.{keys_of}
 use Rattle.std.specs.Option.{option_map}
 use Rattle.std.proofs.lemmas.List.{append-nil}
 use Rattle.std.proofs.lemmas.List.Sums.{fold-append}
 use Rattle.std.proofs.lemmas.Map.Lookups.{CmpEqualImpliesEq}
 use Rattle.babel_prefix.proofs.Insertion.{is_at-sym, sorted-insert}
-use Rattle.babel_tlv.specs.declared.event.Event.{Event}
 use Rattle.babel_tlv.specs.declared.event.Event.TheVariants as events
-use Rattle.babel_tlv.specs.declared.held.Held.TheVariants as helds
 use Rattle.babel_tlv.specs.Route.{RouteKey, Announcement}
 use Rattle.babel_tlv.specs.Keys.{key_cmp}
-use Rattle.babel_table.specs.Moments.{HasPassed, IsLastTold, Lasts, SpeaksOf, Told, When}
+use Rattle.babel_table.specs.Moments.{HasPassed, IsLastTold, SpeaksOf, Told, When}
 use Rattle.babel_table.proofs.Entries.{sorted-remove}
 use Rattle.babel_timeline.specs.declared.change.Change.{Change}
 use Rattle.babel_timeline.specs.declared.change.ChangeKind.TheVariants as kinds
 use Rattle.babel_timeline.specs.declared.row.Row.{Row}
 use Rattle.babel_timeline.specs.declared.subject.Subject.{Subject}
-use Rattle.babel_timeline.specs.Accounts.{EachTurns, HasEnded, IsAccount, IsHeldAt, IsLeaving, Said, Turns, said, said_by, says}
+use Rattle.babel_timeline.specs.Accounts.{EachTurns, HasEnded, IsAccount, IsLeaving, Said, Turns, said, said_by, says}
 use Rattle.babel_timeline.specs.Changes.{TellsAnnouncement, change, held_after, told_by}
 use Rattle.babel_timeline.specs.Laws as laws
 use Rattle.babel_timeline.specs.Rows.{AllLast, Ends, Rows, end_of, row_at, subject_cmp, subject_of}
 use Rattle.babel_timeline.proofs.KeptLaws.{below_is, is_below, not_before}
-use Rattle.babel_timeline.proofs.LastLaws.{IsInner, Speaks, all_more, new_more, quiet_more, sender_or, sender_same, snoc_split, split_more}
-use Rattle.babel_timeline.proofs.Subjects.{Becomes, becomes_cases, becomes_inserted, becomes_removed, same_of, same_self, subject_total}
+use Rattle.babel_timeline.proofs.LastLaws.{Speaks, all_more, new_more, quiet_more, sender_or, sender_same, snoc_split, split_more}
+use Rattle.babel_timeline.proofs.Subjects.{Becomes, becomes_cases, becomes_inserted, becomes_removed, same_of, subject_total}
 
 -- ---- when something ends
 

@@ -1,20 +1,15 @@
 -- The first and the last subjects of a sender.
-use Rattle.std.proofs.Common.{◌≡◌, ◌≢◌, ℕ, Bool, true, false, cond, List, [], ◌∷◌, ◌++◌, Option, Some, None, refl, sym, ap, subst, ◌∙◌, arith}
-use Rattle.std.specs.Prelude.{◌==◌, IsSome, is_some, nat_lt}
+use Rattle.std.proofs.Common.{◌≡◌, true, false, List, [], ◌∷◌, ◌++◌, Option, Some, None, refl, sym, ap, subst, ◌∙◌}
+use Rattle.std.specs.Prelude.{IsSome}
 use Rattle.std.specs.declared.cmp.Ordering.{Ordering}
 use Rattle.std.specs.declared.cmp.Ordering.TheVariants.{Less, Equal, Greater}
-use Rattle.std.specs.declared.ops.bounds.Bound.TheVariants.{Included, Unbounded}
-use Rattle.std.specs.Ordering.{is_gt, is_lt, nat_cmp, ordering_reverse, ordering_then}
+use Rattle.std.specs.declared.ops.Bound.TheVariants.{Included, Unbounded}
+use Rattle.std.specs.Ordering.{is_gt, is_lt, ordering_reverse, ordering_then}
 use Rattle.std.specs.Cmp.{IsTotalOrder}
 use Rattle.std.specs.BTreeMap.{BTreeMap, get}
 use Rattle.std.specs.BTreeMap.Range.{IsLeBy, IsRangeOf}
-use Rattle.std.proofs.lemmas.Bool.Decides.{nat_tests}
 use Rattle.std.proofs.lemmas.Cmp.{tied_itself}
 use Rattle.std.proofs.lemmas.Map.Lookups.{CmpEqualImpliesEq}
-use Rattle.babel_prefix.specs.declared.family.Family.{Family}
-use Rattle.babel_prefix.specs.declared.family.Family.TheVariants.{V4, V6}
-use Rattle.babel_prefix.specs.Address.{AddressPrefix, whole_family}
-use Rattle.babel_prefix.specs.Order.{family_cmp, prefix_cmp}
 use Rattle.babel_tlv.specs.Route.{RouteKey}
 use Rattle.babel_tlv.specs.Keys.{key_cmp}
 use Rattle.babel_timeline.specs.declared.row.Row.{Row}
@@ -28,56 +23,7 @@ gt_then Less b e f = refl
 gt_then Equal b e f = f
 gt_then Greater b e f = absurd cc
 
-zero_same : (n : ℕ) → nat_lt 0 n ≡ false → (0 == n) ≡ true
-zero_same n e = grind (arith, nat_tests)
-
-zero_least : (n : ℕ) → is_gt (nat_cmp 0 n) ≡ false
-zero_least n = by (nat_lt 0 n) (0 == n) refl refl
-  where
-    by : (below same : Bool) → nat_lt 0 n ≡ below → (0 == n) ≡ same → is_gt (cond below Less (cond same Equal Greater)) ≡ false
-    by true same e f = refl
-    by false true e f = refl
-    by false false e f = absurd (let t = zero_same n e in cc)
-
-family_least : (family : Family) → is_gt (family_cmp V4 family) ≡ false
-family_least V4 = refl
-family_least V6 = refl
-
-prefix_least : (prefix : AddressPrefix) → is_gt (prefix_cmp (whole_family V4) prefix) ≡ false
-prefix_least prefix =
-    gt_then (ordering_then (family_cmp V4 prefix.address.family) (nat_cmp 0 prefix.address.bits)) (nat_cmp 0 prefix.len)
-    (gt_then (family_cmp V4 prefix.address.family) (nat_cmp 0 prefix.address.bits) (family_least prefix.address.family) (zero_least prefix.address.bits)) (zero_least prefix.len)
-
--- no key is before this one
-pub key_least : (least : RouteKey) → least ≡ record { dst = whole_family V4; src = whole_family V4 } → (key : RouteKey) → IsLeBy key_cmp least key
-key_least least is key =
-    subst (λ (k : RouteKey). IsLeBy key_cmp k key) (sym is)
-    (gt_then (prefix_cmp (whole_family V4) key.dst) (prefix_cmp (whole_family V4) key.src) (prefix_least key.dst) (prefix_least key.src))
-
 -- ---- ranges
-
-module _ {K X : Type 0} (R : K → K → Ordering) where
-  pub from_none : (m : BTreeMap K X) (from : K) (range : List (K × X)) → IsRangeOf R (Included from) Unbounded m range → range ≡ [] → (other : K) → IsLeBy R from other → get R m other ≡ None
-  from_none m from range is empty other le = is.5 empty other (le, tt)
-
-  pub from_some : (m : BTreeMap K X) (from : K) (range : List (K × X)) (first : K × X) (rest : List (K × X)) → IsRangeOf R (Included from) Unbounded m range → range ≡ first ∷ rest
-      → IsLeBy R from first.0 × IsSome (get R m first.0)
-  from_some m from range first rest is whole =
-      let now : IsRangeOf R (Included from) Unbounded m (first ∷ rest) = subst (λ (r : List (K × X)). IsRangeOf R (Included from) Unbounded m r) whole is in
-      (now.1.0.0, ap is_some now.1.1)
-
-  pub from_least : (m : BTreeMap K X) (from : K) (range : List (K × X)) (first : K × X) (rest : List (K × X)) → IsRangeOf R (Included from) Unbounded m range → range ≡ first ∷ rest
-      → (other : K) → IsLeBy R from other → IsSome (get R m other) → IsLeBy R first.0 other
-  from_least m from range first rest is whole other le held =
-      let now : IsRangeOf R (Included from) Unbounded m (first ∷ rest) = subst (λ (r : List (K × X)). IsRangeOf R (Included from) Unbounded m r) whole is in
-      now.2 other (le, tt) held
-
-  pub to_none : (m : BTreeMap K X) (most : K) (range : List (K × X)) → IsRangeOf R Unbounded (Included most) m range → range ≡ [] → (other : K) → IsLeBy R other most → get R m other ≡ None
-  to_none m most range is empty other le = is.5 empty other (tt, le)
-
-  pub to_some : (m : BTreeMap K X) (most : K) (range : List (K × X)) (last : K × X) (rest : List (K × X)) → IsRangeOf R Unbounded (Included most) m range → range ≡ rest ++ last ∷ []
-      → IsLeBy R last.0 most × (get R m last.0 ≡ Some last.1)
-  to_some m most range last rest is whole = let here = is.3 last rest whole in (here.0.1, here.1)
 
 lt_turned : (a b : Ordering) → a ≡ ordering_reverse b → is_lt b ≡ false → is_gt a ≡ false
 lt_turned a Less e f = absurd cc
@@ -92,8 +38,8 @@ to_greatest {R = R} total m most range last rest is whole other le held =
 -- ---- the subjects of a sender
 
 not_some : (row : Option Row) → ¬ IsSome row → row ≡ None
-not_some None no = refl
-not_some (Some row) no = absurd (no refl)
+not_some None without = refl
+not_some (Some row) without = absurd (without refl)
 
 module _ {S : Type 0} (cmp : S → S → Ordering) (total : IsTotalOrder cmp) (exact : CmpEqualImpliesEq cmp) where
   own_le : (sender : S) (key other : RouteKey) → IsLeBy key_cmp key other → IsLeBy (subject_cmp cmp) (subject_of sender key) (subject_of sender other)

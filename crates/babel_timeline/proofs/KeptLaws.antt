@@ -1,6 +1,6 @@
 -- The queue of a timeline, as its rows change.
-use Rattle.std.proofs.Common.{◌≡◌, ◌≢◌, ℕ, ◌+◌, ◌<◌, ◌≤◌, Bool, true, false, cond, inl, inr, List, Option, Some, None, refl, sym, ap, subst, ◌∙◌, arith}
-use Rattle.std.specs.Prelude.{◌==◌, ◌&&◌, ◌||◌, is_some, nat_lt, not}
+use Rattle.std.proofs.Common.{◌≡◌, Bor, ℕ, ◌+◌, ◌<◌, ◌≤◌, Bool, true, false, cond, inl, inr, List, Option, Some, None, refl, sym, ap, subst, ◌∙◌, arith}
+use Rattle.std.specs.Prelude.{◌==◌, ◌&&◌, ◌||◌, is_some, nat_eq, nat_lt, not}
 use Rattle.std.specs.declared.cmp.Ordering.{Ordering}
 use Rattle.std.specs.declared.cmp.Ordering.TheVariants.{Less, Equal, Greater}
 use Rattle.std.specs.Ordering.{is_eq, is_gt, nat_cmp, ordering_reverse, ordering_then}
@@ -8,17 +8,17 @@ use Rattle.std.specs.Cmp.{IsTotalOrder}
 use Rattle.std.specs.BTreeMap.{insert_entry, is_at}
 use Rattle.std.specs.BTreeSet.{BTreeSet, IsEmpty, contains}
 use Rattle.std.specs.List.{list_any}
+use Rattle.std.specs.Option.{IfSome, option_copied, option_eq}
 use Rattle.std.proofs.lemmas.Bool.Decides.{nat_tests}
 use Rattle.std.proofs.lemmas.Cmp.{nat_cmp_total, on_total, then_total}
 use Rattle.std.proofs.lemmas.Map.Lookups.{CmpEqualImpliesEq}
 use Rattle.babel_tlv.specs.Keys.{key_cmp}
 use Rattle.babel_tlv.proofs.OrderLaws.{key_total}
-use Rattle.babel_table.specs.Moments.{When}
 use Rattle.babel_timeline.specs.declared.queue.Expiry.{Expiry}
 use Rattle.babel_timeline.specs.declared.row.Row.{Row}
 use Rattle.babel_timeline.specs.declared.subject.Subject.{Subject}
-use Rattle.babel_timeline.specs.Kept.{IsKept, expiring, is_due, is_expiry, is_time}
-use Rattle.babel_timeline.specs.Rows.{AllLast, Ends, EndsFirst, Rows, end_at, end_of, expiry_cmp, expiry_of, row_at, subject_cmp, subject_of}
+use Rattle.babel_timeline.specs.Kept.{expiring, is_due, is_expiry, is_time}
+use Rattle.babel_timeline.specs.Rows.{AllLast, Ends, EndsFirst, Rows, end_at, end_of, expiry_cmp, expiry_of, row_at, subject_cmp}
 use Rattle.babel_timeline.proofs.Subjects.{Becomes, becomes_cases, becomes_inserted, same_of, same_self}
 
 -- ---- tests
@@ -61,10 +61,6 @@ and_swap true false = refl
 and_swap false true = refl
 and_swap false false = refl
 
-and_first : (a b : Bool) → a && b ≡ true → a ≡ true
-and_first true b e = refl
-and_first false b e = absurd cc
-
 cond_or : (a b : Bool) → cond a true b ≡ a || b
 cond_or true b = refl
 cond_or false b = refl
@@ -77,11 +73,16 @@ or_self : (a b : Bool) → a || b ≡ a || (not a && b)
 or_self true b = refl
 or_self false b = refl
 
-or_other : (a b c : Bool) → (a ≡ true → b ≡ true → ⊥) → not a && (b || c) ≡ b || (not a && c)
-or_other true true c apart = absurd (apart refl refl)
-or_other true false c apart = refl
-or_other false true c apart = refl
-or_other false false c apart = refl
+of_not : (b : Bool) → false ≡ not b → b ≡ true
+of_not true e = refl
+of_not false e = absurd cc
+
+-- times that a test tells to be the same
+pub same_times : (from to : Option ℕ) → false ≡ not (option_eq nat_eq from to) → from ≡ to
+same_times None None e = refl
+same_times None (Some to) e = absurd cc
+same_times (Some from) None e = absurd cc
+same_times (Some from) (Some to) e = ap Some (same_is from to (of_not (nat_eq from to) e))
 
 time_is : (end : Option ℕ) (time : ℕ) → is_time end time ≡ true → end ≡ Some time
 time_is None time e = absurd cc
@@ -97,6 +98,13 @@ not_before later time rest not_less = by (nat_lt later time) refl
 pub few_more : (old : Option Row) (before after limit : ℕ) → after ≡ before + cond (is_some old) 0 1 → (old ≡ None → before < limit) → before ≤ limit → after ≤ limit
 few_more None before after limit is room few = let more = room refl in omega (arith, is, more)
 few_more (Some row) before after limit is room few = omega (arith, is, few)
+
+pub no_more : (before after fewer limit : ℕ) → after + fewer ≡ before → before ≤ limit → after ≤ limit
+no_more before after fewer limit is few = omega (arith, is, few)
+
+pub copied_if : {X : Type 0} (P : X → Type 0) (lent : Option (Bor X)) (copied : Option X) → copied ≡ option_copied lent → IfSome lent (λ x. P x.now) → IfSome copied P
+copied_if {X = X} P None copied is all = subst (λ (o : Option X). IfSome o P) (sym is) tt
+copied_if {X = X} P (Some x) copied is all = subst (λ (o : Option X). IfSome o P) (sym is) all
 
 -- ---- the queue
 
@@ -144,15 +152,6 @@ module _ {S : Type 0} (cmp : S → S → Ordering) where
       → now ≡ is_expiry cmp subject to other || (not (is_expiry cmp subject from other) && was)
   same_law subject from to other was now same is =
       is ∙ or_self (is_expiry cmp subject to other) was ∙ ap (λ (t : Option ℕ). is_expiry cmp subject to other || (not (is_expiry cmp subject t other) && was)) (sym same)
-
-  -- moved to another time
-  pub other_law : (subject : Subject S) (from to : Option ℕ) (other : Expiry S) (was between now : Bool) → from ≢ to → between ≡ is_expiry cmp subject to other || was
-      → now ≡ not (is_expiry cmp subject from other) && between → now ≡ is_expiry cmp subject to other || (not (is_expiry cmp subject from other) && was)
-  other_law subject from to other was between now apart put taken =
-      let at_once : is_expiry cmp subject from other ≡ true → is_expiry cmp subject to other ≡ true → ⊥ = λ a b. apart
-      (time_is from other.time (and_first (is_time from other.time) (is_at (subject_cmp cmp subject) (expiring other)) a)
-      ∙ sym (time_is to other.time (and_first (is_time to other.time) (is_at (subject_cmp cmp subject) (expiring other)) b))) in
-      taken ∙ ap (λ (b : Bool). not (is_expiry cmp subject from other) && b) put ∙ or_other (is_expiry cmp subject from other) (is_expiry cmp subject to other) was at_once
 
   -- ---- rows that change
 
