@@ -1,10 +1,8 @@
 -- What is held for a key at a moment, word by word.
 use Rattle.std.proofs.Common.{◌≡◌, ℕ, Bool, true, false, cond, List, [], ◌∷◌, Option, Some, None, refl, sym, ap, subst, ◌∙◌}
 use Rattle.std.specs.Prelude.{fold, is_none}
-use Rattle.std.specs.List.{AllByRecursion}
 use Rattle.std.specs.List.Sorted.{IsStrictlySortedBy}
 use Rattle.std.specs.Option.{option_and_then, option_map}
-use Rattle.std.specs.declared.cmp.Ordering.TheVariants.{Less}
 use Rattle.std.specs.Map.{keys_of, lookup}
 use Rattle.std.specs.BTreeMap.{is_at}
 use Rattle.std.proofs.lemmas.Cmp.{eq_by_cmp_equiv}
@@ -22,52 +20,10 @@ use Rattle.babel_tlv.specs.Keys.{key_cmp}
 use Rattle.babel_tlv.proofs.OrderLaws.{key_total}
 use Rattle.babel_table.specs.Moments.{AreRowsAt, Told, When, Word, last_word, left_at, word, word_after}
 use Rattle.babel_table.specs.Rows.{IsRising}
-use Rattle.babel_table.specs.Words.{TimedRows, after_all, after_event, after_told, replaced, rows_at, wiped, with_value}
+use Rattle.babel_table.specs.Words.{TimedRows, after_all, after_event, after_told, rows_at, wiped}
 use Rattle.babel_table.proofs.Entries.{lookup-remove, sorted-remove}
-use Rattle.babel_table.proofs.HoldsLaws.{same, same-is, same_key-is}
-
--- ---- rows with other values
-
-abbrev IsBelow : {W : Type 0} → RouteKey → List (RouteKey × W) → Type 0
-IsBelow key rows = AllByRecursion (λ other. key_cmp key other ≡ Less) (keys_of rows)
-
-absent-above : {V : Type 0} (key : RouteKey) (rows : List (RouteKey × V)) → IsBelow key rows → lookup (is_at (key_cmp key)) rows ≡ None
-absent-above key [] below = refl
-absent-above key (row ∷ rows) below = rw below.0 (absent-above key rows below.1)
-
-module _ {V W : Type 0} (f : V → Option W) where
-  below-replaced : (key : RouteKey) (rows : List (RouteKey × V)) → IsBelow key rows → IsBelow key (replaced f rows)
-  below-replaced key [] below = tt
-  below-replaced key (row ∷ rows) below = by (below-replaced key rows below.1) (f row.1)
-    where
-      by : IsBelow key (replaced f rows) → (o : Option W) → IsBelow key (with_value row.0 o (replaced f rows))
-      by again None = again
-      by again (Some value) = (below.0, again)
-
-  pub rising-replaced : (rows : List (RouteKey × V)) → IsRising rows → IsRising (replaced f rows)
-  unfolding IsStrictlySortedBy
-  rising-replaced [] rising = tt
-  rising-replaced (row ∷ rows) rising = by (rising-replaced rows rising.1) (f row.1)
-    where
-      by : IsRising (replaced f rows) → (o : Option W) → IsRising (with_value row.0 o (replaced f rows))
-      by again None = again
-      by again (Some value) = (below-replaced row.0 rows rising.0, again)
-
-  pub lookup-replaced : (key : RouteKey) (rows : List (RouteKey × V)) → IsRising rows
-      → lookup (is_at (key_cmp key)) (replaced f rows) ≡ option_and_then f (lookup (is_at (key_cmp key)) rows)
-  unfolding IsStrictlySortedBy
-  lookup-replaced key [] rising = refl
-  lookup-replaced key (row ∷ rows) rising = by (lookup-replaced key rows rising.1) (same key row.0) refl (f row.1) refl
-    where
-      none : same key row.0 ≡ true → lookup (is_at (key_cmp key)) rows ≡ None
-      none is = absent-above key rows (subst (λ (k : RouteKey). IsBelow k rows) (sym (same-is key row.0 is)) rising.0)
-
-      by : lookup (is_at (key_cmp key)) (replaced f rows) ≡ option_and_then f (lookup (is_at (key_cmp key)) rows) → (b : Bool) → same key row.0 ≡ b → (o : Option W) → f row.1 ≡ o
-          → lookup (is_at (key_cmp key)) (with_value row.0 o (replaced f rows)) ≡ option_and_then f (cond b (Some row.1) (lookup (is_at (key_cmp key)) rows))
-      by again true is None gives = again ∙ ap (option_and_then f) (none is) ∙ sym gives
-      by again true is (Some value) gives = rw is (sym gives)
-      by again false is None gives = again
-      by again false is (Some value) gives = rw is again
+use Rattle.babel_table.proofs.HoldsLaws.{same-is, same_key-is}
+use Rattle.babel_table.proofs.ReplacedLaws.{lookup-replaced, rising-replaced}
 
 -- ---- one word more
 

@@ -43,7 +43,7 @@ abbrev pub no_when : When
 no_when = record { time = 0; interval = 0 }
 
 abbrev pub no_wiping : Wiping
-no_wiping = record { firsts = []; due = false; gone = 0; last = no_when }
+no_wiping = record { firsts = []; due = false; gone = 1; last = no_when }
 
 -- the first retraction of all after a mark
 abbrev pub first_after : ℕ → List (ℕ × When) → Option When
@@ -70,6 +70,7 @@ pub record IsMark (old new : Timing) (last mark : ℕ) : Type 0 where
   pub wiping : old.runs ≡ true → new.wiping ≡ record old.wiping { due = true }
   pub past : last ≤ mark
   pub near : mark ≤ last + 1
+  pub fresh : old.runs ≡ true → old.wiping.due ≡ false → mark ≡ last + 1
   pub counted : old.runs ≡ true → mark ≡ length new.stamps
   pub now : old.runs ≡ true → when_at new.stamps mark ≡ old.when
   pub others : (other : ℕ) → other ≤ last → when_at new.stamps other ≡ when_at old.stamps other

@@ -42,8 +42,8 @@ impl Model for Clock {
     } };
 
     ghost invariant = { λ c. (c.time < 2 ^ 96) × (c.is_stamped ≡ true
-        → when_at c.stamps.items (length c.stamps.items)
-        ≡ record { time = c.time; interval = c.interval }) };
+        → (c.wipes.due ≡ true) × (when_at c.stamps.items (length c.stamps.items)
+        ≡ record { time = c.time; interval = c.interval })) };
 }
 
 impl Clock {

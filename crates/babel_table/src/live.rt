@@ -30,7 +30,8 @@ use std::marker::Model;
 pub struct LiveRows {
     mode: Mode,
     entries: u32,
-    /// What has a mark below this was said before all was retracted.
+    /// What has a mark below this was said before all was retracted. Where times are kept, marks
+    /// begin at 1.
     wipes: u64,
     /// The mark of what was said last.
     last: u64,
@@ -57,7 +58,7 @@ impl Model for LiveRows {
 
     ghost invariant = { λ r. AreKept r.last r.kept × (length r.kept ≤ r.entries)
         × (r.wipes ≤ r.last + 1)
-        × (r.clock.runs ≡ true → IsInTime r.mode r.clock r.wipes r.last) };
+        × (r.clock.runs ≡ true → IsInTime r.clock r.wipes r.last) };
 }
 
 impl LiveRows {
@@ -101,7 +102,7 @@ impl LiveRows {
         LiveRows {
             mode,
             entries,
-            wipes: 0,
+            wipes: 1,
             last: 0,
             kept: KeptRows::new(alloc, seed),
             clock: Clock::new(alloc, true, factor),
@@ -152,6 +153,7 @@ impl LiveRows {
         ensures rows { self.new.rows ≡ remove_entry (is_at (key_cmp key.now)) self.old.rows }
         ensures words { self.new.words ≡ remove_entry (is_at (key_cmp key.now)) self.old.words }
     {
+        self.are_rows();
         self.kept.forget(key);
     }
 

@@ -34,7 +34,7 @@ pub struct Wipes {
     firsts: Vec<Wipe>,
     /// Whether a word was kept since the last one.
     is_due: bool,
-    /// What words with marks below this left is gone.
+    /// What words with marks below this left is gone. Marks begin at 1.
     gone: u64,
     /// The last one.
     last: Stamp,
@@ -68,7 +68,7 @@ impl Wipes {
         Wipes {
             firsts: Vec::new(alloc),
             is_due: false,
-            gone: 0,
+            gone: 1,
             last: Stamp::new(0, 0),
         }
     }
