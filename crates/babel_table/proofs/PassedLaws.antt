@@ -5,6 +5,7 @@ use mir.Val.{bool_byte}
 use Rattle.std.specs.Prelude.{not, count_by}
 use Rattle.std.proofs.lemmas.List.Sums.{count_by_more_no, count_by_more_yes}
 use Rattle.std.proofs.lemmas.List.{length-map}
+use Rattle.std.proofs.lemmas.List.Elements.{filter-append}
 use Rattle.std.proofs.lemmas.List.Recursion.{is_count_by}
 use Rattle.std.proofs.Math.Seq.{take-append_seam}
 use Rattle.std.specs.List.{AllByRecursion, IsDistinct, filter}
@@ -15,7 +16,7 @@ use Rattle.std.specs.BTreeMap.{is_at}
 use Rattle.std.proofs.lemmas.Map.Made.{keys_of-map_values, lookup-map_values}
 use Rattle.babel_tlv.specs.Route.{RouteKey}
 use Rattle.babel_tlv.specs.Keys.{key_cmp}
-use Rattle.babel_table.specs.Live.{Kept}
+use Rattle.babel_table.specs.Live.{Asked, Kept, lasting, passes}
 use Rattle.babel_table.specs.Said.{AreCounted, AreDistinct, AreIndexed, Places, Words, is_said, said_as, said_count, say, standing}
 use Rattle.babel_table.specs.Words.{replaced}
 use Rattle.babel_table.proofs.ReplacedLaws.{lookup-replaced, replaced-fewer, replaced-filter, rising-replaced}
@@ -55,7 +56,7 @@ module _ (test : Kept → Bool) where
       by true n = omega arith
       by false n = omega arith
 
-abbrev pub any : Kept → Bool
+abbrev any : Kept → Bool
 any said = true
 
 absent-found : (k : RouteKey) (ws : Words) → AllByRecursion (λ y. eq_by_cmp key_cmp k y ≡ false) (keys_of ws) → found k ws ≡ None
@@ -84,8 +85,16 @@ length-standing (w ∷ ws) distinct = by (length-standing ws distinct.1) w.1
         let same = none-unsaid (found w.0 (standing ws)) (length (say w.0 None (standing ws))) (length (standing ws)) none (length-unsaid w.0 (standing ws)) in
         omega (arith, same, again)
 
-pub count-standing : (ws : Words) → AreDistinct (keys_of ws) → said_count any ws ≡ length (standing ws)
-count-standing ws distinct = said-first any ws ∙ sym (length-standing ws distinct)
+some-first : (ws : Words) → count_by (λ w. is_some w.1) ws ≡ said_first any ws
+unfolding said_first
+some-first ws = sym (is_count_by (said_first any) (λ (w : RouteKey × Option Kept). is_some w.1) refl (λ w later. by w.1 (said_first any later)) ws)
+  where
+    by : (o : Option Kept) (n : ℕ) → one_if (is_said any o) + n ≡ cond (is_some o) (1 + n) n
+    by None n = omega arith
+    by (Some v) n = omega arith
+
+count-standing : (ws : Words) → AreDistinct (keys_of ws) → count_by (λ w. is_some w.1) ws ≡ length (standing ws)
+count-standing ws distinct = some-first ws ∙ sym (length-standing ws distinct)
 
 module _ (test : Kept → Bool) where
   unless : Kept → Option Kept
@@ -114,7 +123,7 @@ module _ (test : Kept → Bool) where
       let is : standing (said_as unless ws) ≡ filter (λ e. not (test e.1)) (standing ws) = standing-said unless ws ∙ replaced-filter test (standing ws) in
       omega (arith, said-first test ws, split-count ws, length-standing ws distinct, still, ap (λ (t : List (RouteKey × Kept)). length t) is)
 
-pub counted-said : (give : Kept → Option Kept) (n m : ℕ) (ws : Words) (rising : ℕ) (places : Places) → m ≡ said_count any (said_as give ws) → AreCounted n ws rising places
+pub counted-said : (give : Kept → Option Kept) (n m : ℕ) (ws : Words) (rising : ℕ) (places : Places) → m ≡ count_by (λ w. is_some w.1) (said_as give ws) → AreCounted n ws rising places
     → AreCounted m (said_as give ws) rising places
 counted-said give n m ws rising places is all =
     let keys : keys_of (said_as give ws) ≡ keys_of ws = keys_of-map_values (option_and_then give) ws in
@@ -149,8 +158,6 @@ changed-whole {A} f rows now was len now_is was_is long =
     let same : len ≡ length now = sym long ∙ sym (length-map was f) ∙ ap length (sym now_is) in
     ap (λ (n : ℕ). take n (now ++ drop (length now) rows)) same ∙ take-append_seam now (drop (length now) rows) ∙ now_is ∙ ap (λ (t : List A). map f t) was_is
 
-pub length-lasting : (stamps : List When) (factor moment : ℕ) (a b : List (RouteKey × Kept))
-    → length (lasting stamps factor moment (a ++ b)) ≡ length (lasting stamps factor moment a) + length (lasting stamps factor moment b)
-length-lasting stamps factor moment a b =
-    ap (λ (t : List (RouteKey × Kept)). length t) (filter-append (λ (e : RouteKey × Kept). is_lasting stamps factor moment e.1) a b)
-    ∙ length-append (lasting stamps factor moment a) (lasting stamps factor moment b)
+pub length-lasting : (asked : Asked) (a b : List (RouteKey × Kept)) → length (lasting asked (a ++ b)) ≡ length (lasting asked a) + length (lasting asked b)
+length-lasting asked a b =
+    ap (λ (t : List (RouteKey × Kept)). length t) (filter-append (λ (e : RouteKey × Kept). not (passes asked e.1)) a b) ∙ length-append (lasting asked a) (lasting asked b)

@@ -1,6 +1,8 @@
 ghost use Rattle.std.specs.Prelude.{◌≡◌, ◌<◌, ◌+◌, ◌^◌, ◌∷◌, ◌++◌, ◌↔◌, ◌⊎◌, if◌then◌else◌, []};
 ghost use Rattle.std.specs.Prelude.{IfErr, IfOk, IsTrue, MatchOption, MatchResult, None, OnErr};
-ghost use Rattle.std.specs.Prelude.{OnOk, Some, is_some, length, true};
+ghost use Rattle.std.specs.Prelude.{IfSome, OnOk, Some, count_by, is_some, length, true};
+ghost use Rattle.std.specs.Option.{option_and_then, option_map};
+ghost use Rattle.babel_tlv.specs.declared.held.Held.TheVariants as helds;
 ghost use Rattle.std.specs.List.Sorted.{IsPermutation, IsStrictlySortedBy};
 ghost use Rattle.std.specs.BTreeMap.{insert_entry, is_at};
 ghost use Rattle.std.specs.Map.{keys_of, lookup, remove_entry};
@@ -306,7 +308,7 @@ fn count_passed<W: Word, H: Hop>(rows: &[WordRow<W, H>], moment: &Moment<'_>) ->
 
 /// In how many rows something was said.
 fn count_said<W: Word, H: Hop>(rows: &[WordRow<W, H>]) -> usize
-    ensures { result ≡ said_count (λ said. true) rows.now }
+    ensures { result ≡ count_by (λ word. is_some word.1) rows.now }
 {
     let mut count = 0;
     for row in rows {
@@ -348,7 +350,7 @@ fn left<H: Hop>(said: &Option<Stored<H>>, moment: &Moment<'_>) -> Left
 
 /// Keeps that the key is unreachable, where something was said.
 fn retract<H: Hop>(said: &mut Option<Stored<H>>)
-    ensures { said.new ≡ option_map (λ stored. kept Held.Unreachable stored.mark) said.old }
+    ensures { said.new ≡ option_map (λ stored. kept helds.Unreachable stored.mark) said.old }
 {
     if let Some(stored) = said {
         stored.held = CompactHeld::of(Held::Unreachable);

@@ -143,7 +143,8 @@ impl LiveRows {
         } else {
             Some(Fault::TooManyRoutes { at })
         };
-        self.last = self.clock.mark(self.last)?.max(self.wipes);
+        let mark = self.clock.mark(self.last)?;
+        self.last = mark.max(self.wipes);
         self.kept.put(key, held, self.last, refusal)
     }
 
