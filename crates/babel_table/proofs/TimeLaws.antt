@@ -125,54 +125,53 @@ module _ (asked : Asked) where
   quiet true = refl
   quiet false = refl
 
-  passed-words : (es : List (RouteKey × Kept)) → length (lasting asked es) + length (words_of asked.timing asked.wipes es)
-      ≡ length es + length (lasting_words asked.timing.factor asked.time (words_of asked.timing asked.wipes es))
+  abbrev words : List (RouteKey × Kept) → TimedRows
+  words es = words_of asked.timing asked.wipes es
+
+  abbrev has : Kept → Bool
+  has said = has_passed asked.timing.factor asked.time (when_at asked.timing.stamps said.mark)
+
+  abbrev found : Kept → Option Held
+  found said = option_and_then (λ (first : When). left_at modes.Hold asked.timing.factor first.time (word_kept asked.timing said)) (first_after said.mark asked.timing.wiping.firsts)
+
+  abbrev old_word : Option Held → Option Word
+  old_word o = option_map (λ (held : Held). word asked.timing.wiping.last helds.Unreachable) o
+
+  -- so many pass, where the first row passes or not, and this is its word
+  abbrev Adds : RouteKey × Kept → List (RouteKey × Kept) → Bool → Option Word → Type 0
+  Adds e es p o = length (cond (not p) (e ∷ lasting asked es) (lasting asked es)) + length (with_value e.0 o (words es))
+      ≡ suc (length es) + length (lasting_words asked.timing.factor asked.time (with_value e.0 o (words es)))
+
+  abbrev AddUp : List (RouteKey × Kept) → Type 0
+  AddUp es = length (lasting asked es) + length (words es) ≡ length es + length (lasting_words asked.timing.factor asked.time (words es))
+
+  adds-kept : (e : RouteKey × Kept) (es : List (RouteKey × Kept)) → AddUp es → (p : Bool) → length (cond (not p) (e ∷ lasting asked es) (lasting asked es)) + suc (length (words es))
+      ≡ suc (length es) + length (cond (not p) ((e.0, word_kept asked.timing e.1) ∷ lasting_words asked.timing.factor asked.time (words es)) (lasting_words asked.timing.factor asked.time (words es)))
+  adds-kept e es again true = omega (arith, again)
+  adds-kept e es again false = omega (arith, again)
+
+  adds-stale : (e : RouteKey × Kept) (es : List (RouteKey × Kept)) → AddUp es → (gone : Bool) (o : Option Held) → Adds e es false (cond gone None (old_word o))
+  adds-stale e es again true o = omega (arith, again)
+  adds-stale e es again false None = omega (arith, again)
+  adds-stale e es again false (Some held) = omega (arith, again)
+
+  adds : (e : RouteKey × Kept) (es : List (RouteKey × Kept)) → AddUp es → (b : Bool) → nat_lt e.1.mark asked.wipes ≡ b → Adds e es (passes asked e.1) (word_of asked.timing asked.wipes e.1)
+  adds e es again true is =
+      let none : passes asked e.1 ≡ false = ap (λ (b : Bool). is_route e.1.held && (not b && has e.1)) is ∙ quiet (is_route e.1.held) in
+      let word_is : word_of asked.timing asked.wipes e.1 ≡ cond (nat_lt e.1.mark asked.timing.wiping.gone) None (old_word (found e.1)) =
+      ap (λ (b : Bool). cond b (word_found asked.timing e.1) (Some (word_kept asked.timing e.1))) is in
+      subst (λ (p : Bool). Adds e es p (word_of asked.timing asked.wipes e.1)) (sym none)
+      (subst (Adds e es false) (sym word_is) (adds-stale e es again (nat_lt e.1.mark asked.timing.wiping.gone) (found e.1)))
+  adds e es again false is =
+      let same : passes asked e.1 ≡ is_route e.1.held && has e.1 = ap (λ (b : Bool). is_route e.1.held && (not b && has e.1)) is in
+      let word_is : word_of asked.timing asked.wipes e.1 ≡ Some (word_kept asked.timing e.1) =
+      ap (λ (b : Bool). cond b (word_found asked.timing e.1) (Some (word_kept asked.timing e.1))) is in
+      subst (λ (p : Bool). Adds e es p (word_of asked.timing asked.wipes e.1)) (sym same)
+      (subst (Adds e es (is_route e.1.held && has e.1)) (sym word_is) (adds-kept e es again (is_route e.1.held && has e.1)))
+
+  pub passed-words : (es : List (RouteKey × Kept)) → AddUp es
   passed-words [] = refl
-  passed-words (e ∷ es) = by (passed-words es) (nat_lt e.1.mark asked.wipes) refl
-    where
-      words : TimedRows
-      words = words_of asked.timing asked.wipes es
-
-      has : Bool
-      has = has_passed asked.timing.factor asked.time (when_at asked.timing.stamps e.1.mark)
-
-      found : Option Held
-      found = option_and_then (λ (first : When). left_at modes.Hold asked.timing.factor first.time (word_kept asked.timing e.1)) (first_after e.1.mark asked.timing.wiping.firsts)
-
-      old : Option Held → Option Word
-      old o = option_map (λ (held : Held). word asked.timing.wiping.last helds.Unreachable) o
-
-      -- the claim, where the row passes or not and this is its word
-      Is : Bool → Option Word → Type 0
-      Is passes o = length (cond (not passes) (e ∷ lasting asked es) (lasting asked es)) + length (with_value e.0 o words)
-          ≡ suc (length es) + length (lasting_words asked.timing.factor asked.time (with_value e.0 o words))
-
-      by_kept : length (lasting asked es) + length words ≡ length es + length (lasting_words asked.timing.factor asked.time words) → (p : Bool)
-          → length (cond (not p) (e ∷ lasting asked es) (lasting asked es)) + suc (length words)
-          ≡ suc (length es) + length (cond (not p) ((e.0, word_kept asked.timing e.1) ∷ lasting_words asked.timing.factor asked.time words) (lasting_words asked.timing.factor asked.time words))
-      by_kept again true = omega (arith, again)
-      by_kept again false = omega (arith, again)
-
-      by_stale : length (lasting asked es) + length words ≡ length es + length (lasting_words asked.timing.factor asked.time words) → (gone : Bool) (o : Option Held) → Is false (cond gone None (old o))
-      unfolding Is old
-      by_stale again true o = omega (arith, again)
-      by_stale again false None = omega (arith, again)
-      by_stale again false (Some held) = omega (arith, again)
-
-      by : length (lasting asked es) + length words ≡ length es + length (lasting_words asked.timing.factor asked.time words) → (b : Bool) → nat_lt e.1.mark asked.wipes ≡ b
-          → Is (passes asked e.1) (word_of asked.timing asked.wipes e.1)
-      unfolding Is old has found
-      by again true is =
-          let none : passes asked e.1 ≡ false = ap (λ (b : Bool). is_route e.1.held && (not b && has)) is ∙ quiet (is_route e.1.held) in
-          let word_is : word_of asked.timing asked.wipes e.1 ≡ cond (nat_lt e.1.mark asked.timing.wiping.gone) None (old found) =
-          ap (λ (b : Bool). cond b (word_found asked.timing e.1) (Some (word_kept asked.timing e.1))) is in
-          subst (λ (p : Bool). Is p (word_of asked.timing asked.wipes e.1)) (sym none) (subst (Is false) (sym word_is) (by_stale again (nat_lt e.1.mark asked.timing.wiping.gone) found))
-      by again false is =
-          let same : passes asked e.1 ≡ is_route e.1.held && has = ap (λ (b : Bool). is_route e.1.held && (not b && has)) is in
-          let word_is : word_of asked.timing asked.wipes e.1 ≡ Some (word_kept asked.timing e.1) =
-          ap (λ (b : Bool). cond b (word_found asked.timing e.1) (Some (word_kept asked.timing e.1))) is in
-          subst (λ (p : Bool). Is p (word_of asked.timing asked.wipes e.1)) (sym same)
-          (subst (Is (is_route e.1.held && has)) (sym word_is) (by_kept again (is_route e.1.held && has)))
+  passed-words (e ∷ es) = adds e es (passed-words es) (nat_lt e.1.mark asked.wipes) refl
 
 pub on_ok : {T E : Type 0} (r : Result T E) (P : Type 0) → P → OnOk r P
 on_ok (Ok x) P p = p

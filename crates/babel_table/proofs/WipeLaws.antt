@@ -100,11 +100,10 @@ module _ (timing : Timing) (wipes last : ℕ) (are : AreFirsts timing.wiping wip
   abbrev is_gone : Bool
   is_gone = has_passed timing.factor timing.when.time timing.wiping.last
 
-  found-now : Word → Option Word
-  found-now said = wiped timing.factor timing.when said
+  abbrev found_now : Word → Option Word
+  found_now said = wiped timing.factor timing.when said
 
-  still : (gone : Bool) → is_gone ≡ gone → found-now (word timing.wiping.last helds.Unreachable) ≡ cond gone None (Some (word timing.when helds.Unreachable))
-  unfolding found-now
+  still : (gone : Bool) → is_gone ≡ gone → found_now (word timing.wiping.last helds.Unreachable) ≡ cond gone None (Some (word timing.when helds.Unreachable))
   still gone is =
       ap (option_map (λ (held : Held). word timing.when helds.Unreachable))
       (unreachable-left timing.factor timing.when.time timing.wiping.last ∙ ap (λ (b : Bool). cond b None (Some helds.Unreachable)) is)
@@ -115,48 +114,45 @@ module _ (timing : Timing) (wipes last : ℕ) (are : AreFirsts timing.wiping wip
       by false = refl
 
   -- a word that stands
-  fresh-word : (said : Kept) → wipes ≤ said.mark → said.mark ≤ last → (gone : Bool) → word_found (later gone) said ≡ found-now (word_kept timing said)
-  unfolding found-now
+  fresh-word : (said : Kept) → wipes ≤ said.mark → said.mark ≤ last → (gone : Bool) → word_found (later gone) said ≡ found_now (word_kept timing said)
   fresh-word said stands here gone = rw (fresh-gone said.mark stands gone, fresh-first said.mark stands here gone) refl
 
+  abbrev left_then : Kept → When → Option Held
+  left_then said first = left_at modes.Hold timing.factor first.time (word_kept timing said)
+
   -- a word that is stale
-  stale-word : (said : Kept) → said.mark < wipes → (gone : Bool) → is_gone ≡ gone → word_found (later gone) said ≡ option_and_then found-now (word_found timing said)
+  stale-word : (said : Kept) → said.mark < wipes → (gone : Bool) → is_gone ≡ gone → word_found (later gone) said ≡ option_and_then found_now (word_found timing said)
   stale-word said stale true is =
       rw (lt-of said.mark wipes stale) (sym (nothing (nat_lt said.mark timing.wiping.gone)
       (option_and_then (λ (first : When). left_at modes.Hold timing.factor first.time (word_kept timing said)) (first_after said.mark timing.wiping.firsts))))
     where
-      nothing : (b : Bool) (o : Option Held) → option_and_then found-now (cond b None (option_map (λ (held : Held). word timing.wiping.last helds.Unreachable) o)) ≡ None
+      nothing : (b : Bool) (o : Option Held) → option_and_then found_now (cond b None (option_map (λ (held : Held). word timing.wiping.last helds.Unreachable) o)) ≡ None
       nothing true o = refl
       nothing false None = refl
       nothing false (Some held) = still true is
   stale-word said stale false is = by (nat_lt said.mark timing.wiping.gone) refl (first_after said.mark timing.wiping.firsts) refl
     where
-      left : When → Option Held
-      left first = left_at modes.Hold timing.factor first.time (word_kept timing said)
-
       each : (o : Option Held) → option_map (λ (held : Held). word timing.when helds.Unreachable) o
-          ≡ option_and_then found-now (option_map (λ (held : Held). word timing.wiping.last helds.Unreachable) o)
+          ≡ option_and_then found_now (option_map (λ (held : Held). word timing.wiping.last helds.Unreachable) o)
       each None = refl
       each (Some held) = sym (still false is)
 
       by : (b : Bool) → nat_lt said.mark timing.wiping.gone ≡ b → (o : Option When) → first_after said.mark timing.wiping.firsts ≡ o
-          → word_found (later false) said ≡ option_and_then found-now (word_found timing said)
-      unfolding left
+          → word_found (later false) said ≡ option_and_then found_now (word_found timing said)
       by true gone o first = rw gone refl
-      by false here (Some when) first = rw (here, first, stale-first said.mark when first) (each (left when))
+      by false here (Some when) first = rw (here, first, stale-first said.mark when first) (each (left_then said when))
       by false here None first =
           let known : is_some (first_after said.mark timing.wiping.firsts) ≡ true = are.known said.mark (le-is said.mark timing.wiping.gone here) stale in
           absurd (let bad : is_some (None {A = When}) ≡ true = subst (λ (o : Option When). is_some o ≡ true) first known in cc)
 
   pub word-wiped : (said : Kept) → said.mark ≤ last → word_of (record timing { wiping = wiped_at timing.factor wipes last timing.when timing.wiping }) (last + 1) said
       ≡ option_and_then (wiped timing.factor timing.when) (word_of timing wipes said)
-  unfolding found-now
   word-wiped said here = by (nat_lt said.mark wipes) refl
     where
       past : nat_lt said.mark (last + 1) ≡ true
       past = lt-of said.mark (last + 1) (omega (arith, here))
 
-      by : (b : Bool) → nat_lt said.mark wipes ≡ b → word_of (later is_gone) (last + 1) said ≡ option_and_then found-now (word_of timing wipes said)
+      by : (b : Bool) → nat_lt said.mark wipes ≡ b → word_of (later is_gone) (last + 1) said ≡ option_and_then found_now (word_of timing wipes said)
       by true is = rw (past, is) (stale-word said (lt-is said.mark wipes is) is_gone refl)
       by false is = rw (past, is) (fresh-word said (le-is said.mark wipes is) here is_gone)
 
