@@ -113,9 +113,9 @@ pub read-at : (old p : Progress) (time : ℕ) → p ≡ timed old time → (fed 
 read-at old p time set fed octets more fault fails read =
     subst (λ (x : Progress). HasRead x fed → DumpFault x.limits x.mode x.sender ((fed ++ octets) ++ more) fault) set fails (read-timed old time old.fault fed read)
 
-pub truncated-none : {T : Type 0} {P : Fault → Type 0} (r : Result T Fault) → IfErr r IsTruncated → IfErr r (λ fault. fault ≢ faults.Memory → ¬ IsTruncated fault → P fault)
-truncated-none (Ok x) truncated = tt
-truncated-none (Err fault) truncated = λ not_memory not. absurd (not truncated)
+pub truncated-none : {T : Type 0} (P : Fault → Type 0) (r : Result T Fault) → IfErr r IsTruncated → IfErr r (λ fault. fault ≢ faults.Memory → ¬ IsTruncated fault → P fault)
+truncated-none P (Ok x) truncated = tt
+truncated-none P (Err fault) truncated = λ not_memory not. absurd (not truncated)
 
 -- ---- the table at a moment
 

@@ -44,4 +44,4 @@ pub returns-clause-ok : goal.returns-clause-ok
 returns-clause-ok c = on_ok c.check_end.result _ c.in_ok-feed.ensures.ok.1
 
 pub returns-clause-fault : goal.returns-clause-fault
-returns-clause-fault c = truncated-none c.check_end.result (c.check_end.ensures.truncated c.in_ok-feed.ensures.ok.1)
+returns-clause-fault c = truncated-none _ c.check_end.result (c.check_end.ensures.truncated c.in_ok-feed.ensures.ok.1)

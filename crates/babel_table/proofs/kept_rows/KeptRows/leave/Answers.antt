@@ -3,7 +3,8 @@ use Rattle.std.proofs.Common.{sym}
 use Rattle.babel_prefix.specs.declared.family.Family.TheVariants.{V4, V6}
 use Rattle.babel_tlv.specs.Route.{RouteKey}
 use Rattle.babel_table.specs.Live.{Kept, is_lasting}
-use Rattle.babel_table.proofs.PassedLaws.{filter-append, of-filter}
+use Rattle.std.proofs.lemmas.List.Elements.{filter-append}
+use Rattle.babel_table.proofs.PassedLaws.{of-filter}
 use Rattle.babel_table.proofs.kept_rows.KeptRows.forget_passed.Goals as goal
 
 pub invariant_of-self : goal.invariant_of-self
