@@ -1,4 +1,5 @@
 -- Words that are kept, when they were said, and what is left of them.
+use Rattle.std.proofs.Common.{◌⊎◌, inl, inr, ◌*◌}
 use Rattle.std.proofs.Common.{◌≡◌, ℕ, suc, ◌+◌, ◌<◌, ◌≤◌, Bool, true, false, cond, List, [], ◌∷◌, length, map, Option, Some, None, Result, Ok, Err, OnOk, refl, sym, ap, subst, ◌∙◌, arith}
 use Rattle.std.specs.Prelude.{not, ◌&&◌, nat_lt}
 use Rattle.std.specs.List.{AllByRecursion, filter}
@@ -17,7 +18,7 @@ use Rattle.babel_table.specs.Moments.{When, Word, has_passed, left_at, times, wo
 use Rattle.babel_table.specs.Rows.{IsRising}
 use Rattle.babel_table.specs.Words.{IsMark, TimedRows, Timing, Wiping, first_after, replaced, rows_at, when_at, with_value}
 use Rattle.babel_table.proofs.LiveLaws.{fresh}
-use Rattle.babel_table.proofs.ReplacedLaws.{replaced-insert, replaced-map, replaced-replaced, replaced-same}
+use Rattle.babel_table.proofs.ReplacedLaws.{all-replaced, replaced-insert, replaced-map, replaced-replaced, replaced-same}
 use Rattle.babel_table.proofs.WipeLaws.{le-of}
 
 -- ---- new stamps
@@ -85,6 +86,14 @@ unreachable-left mode factor moment when held = by (has_passed factor moment whe
     by true false is = cc
     by true true is = absurd cc
 
+left-held : (mode : Mode) (factor moment : ℕ) (said : Word) (held : Held) → left_at mode factor moment said ≡ Some held → (held ≡ said.held) ⊎ (held ≡ helds.Unreachable)
+left-held mode factor moment said held = by (has_passed factor moment said.when) (has_passed (times mode said.held * factor) moment said.when)
+  where
+    by : (a b : Bool) → cond (not a) (Some said.held) (cond (not b) (Some helds.Unreachable) None) ≡ Some held → (held ≡ said.held) ⊎ (held ≡ helds.Unreachable)
+    by false b is = inl (let same : held ≡ said.held = cc in same)
+    by true false is = inr (let same : held ≡ helds.Unreachable = cc in same)
+    by true true is = absurd cc
+
 module _ (asked : Asked) where
   left-kept : (said : Kept) → option_and_then (λ now. Some (current asked.wipes now)) (kept_at asked said) ≡ left_of asked said
   left-kept said = by (nat_lt said.mark asked.wipes) refl
@@ -108,8 +117,35 @@ module _ (asked : Asked) where
           (ap (λ (b : Bool). option_and_then (left_at asked.mode asked.timing.factor asked.time) (cond b (word_found asked.timing said) (Some (word_kept asked.timing said)))) (sym is) ∙ gives))
       by false is = each false is (left_of asked said) (λ held gives no. absurd cc)
 
-  any : RouteKey × Kept → Type 0
-  any row = Unit {0}
+  -- what is left fits its key
+  left-is : (said : Kept) (held : Held) → left_of asked said ≡ Some held → (held ≡ said.held) ⊎ (held ≡ helds.Unreachable)
+  left-is said held = by (nat_lt said.mark asked.wipes) (nat_lt said.mark asked.timing.wiping.gone)
+      (option_and_then (λ (first : When). left_at modes.Hold asked.timing.factor first.time (word_kept asked.timing said)) (first_after said.mark asked.timing.wiping.firsts))
+    where
+      by : (stale gone : Bool) (o : Option Held) → option_and_then (left_at asked.mode asked.timing.factor asked.time)
+          (cond stale (cond gone None (option_map (λ (h : Held). word asked.timing.wiping.last helds.Unreachable) o)) (Some (word_kept asked.timing said))) ≡ Some held
+          → (held ≡ said.held) ⊎ (held ≡ helds.Unreachable)
+      by true true o is = absurd cc
+      by true false None is = absurd cc
+      by true false (Some h) is = inr (unreachable-left asked.mode asked.timing.factor asked.time asked.timing.wiping.last held is)
+      by false gone o is = left-held asked.mode asked.timing.factor asked.time (word_kept asked.timing said) held is
+
+  fits-left : (last : ℕ) (row : RouteKey × Kept) (now : Kept) → IsKept last row → kept_at asked row.1 ≡ Some now → IsKept last (row.0, now)
+  fits-left last row now fits = by (left_of asked row.1) (left-is row.1)
+    where
+      some_is : (a b : Kept) → Some a ≡ Some b → a ≡ b
+      some_is a b e = cc
+
+      pair : (held : Held) → (held ≡ row.1.held) ⊎ (held ≡ helds.Unreachable) → IsPair (row.0, held)
+      pair held (inl same) = subst (λ (h : Held). IsPair (row.0, h)) (sym same) fits.1
+      pair held (inr none) = subst (λ (h : Held). IsPair (row.0, h)) (sym none) (record { dst = fits.1.dst; src = fits.1.src; one_family = fits.1.one_family; fits = tt })
+
+      by : (o : Option Held) → ((held : Held) → o ≡ Some held → (held ≡ row.1.held) ⊎ (held ≡ helds.Unreachable)) → option_map (λ held. kept held row.1.mark) o ≡ Some now → IsKept last (row.0, now)
+      by None each gives = absurd cc
+      by (Some held) each gives = subst (λ (k : Kept). IsKept last (row.0, k)) (some_is (kept held row.1.mark) now gives) (fits.0, pair held (each held refl))
+
+  pub kept-left : (last : ℕ) (es : List (RouteKey × Kept)) → AreKept last es → AreKept last (replaced (kept_at asked) es)
+  kept-left last es are = all-replaced (kept_at asked) {P = IsKept last} {Q = IsKept last} (λ row now fits is. fits-left last row now fits is) es are
 
   pub live-at : (last : ℕ) (es : List (RouteKey × Kept)) → AreKept last es
       → live_rows asked.wipes (replaced (kept_at asked) es) ≡ rows_at asked.mode asked.timing.factor asked.time (words_of asked.timing asked.wipes es)

@@ -12,13 +12,13 @@ use Rattle.babel_tlv.specs.Route.{RouteKey}
 use Rattle.babel_table.specs.Bounds.{start_of}
 use Rattle.babel_table.specs.DumpFault.{DumpFault, HasNoFault, IsTruncated}
 use Rattle.babel_table.specs.Feeding.{HasHeard, HasHeardAll, HasRead, HasReadTo, HasTaken, Progress, routes}
-use Rattle.babel_table.specs.Moments.{AreRowsAt, IsTableAt, dump_of, told_of}
+use Rattle.babel_table.specs.Moments.{AreRowsAt, Heard, IsTableAt, dump_of, told_of}
 use Rattle.babel_table.specs.Rows.{Routes}
 use Rattle.babel_table.specs.TableOf.{IsTableOf}
-use Rattle.babel_table.specs.Words.{HearsPackets, after_all, lasting_words, rows_of}
+use Rattle.babel_table.specs.Words.{HearsPackets, after_all, rows_at}
 use Rattle.babel_table.proofs.FeedLaws.{no_fault, read-taken, table_of}
 use Rattle.babel_table.proofs.HeardLaws.{are_heard, dump_of-push, heard_then, words_then}
-use Rattle.babel_table.proofs.MomentLaws.{rows-at}
+use Rattle.babel_table.proofs.MomentLaws.{rows-held}
 
 -- ---- the time that it is
 
@@ -39,7 +39,6 @@ read-timed p time (Some fault) fed failed = failed
 pub heard-timed : (p : Progress) (time : ℕ) (given : List (ℕ × List ℕ)) → HasHeard p given → HasHeard (timed p time) given
 heard-timed p time given heard = record {
   runs = heard.runs;
-  mode = heard.mode;
   read = read-timed p time p.fault (dump_of given) heard.read;
   told = λ none. let was = heard.told none in record { none = was.none; all = was.all; heard = was.heard; words = was.words };
 }
@@ -52,12 +51,11 @@ at-end p given none empty read =
     omega (arith, taken.place, ap length taken.reads.whole, length-append (flat_map packet_octets taken.packets) p.pending, ap length empty)
 
 module _ (p q : Progress) (same_limits : q.limits ≡ p.limits) (same_mode : q.mode ≡ p.mode) (same_sender : q.sender ≡ p.sender) (same_runs : q.runs ≡ p.runs)
-    (octets : List ℕ) (read : (fed : List ℕ) → HasRead p fed → HasRead q (fed ++ octets)) (given : List (ℕ × List ℕ)) (heard : HasHeard p given) where
+    (same_factor : q.factor ≡ p.factor) (octets : List ℕ) (read : (fed : List ℕ) → HasRead p fed → HasRead q (fed ++ octets)) (given : List (ℕ × List ℕ)) (heard : HasHeard p given) where
   -- a fault is kept
   pub heard-failed : (fault : Fault) → q.fault ≡ Some fault → HasHeard q (given ++ (p.time, octets) ∷ [])
   heard-failed fault failed = record {
     runs = same_runs ∙ heard.runs;
-    mode = same_mode ∙ heard.mode;
     read = subst (HasRead q) (sym (dump_of-push given p.time octets)) (read (dump_of given) heard.read);
     told = λ none. absurd (apart q.fault none failed);
   }
@@ -65,24 +63,26 @@ module _ (p q : Progress) (same_limits : q.limits ≡ p.limits) (same_mode : q.m
       apart : (f : Option Fault) → f ≡ None → f ≡ Some fault → ⊥
       apart f a b = cc
 
-  pub heard-more : p.fault ≡ None → q.pending ≡ [] → HearsPackets p.time (start_of p.limits p.sender) p.at octets p.words q.words q.pending
+  pub heard-more : p.fault ≡ None → q.pending ≡ [] → HearsPackets p.mode p.factor p.time (start_of p.limits p.sender) p.at octets p.words q.words q.pending
       → HasHeard q (given ++ (p.time, octets) ∷ [])
   heard-more none empty hears =
       let was = heard.told none in
       let start : Start = start_of p.limits p.sender in
       let here = at-end p given none was.none heard.read in
-      let whole = subst (λ (rest : List ℕ). HearsPackets p.time start p.at octets p.words q.words rest) empty hears in
+      let whole = subst (λ (rest : List ℕ). HearsPackets p.mode p.factor p.time start p.at octets p.words q.words rest) empty hears in
+      let then : List Heard = heard_then p.mode p.factor given was.all was.heard start p.at p.time octets p.words q.words here was.words whole in
       let same : start ≡ start_of q.limits q.sender = ap (λ l. start_of l p.sender) (sym same_limits) ∙ ap (λ s. start_of q.limits s) (sym same_sender) in
       record {
         runs = same_runs ∙ heard.runs;
-        mode = same_mode ∙ heard.mode;
         read = subst (HasRead q) (sym (dump_of-push given p.time octets)) (read (dump_of given) heard.read);
         told = λ no_fault. record {
           none = empty;
-          all = heard_then given was.all was.heard start p.at p.time octets p.words q.words here was.words whole;
-          heard = are_heard given was.all was.heard start p.at p.time octets p.words q.words here was.words whole;
-          words = words_then given was.all was.heard start p.at p.time octets p.words q.words here was.words whole
-              ∙ ap (λ (s : Start). after_all (told_of s (heard_then given was.all was.heard start p.at p.time octets p.words q.words here was.words whole)) []) same;
+          all = then;
+          heard = are_heard p.mode p.factor given was.all was.heard start p.at p.time octets p.words q.words here was.words whole;
+          words = words_then p.mode p.factor given was.all was.heard start p.at p.time octets p.words q.words here was.words whole
+              ∙ ap (λ (m : Mode). after_all m p.factor (told_of start then) []) (sym same_mode)
+              ∙ ap (λ (f : ℕ). after_all q.mode f (told_of start then) []) (sym same_factor)
+              ∙ ap (λ (s : Start). after_all q.mode q.factor (told_of s then) []) same;
         };
       }
 
@@ -97,15 +97,15 @@ module _ (old p q : Progress) (time : ℕ) (set : p ≡ timed old time) (given :
   at-time here = subst (λ (t : ℕ). HasHeard q (given ++ (t, octets) ∷ [])) (ap (λ (x : Progress). x.time) set) here
 
   module _ (same_limits : q.limits ≡ p.limits) (same_mode : q.mode ≡ p.mode) (same_sender : q.sender ≡ p.sender) (same_runs : q.runs ≡ p.runs)
-      (read : (fed : List ℕ) → HasRead p fed → HasRead q (fed ++ octets)) where
+      (same_factor : q.factor ≡ p.factor) (read : (fed : List ℕ) → HasRead p fed → HasRead q (fed ++ octets)) where
     pub fed-failed : (fault : Fault) → q.fault ≡ Some fault → HasHeard q (given ++ (time, octets) ∷ [])
-    fed-failed fault failed = at-time (heard-failed p q same_limits same_mode same_sender same_runs octets read given heard-set fault failed)
+    fed-failed fault failed = at-time (heard-failed p q same_limits same_mode same_sender same_runs same_factor octets read given heard-set fault failed)
 
     pub fed-checked : {T : Type 0} (r : Result T Fault) → p.fault ≡ None
-        → (p.runs ≡ true → p.pending ≡ [] → HearsPackets p.time (start_of p.limits p.sender) p.at octets p.words q.words q.pending)
+        → (p.runs ≡ true → p.pending ≡ [] → HearsPackets p.mode p.factor p.time (start_of p.limits p.sender) p.at octets p.words q.words q.pending)
         → OnOk r ((q.fault ≡ None) × (q.pending ≡ [])) → IfErr r IsTruncated → IfErr r (λ fault. ¬ IsTruncated fault) → HasHeard q (given ++ (time, octets) ∷ [])
     fed-checked (Ok x) none hears end truncated not =
-        at-time (heard-more p q same_limits same_mode same_sender same_runs octets read given heard-set none end.1 (hears heard-set.runs (heard-set.told none).none))
+        at-time (heard-more p q same_limits same_mode same_sender same_runs same_factor octets read given heard-set none end.1 (hears heard-set.runs (heard-set.told none).none))
     fed-checked (Err fault) none hears end truncated not = absurd (not truncated)
 
 pub read-at : (old p : Progress) (time : ℕ) → p ≡ timed old time → (fed octets more : List ℕ) (fault : Fault)
@@ -119,11 +119,11 @@ truncated-none P (Err fault) truncated = λ not_memory not. absurd (not truncate
 
 -- ---- the table at a moment
 
-pub finished-at : (p : Progress) → p.fault ≡ None → p.pending ≡ [] → (factor moment : ℕ) (r : Result Routes Fault)
-    → IfOk r (λ table. table.report ≡ p.table.report) → (p.runs ≡ true → IfOk r (λ table. table.rows ≡ rows_of (lasting_words factor moment p.words)))
-    → IfOk r (λ table. (given : List (ℕ × List ℕ)) → HasHeard p given → HasNoFault p.limits p.mode p.sender (dump_of given) × IsTableAt p.limits p.sender given factor moment table)
-finished-at p none empty factor moment (Err fault) is are = tt
-finished-at p none empty factor moment (Ok table) is are = λ given heard.
+pub finished-at : (p : Progress) → p.fault ≡ None → p.pending ≡ [] → (moment : ℕ) (r : Result Routes Fault)
+    → IfOk r (λ table. table.report ≡ p.table.report) → (p.runs ≡ true → IfOk r (λ table. table.rows ≡ rows_at p.mode p.factor moment p.words))
+    → IfOk r (λ table. (given : List (ℕ × List ℕ)) → HasHeard p given → HasNoFault p.limits p.mode p.sender (dump_of given) × IsTableAt p.limits p.mode p.sender given p.factor moment table)
+finished-at p none empty moment (Err fault) is are = tt
+finished-at p none empty moment (Ok table) is are = λ given heard.
     let told = heard.told none in
     let taken = read-taken p (dump_of given) none heard.read in
     let words = told_of (start_of p.limits p.sender) told.all in (
@@ -131,9 +131,9 @@ finished-at p none empty factor moment (Ok table) is are = λ given heard.
       record {
         all = told.all;
         heard = told.heard;
-        rows = subst (AreRowsAt factor moment words) (sym (are heard.runs)) (rows-at factor moment words p.words told.words);
+        rows = subst (AreRowsAt p.mode p.factor moment words) (sym (are heard.runs)) (rows-held p.mode p.factor moment words p.words told.words);
         whole = p.table;
-        is_whole = subst (λ (m : Mode). IsTableOf p.limits m p.sender (dump_of given) p.table) heard.mode (table_of p (dump_of given) taken empty);
+        is_whole = table_of p (dump_of given) taken empty;
         report = is;
       },
     )

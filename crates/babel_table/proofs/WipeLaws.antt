@@ -7,9 +7,11 @@ use Rattle.std.proofs.lemmas.Bool.Decides.{nat_tests}
 use Rattle.babel_tlv.specs.declared.held.Held.{Held}
 use Rattle.babel_tlv.specs.declared.held.Held.TheVariants as helds
 use Rattle.babel_tlv.specs.declared.mode.Mode.TheVariants as modes
-use Rattle.babel_table.specs.Live.{AreFirsts, Kept, word_found, word_kept, word_of}
+use Rattle.babel_tlv.specs.Route.{RouteKey}
+use Rattle.babel_table.specs.Live.{AreFirsts, AreKept, IsKept, Kept, word_found, word_kept, word_of, words_of}
 use Rattle.babel_table.specs.Moments.{When, Word, has_passed, left_at, word}
-use Rattle.babel_table.specs.Words.{Timing, Wiping, first_after, wiped, wiped_at}
+use Rattle.babel_table.specs.Words.{Timing, Wiping, first_after, replaced, wiped, wiped_at}
+use Rattle.babel_table.proofs.ReplacedLaws.{replaced-replaced, replaced-same}
 
 pub lt-of : (a b : ℕ) → a < b → nat_lt a b ≡ true
 lt-of a b lt = grind (arith, nat_tests)
@@ -40,6 +42,10 @@ none-past mark wipes last [] past all = refl
 none-past mark wipes last (first ∷ later) past all =
     let below : first.0 < mark = omega (arith, all.0.0, past) in
     rw (lt-of first.0 mark below) (none-past mark wipes last later past all.1)
+
+pub past-last : (wipes last : ℕ) (firsts : List (ℕ × When)) → AllByRecursion (λ first. (first.0 < wipes) × (first.0 ≤ last)) firsts → AllByRecursion (λ first. first.0 ≤ last) firsts
+past-last wipes last [] all = tt
+past-last wipes last (first ∷ firsts) all = (all.0.1, past-last wipes last firsts all.1)
 
 -- ---- what is unreachable
 
@@ -155,6 +161,13 @@ module _ (timing : Timing) (wipes last : ℕ) (are : AreFirsts timing.wiping wip
       by : (b : Bool) → nat_lt said.mark wipes ≡ b → word_of (later is_gone) (last + 1) said ≡ option_and_then found_now (word_of timing wipes said)
       by true is = rw (past, is) (stale-word said (lt-is said.mark wipes is) is_gone refl)
       by false is = rw (past, is) (fresh-word said (le-is said.mark wipes is) here is_gone)
+
+  pub words-wiped : (es : List (RouteKey × Kept)) → AreKept last es
+      → words_of (record timing { wiping = wiped_at timing.factor wipes last timing.when timing.wiping }) (last + 1) es ≡ replaced (wiped timing.factor timing.when) (words_of timing wipes es)
+  words-wiped es kept =
+      replaced-same {P = IsKept last} (word_of (later is_gone) (last + 1)) (λ said. option_and_then (wiped timing.factor timing.when) (word_of timing wipes said))
+      (λ row fits. word-wiped row.1 fits.0) es kept
+      ∙ sym (replaced-replaced (word_of timing wipes) (wiped timing.factor timing.when) es)
 
   pub firsts-wiped : AreFirsts (wiped_at timing.factor wipes last timing.when timing.wiping) (last + 1) last
   firsts-wiped = by is_gone

@@ -120,7 +120,8 @@ impl Clock {
     /// Takes a retraction of all that comes now, where words have marks up to the last, and those
     /// before the one before it have marks below `wipes`.
     pub fn wipe(&mut self, wipes: u64, last: u64)
-        requires { AllByRecursion (λ first. first.0 ≤ last) self.old.wiping.firsts }
+        requires { self.old.runs ≡ true
+            → AllByRecursion (λ first. first.0 ≤ last) self.old.wiping.firsts }
         ensures { self.new ≡ (if self.old.runs then record self.old {
           wiping = wiped_at self.old.factor wipes last self.old.when self.old.wiping;
         } else self.old) }

@@ -12,12 +12,13 @@ returns-in_err-feed-clause-same c = (
   c.feed.ensures.same.0 ∙ ap (λ (p : Progress). p.limits) c.set_time.ensures,
   c.feed.ensures.same.1 ∙ ap (λ (p : Progress). p.mode) c.set_time.ensures,
   c.feed.ensures.same.2 ∙ ap (λ (p : Progress). p.sender) c.set_time.ensures,
+  c.feed.ensures.time.1 ∙ ap (λ (p : Progress). p.factor) c.set_time.ensures,
 )
 
 pub returns-in_err-feed-clause-heard : goal.returns-in_err-feed-clause-heard
 returns-in_err-feed-clause-heard c = λ not given heard.
     let same = c.feed.ensures.same in
-    fed-failed c.args.self.now c.set_time.new.self c.feed.new.self c.args.time c.set_time.ensures given heard c.args.packets.now same.0 same.1 same.2 c.feed.ensures.time.0 c.feed.ensures.fed
+    fed-failed c.args.self.now c.set_time.new.self c.feed.new.self c.args.time c.set_time.ensures given heard c.args.packets.now same.0 same.1 same.2 c.feed.ensures.time.0 c.feed.ensures.time.1 c.feed.ensures.fed
     c.in_err-feed.field-0.0 c.in_err-feed.ensures.err.0
 
 pub returns-in_err-feed-clause-fault : goal.returns-in_err-feed-clause-fault
@@ -32,12 +33,13 @@ returns-clause-same c = (
   c.feed.ensures.same.0 ∙ ap (λ (p : Progress). p.limits) c.set_time.ensures,
   c.feed.ensures.same.1 ∙ ap (λ (p : Progress). p.mode) c.set_time.ensures,
   c.feed.ensures.same.2 ∙ ap (λ (p : Progress). p.sender) c.set_time.ensures,
+  c.feed.ensures.time.1 ∙ ap (λ (p : Progress). p.factor) c.set_time.ensures,
 )
 
 pub returns-clause-heard : goal.returns-clause-heard
 returns-clause-heard c = λ not given heard.
     let same = c.feed.ensures.same in
-    fed-checked c.args.self.now c.set_time.new.self c.feed.new.self c.args.time c.set_time.ensures given heard c.args.packets.now same.0 same.1 same.2 c.feed.ensures.time.0 c.feed.ensures.fed
+    fed-checked c.args.self.now c.set_time.new.self c.feed.new.self c.args.time c.set_time.ensures given heard c.args.packets.now same.0 same.1 same.2 c.feed.ensures.time.0 c.feed.ensures.time.1 c.feed.ensures.fed
     c.check_end.result c.in_ok-feed.ensures.ok.0 c.in_ok-feed.ensures.words c.check_end.ensures.ok (c.check_end.ensures.truncated c.in_ok-feed.ensures.ok.1) not
 
 pub returns-clause-ok : goal.returns-clause-ok

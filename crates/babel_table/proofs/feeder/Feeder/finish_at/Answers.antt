@@ -4,7 +4,7 @@ use Rattle.std.specs.Prelude.{IfOk}
 use Rattle.std.proofs.lemmas.Result.{err_from_is_err_and}
 use Rattle.babel_table.specs.Feeding.{Progress}
 use Rattle.babel_table.specs.Moments.{dump_of}
-use Rattle.babel_table.specs.Words.{lasting_words, rows_of}
+use Rattle.babel_table.specs.Words.{rows_at}
 use Rattle.babel_table.proofs.TimedLaws.{finished-at}
 use Rattle.babel_table.proofs.feeder.Feeder.finish_at.Goals as goal
 
@@ -15,6 +15,6 @@ returns-in_err-check_end-clause-fault c =
 
 pub returns-clause-ok : goal.returns-clause-ok
 returns-clause-ok c =
-    finished-at c.args.self c.in_ok-check_end.ensures.ok.0 c.in_ok-check_end.ensures.ok.1 c.args.factor c.args.moment c.at.result
+    finished-at c.args.self c.in_ok-check_end.ensures.ok.0 c.in_ok-check_end.ensures.ok.1 c.args.moment c.at.result
     (subst (λ (p : Progress). IfOk c.at.result (λ table. table.report ≡ p.table.report)) c.self.view_is c.at.ensures.report)
-    (subst (λ (p : Progress). p.runs ≡ true → IfOk c.at.result (λ table. table.rows ≡ rows_of (lasting_words c.args.factor c.args.moment p.words))) c.self.view_is c.at.ensures.rows)
+    (subst (λ (p : Progress). p.runs ≡ true → IfOk c.at.result (λ table. table.rows ≡ rows_at p.mode p.factor c.args.moment p.words)) c.self.view_is c.at.ensures.rows)

@@ -15,5 +15,5 @@ of_rows-requires-clause-last c = ap (λ (l : Live). l.last) c.in_time-rows.ensur
 
 pub returns-clause-ok : goal.returns-clause-ok
 returns-clause-ok c =
-    heard-new c.of_rows.result c.args.limits c.args.sender _ _ _ c.of_rows.ensures.ok c.of_rows.ensures.words
-    (ap (λ (l : Live). l.mode) c.in_time-rows.ensures) (ap (λ (l : Live). l.runs) c.in_time-rows.ensures) (ap (λ (l : Live). l.words) c.in_time-rows.ensures)
+    heard-new c.of_rows.result c.args.limits c.args.sender _ _ _ _ c.of_rows.ensures.ok c.of_rows.ensures.words
+    (ap (λ (l : Live). l.runs) c.in_time-rows.ensures) (ap (λ (l : Live). l.words) c.in_time-rows.ensures)

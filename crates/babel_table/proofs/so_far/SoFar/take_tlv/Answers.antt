@@ -27,7 +27,7 @@ returns-in_err-kind-clause-fails c =
 
 pub returns-clause-words : goal.returns-clause-words
 returns-clause-words c = λ runs.
-    told-taken c.take.result c.args.self.now.rows.when.time c.args.state.now (tlv_value c.args.tlv.now) (event_of c.in_ok-kind.kind c.step_into.new.route)
+    told-taken c.args.self.now.rows.mode c.args.self.now.rows.factor c.take.result c.args.self.now.rows.when.time c.args.state.now (tlv_value c.args.tlv.now) (event_of c.in_ok-kind.kind c.step_into.new.route)
     c.args.self.now.rows.words _ c.in_ok-kind.ensures.said (c.take.ensures.words runs)
 
 pub returns-clause-state : goal.returns-clause-state
