@@ -214,3 +214,15 @@ module _ (timing : Timing) (wipes last : ℕ) (are : AreFirsts timing.wiping wip
           past true false = tt
           past false true = pushed timing.wiping.firsts (one_past timing.wiping.firsts are.past)
           past false false = one_past timing.wiping.firsts are.past
+
+-- ---- a clock that runs or not
+
+pub still-runs : (old new : Timing) (wiping : Wiping) → new ≡ cond old.runs (record old { wiping = wiping }) old → new.runs ≡ old.runs
+still-runs old new wiping is = ap (λ (t : Timing). t.runs) is ∙ by old.runs
+  where
+    by : (b : Bool) → (cond b (record old { wiping = wiping }) old).runs ≡ old.runs
+    by true = refl
+    by false = refl
+
+pub wiped-timing : (old new : Timing) (wiping : Wiping) → new ≡ cond old.runs (record old { wiping = wiping }) old → old.runs ≡ true → new ≡ record old { wiping = wiping }
+wiped-timing old new wiping is runs = is ∙ ap (λ (b : Bool). cond b (record old { wiping = wiping }) old) runs
