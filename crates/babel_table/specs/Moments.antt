@@ -80,21 +80,21 @@ pub record Word : Type 0 where
 abbrev pub word : When → Held → Word
 word when held = record { held = held; when = when }
 
--- RFC 8966, 3.5.3: so many times as long as it is held a word is not gone: in mode Hold a route is
--- unreachable for as long again
+-- after how many times that long nothing is left of a word. RFC 8966, 3.5.3: a route that has passed
+-- is unreachable, and gone after as long again; in mode Plain it is gone at once
 abbrev pub times : Mode → Held → ℕ
 times modes.Hold (helds.Route ann) = 2
 times mode held = 1
 
--- what a word stands for at the moment, unless it is gone
+-- what is left of a word at the moment
 abbrev pub left_at : Mode → ℕ → ℕ → Word → Option Held
 left_at mode factor moment said =
     if not (has_passed factor moment said.when) then Some said.held
     else if not (has_passed (times mode said.held * factor) moment said.when)
     then Some helds.Unreachable else None
 
--- RFC 8966, 4.6.9: the word that stands for a key after an event, if this one stood before it. A
--- wildcard retraction is of what is not gone when it comes.
+-- RFC 8966, 4.6.9: the word on a key after an event, if this was the word before it. A wildcard
+-- retraction is of what is not gone when it comes; what is gone it does not bring back
 abbrev pub word_after : Mode → ℕ → RouteKey → When → Event → Option Word → Option Word
 word_after mode factor key when (events.Announce other ann) old =
     if same_key other key then Some (word when (helds.Route ann)) else old
@@ -105,7 +105,7 @@ word_after mode factor key when events.RetractAll old =
     else option_map (word when) (retracted mode)
 word_after mode factor key when event old = old
 
--- the word that stands for a key after all that was told, in order
+-- the word on a key after all that was told, in order
 abbrev pub last_word : Mode → ℕ → List Told → RouteKey → Option Word
 last_word mode factor told key =
     fold (λ old one. word_after mode factor key one.when one.event old) None told

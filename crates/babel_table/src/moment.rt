@@ -79,24 +79,27 @@ impl<'a> Moment<'a> {
             → what_is_left result held ≡ left_of self.now (kept held mark) }
     {
         if mark >= self.wipes {
-            return self.left_at(is_route, mark, self.time);
+            return self.left_at(self.mode, is_route, mark, self.time);
         }
         match self.clock.found(mark, self.time) {
-            Some(time) if self.left_at(is_route, mark, time) != Left::Nothing => Left::Unreachable,
-            _ => Left::Nothing,
+            Some(time) => match self.left_at(Mode::Hold, is_route, mark, time) {
+                Left::Nothing => Left::Nothing,
+                _ => Left::Unreachable,
+            },
+            None => Left::Nothing,
         }
     }
 
-    /// The same at a time, were it not stale.
-    fn left_at(&self, is_route: bool, mark: u64, time: u128) -> Left
+    /// The same at a time in a mode, were it not stale.
+    fn left_at(&self, mode: Mode, is_route: bool, mark: u64, time: u128) -> Left
         ensures { (held : Held) → is_route held ≡ is_route → what_is_left result held
-            ≡ left_at self.now.mode self.now.timing.factor time
+            ≡ left_at mode self.now.timing.factor time
             (word_kept self.now.timing (kept held mark)) }
     {
         if !self.clock.has_passed(mark, false, time) {
             return Left::All;
         }
-        let is_twice = is_route && self.mode == Mode::Hold;
+        let is_twice = is_route && mode == Mode::Hold;
         if self.clock.has_passed(mark, is_twice, time) {
             Left::Nothing
         } else {
