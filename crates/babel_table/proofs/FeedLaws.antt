@@ -256,9 +256,21 @@ stops-within bytes b mode entries e start s at pending octets old fault is_b is_
 
 -- a feeder that was fed nothing
 pub taken-none : (limits : Bounds) (mode : Mode) (sender : Address) (rows : List (RouteKey × Held)) (report : Counts) (pending : List ℕ)
-    (runs : Bool) (time : ℕ) (words : TimedRows) → rows ≡ [] → report ≡ counts_of [] → pending ≡ []
-    → HasTaken (record { limits = limits; mode = mode; sender = sender; table = routes rows report; at = 0; pending = pending; fault = None; runs = runs; time = time; words = words }) []
-taken-none limits mode sender rows report pending runs time words is_rows is_report is_pending = record {
+    (runs : Bool) (factor time : ℕ) (words : TimedRows) → rows ≡ [] → report ≡ counts_of [] → pending ≡ []
+    → HasTaken (record {
+      limits = limits;
+      mode = mode;
+      sender = sender;
+      table = routes rows report;
+      at = 0;
+      pending = pending;
+      fault = None;
+      runs = runs;
+      factor = factor;
+      time = time;
+      words = words;
+    }) []
+taken-none limits mode sender rows report pending runs factor time words is_rows is_report is_pending = record {
   packets = [];
   in_limit = omega arith;
   reads = record { whole = sym is_pending; placed = tt };

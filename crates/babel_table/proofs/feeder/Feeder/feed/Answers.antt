@@ -103,5 +103,5 @@ pub returns-in-Ok-clause-words : goal.returns-in-Ok-clause-words
 returns-in-Ok-clause-words c =
     let old = the_view c.self.inside in
     let new = the_view (record { alloc = c.self.inside.alloc; limits = c.self.inside.limits; stream = c.take_within.new.self; fault = c.self.inside.fault }) in
-    rw (← c.self.view_is) (λ runs none. subst (λ (s : Start). HearsPackets old.time s old.at c.args.piece.now old.words new.words new.pending)
+    rw (← c.self.view_is) (λ runs none. subst (λ (s : Start). HearsPackets old.mode old.factor old.time s old.at c.args.piece.now old.words new.words new.pending)
     (started c.self.inside.stream.start c.self.inside.limits c.self.invariant.1) (c.in-Ok.ensures.words runs none))
