@@ -21,7 +21,7 @@ pub enum Left {
 }
 
 /// A moment at which it is asked what is held.
-#[derive(Clone, Copy)]
+#[derive(Drop)]
 pub struct Moment<'a> {
     /// The stamps by which words are marked.
     clock: &'a Clock,
