@@ -40,9 +40,9 @@ rising-event modes.Hold factor when events.RetractAll words rising = rising-repl
 rising-event mode factor when events.Nothing words rising = rising
 rising-event mode factor when (events.Ignored reason) words rising = rising
 
-none_either : (b : Bool) → cond b (None {A = Word}) None ≡ None
-none_either true = refl
-none_either false = refl
+none_either : (b : Bool) (none : Option Word) → none ≡ cond b none none
+none_either true none = refl
+none_either false none = refl
 
 wiped-is : (factor : ℕ) (when : When) (old : Option Word) → option_and_then (wiped factor when) old
     ≡ cond (is_none (option_and_then (left_at modes.Hold factor when.time) old)) None (Some (word when helds.Unreachable))
@@ -63,7 +63,7 @@ at-event modes.Plain factor key when (events.Retract other) words rising =
 at-event modes.Hold factor key when (events.Retract other) words rising =
     lookup-insert key_total key other (word when helds.Unreachable) words
     ∙ ap (λ (b : Bool). cond b (Some (word when helds.Unreachable)) (word_at words key)) (sym (same_key-is other key))
-at-event modes.Plain factor key when events.RetractAll words rising = sym (none_either (is_none (option_and_then (left_at modes.Plain factor when.time) (word_at words key))))
+at-event modes.Plain factor key when events.RetractAll words rising = none_either (is_none (option_and_then (left_at modes.Plain factor when.time) (word_at words key))) None
 at-event modes.Hold factor key when events.RetractAll words rising = lookup-replaced (wiped factor when) key words rising ∙ wiped-is factor when (word_at words key)
 at-event mode factor key when events.Nothing words rising = refl
 at-event mode factor key when (events.Ignored reason) words rising = refl

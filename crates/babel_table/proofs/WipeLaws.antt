@@ -149,7 +149,7 @@ module _ (timing : Timing) (wipes last : ℕ) (are : AreFirsts timing.wiping wip
       by false here (Some when) first = rw (here, first, stale-first said.mark when first) (each (left_then said when))
       by false here None first =
           let known : is_some (first_after said.mark timing.wiping.firsts) ≡ true = are.known said.mark (le-is said.mark timing.wiping.gone here) stale in
-          absurd (let bad : is_some (None {A = When}) ≡ true = subst (λ (o : Option When). is_some o ≡ true) first known in cc)
+          absurd (let is : is_some (first_after said.mark timing.wiping.firsts) ≡ false = ap is_some first in cc)
 
   pub word-wiped : (said : Kept) → said.mark ≤ last → word_of (record timing { wiping = wiped_at timing.factor wipes last timing.when timing.wiping }) (last + 1) said
       ≡ option_and_then (wiped timing.factor timing.when) (word_of timing wipes said)
@@ -195,8 +195,10 @@ module _ (timing : Timing) (wipes last : ℕ) (are : AreFirsts timing.wiping wip
             where
               by_first : (o : Option When) → first_after mark timing.wiping.firsts ≡ o → is_some (first_after mark (wiping_if false).firsts) ≡ true
               by_first (Some when) first = some _ when (stale-first mark when first)
-              by_first None first = absurd (let bad : is_some (None {A = When}) ≡ true =
-                  subst (λ (o : Option When). is_some o ≡ true) first (are.known mark from (lt-is mark wipes is)) in cc)
+              by_first None first =
+                  let yes : is_some (first_after mark timing.wiping.firsts) ≡ true = are.known mark from (lt-is mark wipes is) in
+                  let no : is_some (first_after mark timing.wiping.firsts) ≡ false = ap is_some first in
+                  absurd cc
 
           one_past : (firsts : List (ℕ × When)) → AllByRecursion (λ first. (first.0 < wipes) × (first.0 ≤ last)) firsts
               → AllByRecursion (λ first. (first.0 < last + 1) × (first.0 ≤ last)) firsts
