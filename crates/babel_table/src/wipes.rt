@@ -1,28 +1,18 @@
 ghost use Rattle.std.specs.Prelude.{◌≡◌, ◌≤◌, ◌<◌, ◌^◌, ◌++◌, ◌∷◌, ℕ, [], OnOk, OnErr, true, false};
+ghost use Rattle.std.specs.Prelude.{nat_lt};
 ghost use Rattle.std.specs.List.{AllByRecursion};
+ghost use Rattle.std.specs.List.Sorted.{IsNonDecreasingBy, IsPartitionPoint};
 ghost use Rattle.std.specs.Option.{option_map};
+ghost use Rattle.babel_table.specs.Moments.{When};
 ghost use Rattle.babel_table.specs.Words.{found_at, no_wiping, unless_gone, wiped_at};
 
 use crate::stamp::Stamp;
 use std::alloc::{AllocError, Global};
 use std::marker::Model;
 
-/// The first retraction of all after words that were kept.
-#[derive(Drop)]
-struct Wipe {
-    /// The mark of the last of these words.
-    mark: u64,
-    stamp: Stamp,
-}
-
-impl Model for Wipe {
-    ghost use Rattle.std.specs.Prelude.{ℕ};
-    ghost use Rattle.babel_table.specs.Moments.{When};
-
-    ghost Value = { ℕ × When };
-
-    ghost view = { λ w. (w.mark, w.stamp) };
-}
+/// The first retraction of all after words that were kept: the mark of the last of these words, and
+/// when it came.
+type Wipe = (u64, Stamp);
 
 /// Retractions of all, as far as it matters what they found: RFC 8966, 4.6.9. A word is found by
 /// the first one after it, if it is not gone by then, and that one by the next, and so on: from
@@ -123,7 +113,7 @@ impl Wipes {
         } }
     {
         let stamp = Stamp::new(time, interval);
-        self.firsts.push(Wipe { mark, stamp }).unwrap();
+        self.firsts.push((mark, stamp)).unwrap();
         self.is_due = false;
     }
 
@@ -135,10 +125,18 @@ impl Wipes {
         if mark < self.gone || self.last.has_passed(u128::from(factor), moment) {
             return None;
         }
-        let place = self.firsts.partition_point(|wipe| wipe.mark < mark);
-        match self.firsts.get(place) {
-            Some(wipe) => Some(wipe.stamp.time()),
+        match self.firsts.get(place_after(&self.firsts, mark)) {
+            Some(first) => Some(first.1.time()),
             None => None,
         }
     }
+}
+
+/// How many of these, in order, came after words with marks below this alone.
+fn place_after(firsts: &[Wipe], mark: u64) -> usize
+    requires { IsNonDecreasingBy (λ (first : ℕ × When). first.0) firsts.now }
+    ensures { IsPartitionPoint (λ first. nat_lt first.0 mark ≡ true)
+        (λ first. nat_lt first.0 mark ≡ false) firsts.now result }
+{
+    firsts.partition_point(|first| first.0 < mark)
 }
