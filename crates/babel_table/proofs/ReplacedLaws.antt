@@ -88,10 +88,10 @@ module _ {V W : Type 0} (f : V → Option W) where
       by again (Some value) = omega (arith, again)
 
   -- what holds of each value that is given holds of all
-  pub all-replaced : {P : RouteKey × V → Type 0} {Q : RouteKey × W → Type 0} → ((row : RouteKey × V) (value : W) → P row → f row.1 ≡ Some value → Q (row.0, value))
+  pub all-replaced : (P : RouteKey × V → Type 0) (Q : RouteKey × W → Type 0) → ((row : RouteKey × V) (value : W) → P row → f row.1 ≡ Some value → Q (row.0, value))
       → (rows : List (RouteKey × V)) → AllByRecursion P rows → AllByRecursion Q (replaced f rows)
-  all-replaced each [] all = tt
-  all-replaced {P} {Q} each (row ∷ rows) all = by (all-replaced {P = P} {Q = Q} each rows all.1) (f row.1) refl
+  all-replaced P Q each [] all = tt
+  all-replaced P Q each (row ∷ rows) all = by (all-replaced P Q each rows all.1) (f row.1) refl
     where
       by : AllByRecursion Q (replaced f rows) → (o : Option W) → f row.1 ≡ o → AllByRecursion Q (with_value row.0 o (replaced f rows))
       by again None gives = again

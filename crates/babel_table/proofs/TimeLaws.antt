@@ -145,7 +145,7 @@ module _ (asked : Asked) where
       by (Some held) each gives = subst (λ (k : Kept). IsKept last (row.0, k)) (some_is (kept held row.1.mark) now gives) (fits.0, pair held (each held refl))
 
   pub kept-left : (last : ℕ) (es : List (RouteKey × Kept)) → AreKept last es → AreKept last (replaced (kept_at asked) es)
-  kept-left last es are = all-replaced (kept_at asked) {P = IsKept last} {Q = IsKept last} (λ row now fits is. fits-left last row now fits is) es are
+  kept-left last es are = all-replaced (kept_at asked) (IsKept last) (IsKept last) (λ row now fits is. fits-left last row now fits is) es are
 
   pub live-at : (last : ℕ) (es : List (RouteKey × Kept)) → AreKept last es
       → live_rows asked.wipes (replaced (kept_at asked) es) ≡ rows_at asked.mode asked.timing.factor asked.time (words_of asked.timing asked.wipes es)
