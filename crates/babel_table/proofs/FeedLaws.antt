@@ -255,7 +255,8 @@ stops-within bytes b mode entries e start s at pending octets old fault is_b is_
     (subst (λ (n : ℕ). StopsWithin bytes mode n s at pending octets old fault) is_e (subst (λ (n : ℕ). StopsWithin n mode e s at pending octets old fault) is_b stops))
 
 -- a feeder that was fed nothing
-pub taken-none : (limits : Bounds) (mode : Mode) (sender : Address) (rows : List (RouteKey × Held)) (report : Counts) (pending : List ℕ) (runs : Bool) (time : ℕ) (words : TimedRows) → rows ≡ [] → report ≡ counts_of [] → pending ≡ []
+pub taken-none : (limits : Bounds) (mode : Mode) (sender : Address) (rows : List (RouteKey × Held)) (report : Counts) (pending : List ℕ)
+    (runs : Bool) (time : ℕ) (words : TimedRows) → rows ≡ [] → report ≡ counts_of [] → pending ≡ []
     → HasTaken (record { limits = limits; mode = mode; sender = sender; table = routes rows report; at = 0; pending = pending; fault = None; runs = runs; time = time; words = words }) []
 taken-none limits mode sender rows report pending runs time words is_rows is_report is_pending = record {
   packets = [];

@@ -1,23 +1,27 @@
 -- Packets that are heard, each at its time.
-use Rattle.std.proofs.Common.{◌≡◌, ℕ, ◌+◌, Bool, true, List, [], ◌∷◌, ◌++◌, length, map, drop, Result, Ok, Err, OnOk, None, refl, sym, ap, subst, ◌∙◌, append_assoc, arith}
+use Rattle.std.proofs.Common.{◌≡◌, ℕ, ◌+◌, Bool, true, false, cond, List, [], ◌∷◌, ◌++◌, length, map, drop, Option, Some, None, Result, Ok, Err, OnOk, refl, sym, ap, subst, ◌∙◌, append_assoc, arith}
 use Rattle.std.specs.List.{flat_map}
 use Rattle.std.proofs.lemmas.List.{append-nil, drop_at, length-append, map-append}
 use Rattle.std.proofs.lemmas.List.Concat.{flat_map-append}
 use Rattle.babel_prefix.specs.Address.{Address}
 use Rattle.babel_tlv.specs.declared.event.Event.{Event}
+use Rattle.babel_tlv.specs.declared.event.Event.TheVariants as events
 use Rattle.babel_tlv.specs.declared.fault.Fault.{Fault}
+use Rattle.babel_tlv.specs.declared.fault.Fault.TheVariants as faults
+use Rattle.babel_tlv.specs.declared.reason.Reason.{Reason}
 use Rattle.babel_tlv.specs.declared.start.Start.{Start}
-use Rattle.babel_tlv.specs.Context.{Context, context_after}
+use Rattle.babel_tlv.specs.Context.{Context, context_after, first_context, updated}
 use Rattle.babel_tlv.specs.FrameFaults.{BeginsPacket, AreTlvs}
 use Rattle.babel_tlv.specs.Framing.{TlvAt, ArePackets, IsBody, framed, tlv_octets, packet_octets, tlvs_of}
-use Rattle.babel_tlv.specs.Says.{said}
+use Rattle.babel_tlv.specs.Says.{ignored_for, refuses, said, tells, unless_ignored}
+use Rattle.babel_tlv.proofs.TellsLaws.{ignored_tells_nothing}
 use Rattle.std.specs.Prelude.{IfErr, IfOk}
 use Rattle.babel_tlv.specs.declared.mode.Mode.{Mode}
 use Rattle.babel_tlv.specs.declared.mode.Mode.TheVariants.{Plain}
 use Rattle.babel_table.specs.Bounds.{Bounds, start_of}
 use Rattle.babel_table.specs.Feeding.{HasHeard, HasHeardAll, HasRead, Progress}
-use Rattle.babel_table.specs.Moments.{AreHeard, Heard, Told, dump_of, event_in, octets_heard, told_at, told_behind, told_in, told_of}
-use Rattle.babel_table.specs.Words.{HearsPackets, TimedRows, after_all, after_told, told_then}
+use Rattle.babel_table.specs.Moments.{AreHeard, Heard, Told, When, dump_of, octets_heard, told_at, told_from, told_in, told_of}
+use Rattle.babel_table.specs.Words.{HearsPackets, TimedRows, after_all, after_event, after_told, told_then}
 use Rattle.babel_table.proofs.DumpLaws.{placed-append}
 use Rattle.babel_table.proofs.PacketLaws.{length-framed, placed-push}
 
@@ -27,24 +31,38 @@ after-append (word ∷ front) back words = after-append front back (after_told w
 
 -- ---- the TLVs of a packet, one by one
 
+-- what a TLV tells leaves the words that what it says leaves: nothing is told by one that is ignored
+told-said : (when : When) (context : Context) (tlv : TlvAt) (event : Event) (words : TimedRows) → Ok event ≡ said context tlv
+    → after_event when event words ≡ after_event when (tells context tlv) words
+told-said when context tlv event words is = by (refuses context.via_v6 tlv) (ignored_for context tlv) refl is
+  where
+    by : (refused : Bool) (reason : Option Reason) → ignored_for context tlv ≡ reason
+        → Ok event ≡ cond refused (Err (faults.EncodingSetsRouterId tlv.at)) (Ok (unless_ignored reason (tells context tlv)))
+        → after_event when event words ≡ after_event when (tells context tlv) words
+    by true reason ignored e = absurd cc
+    by false None ignored e = ap (λ (v : Event). after_event when v words) (let same : event ≡ tells context tlv = cc in same)
+    by false (Some reason) ignored e =
+        ap (λ (v : Event). after_event when v words) (let same : event ≡ events.Ignored reason = cc in same)
+        ∙ ap (λ (v : Event). after_event when v words) (sym ((ignored_tells_nothing context tlv).0 reason ignored))
+
 -- what a TLV tells is what the state says
 pub told-taken : {T : Type 0} (r : Result T Fault) (time : ℕ) (context : Context) (tlv : TlvAt) (event : Event) (old new : TimedRows) → Ok event ≡ said context tlv
     → OnOk r (new ≡ after_told (told_then time tlv event) old) → OnOk r (new ≡ after_told (told_at time context tlv) old)
-told-taken (Ok x) time context tlv event old new is ok = ok ∙ ap (λ (r : Result Event Fault). after_told (told_then time tlv (event_in r)) old) is
+told-taken (Ok x) time context tlv event old new is ok = ok ∙ told-said (told_then time tlv event).when context tlv event old is
 told-taken (Err fault) time context tlv event old new is ok = tt
 
 -- the TLVs that are left lead from the words so far to these
 pub record LeadsTo (time : ℕ) (start : Start) (context : Context) (left : List TlvAt) (words last : TimedRows) : Type 0 where
   pub earlier : List TlvAt
   pub context_is : context ≡ context_after start earlier
-  pub leads : after_all (told_behind time start earlier left) words ≡ last
+  pub leads : after_all (told_from time context left) words ≡ last
 
 pub leads-begin : (time : ℕ) (start : Start) (context : Context) (all left : List TlvAt) (words : TimedRows) → context ≡ context_after start [] → left ≡ all
-    → LeadsTo time start context left words (after_all (told_behind time start [] all) words)
+    → LeadsTo time start context left words (after_all (told_from time (first_context start) all) words)
 leads-begin time start context all left words is same = record {
   earlier = [];
   context_is = is;
-  leads = ap (λ (t : List TlvAt). after_all (told_behind time start [] t) words) same;
+  leads = ap (λ (t : List TlvAt). after_all (told_from time context t) words) same ∙ ap (λ (c : Context). after_all (told_from time c all) words) is;
 }
 
 pub leads-next : (time : ℕ) (start : Start) (context after : Context) (tlv : TlvAt) (all left : List TlvAt) (words next last : TimedRows) → all ≡ tlv ∷ left
@@ -53,13 +71,15 @@ pub leads-next : (time : ℕ) (start : Start) (context after : Context) (tlv : T
 leads-next time start context after tlv all left words next last is goes here leads = record {
   earlier = tlv ∷ leads.earlier;
   context_is = goes start leads.earlier leads.context_is;
-  leads = ap (after_all (told_behind time start (tlv ∷ leads.earlier) left)) (here ∙ ap (λ (c : Context). after_told (told_at time c tlv) words) leads.context_is)
-      ∙ ap (λ (t : List TlvAt). after_all (told_behind time start leads.earlier t) words) (sym is) ∙ leads.leads;
+  leads =
+      let goes_on : after ≡ updated context tlv = goes start leads.earlier leads.context_is ∙ ap (λ (c : Context). updated c tlv) (sym leads.context_is) in
+      ap (λ (c : Context). after_all (told_from time c left) next) goes_on ∙ ap (after_all (told_from time (updated context tlv) left)) here
+      ∙ ap (λ (t : List TlvAt). after_all (told_from time context t) words) (sym is) ∙ leads.leads;
 }
 
 pub leads-end : (time : ℕ) (start : Start) (context : Context) (left : List TlvAt) (words last : TimedRows) → left ≡ [] → LeadsTo time start context left words last → words ≡ last
 leads-end time start context left words last none leads =
-    ap (λ (t : List TlvAt). after_all (told_behind time start leads.earlier t) words) (sym none) ∙ leads.leads
+    ap (λ (t : List TlvAt). after_all (told_from time context t) words) (sym none) ∙ leads.leads
 
 -- ---- packets, one by one
 
@@ -76,7 +96,7 @@ heard-none time start at octets old = record { packets = []; whole = refl; place
 
 pub heard-next : (time : ℕ) (start : Start) (at : ℕ) (octets : List ℕ) (old now next : TimedRows) (rest body : List ℕ) (place used : ℕ) → used ≡ 4 + length body
     → HeardTo time start at octets old now rest place → BeginsPacket rest body → AreTlvs (place + 4) body (tlvs_of (place + 4) body)
-    → next ≡ after_all (told_behind time start [] (tlvs_of (place + 4) body)) now → HeardTo time start at octets old next (drop used rest) (place + used)
+    → next ≡ after_all (told_from time (first_context start) (tlvs_of (place + 4) body)) now → HeardTo time start at octets old next (drop used rest) (place + used)
 heard-next time start at octets old now next rest body place used is_used heard (fits, behind, is_rest) parts goes =
     let tlvs : List TlvAt = tlvs_of (place + 4) body in
     let is_body : flat_map tlv_octets tlvs ≡ body = sym parts.whole in
@@ -84,15 +104,16 @@ heard-next time start at octets old now next rest body place used is_used heard 
     let dropped : drop used rest ≡ behind = ap (drop used) is_rest ∙ drop_at (framed body) behind used (length-framed body ∙ sym is_used) in
     let joined : flat_map packet_octets (heard.packets ++ tlvs ∷ []) ≡ flat_map packet_octets heard.packets ++ framed body =
     flat_map-append packet_octets heard.packets (tlvs ∷ []) ∙ ap (λ (t : List ℕ). flat_map packet_octets heard.packets ++ t) (append-nil (packet_octets tlvs) ∙ is_packet) in
-    let told : told_in start time (heard.packets ++ tlvs ∷ []) ≡ told_in start time heard.packets ++ told_behind time start [] tlvs =
-    flat_map-append (told_behind time start []) heard.packets (tlvs ∷ []) ∙ ap (λ (t : List Told). told_in start time heard.packets ++ t) (append-nil (told_behind time start [] tlvs)) in
+    let told : told_in start time (heard.packets ++ tlvs ∷ []) ≡ told_in start time heard.packets ++ told_from time (first_context start) tlvs =
+    flat_map-append (told_from time (first_context start)) heard.packets (tlvs ∷ [])
+    ∙ ap (λ (t : List Told). told_in start time heard.packets ++ t) (append-nil (told_from time (first_context start) tlvs)) in
     record {
       packets = heard.packets ++ tlvs ∷ [];
       whole = heard.whole ∙ ap (λ (t : List ℕ). flat_map packet_octets heard.packets ++ t) is_rest ∙ sym (append_assoc (flat_map packet_octets heard.packets) (framed body) behind)
           ∙ ap (λ (t : List ℕ). t ++ behind) (sym joined) ∙ ap (λ (t : List ℕ). flat_map packet_octets (heard.packets ++ tlvs ∷ []) ++ t) (sym dropped);
       placed = placed-push at heard.packets tlvs place heard.placed heard.here (subst IsBody (sym is_body) fits) parts.placed;
       here = rw joined (omega (arith, heard.here, is_used, length-append (flat_map packet_octets heard.packets) (framed body), length-framed body));
-      words = goes ∙ ap (after_all (told_behind time start [] tlvs)) heard.words ∙ sym (after-append (told_in start time heard.packets) (told_behind time start [] tlvs) old)
+      words = goes ∙ ap (after_all (told_from time (first_context start) tlvs)) heard.words ∙ sym (after-append (told_in start time heard.packets) (told_from time (first_context start) tlvs) old)
           ∙ ap (λ (t : List Told). after_all t old) (sym told);
     }
 

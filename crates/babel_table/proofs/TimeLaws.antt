@@ -1,110 +1,178 @@
--- Words that are kept, and when they were said.
-use Rattle.std.proofs.Common.{◌≡◌, ℕ, zero, suc, ◌+◌, ◌<◌, ◌≤◌, Bool, true, false, cond, List, [], ◌∷◌, ◌++◌, length, map, Option, Some, None, Result, Ok, Err, OnOk, refl, sym, ap, subst, ◌∙◌, arith}
-use Rattle.std.specs.Prelude.{not}
-use Rattle.std.specs.List.{filter}
-use Rattle.std.specs.declared.cmp.Ordering.{Ordering}
-use Rattle.std.specs.declared.cmp.Ordering.TheVariants.{Less, Equal, Greater}
-use Rattle.std.specs.Ordering.{match_ordering}
-use Rattle.std.specs.Map.{keys_of, lookup, remove_entry}
-use Rattle.std.specs.BTreeMap.{insert_entry, is_at}
+-- Words that are kept, when they were said, and what is left of them.
+use Rattle.std.proofs.Common.{◌≡◌, ℕ, suc, ◌+◌, ◌<◌, ◌≤◌, Bool, true, false, cond, List, [], ◌∷◌, length, map, Option, Some, None, Result, Ok, Err, OnOk, refl, sym, ap, subst, ◌∙◌, arith}
+use Rattle.std.specs.Prelude.{not, ◌&&◌, nat_lt}
+use Rattle.std.specs.List.{AllByRecursion, filter}
+use Rattle.std.specs.Option.{option_and_then, option_map}
+use Rattle.std.specs.BTreeMap.{insert_entry}
 use Rattle.babel_tlv.specs.declared.held.Held.{Held}
+use Rattle.babel_tlv.specs.declared.held.Held.TheVariants as helds
+use Rattle.babel_tlv.specs.declared.mode.Mode.{Mode}
+use Rattle.babel_tlv.specs.declared.mode.Mode.TheVariants as modes
 use Rattle.babel_tlv.specs.Route.{RouteKey}
 use Rattle.babel_tlv.specs.Keys.{key_cmp}
-use Rattle.babel_table.specs.Live.{Kept, AreKept, current, is_lasting, kept, lasting, live_rows, word_of, words_of}
-use Rattle.babel_table.specs.Moments.{When}
-use Rattle.babel_table.specs.Words.{IsMark, TimedRows, Timing, Word, has_passed, lasting_words, rows_of, said, when_at}
+use Rattle.babel_tlv.specs.Pairs.{IsPair}
+use Rattle.babel_table.specs.Live.{AreFirsts, AreKept, Asked, IsInTime, IsKept, Kept, current, is_route, is_standing, kept, kept_at, lasting, lasting_words, left_of, live_rows, passes, word_found}
+use Rattle.babel_table.specs.Live.{word_kept, word_of, words_of}
+use Rattle.babel_table.specs.Moments.{When, Word, has_passed, left_at, times, word}
+use Rattle.babel_table.specs.Rows.{IsRising}
+use Rattle.babel_table.specs.Words.{IsMark, TimedRows, Timing, Wiping, first_after, replaced, rows_at, when_at, with_value}
 use Rattle.babel_table.proofs.LiveLaws.{fresh}
-
--- ---- entries with other values
-
-module _ {V W : Type 0} (f : V → W) where
-  abbrev pub mapped : List (RouteKey × V) → List (RouteKey × W)
-  mapped es = map (λ e. (e.0, f e.1)) es
-
-  pub mapped-insert : (es : List (RouteKey × V)) (k : RouteKey) (v : V) → mapped (insert_entry key_cmp es k v) ≡ insert_entry key_cmp (mapped es) k (f v)
-  mapped-insert [] k v = refl
-  mapped-insert (e ∷ es) k v = by (mapped-insert es k v) (key_cmp k e.0)
-    where
-      by : mapped (insert_entry key_cmp es k v) ≡ insert_entry key_cmp (mapped es) k (f v) → (r : Ordering)
-          → mapped (match_ordering r ((k, v) ∷ e ∷ es) ((e.0, v) ∷ es) (e ∷ insert_entry key_cmp es k v))
-          ≡ match_ordering r ((k, f v) ∷ (e.0, f e.1) ∷ mapped es) ((e.0, f v) ∷ mapped es) ((e.0, f e.1) ∷ insert_entry key_cmp (mapped es) k (f v))
-      by again Less = refl
-      by again Equal = refl
-      by again Greater = ap (λ (t : List (RouteKey × W)). (e.0, f e.1) ∷ t) again
-
-  pub mapped-remove : (test : RouteKey → Bool) (es : List (RouteKey × V)) → mapped (remove_entry test es) ≡ remove_entry test (mapped es)
-  mapped-remove test [] = refl
-  mapped-remove test (e ∷ es) = by (mapped-remove test es) (test e.0)
-    where
-      by : mapped (remove_entry test es) ≡ remove_entry test (mapped es) → (b : Bool)
-          → mapped (cond b es (e ∷ remove_entry test es)) ≡ cond b (mapped es) ((e.0, f e.1) ∷ remove_entry test (mapped es))
-      by again true = refl
-      by again false = ap (λ (t : List (RouteKey × W)). (e.0, f e.1) ∷ t) again
-
-  pub mapped-keys : (es : List (RouteKey × V)) → keys_of (mapped es) ≡ keys_of es
-  mapped-keys [] = refl
-  mapped-keys (e ∷ es) = ap (λ (t : List RouteKey). e.0 ∷ t) (mapped-keys es)
-
-  pub mapped-length : (es : List (RouteKey × V)) → length (mapped es) ≡ length es
-  mapped-length [] = refl
-  mapped-length (e ∷ es) = ap suc (mapped-length es)
-
-  -- those whose values pass a test
-  pub mapped-filter : (p : W → Bool) (es : List (RouteKey × V)) → mapped (filter (λ e. p (f e.1)) es) ≡ filter (λ e. p e.1) (mapped es)
-  mapped-filter p [] = refl
-  mapped-filter p (e ∷ es) = by (mapped-filter p es) (p (f e.1))
-    where
-      by : mapped (filter (λ e. p (f e.1)) es) ≡ filter (λ e. p e.1) (mapped es) → (b : Bool)
-          → mapped (cond b (e ∷ filter (λ e. p (f e.1)) es) (filter (λ e. p (f e.1)) es)) ≡ cond b ((e.0, f e.1) ∷ filter (λ e. p e.1) (mapped es)) (filter (λ e. p e.1) (mapped es))
-      by again true = ap (λ (t : List (RouteKey × W)). (e.0, f e.1) ∷ t) again
-      by again false = again
+use Rattle.babel_table.proofs.ReplacedLaws.{replaced-insert, replaced-map, replaced-replaced, replaced-same}
+use Rattle.babel_table.proofs.WipeLaws.{le-of}
 
 -- ---- new stamps
 
-pub words-still : (old new : List When) (last : ℕ) (es : List (RouteKey × Kept)) → ((other : ℕ) → other ≤ last → when_at new other ≡ when_at old other) → AreKept last es
-    → words_of new es ≡ words_of old es
-words-still old new last [] others are = refl
-words-still old new last (e ∷ es) others are =
-    ap (λ (w : When). (e.0, said e.1.held w) ∷ words_of new es) (others e.1.mark are.0.0)
-    ∙ ap (λ (t : TimedRows). (e.0, word_of old e.1) ∷ t) (words-still old new last es others are.1)
+abbrev found_in : Wiping → ℕ → Word → ℕ → Option Word
+found_in wiping factor said mark =
+    cond (nat_lt mark wiping.gone) None (option_map (λ (held : Held). word wiping.last helds.Unreachable)
+    (option_and_then (λ (first : When). left_at modes.Hold factor first.time said) (first_after mark wiping.firsts)))
 
-pub words-put : {T E : Type 0} (r : Result T E) (old new : Timing) (last mark : ℕ) (es after : List (RouteKey × Kept)) (k : RouteKey) (h : Held) → IsMark old new last mark → AreKept last es
-    → OnOk r (after ≡ insert_entry key_cmp es k (kept h mark)) → old.runs ≡ true
-    → OnOk r (words_of new.stamps after ≡ insert_entry key_cmp (words_of old.stamps es) k (said h old.when))
-words-put (Ok x) old new last mark es after k h is are ok runs =
-    ap (words_of new.stamps) ok ∙ mapped-insert (word_of new.stamps) es k (kept h mark)
-    ∙ ap (λ (w : When). insert_entry key_cmp (words_of new.stamps es) k (said h w)) (is.now runs)
-    ∙ ap (λ (t : TimedRows). insert_entry key_cmp t k (said h old.when)) (words-still old.stamps new.stamps last es is.others are)
-words-put (Err e) old new last mark es after k h is are ok runs = tt
+word-same : (old new : Timing) (wipes last mark : ℕ) (said : Kept) → old.runs ≡ true → IsMark old new last mark → said.mark ≤ last → word_of new wipes said ≡ word_of old wipes said
+word-same old new wipes last mark said runs is here =
+    let same : word_kept new said ≡ word_kept old said = ap (λ (w : When). word w said.held) (is.others said.mark here) in
+    let found : word_found new said ≡ word_found old said =
+    ap (λ (w : Wiping). found_in w new.factor (word_kept new said) said.mark) (is.wiping runs)
+    ∙ ap (λ (f : ℕ). found_in old.wiping f (word_kept new said) said.mark) is.factor
+    ∙ ap (λ (w : Word). found_in old.wiping old.factor w said.mark) same in
+    ap (λ (o : Option Word). cond (nat_lt said.mark wipes) o (Some (word_kept new said))) found
+    ∙ ap (λ (w : Word). cond (nat_lt said.mark wipes) (word_found old said) (Some w)) same
 
--- ---- what words stand for
+words-still : (old new : Timing) (wipes last mark : ℕ) (es : List (RouteKey × Kept)) → old.runs ≡ true → IsMark old new last mark → AreKept last es → words_of new wipes es ≡ words_of old wipes es
+words-still old new wipes last mark es runs is are =
+    replaced-same {P = IsKept last} (word_of new wipes) (word_of old wipes) (λ row fits. word-same old new wipes last mark row.1 runs is fits.0) es are
 
-pub live-words : (stamps : List When) (es : List (RouteKey × Kept)) → live_rows 0 es ≡ rows_of (words_of stamps es)
-live-words stamps [] = refl
-live-words stamps (e ∷ es) =
-    ap (λ (h : Held). (e.0, h) ∷ live_rows 0 es) (fresh 0 e.1.mark e.1.held (omega arith))
-    ∙ ap (λ (t : List (RouteKey × Held)). (e.0, e.1.held) ∷ t) (live-words stamps es)
+pub words-put : {T E : Type 0} (r : Result T E) (old new : Timing) (wipes last mark : ℕ) (es after : List (RouteKey × Kept)) (k : RouteKey) (h : Held) → IsMark old new last mark → wipes ≤ mark
+    → IsRising es → AreKept last es → OnOk r (after ≡ insert_entry key_cmp es k (kept h mark)) → old.runs ≡ true
+    → OnOk r (words_of new wipes after ≡ insert_entry key_cmp (words_of old wipes es) k (word old.when h))
+words-put (Ok x) old new wipes last mark es after k h is stands rising are ok runs =
+    let now : word_of new wipes (kept h mark) ≡ Some (word old.when h) =
+    ap (λ (b : Bool). cond b (word_found new (kept h mark)) (Some (word_kept new (kept h mark)))) (le-of mark wipes stands) ∙ ap (λ (w : When). Some (word w h)) (is.now runs) in
+    ap (words_of new wipes) ok ∙ replaced-insert (word_of new wipes) es k (kept h mark) (word old.when h) now rising
+    ∙ ap (λ (t : TimedRows). insert_entry key_cmp t k (word old.when h)) (words-still old new wipes last mark es runs is are)
+words-put (Err e) old new wipes last mark es after k h is stands rising are ok runs = tt
 
--- ---- what lasts
-
-pub words-lasting : (stamps : List When) (factor moment : ℕ) (es : List (RouteKey × Kept)) → words_of stamps (lasting stamps factor moment es) ≡ lasting_words factor moment (words_of stamps es)
-words-lasting stamps factor moment es = mapped-filter (word_of stamps) (λ w. not (has_passed factor moment w.when)) es
-
-pub kept-lasting : (last : ℕ) (stamps : List When) (factor moment : ℕ) (es : List (RouteKey × Kept)) → AreKept last es → AreKept last (lasting stamps factor moment es)
-kept-lasting last stamps factor moment [] are = tt
-kept-lasting last stamps factor moment (e ∷ es) are = by (kept-lasting last stamps factor moment es are.1) (is_lasting stamps factor moment e.1)
+-- a mark is not stale
+pub mark-stands : (old new : Timing) (wipes last mark : ℕ) → old.runs ≡ true → IsMark old new last mark → IsInTime old wipes last → wipes ≤ last + 1 → wipes ≤ mark
+mark-stands old new wipes last mark runs is time near = by old.wiping.due refl
   where
-    by : AreKept last (lasting stamps factor moment es) → (b : Bool) → AreKept last (cond b (e ∷ lasting stamps factor moment es) (lasting stamps factor moment es))
-    by again true = (are.0, again)
-    by again false = again
+    by : (b : Bool) → old.wiping.due ≡ b → wipes ≤ mark
+    by true due = omega (arith, time.firsts.due due, is.past)
+    by false due = omega (arith, is.fresh runs due, near)
 
-pub length-filter : {X : Type 0} (p : X → Bool) (xs : List X) → length (filter p xs) ≤ length xs
-length-filter p [] = omega arith
-length-filter p (x ∷ xs) = by (length-filter p xs) (p x)
+pub marked-firsts : (old new : Timing) (wipes last mark : ℕ) → old.runs ≡ true → IsMark old new last mark → IsInTime old wipes last → wipes ≤ last + 1 → IsInTime new wipes mark
+marked-firsts old new wipes last mark runs is time near = record {
+  counted = is.counted runs;
+  firsts = subst (λ (w : Wiping). AreFirsts w wipes mark) (sym (is.wiping runs)) (record {
+    due = λ due. mark-stands old new wipes last mark runs is time near;
+    not_due = λ due. absurd cc;
+    below = time.firsts.below;
+    known = time.firsts.known;
+    past = more old.wiping.firsts time.firsts.past;
+  });
+}
   where
-    by : length (filter p xs) ≤ length xs → (b : Bool) → length (cond b (x ∷ filter p xs) (filter p xs)) ≤ suc (length xs)
-    by again true = omega (arith, again)
-    by again false = omega (arith, again)
+    more : (firsts : List (ℕ × When)) → AllByRecursion (λ first. (first.0 < wipes) × (first.0 ≤ last)) firsts → AllByRecursion (λ first. (first.0 < wipes) × (first.0 ≤ mark)) firsts
+    more [] all = tt
+    more (first ∷ firsts) all = ((all.0.0, omega (arith, all.0.1, is.past)), more firsts all.1)
+
+-- ---- what is left
+
+unreachable-left : (mode : Mode) (factor moment : ℕ) (when : When) (held : Held) → left_at mode factor moment (word when helds.Unreachable) ≡ Some held → held ≡ helds.Unreachable
+unreachable-left mode factor moment when held = by (has_passed factor moment when) (has_passed (times mode helds.Unreachable * factor) moment when)
+  where
+    by : (a b : Bool) → cond (not a) (Some helds.Unreachable) (cond (not b) (Some helds.Unreachable) None) ≡ Some held → held ≡ helds.Unreachable
+    by false b is = cc
+    by true false is = cc
+    by true true is = absurd cc
+
+module _ (asked : Asked) where
+  left-kept : (said : Kept) → option_and_then (λ now. Some (current asked.wipes now)) (kept_at asked said) ≡ left_of asked said
+  left-kept said = by (nat_lt said.mark asked.wipes) refl
+    where
+      each : (b : Bool) → nat_lt said.mark asked.wipes ≡ b → (o : Option Held) → ((held : Held) → o ≡ Some held → b ≡ true → held ≡ helds.Unreachable)
+          → option_and_then (λ now. Some (current asked.wipes now)) (option_map (λ held. kept held said.mark) o) ≡ o
+      each b is None gone = refl
+      each true is (Some held) gone = rw is (ap (λ (h : Held). Some h) (sym (gone held refl refl)))
+      each false is (Some held) gone = rw is refl
+
+      stale : (o : Option Held) (b : Bool) (held : Held) → option_and_then (left_at asked.mode asked.timing.factor asked.time)
+          (cond b None (option_map (λ (h : Held). word asked.timing.wiping.last helds.Unreachable) o)) ≡ Some held → held ≡ helds.Unreachable
+      stale o true held is = absurd cc
+      stale None false held is = absurd cc
+      stale (Some h) false held is = unreachable-left asked.mode asked.timing.factor asked.time asked.timing.wiping.last held is
+
+      by : (b : Bool) → nat_lt said.mark asked.wipes ≡ b → option_and_then (λ now. Some (current asked.wipes now)) (kept_at asked said) ≡ left_of asked said
+      by true is = each true is (left_of asked said)
+          (λ held gives yes. stale (option_and_then (λ (first : When). left_at modes.Hold asked.timing.factor first.time (word_kept asked.timing said)) (first_after said.mark asked.timing.wiping.firsts))
+          (nat_lt said.mark asked.timing.wiping.gone) held
+          (ap (λ (b : Bool). option_and_then (left_at asked.mode asked.timing.factor asked.time) (cond b (word_found asked.timing said) (Some (word_kept asked.timing said)))) (sym is) ∙ gives))
+      by false is = each false is (left_of asked said) (λ held gives no. absurd cc)
+
+  any : RouteKey × Kept → Type 0
+  any row = Unit {0}
+
+  pub live-at : (last : ℕ) (es : List (RouteKey × Kept)) → AreKept last es
+      → live_rows asked.wipes (replaced (kept_at asked) es) ≡ rows_at asked.mode asked.timing.factor asked.time (words_of asked.timing asked.wipes es)
+  live-at last es are =
+      replaced-map (current asked.wipes) (replaced (kept_at asked) es)
+      ∙ replaced-replaced (kept_at asked) (λ now. Some (current asked.wipes now)) es
+      ∙ replaced-same {P = IsKept last} (λ said. option_and_then (λ now. Some (current asked.wipes now)) (kept_at asked said)) (left_of asked) (λ row fits. left-kept row.1) es are
+      ∙ sym (replaced-replaced (word_of asked.timing asked.wipes) (left_at asked.mode asked.timing.factor asked.time) es)
+
+  -- ---- how many have passed
+
+  quiet : (b : Bool) → b && false ≡ false
+  quiet true = refl
+  quiet false = refl
+
+  passed-words : (es : List (RouteKey × Kept)) → length (lasting asked es) + length (words_of asked.timing asked.wipes es)
+      ≡ length es + length (lasting_words asked.timing.factor asked.time (words_of asked.timing asked.wipes es))
+  passed-words [] = refl
+  passed-words (e ∷ es) = by (passed-words es) (nat_lt e.1.mark asked.wipes) refl
+    where
+      words : TimedRows
+      words = words_of asked.timing asked.wipes es
+
+      has : Bool
+      has = has_passed asked.timing.factor asked.time (when_at asked.timing.stamps e.1.mark)
+
+      found : Option Held
+      found = option_and_then (λ (first : When). left_at modes.Hold asked.timing.factor first.time (word_kept asked.timing e.1)) (first_after e.1.mark asked.timing.wiping.firsts)
+
+      old : Option Held → Option Word
+      old o = option_map (λ (held : Held). word asked.timing.wiping.last helds.Unreachable) o
+
+      -- the claim, where the row passes or not and this is its word
+      Is : Bool → Option Word → Type 0
+      Is passes o = length (cond (not passes) (e ∷ lasting asked es) (lasting asked es)) + length (with_value e.0 o words)
+          ≡ suc (length es) + length (lasting_words asked.timing.factor asked.time (with_value e.0 o words))
+
+      by_kept : length (lasting asked es) + length words ≡ length es + length (lasting_words asked.timing.factor asked.time words) → (p : Bool)
+          → length (cond (not p) (e ∷ lasting asked es) (lasting asked es)) + suc (length words)
+          ≡ suc (length es) + length (cond (not p) ((e.0, word_kept asked.timing e.1) ∷ lasting_words asked.timing.factor asked.time words) (lasting_words asked.timing.factor asked.time words))
+      by_kept again true = omega (arith, again)
+      by_kept again false = omega (arith, again)
+
+      by_stale : length (lasting asked es) + length words ≡ length es + length (lasting_words asked.timing.factor asked.time words) → (gone : Bool) (o : Option Held) → Is false (cond gone None (old o))
+      unfolding Is old
+      by_stale again true o = omega (arith, again)
+      by_stale again false None = omega (arith, again)
+      by_stale again false (Some held) = omega (arith, again)
+
+      by : length (lasting asked es) + length words ≡ length es + length (lasting_words asked.timing.factor asked.time words) → (b : Bool) → nat_lt e.1.mark asked.wipes ≡ b
+          → Is (passes asked e.1) (word_of asked.timing asked.wipes e.1)
+      unfolding Is old has found
+      by again true is =
+          let none : passes asked e.1 ≡ false = ap (λ (b : Bool). is_route e.1.held && (not b && has)) is ∙ quiet (is_route e.1.held) in
+          let word_is : word_of asked.timing asked.wipes e.1 ≡ cond (nat_lt e.1.mark asked.timing.wiping.gone) None (old found) =
+          ap (λ (b : Bool). cond b (word_found asked.timing e.1) (Some (word_kept asked.timing e.1))) is in
+          subst (λ (p : Bool). Is p (word_of asked.timing asked.wipes e.1)) (sym none) (subst (Is false) (sym word_is) (by_stale again (nat_lt e.1.mark asked.timing.wiping.gone) found))
+      by again false is =
+          let same : passes asked e.1 ≡ is_route e.1.held && has = ap (λ (b : Bool). is_route e.1.held && (not b && has)) is in
+          let word_is : word_of asked.timing asked.wipes e.1 ≡ Some (word_kept asked.timing e.1) =
+          ap (λ (b : Bool). cond b (word_found asked.timing e.1) (Some (word_kept asked.timing e.1))) is in
+          subst (λ (p : Bool). Is p (word_of asked.timing asked.wipes e.1)) (sym same)
+          (subst (Is (is_route e.1.held && has)) (sym word_is) (by_kept again (is_route e.1.held && has)))
 
 pub on_ok : {T E : Type 0} (r : Result T E) (P : Type 0) → P → OnOk r P
 on_ok (Ok x) P p = p

@@ -165,7 +165,7 @@ StopsWithin bytes mode entries start at pending octets old fault =
 
 -- what a feeder holds: what it was made with, the rows and the counts of the whole packets, where
 -- the next packet begins, its octets so far, and the fault if it has one; whether times are kept,
--- the time that it is, and the words with their times
+-- how long words last, the time that it is, and the words with their times
 pub record Progress : Type 0 where
   pub limits : Bounds
   pub mode : Mode
@@ -175,6 +175,7 @@ pub record Progress : Type 0 where
   pub pending : List ℕ
   pub fault : Option Fault
   pub runs : Bool
+  pub factor : ℕ
   pub time : ℕ
   pub words : TimedRows
 
@@ -225,11 +226,11 @@ pub record HasHeardAll (progress : Progress) (given : List (ℕ × List ℕ)) : 
   pub none : progress.pending ≡ []
   pub all : List Heard
   pub heard : AreHeard given all
-  pub words : progress.words ≡ after_all (told_of (start_of progress.limits progress.sender) all) []
+  pub words : progress.words ≡ after_all progress.mode progress.factor
+      (told_of (start_of progress.limits progress.sender) all) []
 
 -- the feeder stands where these packets, each with the time when it came, have led it
 pub record HasHeard (progress : Progress) (given : List (ℕ × List ℕ)) : Type 0 where
   pub runs : progress.runs ≡ true
-  pub mode : progress.mode ≡ modes.Plain
   pub read : HasRead progress (dump_of given)
   pub told : progress.fault ≡ None → HasHeardAll progress given

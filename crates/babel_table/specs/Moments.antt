@@ -1,22 +1,23 @@
 -- What was said when, and what is held at a moment: RFC 8966, 3.5.4, 4.6.9 and appendix B. A time
 -- is in nanoseconds since the start of 1970. Who uses no times needs none of this page.
-use Rattle.std.specs.Prelude.{◌≡◌, ℕ, ◌<◌, ◌≤◌, ◌+◌, ◌*◌, List, [], ◌∷◌, ◌++◌, map, length, Result}
-use Rattle.std.specs.Prelude.{Ok, Err, slice_index}
-use Rattle.std.specs.List.{AllByRecursion, Contains, flat_map}
+use Rattle.std.specs.Prelude.{◌≡◌, ℕ, ◌+◌, ◌*◌, Bool, not, ◌&&◌, nat_lt, nat_le, if◌then◌else◌}
+use Rattle.std.specs.Prelude.{List, [], ◌∷◌, map, slice_index, fold, Option, Some, None, is_none}
+use Rattle.std.specs.List.{Contains, flat_map}
+use Rattle.std.specs.Option.{option_and_then, option_map}
 use Rattle.babel_prefix.specs.Address.{Address}
 use Rattle.babel_tlv.specs.declared.event.Event.{Event}
 use Rattle.babel_tlv.specs.declared.event.Event.TheVariants as events
-use Rattle.babel_tlv.specs.declared.fault.Fault.{Fault}
 use Rattle.babel_tlv.specs.declared.held.Held.{Held}
 use Rattle.babel_tlv.specs.declared.held.Held.TheVariants as helds
+use Rattle.babel_tlv.specs.declared.mode.Mode.{Mode}
 use Rattle.babel_tlv.specs.declared.mode.Mode.TheVariants as modes
 use Rattle.babel_tlv.specs.declared.start.Start.{Start}
-use Rattle.babel_tlv.specs.Context.{Context, context_after}
+use Rattle.babel_tlv.specs.Context.{Context, first_context, updated}
 use Rattle.babel_tlv.specs.Framing.{TlvAt, ArePackets, packet_octets}
-use Rattle.babel_tlv.specs.Route.{RouteKey, Announcement}
-use Rattle.babel_tlv.specs.Says.{said}
+use Rattle.babel_tlv.specs.Route.{RouteKey}
+use Rattle.babel_tlv.specs.Says.{tells}
 use Rattle.babel_table.specs.Bounds.{Bounds, start_of}
-use Rattle.babel_table.specs.Holds.{Names}
+use Rattle.babel_table.specs.Holds.{retracted, same_key}
 use Rattle.babel_table.specs.Rows.{IsRising, Routes}
 use Rattle.babel_table.specs.TableOf.{IsTableOf}
 
@@ -36,32 +37,27 @@ pub record Told : Type 0 where
   pub when : When
   pub event : Event
 
--- a TLV that refuses the dump tells nothing
-abbrev pub event_in : Result Event Fault → Event
-event_in (Ok event) = event
-event_in (Err fault) = events.Nothing
-
 -- what a TLV that came at this time tells in its context
 abbrev pub told_at : ℕ → Context → TlvAt → Told
 told_at time context tlv = record {
   when = record { time = time; interval = update_interval tlv.body };
-  event = event_in (said context tlv);
+  event = tells context tlv;
 }
 
--- what the TLVs of a packet that came at this time tell, after the earlier ones of the packet
-abbrev pub told_behind : ℕ → Start → List TlvAt → List TlvAt → List Told
-told_behind time start earlier [] = []
-told_behind time start earlier (tlv ∷ tlvs) =
-    told_at time (context_after start earlier) tlv ∷ told_behind time start (tlv ∷ earlier) tlvs
+-- what TLVs that came at this time tell, in order, from a context on
+abbrev pub told_from : ℕ → Context → List TlvAt → List Told
+told_from time context [] = []
+told_from time context (tlv ∷ tlvs) =
+    told_at time context tlv ∷ told_from time (updated context tlv) tlvs
 
 -- packets that came at one time, each as its TLVs
 pub record Heard : Type 0 where
   pub time : ℕ
   pub packets : List (List TlvAt)
 
--- what they tell
+-- what they tell; the context begins anew with each packet
 abbrev pub told_in : Start → ℕ → List (List TlvAt) → List Told
-told_in start time packets = flat_map (told_behind time start []) packets
+told_in start time packets = flat_map (told_from time (first_context start)) packets
 
 -- what all packets tell, in the order in which they were heard
 abbrev pub told_of : Start → List Heard → List Told
@@ -69,48 +65,64 @@ told_of start all = flat_map (λ heard. told_in start heard.time heard.packets) 
 
 -- ---- what is held at a moment
 
--- RFC 8966, 4.6.9: the event announces or retracts the key, or retracts all
-abbrev pub SpeaksOf : RouteKey → Event → Type 0
-SpeaksOf key events.RetractAll = Unit {0}
-SpeaksOf key event = Names key event
+-- RFC 8966, appendix B: whether at the moment so many times the Interval have passed. The factor is
+-- in ten-millionths and an Interval in hundredths of a second, so their product is in nanoseconds.
+-- An Interval of 0, which 4.6.9 forbids, does not pass (this project's own).
+abbrev pub has_passed : ℕ → ℕ → When → Bool
+has_passed factor moment when =
+    nat_lt 0 when.interval && nat_le (when.time + factor * when.interval) moment
 
--- this is the last of what was told that speaks of the key: it announces or retracts the key, or
--- retracts all
-pub record IsLastTold (told : List Told) (key : RouteKey) (word : Told) : Type 0 where
-  pub before : List Told
-  pub after : List Told
-  pub whole : told ≡ before ++ word ∷ after
-  pub speaks : SpeaksOf key word.event
-  pub silent : AllByRecursion (λ later. ¬ SpeaksOf key later.event) after
-
--- RFC 8966, appendix B: at the moment so many times the Interval have passed. The factor is in
--- ten-millionths and an Interval in hundredths of a second, so their product is in nanoseconds. An
--- Interval of 0, which 4.6.9 forbids, does not pass (this project's own).
-abbrev pub HasPassed : ℕ → ℕ → When → Type 0
-HasPassed factor moment when =
-    (0 < when.interval) × (when.time + factor * when.interval ≤ moment)
-
--- the last word on the key announces this, at a time from which so many times its Interval have not
--- passed
-pub record Lasts (factor moment : ℕ) (told : List Told) (key : RouteKey)
-    (ann : Announcement) : Type 0 where
+-- what was said of a key, a route or that it is unreachable, and when
+pub record Word : Type 0 where
+  pub held : Held
   pub when : When
-  pub last : IsLastTold told key (record { when = when; event = events.Announce key ann })
-  pub lasts : ¬ HasPassed factor moment when
 
--- what is held for a key at the moment, where a retracted key has no row
-abbrev pub HoldsAt : ℕ → ℕ → List Told → RouteKey → Held → Type 0
-HoldsAt factor moment told key (helds.Route ann) = Lasts factor moment told key ann
-HoldsAt factor moment told key helds.Unreachable = ⊥
+abbrev pub word : When → Held → Word
+word when held = record { held = held; when = when }
+
+-- RFC 8966, 3.5.3: so many times as long as it is held a word is not gone: in mode Hold a route is
+-- unreachable for as long again
+abbrev pub times : Mode → Held → ℕ
+times modes.Hold (helds.Route ann) = 2
+times mode held = 1
+
+-- what a word stands for at the moment, unless it is gone
+abbrev pub left_at : Mode → ℕ → ℕ → Word → Option Held
+left_at mode factor moment said =
+    if not (has_passed factor moment said.when) then Some said.held
+    else if not (has_passed (times mode said.held * factor) moment said.when)
+    then Some helds.Unreachable else None
+
+-- RFC 8966, 4.6.9: the word that stands for a key after an event, if this one stood before it. A
+-- wildcard retraction is of what is not gone when it comes.
+abbrev pub word_after : Mode → ℕ → RouteKey → When → Event → Option Word → Option Word
+word_after mode factor key when (events.Announce other ann) old =
+    if same_key other key then Some (word when (helds.Route ann)) else old
+word_after mode factor key when (events.Retract other) old =
+    if same_key other key then option_map (word when) (retracted mode) else old
+word_after mode factor key when events.RetractAll old =
+    if is_none (option_and_then (left_at mode factor when.time) old) then None
+    else option_map (word when) (retracted mode)
+word_after mode factor key when event old = old
+
+-- the word that stands for a key after all that was told, in order
+abbrev pub last_word : Mode → ℕ → List Told → RouteKey → Option Word
+last_word mode factor told key =
+    fold (λ old one. word_after mode factor key one.when one.event old) None told
+
+-- this is held for a key at the moment
+abbrev pub HoldsAt : Mode → ℕ → ℕ → List Told → RouteKey → Held → Type 0
+HoldsAt mode factor moment told key held =
+    option_and_then (left_at mode factor moment) (last_word mode factor told key) ≡ Some held
 
 -- the rows are the keys for which something is held at the moment, each once, in rising order, with
 -- what is held for them
-pub record AreRowsAt (factor moment : ℕ) (told : List Told)
+pub record AreRowsAt (mode : Mode) (factor moment : ℕ) (told : List Told)
     (rows : List (RouteKey × Held)) : Type 0 where
   pub rising : IsRising rows
   pub held : (key : RouteKey) (held : Held) → Contains rows (key, held)
-      → HoldsAt factor moment told key held
-  pub all : (key : RouteKey) (held : Held) → HoldsAt factor moment told key held
+      → HoldsAt mode factor moment told key held
+  pub all : (key : RouteKey) (held : Held) → HoldsAt mode factor moment told key held
       → Contains rows (key, held)
 
 -- ---- a dump of which it is known when its packets came
@@ -129,11 +141,11 @@ abbrev pub dump_of : List (ℕ × List ℕ) → List ℕ
 dump_of given = flat_map (λ piece. piece.1) given
 
 -- the table of a dump at a moment: its rows are those held then, and its report is the dump's
-pub record IsTableAt (limits : Bounds) (sender : Address) (given : List (ℕ × List ℕ))
-    (factor moment : ℕ) (table : Routes) : Type 0 where
+pub record IsTableAt (limits : Bounds) (mode : Mode) (sender : Address)
+    (given : List (ℕ × List ℕ)) (factor moment : ℕ) (table : Routes) : Type 0 where
   pub all : List Heard
   pub heard : AreHeard given all
-  pub rows : AreRowsAt factor moment (told_of (start_of limits sender) all) table.rows
+  pub rows : AreRowsAt mode factor moment (told_of (start_of limits sender) all) table.rows
   pub whole : Routes
-  pub is_whole : IsTableOf limits modes.Plain sender (dump_of given) whole
+  pub is_whole : IsTableOf limits mode sender (dump_of given) whole
   pub report : table.report ≡ whole.report

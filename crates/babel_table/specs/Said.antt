@@ -2,7 +2,7 @@
 -- came, and where each is found. This project's own.
 use Rattle.std.specs.Prelude.{◌≡◌, ℕ, ◌<◌, ◌≤◌, ◌+◌, ◌-◌, ◌*◌, ◌/◌, ◌%◌, ◌^◌, ◌⊎◌, false, Option}
 use Rattle.std.specs.Prelude.{Some, None, List, [], ◌∷◌, bit_xor, length, take, map, count_by, Bool}
-use Rattle.std.specs.Prelude.{if◌then◌else◌}
+use Rattle.std.specs.Option.{option_and_then}
 use Rattle.std.specs.List.{AllByRecursion, HoldsAt, IsDistinct, list_any}
 use Rattle.std.specs.List.Sorted.{IsStrictlySortedBy}
 use Rattle.std.specs.Ordering.{eq_by_cmp}
@@ -12,8 +12,6 @@ use Rattle.std.specs.Map.{keys_of, lookup, remove_entry}
 use Rattle.babel_tlv.specs.Route.{RouteKey}
 use Rattle.babel_tlv.specs.Keys.{key_cmp}
 use Rattle.babel_table.specs.Live.{Kept}
-use Rattle.babel_table.specs.Moments.{When}
-use Rattle.babel_table.specs.Words.{has_passed, when_at}
 
 -- what was last said of each key: nothing where it was retracted
 abbrev pub Words : Type 0
@@ -28,23 +26,17 @@ abbrev pub standing : Words → List (RouteKey × Kept)
 standing [] = []
 standing (word ∷ words) = say word.0 word.1 (standing words)
 
--- something was said, and has passed at the moment
-abbrev pub is_passed : List When → ℕ → ℕ → Option Kept → Bool
-is_passed stamps factor moment (Some said) = has_passed factor moment (when_at stamps said.mark)
-is_passed stamps factor moment None = false
+-- something was said for which the test holds
+abbrev pub is_said : (Kept → Bool) → Option Kept → Bool
+is_said test None = false
+is_said test (Some said) = test said
 
-abbrev pub passed_count : List When → ℕ → ℕ → Words → ℕ
-passed_count stamps factor moment words =
-    count_by (λ word. is_passed stamps factor moment word.1) words
+abbrev pub said_count : (Kept → Bool) → Words → ℕ
+said_count test words = count_by (λ word. is_said test word.1) words
 
--- nothing is said any more where what was said has passed
-abbrev pub unless_passed : List When → ℕ → ℕ → Option Kept → Option Kept
-unless_passed stamps factor moment said =
-    if is_passed stamps factor moment said then None else said
-
-abbrev pub unpassed : List When → ℕ → ℕ → Words → Words
-unpassed stamps factor moment words =
-    map (λ word. (word.0, unless_passed stamps factor moment word.1)) words
+-- the words with what this gives in place of what was said
+abbrev pub said_as : (Kept → Option Kept) → Words → Words
+said_as give words = map (λ word. (word.0, option_and_then give word.1)) words
 
 abbrev pub AreDistinct : List RouteKey → Type 0
 AreDistinct keys = IsDistinct (eq_by_cmp key_cmp) keys

@@ -75,8 +75,8 @@ TakesOctets old octets new left =
 -- come when it is, and the rest is pending
 abbrev pub HearsOctets : Stream → List ℕ → Stream → Type 0
 HearsOctets old octets new =
-    HearsPackets old.so_far.rows.when.time old.start old.at octets old.so_far.rows.words
-    new.so_far.rows.words new.pending
+    HearsPackets old.so_far.rows.mode old.so_far.rows.factor old.so_far.rows.when.time old.start
+    old.at octets old.so_far.rows.words new.so_far.rows.words new.pending
 
 -- it takes some packets of the octets, and then comes the fault
 abbrev pub StopsInOctets : Stream → List ℕ → Fault → Type 0

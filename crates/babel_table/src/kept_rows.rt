@@ -6,7 +6,8 @@ ghost use Rattle.std.specs.Map.{keys_of, lookup, remove_entry};
 ghost use Rattle.babel_tlv.specs.Keys.{key_cmp};
 ghost use Rattle.babel_tlv.specs.Pairs.{IsPair};
 ghost use Rattle.babel_table.specs.BestMatch.{IsBestMatch};
-ghost use Rattle.babel_table.specs.Live.{kept, lasting, live_rows};
+ghost use Rattle.babel_table.specs.Live.{kept, kept_at, lasting, live_rows};
+ghost use Rattle.babel_table.specs.Words.{replaced};
 ghost use Rattle.babel_table.specs.TableRows.{AreRows};
 
 use crate::family_rows::FamilyRows;
@@ -105,21 +106,19 @@ impl KeptRows {
         self.v6.clear();
     }
 
-    /// For how many keys there is something that has passed at the moment.
+    /// For how many keys there is a route that has passed at the moment.
     pub fn count_passed(&self, moment: &Moment<'_>) -> usize
-        ensures { result + length (lasting moment.now.stamps.now moment.now.factor
-            moment.now.time self.now) ≡ length self.now }
+        ensures { result + length (lasting moment.now self.now) ≡ length self.now }
     {
         self.v4.count_passed(moment) + self.v6.count_passed(moment)
     }
 
-    /// Keeps nothing for the keys of what has passed at the moment.
-    pub fn forget_passed(&mut self, moment: &Moment<'_>)
-        ensures { self.new ≡ lasting moment.now.stamps.now moment.now.factor moment.now.time
-            self.old }
+    /// Keeps what is left at the moment.
+    pub fn leave(&mut self, moment: &Moment<'_>)
+        ensures { self.new ≡ replaced (kept_at moment.now) self.old }
     {
-        self.v4.forget_passed(moment);
-        self.v6.forget_passed(moment);
+        self.v4.leave(moment);
+        self.v6.leave(moment);
     }
 
     /// The rows that these stand for after so many wipes.

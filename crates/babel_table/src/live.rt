@@ -2,19 +2,19 @@ ghost use Rattle.std.specs.Prelude.{◌≡◌, ◌^◌, ◌<◌, ◌≤◌, ◌+
 ghost use Rattle.std.specs.Prelude.{true, false};
 ghost use Rattle.std.specs.BTreeMap.{insert_entry, is_at};
 ghost use Rattle.std.specs.Map.{remove_entry};
-ghost use Rattle.babel_tlv.specs.declared.mode.Mode.TheVariants.{Hold, Plain};
+ghost use Rattle.babel_tlv.specs.declared.mode.Mode.TheVariants.{Hold};
 ghost use Rattle.babel_tlv.specs.Pairs.{EventFits, IsPair};
 ghost use Rattle.babel_tlv.specs.Keys.{key_cmp};
 ghost use Rattle.babel_tlv.specs.EventKinds.{event_of};
 ghost use Rattle.babel_tlv.specs.declared.event.Event.TheVariants as events;
-ghost use Rattle.babel_table.specs.Live.{IsNotHeld, KeepsAllButRows, unreachable};
+ghost use Rattle.babel_table.specs.Live.{IsNotHeld, KeepsAllButRows, lasting_words, unreachable};
 ghost use Rattle.babel_prefix.specs.Entries.{answer_for};
 ghost use Rattle.babel_table.specs.BestMatch.{IsBestMatch};
 ghost use Rattle.babel_table.specs.Rows.{entries_of};
 ghost use Rattle.babel_table.specs.TableRows.{AreRows};
 ghost use Rattle.babel_table.specs.Feeding.{Follows, IsRefused};
-ghost use Rattle.babel_table.specs.Moments.{update_interval};
-ghost use Rattle.babel_table.specs.Words.{after_event, lasting_words, no_when, rows_of, said};
+ghost use Rattle.babel_table.specs.Moments.{update_interval, word};
+ghost use Rattle.babel_table.specs.Words.{after_event, no_when, replaced, rows_at, wiped};
 
 use crate::clock::Clock;
 use crate::kept_rows::KeptRows;
@@ -30,7 +30,8 @@ use std::marker::Model;
 pub struct LiveRows {
     mode: Mode,
     entries: u32,
-    /// What has a mark below this was said before all was retracted.
+    /// What has a mark below this was said before all was retracted. Where times are kept, marks
+    /// begin at 1.
     wipes: u64,
     /// The mark of what was said last.
     last: u64,
@@ -39,7 +40,7 @@ pub struct LiveRows {
 }
 
 impl Model for LiveRows {
-    ghost use Rattle.std.specs.Prelude.{◌≤◌, length};
+    ghost use Rattle.std.specs.Prelude.{◌≡◌, ◌≤◌, ◌+◌, length, true};
     ghost use Rattle.babel_table.specs.Live.{AreKept, IsInTime, Live, live_rows, words_of};
 
     ghost Value = { Live };
@@ -50,12 +51,14 @@ impl Model for LiveRows {
       last = r.last;
       rows = live_rows r.wipes r.kept;
       runs = r.clock.runs;
+      factor = r.clock.factor;
       when = r.clock.when;
-      words = words_of r.clock.stamps r.kept;
+      words = words_of r.clock r.wipes r.kept;
     } };
 
     ghost invariant = { λ r. AreKept r.last r.kept × (length r.kept ≤ r.entries)
-        × (r.wipes ≤ r.last) × IsInTime r.mode r.clock r.wipes r.last };
+        × (r.wipes ≤ r.last + 1)
+        × (r.clock.runs ≡ true → IsInTime r.clock r.wipes r.last) };
 }
 
 impl LiveRows {
@@ -67,6 +70,7 @@ impl LiveRows {
           last = 0;
           rows = [];
           runs = false;
+          factor = 0;
           when = no_when;
           words = [];
         } }
@@ -77,29 +81,31 @@ impl LiveRows {
             wipes: 0,
             last: 0,
             kept: KeptRows::new(alloc, seed),
-            clock: Clock::new(alloc, false),
+            clock: Clock::new(alloc, false, 0),
         }
     }
 
-    /// The same in mode Plain, where it is kept when each row was said.
-    pub fn in_time(alloc: Global, entries: u32, seed: u128) -> LiveRows
+    /// The same, where it is kept when each row was said, which lasts so many ten-millionths of its
+    /// Interval.
+    pub fn in_time(alloc: Global, mode: Mode, entries: u32, seed: u128, factor: u64) -> LiveRows
         ensures { result ≡ record {
-          mode = Plain;
+          mode = mode;
           entries = entries;
           last = 0;
           rows = [];
           runs = true;
+          factor = factor;
           when = no_when;
           words = [];
         } }
     {
         LiveRows {
-            mode: Mode::Plain,
+            mode,
             entries,
-            wipes: 0,
+            wipes: 1,
             last: 0,
             kept: KeptRows::new(alloc, seed),
-            clock: Clock::new(alloc, true),
+            clock: Clock::new(alloc, true, factor),
         }
     }
 
@@ -130,16 +136,16 @@ impl LiveRows {
         ensures ok { OnOk result (self.new.rows ≡ insert_entry key_cmp self.old.rows key.now held) }
         ensures refused { IfErr result (IsNotHeld self.old at key.now held) }
         ensures words { self.old.runs ≡ true → OnOk result (self.new.words
-            ≡ insert_entry key_cmp self.old.words key.now (said held self.old.when)) }
+            ≡ insert_entry key_cmp self.old.words key.now (word self.old.when held)) }
     {
         let refusal = if self.kept.len() < self.entries as usize {
             None
         } else {
             Some(Fault::TooManyRoutes { at })
         };
-        let last = self.clock.mark(self.last)?;
-        self.last = last;
-        self.kept.put(key, held, last, refusal)
+        let mark = self.clock.mark(self.last)?;
+        self.last = mark.max(self.wipes);
+        self.kept.put(key, held, self.last, refusal)
     }
 
     /// Holds nothing for the key.
@@ -148,6 +154,7 @@ impl LiveRows {
         ensures rows { self.new.rows ≡ remove_entry (is_at (key_cmp key.now)) self.old.rows }
         ensures words { self.new.words ≡ remove_entry (is_at (key_cmp key.now)) self.old.words }
     {
+        self.are_rows();
         self.kept.forget(key);
     }
 
@@ -166,9 +173,11 @@ impl LiveRows {
         requires room { self.old.last + 1 < 2 ^ 64 }
         ensures settings { KeepsAllButRows self.old self.new }
         ensures rows { self.new.rows ≡ map unreachable self.old.rows }
+        ensures words { self.old.runs ≡ true → self.new.words
+            ≡ replaced (wiped self.old.factor self.old.when) self.old.words }
     {
-        self.last += 1;
-        self.wipes = self.last;
+        self.clock.wipe(self.wipes, self.last);
+        self.wipes = self.last + 1;
     }
 
     /// The keys rise, and each row is a pair.
@@ -185,36 +194,22 @@ impl LiveRows {
         let _ = &self.mode;
     }
 
-    /// Where times are kept, the rows are what the words stand for.
-    pub fn are_words(&self)
-        ensures { self.now.runs ≡ true → self.now.rows ≡ rows_of self.now.words }
-    {
-        let _ = &self.mode;
-    }
-
-    /// How many rows have passed at the moment, so many times their Interval after they were said.
-    pub fn count_passed(&self, factor: u64, time: u128) -> usize
-        ensures { result + length (lasting_words factor time self.now.words)
+    /// How many routes have passed at the moment.
+    pub fn count_passed(&self, time: u128) -> usize
+        ensures { result + length (lasting_words self.now.factor time self.now.words)
             ≡ length self.now.words }
     {
-        self.kept.count_passed(&Moment {
-            stamps: self.clock.stamps(),
-            factor,
-            time,
-        })
+        let moment = Moment::new(&self.clock, self.mode, self.wipes, time);
+        self.kept.count_passed(&moment)
     }
 
-    /// Holds nothing for the keys whose rows have passed at the moment.
-    pub fn forget_passed(&mut self, factor: u64, time: u128)
-        ensures settings { KeepsAllButRows self.old self.new }
-        ensures last { self.new.last ≡ self.old.last }
-        ensures words { self.new.words ≡ lasting_words factor time self.old.words }
+    /// Holds what is left at the moment.
+    pub fn leave(&mut self, time: u128)
+        ensures { self.old.runs ≡ true → self.new.rows
+            ≡ rows_at self.old.mode self.old.factor time self.old.words }
     {
-        self.kept.forget_passed(&Moment {
-            stamps: self.clock.stamps(),
-            factor,
-            time,
-        });
+        let moment = Moment::new(&self.clock, self.mode, self.wipes, time);
+        self.kept.leave(&moment);
     }
 
     /// Takes an announcement, said at this offset, into the rows.
@@ -226,8 +221,9 @@ impl LiveRows {
             (Follows self.old.mode (events.Announce key.now ann.now) self.old.rows self.new.rows) }
         ensures refused { IfErr result (IsRefused self.old.mode self.old.entries at
             (events.Announce key.now ann.now) self.old.rows) }
-        ensures words { self.old.runs ≡ true → OnOk result (self.new.words
-            ≡ after_event self.old.when (events.Announce key.now ann.now) self.old.words) }
+        ensures words { self.old.runs ≡ true → OnOk result
+            (self.new.words ≡ after_event self.old.mode self.old.factor self.old.when
+            (events.Announce key.now ann.now) self.old.words) }
     {
         self.put(key, Held::Route(*ann), at)
     }
@@ -241,8 +237,9 @@ impl LiveRows {
             (Follows self.old.mode (events.Retract key.now) self.old.rows self.new.rows) }
         ensures refused { IfErr result (IsRefused self.old.mode self.old.entries at
             (events.Retract key.now) self.old.rows) }
-        ensures words { self.old.runs ≡ true → self.new.words
-            ≡ after_event self.old.when (events.Retract key.now) self.old.words }
+        ensures words { self.old.runs ≡ true → OnOk result
+            (self.new.words ≡ after_event self.old.mode self.old.factor self.old.when
+            (events.Retract key.now) self.old.words) }
     {
         match self.mode {
             Mode::Plain => {
@@ -258,7 +255,8 @@ impl LiveRows {
         requires { self.old.last + 1 < 2 ^ 64 }
         ensures settings { KeepsAllButRows self.old self.new }
         ensures rows { Follows self.old.mode events.RetractAll self.old.rows self.new.rows }
-        ensures words { self.old.runs ≡ true → self.new.words ≡ [] }
+        ensures words { self.old.runs ≡ true → self.new.words ≡ after_event self.old.mode
+            self.old.factor self.old.when events.RetractAll self.old.words }
     {
         match self.mode {
             Mode::Plain => self.clear(),
@@ -281,8 +279,9 @@ impl LiveRows {
             (event_of kind route.now) self.old.rows) }
 
         // Where times are kept, the words are then those after this one.
-        ensures words { self.old.runs ≡ true → OnOk result (self.new.words
-            ≡ after_event self.old.when (event_of kind route.now) self.old.words) }
+        ensures words { self.old.runs ≡ true → OnOk result
+            (self.new.words ≡ after_event self.old.mode self.old.factor self.old.when
+            (event_of kind route.now) self.old.words) }
     {
         match kind {
             EventKind::Announce => self.announce(&route.key, &route.ann, at),

@@ -8,10 +8,10 @@ ghost use Rattle.babel_tlv.specs.Framing.{tlvs_of};
 ghost use Rattle.babel_tlv.specs.FrameFaults.{AreTlvs};
 ghost use Rattle.babel_tlv.specs.Frames.{tlv_value};
 ghost use Rattle.babel_tlv.specs.declared.start.Start.{Start as StartValue};
-ghost use Rattle.babel_tlv.specs.Context.{context_after};
+ghost use Rattle.babel_tlv.specs.Context.{context_after, first_context};
 ghost use Rattle.babel_tlv.specs.Framing.{TlvAt};
 ghost use Rattle.babel_table.specs.Live.{KeepsTime};
-ghost use Rattle.babel_table.specs.Moments.{told_at, told_behind};
+ghost use Rattle.babel_table.specs.Moments.{told_at, told_from};
 ghost use Rattle.babel_table.specs.Words.{HearsPackets, after_all, after_told, told_then};
 
 use crate::live::LiveRows;
@@ -47,8 +47,8 @@ impl SoFar {
             tlv.now.at (event_of kind route.now) self.old.rows.rows) }
         ensures time { KeepsTime self.old.rows self.new.rows }
         ensures words { self.old.rows.runs ≡ true → OnOk result (self.new.rows.words
-            ≡ after_told (told_then self.old.rows.when.time (tlv_value tlv.now)
-            (event_of kind route.now)) self.old.rows.words) }
+            ≡ after_told self.old.rows.mode self.old.rows.factor (told_then self.old.rows.when.time
+            (tlv_value tlv.now) (event_of kind route.now)) self.old.rows.words) }
     {
         self.report.count(tlv, kind);
         self.rows.set_interval(tlv.body);
@@ -70,8 +70,8 @@ impl SoFar {
         ensures fails { IfErr result (FailsAtTlv self.old state.old (tlv_value tlv.now)) }
         ensures time { KeepsTime self.old.rows self.new.rows }
         ensures words { self.old.rows.runs ≡ true → OnOk result (self.new.rows.words
-            ≡ after_told (told_at self.old.rows.when.time state.old (tlv_value tlv.now))
-            self.old.rows.words) }
+            ≡ after_told self.old.rows.mode self.old.rows.factor
+            (told_at self.old.rows.when.time state.old (tlv_value tlv.now)) self.old.rows.words) }
         ensures state { OnOk result ((start : StartValue) (earlier : List TlvAt)
             → state.old ≡ context_after start earlier
             → state.new ≡ context_after start (tlv_value tlv.now ∷ earlier)) }
@@ -96,8 +96,8 @@ impl SoFar {
         ensures fails { IfErr result (FailsInBody self.old start.now at body.now) }
         ensures time { KeepsTime self.old.rows self.new.rows }
         ensures words { self.old.rows.runs ≡ true → OnOk result (self.new.rows.words
-            ≡ after_all (told_behind self.old.rows.when.time start.now [] (tlvs_of at body.now))
-            self.old.rows.words) }
+            ≡ after_all self.old.rows.mode self.old.rows.factor (told_from self.old.rows.when.time
+            (first_context start.now) (tlvs_of at body.now)) self.old.rows.words) }
     {
         let mut state = State::at(*start);
         let mut route = Route::unwritten();
@@ -126,8 +126,8 @@ impl SoFar {
         ensures stops { IfErr result (StopsInPackets self.old start.now at octets.now) }
         ensures time { KeepsTime self.old.rows self.new.rows }
         ensures words { self.old.rows.runs ≡ true → IfOk result (λ used. HearsPackets
-            self.old.rows.when.time start.now at octets.now self.old.rows.words self.new.rows.words
-            (drop used octets.now)) }
+            self.old.rows.mode self.old.rows.factor self.old.rows.when.time start.now at octets.now
+            self.old.rows.words self.new.rows.words (drop used octets.now)) }
     {
         let mut rest = octets;
         let mut place = at;

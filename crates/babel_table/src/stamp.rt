@@ -1,5 +1,5 @@
 ghost use Rattle.std.specs.Prelude.{◌≡◌, ◌<◌, ◌^◌};
-ghost use Rattle.babel_table.specs.Words.{has_passed};
+ghost use Rattle.babel_table.specs.Moments.{has_passed};
 
 use std::marker::Model;
 
@@ -36,12 +36,21 @@ impl Stamp {
         }
     }
 
+    /// When it was said.
+    pub fn time(&self) -> u128
+        ensures value { result ≡ self.now.time }
+        ensures small { result < 2 ^ 96 }
+    {
+        u128::from(self.high) * LOW + u128::from(self.low)
+    }
+
     /// Whether at the moment so many times the Interval have passed: RFC 8966, appendix B.
-    pub fn has_passed(&self, factor: u64, moment: u128) -> bool
+    pub fn has_passed(&self, factor: u128, moment: u128) -> bool
+        requires { factor < 2 ^ 65 }
         ensures { result ≡ has_passed factor moment self.now }
     {
-        let time = u128::from(self.high) * LOW + u128::from(self.low);
-        let wait = u128::from(factor) * u128::from(self.interval);
+        let time = self.time();
+        let wait = factor * u128::from(self.interval);
         self.interval > 0 && time + wait <= moment
     }
 }

@@ -8,7 +8,8 @@ ghost use Rattle.babel_tlv.specs.Keys.{key_cmp};
 ghost use Rattle.babel_tlv.specs.Pairs.{FitsKey};
 ghost use Rattle.babel_table.specs.BestMatch.{IsBestMatch};
 ghost use Rattle.babel_table.specs.Compact.{AreOf, is_via_v6};
-ghost use Rattle.babel_table.specs.Live.{kept, lasting, live_rows};
+ghost use Rattle.babel_table.specs.Live.{kept, kept_at, lasting, live_rows};
+ghost use Rattle.babel_table.specs.Words.{replaced};
 ghost use Rattle.babel_table.specs.TableRows.{AreRows};
 
 use crate::family_rows::FamilyRows;
@@ -139,10 +140,9 @@ impl V4Rows {
         self.narrow.clear();
     }
 
-    /// For how many keys there is something that has passed at the moment.
+    /// For how many keys there is a route that has passed at the moment.
     pub fn count_passed(&self, moment: &Moment<'_>) -> usize
-        ensures count { result + length (lasting moment.now.stamps.now moment.now.factor
-            moment.now.time self.now) ≡ length self.now }
+        ensures count { result + length (lasting moment.now self.now) ≡ length self.now }
         ensures small { result < 2 ^ 63 }
     {
         if self.is_wide {
@@ -152,15 +152,14 @@ impl V4Rows {
         }
     }
 
-    /// Keeps nothing for the keys of what has passed at the moment.
-    pub fn forget_passed(&mut self, moment: &Moment<'_>)
-        ensures { self.new ≡ lasting moment.now.stamps.now moment.now.factor moment.now.time
-            self.old }
+    /// Keeps what is left at the moment.
+    pub fn leave(&mut self, moment: &Moment<'_>)
+        ensures { self.new ≡ replaced (kept_at moment.now) self.old }
     {
         if self.is_wide {
-            self.wide.forget_passed(moment);
+            self.wide.leave(moment);
         } else {
-            self.narrow.forget_passed(moment);
+            self.narrow.leave(moment);
         }
     }
 
