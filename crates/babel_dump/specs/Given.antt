@@ -5,7 +5,6 @@ use Rattle.babel_capture.specs.declared.window.Window.TheVariants as windows
 use Rattle.babel_tlv.specs.declared.fault.Fault.{Fault}
 use Rattle.babel_tlv.specs.declared.fault.Fault.TheVariants as faults
 use Rattle.babel_tlv.specs.declared.mode.Mode.{Mode}
-use Rattle.babel_tlv.specs.declared.mode.Mode.TheVariants as modes
 use Rattle.babel_tlv.specs.declared.view.View.{View}
 use Rattle.babel_tlv.specs.Group.{IsCanonicalText}
 use Rattle.babel_tlv.specs.Pair.{Pair}
@@ -86,14 +85,15 @@ abbrev pub expired_of : Input → Option Expired
 expired_of reader = expired reader.reading.expiry reader.new.times.moment
 
 -- The reader gave the dump read by read, each read with the time that it told. Where it tells
--- times, and no read cut a packet, this is in mode Plain the table at the moment.
+-- times, and no read cut a packet, this is the table at the moment.
 pub record IsTableThen (reader : Input) (at : Expired) (dump : List ℕ) (table : Routes) :
     Type 0 where
   pub given : List (ℕ × List ℕ)
   pub gave : GaveReads reader.old reader.new given
   pub whole : dump ≡ dump_heard given
-  pub is_table : reader.reading.mode ≡ modes.Plain → reader.old.times.told ≡ true → AreUncut given
-      → IsTableAt reader.reading.limits reader.reading.sender given at.factor at.moment table
+  pub is_table : reader.old.times.told ≡ true → AreUncut given
+      → IsTableAt reader.reading.limits reader.reading.mode reader.reading.sender given
+      at.factor at.moment table
 
 -- the table of the dump, without what is left out of it
 abbrev pub IsTableRead : Option Expired → Input → (dump : List ℕ) → Routes → Type 0

@@ -5,7 +5,7 @@ ghost use Rattle.std.specs.Prelude.{◌<◌, ◌^◌};
 use super::{are, key, route, router};
 use crate::dumps::octets;
 use babel_table::{Feeder, Limits, Table, USUAL_SEED};
-use babel_tlv::{Fault, Held, Key};
+use babel_tlv::{Fault, Held, Key, Mode};
 use std::alloc::Global;
 use std::test::Fail;
 
@@ -16,6 +16,7 @@ const SECOND: u64 = 1_000_000_000;
 
 /// 10.0.0.1/32 with an Interval of 4 seconds, then of 1.
 const FOUR: &str = "2a02001c060a00000200000000000001080e0100200001900001000a0a000001";
+
 const ONE: &str = "2a02001c060a00000200000000000001080e0100200000640001000a0a000001";
 
 /// 10.0.0.2/32 with an Interval of 0.
@@ -23,6 +24,7 @@ const ZERO: &str = "2a02001c060a00000200000000000001080e0100200000000001000a0a00
 
 /// No route for 10.0.0.1/32, and none at all.
 const NONE: &str = "2a020010080e0100200001900001ffff0a000001";
+
 const NONE_AT_ALL: &str = "2a02000c080a0000000001900000ffff";
 
 /// A packet that ends within its body.
@@ -38,7 +40,14 @@ fn held_at(
 ) -> Result<(usize, Table), Fault>
     requires { start < 2 ^ 90 }
 {
-    let mut feeder = Feeder::in_time(alloc, Limits::usual(), router(), USUAL_SEED)?;
+    let mut feeder = Feeder::in_time(
+        alloc,
+        Limits::usual(),
+        Mode::Plain,
+        router(),
+        USUAL_SEED,
+        FACTOR,
+    )?;
     for (seconds, packet) in came {
         let packet = match octets(alloc, packet) {
             Ok(packet) => packet,
@@ -48,8 +57,8 @@ fn held_at(
         feeder.feed_at(time, &packet)?;
     }
     let moment = start + u128::from(after);
-    let passed = feeder.count_passed(FACTOR, moment);
-    Ok((passed, feeder.finish_at(FACTOR, moment)?))
+    let passed = feeder.count_passed(moment);
+    Ok((passed, feeder.finish_at(moment)?))
 }
 
 #[test]
@@ -61,7 +70,12 @@ fn rows_pass(rt: HostRuntime) -> Result<(), Fail> {
     let rows: [(&[(u64, &str)], u64, usize, &[(Option<Key>, Option<Held>)]); 9] = [
         (&[(0, FOUR)], 14 * SECOND - 1, 0, &[first]),
         (&[(0, FOUR)], 14 * SECOND, 1, none),
-        (&[(0, FOUR), (1, ONE)], 4 * SECOND + SECOND / 2 - 1, 0, &[first]),
+        (
+            &[(0, FOUR), (1, ONE)],
+            4 * SECOND + SECOND / 2 - 1,
+            0,
+            &[first],
+        ),
         (&[(0, FOUR), (1, ONE)], 4 * SECOND + SECOND / 2, 1, none),
         (&[(0, ONE), (1, FOUR)], 15 * SECOND - 1, 0, &[first]),
         (&[(0, ZERO), (0, FOUR)], 1000 * SECOND, 1, &[second]),
