@@ -4,14 +4,18 @@ use Rattle.std.specs.Prelude.{count_by}
 use Rattle.std.specs.List.{find}
 use Rattle.std.specs.Option.{option_map, option_or}
 use Rattle.std.proofs.lemmas.List.Folds.{find-append}
+use Rattle.std.proofs.lemmas.List.Sums.{fold-append}
 use Rattle.std.proofs.lemmas.List.{length-append}
 use Rattle.babel_prefix.proofs.Counted.{count-none, count-push}
 use Rattle.babel_capture.specs.declared.link.Link.{Link}
 use Rattle.babel_capture.specs.declared.reason.Reason.{Reason}
 use Rattle.babel_capture.specs.declared.reason.Reason.TheVariants as reasons
 use Rattle.babel_capture.specs.Findings.{Found, passed, untold, left, refused, lacked, found}
-use Rattle.babel_capture.specs.Counts.{Made, Counts, all_reasons, is_left_for, left_for, is_short, is_cooked, is_cooked_link, counts_of}
-use Rattle.babel_capture.specs.Counting.{one_more, left_with, counted}
+use Rattle.babel_capture.specs.declared.timing.Timing.{Timing}
+use Rattle.babel_capture.specs.Counts.{Made, Counts, all_reasons, is_left_for, left_for, is_short, is_cooked, is_cooked_link, interval_found, timing_of, counts_of}
+use Rattle.babel_capture.specs.Counting.{one_more, left_with, counted, counted_at}
+use Rattle.babel_capture.specs.Timing.{greatest, no_times, timed}
+use Rattle.babel_capture.specs.Updates.{interval_in}
 
 abbrev Count : Type 0
 Count = Option (ℕ × ℕ)
@@ -65,41 +69,62 @@ by_found f at (refused lack) = refl
 by_found f at (lacked place sender lack) = refl
 by_found f at (found place sender packet) = refl
 
-abbrev counts : ℕ → List Count → ℕ → ℕ → Counts
-counts packets left_out short cooked = record { packets = packets; left_out = left_out; short = short; cooked = cooked }
+abbrev counts : ℕ → List Count → ℕ → ℕ → Timing → Option ℕ → Counts
+counts packets left_out short cooked timing interval =
+    record { packets = packets; left_out = left_out; short = short; cooked = cooked; timing = timing; interval = interval }
 
 nothing_more : (n : ℕ) → n + 0 ≡ n
 nothing_more n = omega arith
 
--- the counts with one more, by what is made of it
-by_what : (old : Counts) (link : Link) (what : Found)
-    → counts (old.packets + 1) (left_with old.left_out (reason_of what) (old.packets + 1)) (old.short + cond (is_short what) 1 0) (old.cooked + cond (is_cooked link what) 1 0) ≡ counted old link what
-by_what old link passed = ap (λ (n : ℕ). counts (old.packets + 1) old.left_out n (old.cooked + 0)) (nothing_more old.short)
-    ∙ ap (counts (old.packets + 1) old.left_out old.short) (nothing_more old.cooked)
-by_what old link untold = ap (counts (old.packets + 1) old.left_out (old.short + 1)) (nothing_more old.cooked)
-by_what old link (left reason) =
-    let left_out = left_with old.left_out (Some reason) (old.packets + 1) in
-    ap (λ (n : ℕ). counts (old.packets + 1) left_out n (old.cooked + 0)) (nothing_more old.short) ∙ ap (counts (old.packets + 1) left_out old.short) (nothing_more old.cooked)
-by_what old link (refused lack) = ap (λ (n : ℕ). counts (old.packets + 1) old.left_out n (old.cooked + 0)) (nothing_more old.short)
-    ∙ ap (counts (old.packets + 1) old.left_out old.short) (nothing_more old.cooked)
-by_what old link (lacked place sender lack) = ap (λ (n : ℕ). counts (old.packets + 1) old.left_out n (old.cooked + 0)) (nothing_more old.short)
-    ∙ ap (counts (old.packets + 1) old.left_out old.short) (nothing_more old.cooked)
-by_what old link (found place sender packet) =
-    ap (λ (n : ℕ). counts (old.packets + 1) old.left_out n (old.cooked + cond (is_cooked_link link) 1 0)) (nothing_more old.short)
+no_interval : (interval : Option ℕ) → greatest interval None ≡ interval
+no_interval None = refl
+no_interval (Some one) = refl
 
-pub counts-push : (made : List Made) (one : Made) → one.number ≡ length made + 1 → counts_of (made ++ one ∷ []) ≡ counted (counts_of made) one.link one.what
+-- the counts with one more, by what is made of it
+module _ (old : Counts) (link : Link) where
+  abbrev more : List Count → ℕ → ℕ → Option ℕ → Counts
+  more left_out short cooked interval = counts (old.packets + 1) left_out short cooked old.timing interval
+
+  left_so : (left_out : List Count) → more left_out (old.short + 0) (old.cooked + 0) (greatest old.interval None) ≡ more left_out old.short old.cooked old.interval
+  left_so left_out =
+      ap (λ (n : ℕ). more left_out n (old.cooked + 0) (greatest old.interval None)) (nothing_more old.short)
+      ∙ ap (λ (n : ℕ). more left_out old.short n (greatest old.interval None)) (nothing_more old.cooked)
+      ∙ ap (more left_out old.short old.cooked) (no_interval old.interval)
+
+  by_what : (what : Found)
+      → more (left_with old.left_out (reason_of what) (old.packets + 1)) (old.short + cond (is_short what) 1 0) (old.cooked + cond (is_cooked link what) 1 0)
+      (greatest old.interval (interval_found what))
+      ≡ counted old link what
+  by_what passed = left_so old.left_out
+  by_what untold =
+      ap (λ (n : ℕ). more old.left_out (old.short + 1) n (greatest old.interval None)) (nothing_more old.cooked)
+      ∙ ap (more old.left_out (old.short + 1) old.cooked) (no_interval old.interval)
+  by_what (left reason) = left_so (left_with old.left_out (Some reason) (old.packets + 1))
+  by_what (refused lack) = left_so old.left_out
+  by_what (lacked place sender lack) = left_so old.left_out
+  by_what (found place sender packet) =
+      ap (λ (n : ℕ). more old.left_out n (old.cooked + cond (is_cooked_link link) 1 0) (greatest old.interval (interval_in packet))) (nothing_more old.short)
+
+pub counts-push : (made : List Made) (one : Made) → one.number ≡ length made + 1 → counts_of (made ++ one ∷ []) ≡ counted (counted_at (counts_of made) one.came) one.link one.what
 counts-push made one is =
     let all = made ++ one ∷ [] in
-    let more : length all ≡ length made + 1 = length-append made (one ∷ []) in
+    let packets : length all ≡ length made + 1 = length-append made (one ∷ []) in
     let each : map (left_for all) all_reasons ≡ left_with (map (left_for made) all_reasons) (reason_of one.what) one.number =
     map-same (left_for all) (λ r. bumped (is_left_for r one.what) one.number (left_for made r)) (λ r. left-push r made one) all_reasons
     ∙ by_found (left_for made) one.number one.what in
     let left_out = each ∙ ap (λ (n : ℕ). left_with (map (left_for made) all_reasons) (reason_of one.what) n) is in
     let short = count-push (λ (m : Made). is_short m.what) made one in
     let cooked = count-push (λ (m : Made). is_cooked m.link m.what) made one in
-    ap (λ (n : ℕ). counts n (map (left_for all) all_reasons) (count_by (λ (m : Made). is_short m.what) all) (count_by (λ (m : Made). is_cooked m.link m.what) all)) more
-    ∙ ap (λ (t : List Count). counts (length made + 1) t (count_by (λ (m : Made). is_short m.what) all) (count_by (λ (m : Made). is_cooked m.link m.what) all)) left_out
-    ∙ ap (λ (n : ℕ). counts (length made + 1) (left_with (map (left_for made) all_reasons) (reason_of one.what) (length made + 1)) n (count_by (λ (m : Made). is_cooked m.link m.what) all)) short
-    ∙ ap (counts (length made + 1) (left_with (map (left_for made) all_reasons) (reason_of one.what) (length made + 1)) (count_by (λ (m : Made). is_short m.what) made + cond (is_short one.what) 1 0))
-    cooked
-    ∙ by_what (counts_of made) one.link one.what
+    let timing = fold-append (λ (t : Timing) (m : Made). timed t m.number m.came) no_times made (one ∷ []) ∙ ap (λ (n : ℕ). timed (timing_of made) n one.came) is in
+    let interval = fold-append (λ (i : Option ℕ) (m : Made). greatest i (interval_found m.what)) None made (one ∷ []) in
+    let old = counted_at (counts_of made) one.came in
+    let now = counts_of all in
+    ap (λ (n : ℕ). counts n now.left_out now.short now.cooked now.timing now.interval) packets
+    ∙ ap (λ (t : List Count). counts (length made + 1) t now.short now.cooked now.timing now.interval) left_out
+    ∙ ap (λ (n : ℕ). counts (length made + 1) (left_with old.left_out (reason_of one.what) (length made + 1)) n now.cooked now.timing now.interval) short
+    ∙ ap (λ (n : ℕ). counts (length made + 1) (left_with old.left_out (reason_of one.what) (length made + 1)) (old.short + cond (is_short one.what) 1 0) n now.timing now.interval) cooked
+    ∙ ap (λ (t : Timing). counts (length made + 1) (left_with old.left_out (reason_of one.what) (length made + 1)) (old.short + cond (is_short one.what) 1 0)
+    (old.cooked + cond (is_cooked one.link one.what) 1 0) t now.interval) timing
+    ∙ ap (counts (length made + 1) (left_with old.left_out (reason_of one.what) (length made + 1)) (old.short + cond (is_short one.what) 1 0)
+    (old.cooked + cond (is_cooked one.link one.what) 1 0) old.timing) interval
+    ∙ by_what old one.link one.what

@@ -52,7 +52,7 @@ vlans_exact a b e =
     ap (λ n. of n a.second a.third a.fourth) (exact_unsigned a.first b.first one.0) ∙ ap (λ n. of b.first n a.third a.fourth) (exact_unsigned a.second b.second two.0)
     ∙ ap (λ n. of b.first b.second n a.fourth) (exact_unsigned a.third b.third three.0) ∙ ap (λ n. of b.first b.second b.third n) (exact_unsigned a.fourth b.fourth three.1)
 
-place_exact : (a b : Place) → place_cmp a b ≡ Equal → a ≡ b
+pub place_exact : (a b : Place) → place_cmp a b ≡ Equal → a ≡ b
 place_exact a b e =
     let one = then_parts (nat_cmp a.interface b.interface) _ e in
     let two = then_parts (option_cmp nat_cmp a.link b.link) (vlans_cmp a.vlans b.vlans) one.1 in
@@ -186,12 +186,12 @@ module _ (origin : Origin) where
 
   all_mine : (sightings : List Sighting) (made : List Made) → AreMade wanteds.Each sightings made → AreSound made → AreMine sightings made
   all_mine [] made are sound = record { mine = []; are_made = refl; octets = ap (flat_map (λ (one : Made). octets_from one.what)) (sym are) }
-  all_mine (sighting ∷ later) made (one, others, is, number, link, finds, takes, are) sound =
+  all_mine (sighting ∷ later) made (one, others, is, number, link, came, finds, takes, are) sound =
       let parts : AreSound (one ∷ others) = subst AreSound is sound in
       let first = one_mine one.number sighting.what one.what finds takes parts.0 in
       let rest = all_mine later others are parts.1 in record {
         mine = made_of sighting first.mine ∷ rest.mine;
-        are_made = (made_of sighting first.mine, rest.mine, refl, refl, refl, first.finds, first.taken, rest.are_made);
+        are_made = (made_of sighting first.mine, rest.mine, refl, refl, refl, refl, first.finds, first.taken, rest.are_made);
         octets = ap (λ (t : List ℕ). t ++ dump_of own rest.mine) first.octets ∙ ap (λ (t : List ℕ). octets_from one.what ++ t) rest.octets
             ∙ ap (flat_map (λ (m : Made). octets_from m.what)) (sym is);
       }
@@ -229,7 +229,7 @@ module _ (origin : Origin) where
 
   all_refused : (sightings : List Sighting) (made mine : List Made) (lack : LackAt) → AreMade wanteds.Each sightings made → first_lack made ≡ Some lack → AreMade own sightings mine → ⊥
   all_refused [] made mine lack are some are_mine = (let wrong : None ≡ Some lack = sym (ap first_lack are) ∙ some in cc)
-  all_refused (sighting ∷ later) made mine lack (one, others, is, number, link, finds, takes, are) some (my_one, my_others, my_is, my_number, my_link, my_finds, my_takes, are_mine) =
+  all_refused (sighting ∷ later) made mine lack (one, others, is, number, link, came, finds, takes, are) some (my_one, my_others, my_is, my_number, my_link, my_came, my_finds, my_takes, are_mine) =
       by (λ rest. all_refused later others my_others lack are rest are_mine) (lack_from one.number one.what) refl (sym (ap first_lack is) ∙ some)
     where
       by : (first_lack others ≡ Some lack → ⊥) → (here : Option LackAt) → lack_from one.number one.what ≡ here → first_lack (one ∷ others) ≡ Some lack → ⊥

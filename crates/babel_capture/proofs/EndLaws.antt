@@ -1,59 +1,25 @@
 -- Where packets end in a dump, taken one by one.
-use Rattle.std.proofs.Common.{◌≡◌, ◌<◌, ℕ, ◌+◌, ◌++◌, ◌⊎◌, List, [], ◌∷◌, length, refl, sym, ap, subst, ◌∙◌, append_assoc, length-append, inl, inr, arith, nat_lt, if◌then◌else◌, true, false}
+use Rattle.std.proofs.Common.{◌≡◌, ℕ, ◌+◌, ◌++◌, ◌&&◌, List, [], ◌∷◌, length, refl, sym, ap, subst, ◌∙◌, append_assoc, length-append, inl, inr, arith}
+use Rattle.std.proofs.Common.{Bool, if◌then◌else◌, true, false, Option, None}
+use Rattle.std.specs.Prelude.{IsTrue, Some}
 use Rattle.std.specs.List.{flat_map}
 use Rattle.std.proofs.lemmas.List.{append-nil}
 use Rattle.std.proofs.lemmas.List.Concat.{flat_map-append}
-use Rattle.std.proofs.lemmas.Bool.Decides.{nat_tests}
-use Rattle.babel_prefix.specs.Address.{Address}
-use Rattle.babel_tlv.specs.Framing.{framed}
-use Rattle.babel_capture.specs.declared.lack.Lack.{Lack}
 use Rattle.babel_capture.specs.declared.packet_end.PacketEnd.{PacketEnd}
-use Rattle.babel_capture.specs.declared.place.Place.{Place}
+use Rattle.babel_capture.specs.declared.tallies.Origin.{Origin}
 use Rattle.babel_capture.specs.declared.wanted.Wanted.{Wanted}
 use Rattle.babel_capture.specs.declared.wanted.Wanted.TheVariants as wanteds
-use Rattle.babel_capture.specs.Blocks.{Sighting, sighting_of, sightings_in}
-use Rattle.babel_capture.specs.Contents.{Content, file, section, describes, holds, nothing}
+use Rattle.babel_capture.specs.Blocks.{Sighting, sight_in, sighting_of, skipped_of, sightings_in}
+use Rattle.babel_capture.specs.Contents.{Captured, Content, file, section, describes, holds, skips, nothing}
 use Rattle.babel_capture.specs.Counts.{Made}
-use Rattle.babel_capture.specs.Findings.{Found, passed, untold, left, refused, lacked, found, Finds, PayloadIs, CarriedIs, LackIs}
-use Rattle.babel_capture.specs.Gathering.{AreMade, octets_found, dump_of}
-use Rattle.babel_capture.specs.PacketEnds.{AreEnds, end_found, ends_from, ends_of}
-use Rattle.babel_capture.specs.Sight.{Sight, Carried, other, too_short, datagram, other_port, not_link_local, lacking, carries}
-use Rattle.babel_capture.proofs.OneCapture.{made_one}
-
--- ---- a packet that is found has octets
-
-abbrev HasOctets : Found → Type 0
-HasOctets passed = Unit {0}
-HasOctets untold = Unit {0}
-HasOctets (left reason) = Unit {0}
-HasOctets (refused lack) = Unit {0}
-HasOctets (lacked place sender lack) = Unit {0}
-HasOctets (found place sender packet) = 0 < length packet
-
-payload_octets : (place : Place) (sender : Address) (payload : List ℕ) (what : Found) → PayloadIs place sender payload what → HasOctets what
-payload_octets place sender payload what (inl (body, begins, is)) =
-    let long : 0 < length (framed body) = omega arith in
-    subst HasOctets (sym is) long
-payload_octets place sender payload what (inr (inl (short, is))) = subst HasOctets (sym is) tt
-payload_octets place sender payload what (inr (inr (inl (header, magic, is)))) = subst HasOctets (sym is) tt
-payload_octets place sender payload what (inr (inr (inr (header, magic, version, is)))) = subst HasOctets (sym is) tt
-
-lack_octets : (wanted : Wanted) (place : Place) (sender : Address) (lack : Lack) (what : Found) → LackIs wanted place sender lack what → HasOctets what
-lack_octets wanteds.Everyone place sender lack what is = subst HasOctets (sym is) tt
-lack_octets wanteds.Each place sender lack what is = subst HasOctets (sym is) tt
-lack_octets (wanteds.Sender only there) place sender lack what is = subst HasOctets (sym is) tt
-
-carried_octets : (wanted : Wanted) (place : Place) (sender : Address) (carried : Carried) (what : Found) → CarriedIs wanted place sender carried what → HasOctets what
-carried_octets wanted place sender other_port what is = subst HasOctets (sym is) tt
-carried_octets wanted place sender not_link_local what is = subst HasOctets (sym is) tt
-carried_octets wanted place sender (lacking lack) what is = lack_octets wanted place sender lack what is
-carried_octets wanted place sender (carries payload) what is = payload_octets place sender payload what is
-
-some_octets : (wanted : Wanted) (sight : Sight) (what : Found) → Finds wanted sight what → HasOctets what
-some_octets wanted other what is = subst HasOctets (sym is) tt
-some_octets wanted too_short what is = subst HasOctets (sym is) tt
-some_octets wanted (datagram place sender carried) what (inl (is_wanted, is)) = carried_octets wanted place sender carried what is
-some_octets wanted (datagram place sender carried) what (inr (not, is)) = subst HasOctets (sym is) tt
+use Rattle.babel_capture.specs.Findings.{Found, passed, untold, left, refused, lacked, found, Finds, is_in_turn}
+use Rattle.babel_capture.specs.Gathering.{AreMade, BlockNeedsMemory, OriginIs, dump_of, octets_found, origin_added, origin_found}
+use Rattle.babel_capture.specs.Times.{Came, time_of}
+use Rattle.babel_capture.specs.PacketEnds.{time_told, AreEnds, end_found, ends_from, ends_of, is_noted, is_packet}
+use Rattle.babel_capture.specs.Sight.{Sight, other}
+use Rattle.babel_capture.specs.Tallies.{Senders}
+use Rattle.babel_capture.proofs.GatherLaws.{AddsOrigin, no-origin}
+use Rattle.babel_capture.proofs.OneCapture.{finds_one, made_one}
 
 -- ---- one packet more
 
@@ -64,26 +30,29 @@ record IsLast (wanted : Wanted) (before : List Sighting) (last : Sighting) (made
   whole : made ≡ front ++ one ∷ []
   are_front : AreMade wanted before front
   number : one.number ≡ last.number
-  octets : HasOctets one.what
+  came : one.came ≡ last.came
+  finds : Finds wanted last.what one.what
 
 last-made : (wanted : Wanted) (before : List Sighting) (last : Sighting) (made : List Made) → AreMade wanted (before ++ last ∷ []) made → IsLast wanted before last made
-last-made wanted [] last made (one, others, is, number, link, finds, takes, none) = record {
+last-made wanted [] last made (one, others, is, number, link, came, finds, takes, none) = record {
   front = [];
   one = one;
   whole = is ∙ ap (λ (m : List Made). one ∷ m) none;
   are_front = refl;
   number = number;
-  octets = some_octets wanted last.what one.what finds;
+  came = came;
+  finds = finds;
 }
-last-made wanted (first ∷ before) last made (here, others, is, number, link, finds, takes, are) =
+last-made wanted (first ∷ before) last made (here, others, is, number, link, came, finds, takes, are) =
     let rest = last-made wanted before last others are in
     record {
       front = here ∷ rest.front;
       one = rest.one;
       whole = is ∙ ap (λ (m : List Made). here ∷ m) rest.whole;
-      are_front = (here, rest.front, refl, number, link, finds, takes, rest.are_front);
+      are_front = (here, rest.front, refl, number, link, came, finds, takes, rest.are_front);
       number = rest.number;
-      octets = rest.octets;
+      came = rest.came;
+      finds = rest.finds;
     }
 
 abbrev octets_made : List Made → List ℕ
@@ -94,111 +63,175 @@ octets-push made one =
     flat_map-append (λ (m : Made). octets_found m.what) made (one ∷ [])
     ∙ ap (λ (t : List ℕ). octets_made made ++ t) (append-nil (octets_found one.what))
 
-ends-push : (at : ℕ) (made : List Made) (one : Made) → ends_from at (made ++ one ∷ []) ≡ ends_from at made ++ end_found (at + length (octets_made made)) one.number one.what
-ends-push at [] one =
-    append-nil (end_found at one.number one.what) ∙ ap (λ (n : ℕ). end_found n one.number one.what) (omega arith)
-ends-push at (first ∷ made) one =
-    let here = end_found at first.number first.what in
+ends-push : (in_turn : Bool) (at : ℕ) (made : List Made) (one : Made)
+    → ends_from in_turn at (made ++ one ∷ []) ≡ ends_from in_turn at made ++ end_found in_turn (at + length (octets_made made)) one.number (time_of one.came) one.what
+ends-push in_turn at [] one =
+    append-nil (end_found in_turn at one.number (time_of one.came) one.what) ∙ ap (λ (n : ℕ). end_found in_turn n one.number (time_of one.came) one.what) (omega arith)
+ends-push in_turn at (first ∷ made) one =
+    let here = end_found in_turn at first.number (time_of first.came) first.what in
     let next = at + length (octets_found first.what) in
     let place : next + length (octets_made made) ≡ at + length (octets_found first.what ++ octets_made made) = omega (arith, length-append (octets_found first.what) (octets_made made)) in
-    ap (λ (t : List PacketEnd). here ++ t) (ends-push next made one)
-    ∙ sym (append_assoc here (ends_from next made) (end_found (next + length (octets_made made)) one.number one.what))
-    ∙ ap (λ (n : ℕ). (here ++ ends_from next made) ++ end_found n one.number one.what) place
+    ap (λ (t : List PacketEnd). here ++ t) (ends-push in_turn next made one)
+    ∙ sym (append_assoc here (ends_from in_turn next made) (end_found in_turn (next + length (octets_made made)) one.number (time_of one.came) one.what))
+    ∙ ap (λ (n : ℕ). (here ++ ends_from in_turn next made) ++ end_found in_turn n one.number (time_of one.came) one.what) place
 
--- the end is noted where the dump grew
-abbrev pub noted : (before after number : ℕ) → List PacketEnd → List PacketEnd
-noted before after number ends = if nat_lt before after then ends ++ record { end = after; number = number } ∷ [] else ends
+-- the ends with one more, if it is noted
+abbrev pub noted : (in_turn : Bool) (end : PacketEnd) → List PacketEnd → List PacketEnd
+noted in_turn end ends = if is_noted in_turn end.origin then ends ++ end ∷ [] else ends
 
-same-noted : (before after number : ℕ) (ends : List PacketEnd) → before ≡ after → noted before after number ends ≡ ends
-same-noted before after number ends same =
-    let none : nat_lt before after ≡ false = grind (arith, nat_tests) in
-    rw none refl
+if-more : (b : Bool) (ends : List PacketEnd) (end : PacketEnd) → (if b then ends ++ end ∷ [] else ends) ≡ ends ++ (if b then end ∷ [] else [])
+if-more true ends end = refl
+if-more false ends end = sym (append-nil ends)
 
-more-noted : (before number : ℕ) (what : Found) (ends : List PacketEnd) → HasOctets what → noted before (before + length (octets_found what)) number ends ≡ ends ++ end_found before number what
-more-noted before number passed ends has = same-noted before (before + 0) number ends (omega arith) ∙ sym (append-nil ends)
-more-noted before number untold ends has = same-noted before (before + 0) number ends (omega arith) ∙ sym (append-nil ends)
-more-noted before number (left reason) ends has = same-noted before (before + 0) number ends (omega arith) ∙ sym (append-nil ends)
-more-noted before number (refused lack) ends has = same-noted before (before + 0) number ends (omega arith) ∙ sym (append-nil ends)
-more-noted before number (lacked place sender lack) ends has = same-noted before (before + 0) number ends (omega arith) ∙ sym (append-nil ends)
-more-noted before number (found place sender packet) ends has =
-    let more : nat_lt before (before + length packet) ≡ true = grind (arith, nat_tests) in
-    rw more refl
+abbrev end_at : ℕ → ℕ → Came → Option Origin → PacketEnd
+end_at end number came origin = record { end = end; number = number; time = time_of came; origin = origin }
 
--- where there is no dump
-nothing-more : (wanted : Wanted) (taken dump more : List ℕ) (made : List Made) (one : Made) (ends : List PacketEnd) → taken ++ dump ≡ [] → taken ++ more ≡ []
-    → ((kept : List Made) → ends_of wanted kept ≡ []) → AreEnds wanted taken made ends → AreEnds wanted taken (made ++ one ∷ []) (noted (length dump) (length more) one.number ends)
-nothing-more wanted taken dump more made one ends is is_more no_ends are =
-    let none : length dump ≡ length more = omega (arith, ap length is, ap length is_more, length-append taken dump, length-append taken more) in
-    record {
-      gone = are.gone;
-      kept = are.kept ++ one ∷ [];
-      whole = ap (λ (m : List Made). m ++ one ∷ []) are.whole ∙ append_assoc are.gone are.kept (one ∷ []);
-      taken_is = are.taken_is;
-      are_ends = same-noted (length dump) (length more) one.number ends none ∙ are.are_ends ∙ no_ends are.kept ∙ sym (no_ends (are.kept ++ one ∷ []));
-    }
+-- the end of a packet more, where there is a dump
+dump-more : (in_turn : Bool) (taken more : List ℕ) (gone kept : List Made) (one : Made) (ends : List PacketEnd) → taken ≡ octets_made gone
+    → taken ++ more ≡ octets_made ((gone ++ kept) ++ one ∷ []) → ends ≡ ends_from in_turn 0 kept
+    → noted in_turn (end_at (length more) one.number one.came (origin_found one.what)) ends ≡ ends_from in_turn 0 (kept ++ one ∷ [])
+dump-more in_turn taken more gone kept one ends is_taken is_more are =
+    let origin = origin_found one.what in
+    let all : octets_made ((gone ++ kept) ++ one ∷ []) ≡ (octets_made gone ++ octets_made kept) ++ octets_found one.what =
+    octets-push (gone ++ kept) one ∙ ap (λ (t : List ℕ). t ++ octets_found one.what) (flat_map-append (λ (m : Made). octets_found m.what) gone kept) in
+    let there : length more ≡ (0 + length (octets_made kept)) + length (octets_found one.what) =
+    omega (
+      arith,
+      ap length is_more,
+      ap length all,
+      ap length is_taken,
+      length-append taken more,
+      length-append (octets_made gone) (octets_made kept),
+      length-append (octets_made gone ++ octets_made kept) (octets_found one.what),
+    ) in
+    ap (λ (n : ℕ). noted in_turn (end_at n one.number one.came origin) ends) there ∙ if-more (is_noted in_turn origin) ends _
+    ∙ ap (λ (t : List PacketEnd). t ++ end_found in_turn (0 + length (octets_made kept)) one.number (time_of one.came) one.what) are ∙ sym (ends-push in_turn 0 kept one)
 
-one-more : (wanted : Wanted) (taken dump more : List ℕ) (made : List Made) (one : Made) (ends : List PacketEnd) → HasOctets one.what
-    → taken ++ dump ≡ dump_of wanted made → taken ++ more ≡ dump_of wanted (made ++ one ∷ []) → AreEnds wanted taken made ends
-    → AreEnds wanted taken (made ++ one ∷ []) (noted (length dump) (length more) one.number ends)
-one-more wanteds.Everyone taken dump more made one ends has is is_more are = nothing-more wanteds.Everyone taken dump more made one ends is is_more (λ kept. refl) are
-one-more wanteds.Each taken dump more made one ends has is is_more are = nothing-more wanteds.Each taken dump more made one ends is is_more (λ kept. refl) are
-one-more (wanteds.Sender sender place) taken dump more made one ends has is is_more are =
-    let front : octets_made made ≡ octets_made are.gone ++ octets_made are.kept =
-    ap octets_made are.whole ∙ flat_map-append (λ (m : Made). octets_found m.what) are.gone are.kept in
-    let here : length dump ≡ 0 + length (octets_made are.kept) =
-    omega (arith, ap length is, ap length front, ap length are.taken_is, length-append taken dump, length-append (octets_made are.gone) (octets_made are.kept)) in
-    let there : length more ≡ length dump + length (octets_found one.what) =
-    omega (arith, ap length is, ap length is_more, ap length (octets-push made one), length-append taken dump, length-append taken more, length-append (octets_made made) (octets_found one.what)) in
-    record {
-      gone = are.gone;
-      kept = are.kept ++ one ∷ [];
-      whole = ap (λ (m : List Made). m ++ one ∷ []) are.whole ∙ append_assoc are.gone are.kept (one ∷ []);
-      taken_is = are.taken_is;
-      are_ends = ap (λ (n : ℕ). noted (length dump) n one.number ends) there ∙ more-noted (length dump) one.number one.what ends has
-          ∙ ap (λ (t : List PacketEnd). t ++ end_found (length dump) one.number one.what) are.are_ends
-          ∙ ap (λ (n : ℕ). ends_from 0 are.kept ++ end_found n one.number one.what) here
-          ∙ sym (ends-push 0 are.kept one);
-    }
+with-one : (wanted : Wanted) (taken : List ℕ) (made : List Made) (one : Made) (ends new : List PacketEnd) → (are : AreEnds wanted taken made ends) → new ≡ ends_of wanted (are.kept ++ one ∷ [])
+    → AreEnds wanted taken (made ++ one ∷ []) new
+with-one wanted taken made one ends new are is = record {
+  gone = are.gone;
+  kept = are.kept ++ one ∷ [];
+  whole = ap (λ (m : List Made). m ++ one ∷ []) are.whole ∙ append_assoc are.gone are.kept (one ∷ []);
+  taken_is = are.taken_is;
+  are_ends = is;
+}
 
-none-more : (wanted : Wanted) (taken dump more : List ℕ) (number : ℕ) (before : List Sighting) (made others : List Made) (ends : List PacketEnd)
-    → AreMade wanted before made → AreMade wanted (before ++ []) others → taken ++ dump ≡ dump_of wanted made → taken ++ more ≡ dump_of wanted others → AreEnds wanted taken made ends
-    → AreEnds wanted taken others (noted (length dump) (length more) number ends)
-none-more wanted taken dump more number before made others ends are are_too is is_more ended =
+one-more : (wanted : Wanted) (taken more : List ℕ) (made : List Made) (one : Made) (origin : Option Origin) (ends : List PacketEnd) → origin ≡ origin_added wanted one.what
+    → taken ++ more ≡ dump_of wanted (made ++ one ∷ []) → AreEnds wanted taken made ends
+    → AreEnds wanted taken (made ++ one ∷ []) (noted (is_in_turn wanted) (end_at (length more) one.number one.came origin) ends)
+one-more wanteds.Everyone taken more made one origin ends is is_more are =
+    with-one wanteds.Everyone taken made one ends _ are (ap (λ (o : Option Origin). noted false (end_at (length more) one.number one.came o) ends) is ∙ are.are_ends)
+one-more wanteds.Each taken more made one origin ends is is_more are =
+    with-one wanteds.Each taken made one ends _ are (ap (λ (o : Option Origin). noted false (end_at (length more) one.number one.came o) ends) is ∙ are.are_ends)
+one-more (wanteds.Sender sender place) taken more made one origin ends is is_more are =
+    with-one (wanteds.Sender sender place) taken made one ends _ are (ap (λ (o : Option Origin). noted false (end_at (length more) one.number one.came o) ends) is
+    ∙ dump-more false taken more are.gone are.kept one ends are.taken_is (is_more ∙ ap (λ (m : List Made). octets_made (m ++ one ∷ [])) are.whole) are.are_ends)
+one-more (wanteds.InTurn sender place) taken more made one origin ends is is_more are =
+    with-one (wanteds.InTurn sender place) taken made one ends _ are (ap (λ (o : Option Origin). noted true (end_at (length more) one.number one.came o) ends) is
+    ∙ dump-more true taken more are.gone are.kept one ends are.taken_is (is_more ∙ ap (λ (m : List Made). octets_made (m ++ one ∷ [])) are.whole) are.are_ends)
+
+none-more : (wanted : Wanted) (taken : List ℕ) (before : List Sighting) (made others : List Made) (end : PacketEnd) (ends : List PacketEnd)
+    → AreMade wanted before made → AreMade wanted (before ++ []) others → end.origin ≡ None → AreEnds wanted taken made ends → AreEnds wanted taken others (noted false end ends)
+none-more wanted taken before made others end ends are are_too none ended =
     let same : made ≡ others = made_one wanted before made others are (subst (λ (s : List Sighting). AreMade wanted s others) (append-nil before) are_too) in
-    let none : length dump ≡ length more =
-    omega (arith, ap length is, ap length is_more, ap (λ (m : List Made). length (dump_of wanted m)) same, length-append taken dump, length-append taken more) in
-    subst (AreEnds wanted taken others) (sym (same-noted (length dump) (length more) number ends none)) (subst (λ (m : List Made). AreEnds wanted taken m ends) same ended)
+    let is : ends ≡ noted false end ends = sym (ap (λ (o : Option Origin). if is_noted false o then ends ++ end ∷ [] else ends) none) in
+    subst (AreEnds wanted taken others) is (subst (λ (m : List Made). AreEnds wanted taken m ends) same ended)
 
--- a block more, after which there are so many packets
-pub ends-after : (wanted : Wanted) (taken dump more : List ℕ) (number count at : ℕ) (content : Content) (before : List Sighting) (made others : List Made) (ends : List PacketEnd)
-    → number ≡ length before + 1 → count ≡ length (before ++ sightings_in number at content) → AreMade wanted before made → AreMade wanted (before ++ sightings_in number at content) others
-    → taken ++ dump ≡ dump_of wanted made → taken ++ more ≡ dump_of wanted others → AreEnds wanted taken made ends → AreEnds wanted taken others (noted (length dump) (length more) count ends)
-ends-after wanted taken dump more number count at (file order interface) before made others ends is_number is_count are are_too is is_more ended =
-    none-more wanted taken dump more count before made others ends are are_too is is_more ended
-ends-after wanted taken dump more number count at (section order) before made others ends is_number is_count are are_too is is_more ended =
-    none-more wanted taken dump more count before made others ends are are_too is is_more ended
-ends-after wanted taken dump more number count at (describes interface name) before made others ends is_number is_count are are_too is is_more ended =
-    none-more wanted taken dump more count before made others ends are are_too is is_more ended
-ends-after wanted taken dump more number count at nothing before made others ends is_number is_count are are_too is is_more ended =
-    none-more wanted taken dump more count before made others ends are are_too is is_more ended
-ends-after wanted taken dump more number count at (holds packet) before made others ends is_number is_count are are_too is is_more ended = by (last-made wanted before here others are_too)
+-- a packet more
+packet-after : (wanted : Wanted) (taken more : List ℕ) (number count : ℕ) (origin : Option Origin) (here : Sighting) (before : List Sighting) (made others : List Made)
+    (ends : List PacketEnd)
+    → here.number ≡ number → number ≡ length before + 1 → count ≡ length (before ++ here ∷ []) → AreMade wanted before made → AreMade wanted (before ++ here ∷ []) others
+    → AddsOrigin wanted here.what origin → taken ++ more ≡ dump_of wanted others → AreEnds wanted taken made ends
+    → AreEnds wanted taken others (noted (is_in_turn wanted) (end_at (length more) count here.came origin) ends)
+packet-after wanted taken more number count origin here before made others ends numbered is_number is_count are are_too (what, finds, is) is_more ended =
+    by (last-made wanted before here others are_too)
   where
-    here : Sighting
-    here = sighting_of number at packet
-
-    by : IsLast wanted before here others → AreEnds wanted taken others (noted (length dump) (length more) count ends)
+    by : IsLast wanted before here others → AreEnds wanted taken others (noted (is_in_turn wanted) (end_at (length more) count here.came origin) ends)
     by last =
         (let same : made ≡ last.front = made_one wanted before made last.front are last.are_front in
         let whole : others ≡ made ++ last.one ∷ [] = last.whole ∙ ap (λ (m : List Made). m ++ last.one ∷ []) (sym same) in
-        let is_last : last.one.number ≡ count = last.number ∙ omega (arith, is_number, is_count, length-append before (here ∷ [])) in
-        subst (λ (m : List Made). AreEnds wanted taken m (noted (length dump) (length more) count ends)) (sym whole)
-        (subst (λ (n : ℕ). AreEnds wanted taken (made ++ last.one ∷ []) (noted (length dump) (length more) n ends)) is_last
-        (one-more wanted taken dump more made last.one ends last.octets is (is_more ∙ ap (dump_of wanted) whole) ended)))
+        let is_last : last.one.number ≡ count = last.number ∙ numbered ∙ omega (arith, is_number, is_count, length-append before (here ∷ [])) in
+        let added : origin ≡ origin_added wanted last.one.what = is ∙ ap (origin_added wanted) (finds_one wanted here.what what last.one.what finds last.finds) in
+        subst (λ (m : List Made). AreEnds wanted taken m (noted (is_in_turn wanted) (end_at (length more) count here.came origin) ends)) (sym whole)
+        (subst (λ (n : ℕ). AreEnds wanted taken (made ++ last.one ∷ []) (noted (is_in_turn wanted) (end_at (length more) n here.came origin) ends)) is_last
+        (subst (λ (c : Came). AreEnds wanted taken (made ++ last.one ∷ []) (noted (is_in_turn wanted) (end_at (length more) last.one.number c origin) ends)) last.came
+        (one-more wanted taken more made last.one origin ends added (is_more ∙ ap (dump_of wanted) whole) ended))))
 
--- what the dump grew by needed memory
-pub grown-needs : (N : Type 0) (before old new : List ℕ) → before ≡ old → length before < length new → (new ≡ old) ⊎ N → N
-grown-needs N before old new is less (inl same) = absurd (omega (arith, less, ap length is, ap length same))
-grown-needs N before old new is less (inr needs) = needs
+-- a block more, after which there are so many packets
+pub ends-after : (wanted : Wanted) (taken more : List ℕ) (number count at : ℕ) (content : Content) (origin : Option Origin) (before : List Sighting) (made others : List Made)
+    (ends : List PacketEnd)
+    → number ≡ length before + 1 → count ≡ length (before ++ sightings_in number at content) → AreMade wanted before made → AreMade wanted (before ++ sightings_in number at content) others
+    → OriginIs wanted content origin → taken ++ more ≡ dump_of wanted others → AreEnds wanted taken made ends
+    → AreEnds wanted taken others (noted (is_packet content && is_in_turn wanted) (record { end = length more; number = count; time = time_told content; origin = origin }) ends)
+ends-after wanted taken more number count at (file order interface) origin before made others ends is_number is_count are are_too is is_more ended =
+    none-more wanted taken before made others _ ends are are_too is ended
+ends-after wanted taken more number count at (section order) origin before made others ends is_number is_count are are_too is is_more ended =
+    none-more wanted taken before made others _ ends are are_too is ended
+ends-after wanted taken more number count at (describes interface name) origin before made others ends is_number is_count are are_too is is_more ended =
+    none-more wanted taken before made others _ ends are are_too is ended
+ends-after wanted taken more number count at nothing origin before made others ends is_number is_count are are_too is is_more ended =
+    none-more wanted taken before made others _ ends are are_too is ended
+ends-after wanted taken more number count at (holds packet) origin before made others ends is_number is_count are are_too is is_more ended =
+    packet-after wanted taken more number count origin (sighting_of number at packet) before made others ends refl is_number is_count are are_too is is_more ended
+ends-after wanted taken more number count at (skips packet) origin before made others ends is_number is_count are are_too is is_more ended =
+    packet-after wanted taken more number count origin (skipped_of number at packet) before made others ends refl is_number is_count are are_too
+    (subst (AddsOrigin wanted other) (sym is) (no-origin wanted other passed passed refl refl refl)) is_more ended
+
+-- what is noted needed memory
+abbrev IsFoundIn : Wanted → Sight → Type 0
+IsFoundIn wanted sight = (origin : Origin) × (octets : List ℕ) × Finds wanted sight (found origin.place origin.sender octets)
+
+found_in : (wanted : Wanted) (sight : Sight) (what : Found) (origin : Origin) → Finds wanted sight what → Some origin ≡ origin_found what → IsFoundIn wanted sight
+found_in wanted sight (found place sender packet) origin finds is = (record { place = place; sender = sender }, packet, finds)
+found_in wanted sight passed origin finds is = absurd cc
+found_in wanted sight untold origin finds is = absurd cc
+found_in wanted sight (left reason) origin finds is = absurd cc
+found_in wanted sight (refused lack) origin finds is = absurd cc
+found_in wanted sight (lacked place sender lack) origin finds is = absurd cc
+
+added-needs : (wanted : Wanted) (senders : Senders) (packet : Captured) (what : Found) (origin : Origin) → Finds wanted (sight_in packet) what → Some origin ≡ origin_added wanted what
+    → BlockNeedsMemory wanted senders (holds packet)
+added-needs wanteds.Everyone senders packet what origin finds is = absurd cc
+added-needs wanteds.Each senders packet what origin finds is = absurd cc
+added-needs (wanteds.Sender sender place) senders packet what origin finds is =
+    let there = found_in (wanteds.Sender sender place) (sight_in packet) what origin finds is in inl (there.0, there.1, there.2, tt)
+added-needs (wanteds.InTurn sender place) senders packet what origin finds is = inr (inr refl)
+
+not-told : (origin : Option Origin) → origin ≡ None → IsTrue (is_noted false origin) → ⊥
+not-told None none told = cc
+not-told (Some origin) none told = cc
+
+pub noted-needs : (wanted : Wanted) (senders : Senders) (content : Content) (origin : Option Origin) → OriginIs wanted content origin
+    → IsTrue (is_noted (is_packet content && is_in_turn wanted) origin) → BlockNeedsMemory wanted senders content
+noted-needs wanted senders (file order interface) origin is told = tt
+noted-needs wanted senders (describes interface name) origin is told = tt
+noted-needs wanted senders (section order) origin is told = absurd (not-told origin is told)
+noted-needs wanted senders nothing origin is told = absurd (not-told origin is told)
+noted-needs wanted senders (skips packet) origin is told = subst (λ (o : Option Origin). IsTrue (is_noted (is_in_turn wanted) o)) is told
+noted-needs wanted senders (holds packet) None is told = inr (inr told)
+noted-needs wanted senders (holds packet) (Some origin) (what, finds, is) told = added-needs wanted senders packet what origin finds is
+
+-- in turn each packet has an end
+noted-long : (in_turn : Bool) (end : PacketEnd) (ends : List PacketEnd) → IsTrue in_turn → length (noted in_turn end ends) ≡ length ends + 1
+noted-long true end ends is = by end.origin
+  where
+    by : (origin : Option Origin) → length (if is_noted true origin then ends ++ end ∷ [] else ends) ≡ length ends + 1
+    by None = length-append ends (end ∷ [])
+    by (Some origin) = length-append ends (end ∷ [])
+noted-long false end ends is = absurd cc
+
+not-noted : (end : PacketEnd) (ends : List PacketEnd) → end.origin ≡ None → length (noted false end ends) ≡ length ends + 0
+not-noted end ends none = ap (λ (o : Option Origin). length (if is_noted false o then ends ++ end ∷ [] else ends)) none ∙ omega arith
+
+pub noted-each : (wanted : Wanted) (content : Content) (end : PacketEnd) (ends : List PacketEnd) → OriginIs wanted content end.origin → IsTrue (is_in_turn wanted)
+    → length (noted (is_packet content && is_in_turn wanted) end ends) ≡ length ends + (if is_packet content then 1 else 0)
+noted-each wanted (file order interface) end ends is in_turn = not-noted end ends is
+noted-each wanted (section order) end ends is in_turn = not-noted end ends is
+noted-each wanted (describes interface name) end ends is in_turn = not-noted end ends is
+noted-each wanted nothing end ends is in_turn = not-noted end ends is
+noted-each wanted (holds packet) end ends is in_turn = noted-long (is_in_turn wanted) end ends in_turn
+noted-each wanted (skips packet) end ends is in_turn = noted-long (is_in_turn wanted) end ends in_turn
 
 -- all of the dump is taken out
 pub ends-gone : (wanted : Wanted) (taken dump : List ℕ) (made : List Made) → taken ++ dump ≡ dump_of wanted made → AreEnds wanted (taken ++ dump) made []
@@ -214,3 +247,4 @@ ends-gone wanted taken dump made is = record {
     none wanteds.Everyone = refl
     none wanteds.Each = refl
     none (wanteds.Sender sender place) = refl
+    none (wanteds.InTurn sender place) = refl

@@ -1,9 +1,8 @@
 -- Whole packets have no fault of framing but a TLV past the end of its packet.
-use Rattle.std.proofs.Common.{◌≡◌, ◌≢◌, ℕ, ◌+◌, ◌*◌, ◌/◌, ◌%◌, ◌<◌, List, [], ◌∷◌, ◌++◌, length, sym, ap, subst, ◌∙◌, append_assoc, inl, inr, arith}
+use Rattle.std.proofs.Common.{◌≡◌, ◌≢◌, ℕ, ◌+◌, List, [], ◌∷◌, ◌++◌, length, sym, ap, subst, ◌∙◌, append_assoc, inl, inr, arith}
 use Rattle.std.specs.List.{All, flat_map}
 use Rattle.std.proofs.lemmas.List.Elements.{All-head, All-tail}
 use Rattle.babel_tlv.specs.declared.fault.Fault.{Fault}
-use Rattle.babel_tlv.specs.declared.fault.Fault.TheVariants as faults
 use Rattle.babel_tlv.specs.Framing.{TlvAt, ArePackets as ArePlacedPackets, IsBody, tlv_octets, framed, packet_octets}
 use Rattle.babel_tlv.specs.FrameFaults.{FrameFault, PacketFault}
 use Rattle.babel_tlv.proofs.OneReading.{has_body, header_fine}

@@ -1,11 +1,12 @@
 -- What packets give, taken one by one.
 use Rattle.std.proofs.Common.{◌≡◌, ◌≤◌, ℕ, List, [], ◌∷◌, ◌++◌, ◌+◌, length, refl, sym, ap, subst, ◌∙◌, append_assoc, inl, inr}
-use Rattle.std.specs.Prelude.{Some, None, Result, Ok, Err, OnOk, IfErr, fold, ◌⊎◌}
+use Rattle.std.specs.Prelude.{Option, Some, None, Result, Ok, Err, OnOk, IfOk, IfErr, ◌⊎◌}
 use Rattle.std.specs.List.{flat_map}
 use Rattle.babel_prefix.specs.Address.{Address}
 use Rattle.babel_capture.specs.declared.reason.Reason.{Reason}
 use Rattle.std.proofs.lemmas.List.{append-nil}
 use Rattle.std.proofs.lemmas.List.Concat.{flat_map-append}
+use Rattle.std.proofs.lemmas.List.Sums.{fold-append}
 use Rattle.babel_capture.specs.declared.wanted.Wanted.{Wanted}
 use Rattle.babel_capture.specs.declared.wanted.Wanted.TheVariants as wanteds
 use Rattle.babel_capture.specs.declared.fault.Fault.{Fault}
@@ -16,57 +17,55 @@ use Rattle.babel_capture.specs.declared.tallies.Origin.{Origin}
 use Rattle.babel_capture.specs.Blocks.{Sighting, sight_in}
 use Rattle.babel_capture.specs.Contents.{Captured, holds}
 use Rattle.babel_capture.specs.Counts.{Counts, Made}
-use Rattle.babel_capture.specs.Counting.{counted, counted_with, short_counted, packet_counted}
+use Rattle.babel_capture.specs.Counting.{counted, counted_at, counted_with, short_counted, packet_counted}
 use Rattle.babel_capture.specs.Findings.{CarriedIs, Found, LackIs, PayloadIs, passed, untold, left, refused, lacked, found, Finds}
 use Rattle.babel_capture.specs.Lack.{lack_fault}
 use Rattle.babel_capture.specs.Sight.{Carried, Sight, carries, datagram, lacking, not_link_local, other, other_port, too_short}
-use Rattle.babel_capture.specs.Gathering.{AreMade, BlockNeedsMemory, PacketNeedsMemory, IsTaken, Gathering, IsGathered, IsRefusedPacket, octets_found, dump_of, dump_with}
+use Rattle.babel_capture.specs.Gathering.{AreMade, BlockNeedsMemory, PacketNeedsMemory, IsTaken, Gathering, IsGathered, IsRefusedPacket, octets_found, dump_of, dump_with, origin_added, origin_found}
 use Rattle.babel_capture.specs.Dumps.{Dumps, dumps_by, dumps_of, dumps_with}
 use Rattle.babel_capture.specs.Tallies.{Senders, IsOneTooMany, senders_with, senders_of, tallied}
+use Rattle.babel_capture.specs.Times.{time_of}
+use Rattle.babel_capture.specs.Updates.{interval_in}
 use Rattle.babel_capture.proofs.CountLaws.{counts-push}
 
 abbrev pub made_of : Sighting → Found → Made
-made_of sighting what = record { number = sighting.number; link = sighting.link; what = what }
+made_of sighting what = record { number = sighting.number; link = sighting.link; came = sighting.came; what = what }
 
 made-push : (wanted : Wanted) (before : List Sighting) (next : Sighting) (made : List Made) (what : Found) → AreMade wanted before made
     → Finds wanted next.what what → IsTaken what → AreMade wanted (before ++ next ∷ []) (made ++ made_of next what ∷ [])
 made-push wanted [] next made what are finds taken =
-    (made_of next what, [], ap (λ (m : List Made). m ++ made_of next what ∷ []) are, refl, refl, finds, taken, refl)
-made-push wanted (first ∷ before) next made what (one, others, is, number, link, made_so, kept, are) finds taken =
-    (one, others ++ made_of next what ∷ [], ap (λ (m : List Made). m ++ made_of next what ∷ []) is, number, link, made_so, kept, made-push wanted before next others what are finds taken)
+    (made_of next what, [], ap (λ (m : List Made). m ++ made_of next what ∷ []) are, refl, refl, refl, finds, taken, refl)
+made-push wanted (first ∷ before) next made what (one, others, is, number, link, came, made_so, kept, are) finds taken =
+    (one, others ++ made_of next what ∷ [], ap (λ (m : List Made). m ++ made_of next what ∷ []) is, number, link, came, made_so, kept, made-push wanted before next others what are finds taken)
 
-dump-push : (wanted : Wanted) (made : List Made) (dump : List ℕ) (one : Made) → dump ≡ dump_of wanted made → dump_with wanted dump (octets_found one.what) ≡ dump_of wanted (made ++ one ∷ [])
-dump-push wanteds.Everyone made dump one is = is
-dump-push wanteds.Each made dump one is = is
-dump-push (wanteds.Sender sender place) made dump one is =
+octets-push : (made : List Made) (dump : List ℕ) (one : Made) → dump ≡ flat_map (λ (m : Made). octets_found m.what) made
+    → dump ++ octets_found one.what ≡ flat_map (λ (m : Made). octets_found m.what) (made ++ one ∷ [])
+octets-push made dump one is =
     ap (λ (d : List ℕ). d ++ octets_found one.what) is
     ∙ ap (λ (d : List ℕ). flat_map (λ (m : Made). octets_found m.what) made ++ d) (sym (append-nil (octets_found one.what)))
     ∙ sym (flat_map-append (λ (m : Made). octets_found m.what) made (one ∷ []))
 
-dumps-push : (wanted : Wanted) (made : List Made) (one : Made) → dumps_of wanted (made ++ one ∷ []) ≡ dumps_with wanted (dumps_of wanted made) one.number one.what
-dumps-push wanted made one = from [] made
-  where
-    from : (dumps : Dumps) (made : List Made) → fold (λ (d : Dumps) (m : Made). dumps_with wanted d m.number m.what) dumps (made ++ one ∷ [])
-        ≡ dumps_with wanted (fold (λ (d : Dumps) (m : Made). dumps_with wanted d m.number m.what) dumps made) one.number one.what
-    from dumps [] = refl
-    from dumps (first ∷ made) = from (dumps_with wanted dumps first.number first.what) made
+dump-push : (wanted : Wanted) (made : List Made) (dump : List ℕ) (one : Made) → dump ≡ dump_of wanted made → dump_with wanted dump (octets_found one.what) ≡ dump_of wanted (made ++ one ∷ [])
+dump-push wanteds.Everyone made dump one is = is
+dump-push wanteds.Each made dump one is = is
+dump-push (wanteds.Sender sender place) made dump one is = octets-push made dump one is
+dump-push (wanteds.InTurn sender place) made dump one is = octets-push made dump one is
 
-senders-push : (made : List Made) (one : Made) → senders_of (made ++ one ∷ []) ≡ senders_with (senders_of made) one.what
-senders-push made one = from [] made
-  where
-    from : (senders : Senders) (made : List Made) → fold (λ (s : Senders) (m : Made). senders_with s m.what) senders (made ++ one ∷ []) ≡ senders_with
-        (fold (λ (s : Senders) (m : Made). senders_with s m.what) senders made) one.what
-    from senders [] = refl
-    from senders (first ∷ made) = from (senders_with senders first.what) made
+dumps-push : (wanted : Wanted) (made : List Made) (one : Made) → dumps_of wanted (made ++ one ∷ []) ≡ dumps_with wanted (dumps_of wanted made) one.number one.what
+dumps-push wanted made one = fold-append (λ (d : Dumps) (m : Made). dumps_with wanted d m.number m.what) [] made (one ∷ [])
+
+senders-push : (made : List Made) (one : Made) → senders_of (made ++ one ∷ []) ≡ senders_with (senders_of made) (time_of one.came) one.what
+senders-push made one = fold-append (λ (s : Senders) (m : Made). senders_with s (time_of m.came) m.what) [] made (one ∷ [])
 
 pub gathered-push : (before : List Sighting) (next : Sighting) (old new : Gathering) (what : Found) → new.wanted ≡ old.wanted
-    → new.dump ≡ dump_with old.wanted old.dump (octets_found what) → new.dumps ≡ dumps_with old.wanted old.dumps next.number what → new.report ≡ counted old.report next.link what
-    → new.senders ≡ senders_with old.senders what → length new.senders ≤ 65536 → IsTaken what
+    → new.dump ≡ dump_with old.wanted old.dump (octets_found what) → new.dumps ≡ dumps_with old.wanted old.dumps next.number what
+    → new.report ≡ counted (counted_at old.report next.came) next.link what
+    → new.senders ≡ senders_with old.senders (time_of next.came) what → length new.senders ≤ 65536 → IsTaken what
     → IsGathered before old → next.number ≡ old.report.packets + 1 → Finds old.wanted next.what what → IsGathered (before ++ next ∷ []) new
 gathered-push before next old new what same dump dumps report senders few takes gathered number finds =
     let one : Made = made_of next what in
     let is_senders : new.senders ≡ senders_of (gathered.made ++ one ∷ []) =
-    senders ∙ ap (λ (t : Senders). senders_with t what) gathered.senders ∙ sym (senders-push gathered.made one) in
+    senders ∙ ap (λ (t : Senders). senders_with t (time_of next.came) what) gathered.senders ∙ sym (senders-push gathered.made one) in
     let is_number : one.number ≡ length gathered.made + 1 = number ∙ ap (λ c. c.packets + 1) gathered.report in
     record {
       made = gathered.made ++ one ∷ [];
@@ -79,7 +78,7 @@ gathered-push before next old new what same dump dumps report senders few takes 
           (dump ∙ dump-push old.wanted gathered.made old.dump one gathered.dump);
       dumps = subst (λ (w : Wanted). new.dumps ≡ dumps_of w (gathered.made ++ one ∷ [])) (sym same)
           (dumps ∙ ap (λ (d : Dumps). dumps_with old.wanted d next.number what) gathered.dumps ∙ sym (dumps-push old.wanted gathered.made one));
-      report = report ∙ ap (λ (c : Counts). counted c next.link what) gathered.report ∙ sym (counts-push gathered.made one is_number);
+      report = report ∙ ap (λ (c : Counts). counted (counted_at c next.came) next.link what) gathered.report ∙ sym (counts-push gathered.made one is_number);
       senders = is_senders;
     }
 
@@ -88,25 +87,24 @@ pub dump-after : (wanted : Wanted) (taken dump octets : List ℕ) → taken ++ d
 dump-after wanteds.Everyone taken dump octets = refl
 dump-after wanteds.Each taken dump octets = refl
 dump-after (wanteds.Sender sender place) taken dump octets = sym (append_assoc taken dump octets)
+dump-after (wanteds.InTurn sender place) taken dump octets = sym (append_assoc taken dump octets)
 
 -- what is no packet leaves the dump
 pub dump-stays : (wanted : Wanted) (dump : List ℕ) → dump ≡ dump_with wanted dump []
 dump-stays wanteds.Everyone dump = refl
 dump-stays wanteds.Each dump = refl
 dump-stays (wanteds.Sender sender place) dump = sym (append-nil dump)
+dump-stays (wanteds.InTurn sender place) dump = sym (append-nil dump)
 
 dumps-stay : (wanted : Wanted) (dumps : Dumps) (number : ℕ) (what : Found) → dumps_by dumps number what ≡ dumps → dumps ≡ dumps_with wanted dumps number what
 dumps-stay wanteds.Everyone dumps number what same = refl
 dumps-stay wanteds.Each dumps number what same = sym same
 dumps-stay (wanteds.Sender sender place) dumps number what same = refl
+dumps-stay (wanteds.InTurn sender place) dumps number what same = refl
 
 pub on-ok4 : {T E : Type 0} {P Q R S U : Type 0} (r : Result T E) → (P → Q → R → S → U) → OnOk r P → OnOk r Q → OnOk r R → OnOk r S → OnOk r U
 on-ok4 (Ok x) goes one two three four = goes one two three four
 on-ok4 (Err e) goes one two three four = tt
-
-pub on-ok-all : {T E : Type 0} {P : Type 0} (r : Result T E) → P → OnOk r P
-on-ok-all (Ok x) is = is
-on-ok-all (Err e) is = tt
 
 pub if-err-all : {T E : Type 0} {P : E → Type 0} (r : Result T E) → ((e : E) → P e) → IfErr r P
 if-err-all (Ok x) is = tt
@@ -120,25 +118,31 @@ on-ok (Err e) goes is = tt
 few_kept : (before : List Sighting) (old new : Gathering) → new.senders ≡ old.senders → IsGathered before old → length new.senders ≤ 65536
 few_kept before old new same gathered = subst (λ (s : Senders). length s ≤ 65536) (sym (same ∙ gathered.senders)) gathered.taken.few
 
+-- what is seen adds a packet of this origin to the dump, or none
+abbrev pub AddsOrigin : Wanted → Sight → Option Origin → Type 0
+AddsOrigin wanted sight origin = (what : Found) × Finds wanted sight what × (origin ≡ origin_added wanted what)
+
 -- the same as the code meets them
 module _ (before : List Sighting) (next : Sighting) (old new : Gathering) (finding : Found) where
   abbrev Goes : Type 0
   Goes = IsGathered before old → next.number ≡ old.report.packets + 1 → Finds old.wanted next.what finding → IsGathered (before ++ next ∷ []) new
 
-  pub passed-push : finding ≡ passed → new.wanted ≡ old.wanted → new.dump ≡ old.dump → new.dumps ≡ old.dumps → new.report ≡ counted_with old.report None → new.senders ≡ old.senders → Goes
+  pub passed-push : finding ≡ passed → new.wanted ≡ old.wanted → new.dump ≡ old.dump → new.dumps ≡ old.dumps → new.report ≡ counted_with (counted_at old.report next.came) None
+      → new.senders ≡ old.senders → Goes
   passed-push is same dump dumps report senders gathered number finds =
       gathered-push before next old new passed same (dump ∙ dump-stays old.wanted old.dump) (dumps ∙ dumps-stay old.wanted old.dumps next.number passed refl) report senders
       (few_kept before old new senders gathered) tt gathered number
       (subst (Finds old.wanted next.what) is finds)
 
-  pub short-push : finding ≡ untold → new.wanted ≡ old.wanted → new.dump ≡ old.dump → new.dumps ≡ old.dumps → new.report ≡ short_counted old.report → new.senders ≡ old.senders → Goes
+  pub short-push : finding ≡ untold → new.wanted ≡ old.wanted → new.dump ≡ old.dump → new.dumps ≡ old.dumps → new.report ≡ short_counted (counted_at old.report next.came)
+      → new.senders ≡ old.senders → Goes
   short-push is same dump dumps report senders gathered number finds =
       gathered-push before next old new untold same (dump ∙ dump-stays old.wanted old.dump) (dumps ∙ dumps-stay old.wanted old.dumps next.number untold refl) report senders
       (few_kept before old new senders gathered) tt gathered number
       (subst (Finds old.wanted next.what) is finds)
 
-  pub left-push : (reason : Reason) → finding ≡ left reason → new.wanted ≡ old.wanted → new.dump ≡ old.dump → new.dumps ≡ old.dumps → new.report ≡ counted_with old.report (Some reason)
-      → new.senders ≡ old.senders → Goes
+  pub left-push : (reason : Reason) → finding ≡ left reason → new.wanted ≡ old.wanted → new.dump ≡ old.dump → new.dumps ≡ old.dumps
+      → new.report ≡ counted_with (counted_at old.report next.came) (Some reason) → new.senders ≡ old.senders → Goes
   left-push reason is same dump dumps report senders gathered number finds =
       gathered-push before next old new (left reason) same (dump ∙ dump-stays old.wanted old.dump) (dumps ∙ dumps-stay old.wanted old.dumps next.number (left reason) refl) report senders
       (few_kept before old new senders gathered) tt gathered number
@@ -146,14 +150,16 @@ module _ (before : List Sighting) (next : Sighting) (old new : Gathering) (findi
 
   pub found-push : (place : Place) (sender : Address) (packet : List ℕ) → finding ≡ found place sender packet → new.wanted ≡ old.wanted → new.dump ≡ dump_with old.wanted old.dump packet
       → new.dumps ≡ dumps_with old.wanted old.dumps next.number (found place sender packet)
-      → new.report ≡ packet_counted old.report next.link → new.senders ≡ tallied old.senders (record { place = place; sender = sender }) packet → length new.senders ≤ 65536 → Goes
+      → new.report ≡ packet_counted (counted_at old.report next.came) next.link (interval_in packet)
+      → new.senders ≡ tallied old.senders (record { place = place; sender = sender }) (time_of next.came) packet → length new.senders ≤ 65536 → Goes
   found-push place sender packet is same dump dumps report senders few gathered number finds =
       gathered-push before next old new (found place sender packet) same dump dumps report senders few tt gathered number
       (subst (Finds old.wanted next.what) is finds)
 
   -- where the dump of each is wanted
   pub lacked-push : (place : Place) (sender : Address) (lack : Lack) → finding ≡ lacked place sender lack → old.wanted ≡ wanteds.Each → new.wanted ≡ old.wanted → new.dump ≡ old.dump
-      → new.dumps ≡ dumps_by old.dumps next.number (lacked place sender lack) → new.report ≡ counted_with old.report None → new.senders ≡ old.senders → Goes
+      → new.dumps ≡ dumps_by old.dumps next.number (lacked place sender lack) → new.report ≡ counted_with (counted_at old.report next.came) None
+      → new.senders ≡ old.senders → Goes
   lacked-push place sender lack is each same dump dumps report senders gathered number finds =
       let what = lacked place sender lack in
       gathered-push before next old new what same (dump ∙ dump-stays old.wanted old.dump) (dumps ∙ ap (λ (w : Wanted). dumps_with w old.dumps next.number what) (sym each)) report senders
@@ -164,6 +170,8 @@ lacked_each : (wanted : Wanted) (place there : Place) (sender from : Address) (l
 lacked_each wanteds.Everyone place there sender from lack which is = absurd cc
 lacked_each wanteds.Each place there sender from lack which is = refl
 lacked_each (wanteds.Sender only at) place there sender from lack which is = absurd cc
+lacked_each (wanteds.InTurn None at) place there sender from lack which is = absurd cc
+lacked_each (wanteds.InTurn (Some only) at) place there sender from lack which is = absurd cc
 
 payload_lacks_none : (place there : Place) (sender from : Address) (payload : List ℕ) (which : Lack) → PayloadIs place sender payload (lacked there from which) → ⊥
 payload_lacks_none place there sender from payload which (inl (body, begins, is)) = cc
@@ -214,12 +222,17 @@ found-needs (Err fault) wanted before here senders packet origin octets finding 
   subst (λ (w : Wanted). PacketNeedsMemory w senders origin octets) same (subst (λ (s : Senders). PacketNeedsMemory wanted s origin octets) are (needs memory)),
 )
 
--- and for what is added to the dump
-pub found-added : {T : Type 0} (r : Result T Fault) (wanted : Wanted) (senders : Senders) (packet : Captured) (origin : Origin) (octets : List ℕ) (finding : Found)
-    → finding ≡ found origin.place origin.sender octets → Finds wanted (sight_in packet) finding → (old new : List ℕ)
-    → OnOk r (new ≡ dump_with wanted old octets) → OnOk r ((new ≡ old) ⊎ BlockNeedsMemory wanted senders (holds packet))
-found-added (Err fault) wanted senders packet origin octets finding is finds old new added = tt
-found-added (Ok x) wanteds.Everyone senders packet origin octets finding is finds old new added = inl added
-found-added (Ok x) wanteds.Each senders packet origin octets finding is finds old new added = inl added
-found-added (Ok x) (wanteds.Sender sender place) senders packet origin octets finding is finds old new added =
-    inr (inl (origin, octets, subst (Finds (wanteds.Sender sender place) (sight_in packet)) is finds, tt))
+-- whose packet was added to the dump
+pub none-added : (wanted : Wanted) (what : Found) → origin_found what ≡ None → None ≡ origin_added wanted what
+none-added wanteds.Everyone what none = refl
+none-added wanteds.Each what none = refl
+none-added (wanteds.Sender sender place) what none = sym none
+none-added (wanteds.InTurn sender place) what none = sym none
+
+pub no-origin : (wanted : Wanted) (sight : Sight) (finding what : Found) → finding ≡ what → origin_found what ≡ None → Finds wanted sight finding → AddsOrigin wanted sight None
+no-origin wanted sight finding what is none finds = (what, subst (Finds wanted sight) is finds, none-added wanted what none)
+
+pub some-origin : {E : Type 0} (r : Result (Option Origin) E) (wanted : Wanted) (sight : Sight) (finding what : Found) (added : Option Origin) → finding ≡ what → Finds wanted sight finding
+    → added ≡ origin_added wanted what → IfOk r (λ origin. origin ≡ added) → IfOk r (λ origin. AddsOrigin wanted sight origin)
+some-origin (Ok origin) wanted sight finding what added is finds whose told = (what, subst (Finds wanted sight) is finds, told ∙ whose)
+some-origin (Err fault) wanted sight finding what added is finds whose told = tt

@@ -24,4 +24,5 @@ pub mod SeenLaws
 pub mod SenderLaws
 pub mod StreamLaws
 pub mod TallyLaws
+pub mod TimeLaws
 pub mod UpdateLaws

@@ -1,6 +1,11 @@
 -- No fault of the octets is want of memory.
 use Rattle.std.proofs.Common.{◌≡◌, ◌≢◌, ℕ, List, arith, inl, inr, length, subst, sym, ◌∙◌}
-use Rattle.std.specs.Prelude.{Err, IfErr, None, Ok, Option, Result, Some}
+use Rattle.std.specs.Prelude.{Bool, Err, IfErr, None, Ok, Option, Result, Some, ℤ, false, if◌then◌else◌, nat_lt, slice_get, true, ◌==◌}
+use Rattle.babel_capture.specs.declared.clock.Stamp.{Stamp}
+use Rattle.babel_capture.specs.Times.{in_years, moment_in, time_asked, time_or}
+use Rattle.babel_capture.specs.declared.window.Moment.{Moment}
+use Rattle.babel_capture.specs.declared.window.Window.{Window}
+use Rattle.babel_capture.specs.declared.window.Window.TheVariants as windows
 use Rattle.babel_capture.specs.declared.fault.Fault.{Fault}
 use Rattle.babel_capture.specs.declared.fault.Fault.TheVariants as faults
 use Rattle.babel_capture.specs.declared.lack.Lack.{Lack}
@@ -12,15 +17,18 @@ use Rattle.babel_capture.specs.declared.link.Link.{Link}
 use Rattle.babel_capture.specs.declared.order.Order.{Order}
 use Rattle.babel_capture.specs.Blocks.{HasHeader, context_behind, header_of, octets_of, start}
 use Rattle.babel_capture.specs.Capture.{CaptureFault, IsShortBy}
-use Rattle.babel_capture.specs.Contents.{Content, file, section, describes, holds, nothing, block_said, first_said, holds_by, kept_said, layout_said, packet_of, section_of, simple_of, typed_said}
+use Rattle.babel_capture.specs.Contents.{Captured, Content, by_time, read_by, skips, file, section, describes, holds, nothing}
+use Rattle.babel_capture.specs.Contents.{block_said, first_said, holds_by, interface_said, kept_said, layout_said, numbered_said, packet_of, section_of, simple_of, simple_said, typed_said}
 use Rattle.babel_capture.specs.Context.{Before}
 use Rattle.babel_capture.specs.Lack.{lack_fault}
 use Rattle.babel_capture.specs.Lengths.{block_len, first_len, layout_len, len_within, pcap_order, section_order, total_in}
 use Rattle.babel_capture.specs.Gathering.{IsRefused}
 use Rattle.babel_capture.specs.Link.{link_of}
+use Rattle.babel_capture.specs.Numbers.{number_at}
 use Rattle.babel_capture.specs.Reading.{StopsAt}
 use Rattle.babel_capture.specs.Tallies.{Senders, senders_of}
 use Rattle.babel_capture.specs.declared.wanted.Wanted.{Wanted}
+use Rattle.babel_capture.specs.Window.{Extent}
 
 pub if-memory : {A : Type 0} (r : Result A Fault) (P : Type 0) → P → IfErr r (λ fault. fault ≡ faults.Memory → P)
 if-memory (Ok value) P fact = tt
@@ -33,13 +41,33 @@ lack-other at lacks.Snapped is = cc
 
 -- ---- what blocks say
 
-linked : (at interface number : ℕ) (frame : List ℕ) (whole : ℕ) (link : Option Link) → holds_by at interface number frame whole link ≢ Err faults.Memory
-linked at interface number frame whole None is = cc
-linked at interface number frame whole (Some link) is = cc
+asked-other : (at : ℕ) (moment : Option ℤ) → time_asked at moment ≢ Err faults.Memory
+asked-other at None is = cc
+asked-other at (Some moment) is = or-other at (in_years moment) is
+  where
+    or-other : (at : ℕ) (time : Option ℕ) → time_or (faults.BadTime at) time ≢ Err faults.Memory
+    or-other at None is = cc
+    or-other at (Some time) is = cc
 
-packets : (at interface : ℕ) (frame : List ℕ) (whole : ℕ) (described : Option Interface) → packet_of at interface frame whole described ≢ Err faults.Memory
-packets at interface frame whole None is = cc
-packets at interface frame whole (Some described) is = linked at interface described.link frame whole (link_of described.link) is
+by-other : (since until : Option Moment) (start : Option ℕ) (packet : Captured) (time : Result ℕ Fault) → time ≢ Err faults.Memory → by_time since until start packet time ≢ Err faults.Memory
+by-other since until start packet (Err fault) not is = (let same : fault ≡ faults.Memory = cc in not cc)
+by-other since until start packet (Ok time) not is = cc
+
+read-other : (window : Window) (start : Option ℕ) (at : ℕ) (packet : Captured) → read_by window start at packet ≢ Err faults.Memory
+read-other windows.Whole start at packet is = cc
+read-other (windows.Between since until) start at packet is =
+    by-other since until start packet (time_asked at packet.moment) (asked-other at packet.moment) is
+
+linked : (before : Before) (at interface number : ℕ) (moment : Option ℤ) (frame : List ℕ) (whole : ℕ) (link : Option Link)
+    → holds_by before at interface number moment frame whole link ≢ Err faults.Memory
+linked before at interface number moment frame whole None is = cc
+linked before at interface number moment frame whole (Some link) is =
+    read-other before.window before.start at (record { interface = interface; link = link; moment = moment; frame = frame; whole_len = whole }) is
+
+packets : (before : Before) (at interface : ℕ) (stamp : Option Stamp) (frame : List ℕ) (whole : ℕ) (described : Option Interface)
+    → packet_of before at interface stamp frame whole described ≢ Err faults.Memory
+packets before at interface stamp frame whole None is = cc
+packets before at interface stamp frame whole (Some described) is = linked before at interface described.link (moment_in described.clock stamp) frame whole (link_of described.link) is
 
 kept : (before : Before) (at : ℕ) (order : Order) (block : List ℕ) (number captured : ℕ) → kept_said before at order block number captured ≢ Err faults.Memory
 kept before at order block number captured is = grind (arith, packets)
@@ -55,8 +83,28 @@ simples : (before : Before) (at : ℕ) (order : Order) (block : List ℕ) (descr
 simples before at order block None is = cc
 simples before at order block (Some described) is = grind (arith, packets)
 
+-- one or the other
+unless : (b : Bool) (x y : Result Content Fault) → x ≢ Err faults.Memory → y ≢ Err faults.Memory → (if b then x else y) ≢ Err faults.Memory
+unless true x y one other = one
+unless false x y one other = other
+
+interfaces : (before : Before) (at : ℕ) (order : Order) (block : List ℕ) → interface_said before at order block ≢ Err faults.Memory
+interfaces before at order block is = grind arith
+
+simple : (before : Before) (at : ℕ) (order : Order) (block : List ℕ) → simple_said before at order block ≢ Err faults.Memory
+simple before at order block =
+    unless (nat_lt (length block) 16) (Err (faults.BadLength at)) _ (λ is. cc) (simples before at order block (slice_get before.interfaces before.first))
+
+numbered : (before : Before) (at : ℕ) (order : Order) (block : List ℕ) (number : ℕ) → numbered_said before at order block number ≢ Err faults.Memory
+numbered before at order block number =
+    unless (nat_lt (length block) 32) (Err (faults.BadLength at)) _ (λ is. cc) (kept before at order block number (number_at order 4 block 20))
+
 typed : (before : Before) (at : ℕ) (order : Order) (block : List ℕ) (kind : ℕ) → typed_said before at order block kind ≢ Err faults.Memory
-typed before at order block kind is = grind (arith, kept, simples)
+typed before at order block kind =
+    unless (kind == 1) (interface_said before at order block) _ (interfaces before at order block)
+    (unless (kind == 3) (simple_said before at order block) _ (simple before at order block)
+    (unless (kind == 2) (numbered_said before at order block (number_at order 2 block 8)) _ (numbered before at order block (number_at order 2 block 8))
+    (unless (kind == 6) (numbered_said before at order block (number_at order 4 block 8)) _ (numbered before at order block (number_at order 4 block 8)) (λ is. cc))))
 
 firsts : (before : Before) (at : ℕ) (block : List ℕ) (order : Option Order) → first_said before at block order ≢ Err faults.Memory
 firsts before at block (Some order) is = grind arith
@@ -109,6 +157,7 @@ refused-other wanted senders at (section order) fault refused is = absurd refuse
 refused-other wanted senders at (describes interface name) fault refused is = absurd refused
 refused-other wanted senders at (holds packet) fault (inl (lack, told, finds)) is = lack-other at lack (sym told ∙ is)
 refused-other wanted senders at (holds packet) fault (inr (told, many)) is = cc
+refused-other wanted senders at (skips packet) fault refused is = absurd refused
 refused-other wanted senders at nothing fault refused is = absurd refused
 
 stops-other : (wanted : Wanted) (senders : Senders) (before : Before) (at : ℕ) (octets : List ℕ) (fault : Fault) → StopsAt wanted senders before at octets fault → fault ≢ faults.Memory
@@ -120,7 +169,7 @@ short-other : (before : Before) (at : ℕ) (rest : List ℕ) (fault : Fault) →
 short-other before at rest fault (inl (not, told)) is = cc
 short-other before at rest fault (inr (started, some, told)) is = cc
 
-pub fault-other : (limit : ℕ) (wanted : Wanted) (octets : List ℕ) (fault : Fault) → CaptureFault limit wanted octets fault → fault ≢ faults.Memory
+pub fault-other : (limit : Extent) (wanted : Wanted) (octets : List ℕ) (fault : Fault) → CaptureFault limit wanted octets fault → fault ≢ faults.Memory
 fault-other limit wanted octets fault (inl stops) = stops-other wanted (senders_of stops.made) (context_behind (start limit) stops.blocks) (length (octets_of stops.blocks)) stops.rest fault
     stops.stops
 fault-other limit wanted octets fault (inr short) = short-other (context_behind (start limit) short.blocks) (length (octets_of short.blocks)) short.rest fault short.short

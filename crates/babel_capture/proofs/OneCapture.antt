@@ -27,6 +27,8 @@ use Rattle.babel_capture.specs.Lengths.{block_len, header_len}
 use Rattle.babel_capture.specs.OneCapture.{CaptureIsOne, CutCaptureIsOne}
 use Rattle.babel_capture.specs.Sight.{Carried, Sight, datagram, lacking, not_link_local, other, other_port, too_short, carries}
 use Rattle.babel_capture.specs.Tallies.{Senders, senders_of}
+use Rattle.babel_capture.specs.Times.{Came}
+use Rattle.babel_capture.specs.Window.{Extent}
 
 -- ---- what is made of a packet
 
@@ -91,6 +93,8 @@ lack_one : (wanted : Wanted) (place : Place) (sender : Address) (lack : Lack) (w
 lack_one wanteds.Everyone place sender lack what again is is_again = is ∙ sym is_again
 lack_one wanteds.Each place sender lack what again is is_again = is ∙ sym is_again
 lack_one (wanteds.Sender only there) place sender lack what again is is_again = is ∙ sym is_again
+lack_one (wanteds.InTurn None there) place sender lack what again is is_again = is ∙ sym is_again
+lack_one (wanteds.InTurn (Some only) there) place sender lack what again is is_again = is ∙ sym is_again
 
 carried_one : (wanted : Wanted) (place : Place) (sender : Address) (carried : Carried) (what again : Found) → CarriedIs wanted place sender carried what → CarriedIs wanted place sender carried again
     → what ≡ again
@@ -105,16 +109,18 @@ finds_one wanted too_short what again is is_again = is ∙ sym is_again
 finds_one wanted (datagram place sender carried) what again is is_again =
     either_one what again (IsWanted wanted sender place) _ _ _ _ (carried_one wanted place sender carried what again) (same_of what again passed) is is_again
 
-one_made : (made others : Made) → made.number ≡ others.number → made.link ≡ others.link → made.what ≡ others.what → made ≡ others
-one_made made others number link what =
-    let made_of : ℕ → Link → Found → Made = λ n l w. record { number = n; link = l; what = w } in
-    ap (λ (n : ℕ). made_of n made.link made.what) number ∙ ap (λ (l : Link). made_of others.number l made.what) link ∙ ap (λ (w : Found). made_of others.number others.link w) what
+one_made : (made others : Made) → made.number ≡ others.number → made.link ≡ others.link → made.came ≡ others.came → made.what ≡ others.what → made ≡ others
+one_made made others number link came what =
+    let made_of : ℕ → Link → Came → Found → Made = λ n l c w. record { number = n; link = l; came = c; what = w } in
+    ap (λ (n : ℕ). made_of n made.link made.came made.what) number ∙ ap (λ (l : Link). made_of others.number l made.came made.what) link
+    ∙ ap (λ (c : Came). made_of others.number others.link c made.what) came ∙ ap (made_of others.number others.link others.came) what
 
 pub made_one : (wanted : Wanted) (sightings : List Sighting) (made others : List Made) → AreMade wanted sightings made → AreMade wanted sightings others → made ≡ others
 made_one wanted [] made others are are_too = are ∙ sym are_too
-made_one wanted (sighting ∷ later) made others (one, rest, is, number, link, finds, takes, are) (again, rest_again, is_again, number_again, link_again, finds_again, takes_again, are_again) =
+made_one wanted (sighting ∷ later) made others (one, rest, is, number, link, came, finds, takes, are)
+    (again, rest_again, is_again, number_again, link_again, came_again, finds_again, takes_again, are_again) =
     let what : one.what ≡ again.what = finds_one wanted sighting.what one.what again.what finds finds_again in
-    let same : one ≡ again = one_made one again (number ∙ sym number_again) (link ∙ sym link_again) what in
+    let same : one ≡ again = one_made one again (number ∙ sym number_again) (link ∙ sym link_again) (came ∙ sym came_again) what in
     let behind : rest ≡ rest_again = made_one wanted later rest rest_again are are_again in
     is ∙ ap (λ (m : Made). m ∷ rest) same ∙ ap (λ (ms : List Made). again ∷ ms) behind ∙ sym is_again
 
@@ -211,7 +217,7 @@ gathered_one sightings one another is is_too wanted names =
     (is.senders ∙ ap senders_of made ∙ sym is_too.senders)
 
 -- two readings of the same octets, of any datagrams, have the same blocks
-pub same_blocks : (limit : ℕ) (octets : List ℕ) (one another : Gathering) (place other_place : Option ℕ) → (is : IsReadToCut limit octets one place)
+pub same_blocks : (limit : Extent) (octets : List ℕ) (one another : Gathering) (place other_place : Option ℕ) → (is : IsReadToCut limit octets one place)
     → (is_too : IsReadToCut limit octets another other_place) → (is.is_read.blocks ≡ is_too.is_read.blocks) × (is.rest ≡ is_too.rest)
 same_blocks limit octets one another place other_place is is_too = blocks_one (start limit) 0 is.is_read.blocks is_too.is_read.blocks is.rest is_too.rest is.is_read.are_blocks
     is_too.is_read.are_blocks
@@ -238,7 +244,7 @@ cut_capture_is_one limit octets one another place other_place is is_too wanted =
     )
 
 -- a whole capture is one that is cut nowhere
-pub uncut : (limit : ℕ) (octets : List ℕ) (gathering : Gathering) → IsRead limit octets gathering → IsReadToCut limit octets gathering None
+pub uncut : (limit : Extent) (octets : List ℕ) (gathering : Gathering) → IsRead limit octets gathering → IsReadToCut limit octets gathering None
 uncut limit octets gathering is = record {
   read = octets;
   rest = [];

@@ -1,7 +1,7 @@
 -- Octets have one outcome or one fault: where the blocks of two readings are the same so far, the next block is taken in both, or
 -- fails in both, or is not whole in both.
 use Rattle.std.proofs.Common.{◌≡◌, ◌≢◌, ℕ, ◌+◌, ◌≤◌, ◌<◌, List, [], ◌∷◌, ◌++◌, length, drop, refl, sym, ap, subst, ◌∙◌, append_assoc, inl, inr, arith, length-append}
-use Rattle.std.specs.Prelude.{◌⊎◌, Some, None, Result, Ok, Err, fold}
+use Rattle.std.specs.Prelude.{◌⊎◌, Option, Some, None, Result, Ok, Err, fold}
 use Rattle.std.specs.Result.{IsOkAnd}
 use Rattle.std.proofs.lemmas.List.{take-append-drop, take-append-le}
 use Rattle.babel_capture.specs.declared.fault.Fault.{Fault}
@@ -10,7 +10,7 @@ use Rattle.babel_capture.specs.declared.wanted.Wanted.{Wanted}
 use Rattle.babel_capture.specs.Blocks.{AreBlocks, BeginsBlock, BlockAt, IsBlock, IsPartial, Sighting, context_behind, header_of, octets_of, sight_in, sightings_behind, sightings_in, sightings_of}
 use Rattle.babel_capture.specs.Blocks.{start}
 use Rattle.babel_capture.specs.Capture.{CaptureFault, EndsShort, IsShortBy}
-use Rattle.babel_capture.specs.Contents.{Content, block_said, context_after, describes, file, holds, nothing, section}
+use Rattle.babel_capture.specs.Contents.{Content, block_said, context_after, describes, file, holds, nothing, section, skips}
 use Rattle.babel_capture.specs.Context.{Before}
 use Rattle.babel_capture.specs.Counts.{Made}
 use Rattle.babel_capture.specs.Findings.{Found, found, lacked, left, passed, refused, untold}
@@ -20,31 +20,33 @@ use Rattle.babel_capture.specs.Lengths.{block_len, header_len}
 use Rattle.babel_capture.specs.OneFault.{CutIsTheFault, FaultIsOne, ReadHasNoFault}
 use Rattle.babel_capture.specs.Reading.{BlockFails, Stops, StopsAt}
 use Rattle.babel_capture.specs.Tallies.{Senders, origin_cmp, senders_with, tallied}
+use Rattle.babel_capture.specs.Times.{time_of}
 use Rattle.babel_capture.proofs.Entries.{insert-longer, insert-new}
 use Rattle.babel_capture.proofs.OneCapture.{block_one, blocks_one, content_or_none, finds_one, made_one, one_block, partial_none, uncut}
+use Rattle.babel_capture.specs.Window.{Extent}
 
 -- ---- senders
 
 -- the senders with those of some packets more
 abbrev more : Senders → List Made → Senders
-more senders made = fold (λ (s : Senders) (one : Made). senders_with s one.what) senders made
+more senders made = fold (λ (s : Senders) (one : Made). senders_with s (time_of one.came) one.what) senders made
 
-with-longer : (senders : Senders) (what : Found) → length senders ≤ length (senders_with senders what)
-with-longer senders passed = omega arith
-with-longer senders untold = omega arith
-with-longer senders (left reason) = omega arith
-with-longer senders (refused lack) = omega arith
-with-longer senders (lacked place sender lack) = omega arith
-with-longer senders (found place sender packet) = insert-longer origin_cmp (record { place = place; sender = sender }) _ senders
+with-longer : (senders : Senders) (time : Option ℕ) (what : Found) → length senders ≤ length (senders_with senders time what)
+with-longer senders time passed = omega arith
+with-longer senders time untold = omega arith
+with-longer senders time (left reason) = omega arith
+with-longer senders time (refused lack) = omega arith
+with-longer senders time (lacked place sender lack) = omega arith
+with-longer senders time (found place sender packet) = insert-longer origin_cmp (record { place = place; sender = sender }) _ senders
 
 more-longer : (senders : Senders) (made : List Made) → length senders ≤ length (more senders made)
 more-longer senders [] = omega arith
 more-longer senders (one ∷ made) =
-    (let here = with-longer senders one.what in let later = more-longer (senders_with senders one.what) made in omega arith)
+    (let here = with-longer senders (time_of one.came) one.what in let later = more-longer (senders_with senders (time_of one.came) one.what) made in omega arith)
 
 more-append : (senders : Senders) (front back : List Made) → more senders (front ++ back) ≡ more (more senders front) back
 more-append senders [] back = refl
-more-append senders (one ∷ front) back = more-append (senders_with senders one.what) front back
+more-append senders (one ∷ front) back = more-append (senders_with senders (time_of one.came) one.what) front back
 
 -- ---- packets in two parts
 
@@ -57,13 +59,13 @@ record InTwo (wanted : Wanted) (front back : List Sighting) (made : List Made) :
 
 in_two : (wanted : Wanted) (front back : List Sighting) (made : List Made) → AreMade wanted (front ++ back) made → InTwo wanted front back made
 in_two wanted [] back made are = record { first = []; later = made; whole = refl; are_first = refl; are_later = are }
-in_two wanted (sighting ∷ front) back made (one, others, is, number, link, finds, takes, are) =
+in_two wanted (sighting ∷ front) back made (one, others, is, number, link, came, finds, takes, are) =
     let parts = in_two wanted front back others are in
     record {
       first = one ∷ parts.first;
       later = parts.later;
       whole = is ∙ ap (λ (ms : List Made). one ∷ ms) parts.whole;
-      are_first = (one, parts.first, refl, number, link, finds, takes, parts.are_first);
+      are_first = (one, parts.first, refl, number, link, came, finds, takes, parts.are_first);
       are_later = parts.are_later;
     }
 
@@ -100,14 +102,15 @@ refused_none wanted senders number at (file order interface) fault later made re
 refused_none wanted senders number at (section order) fault later made refuses are few = refuses
 refused_none wanted senders number at (describes interface name) fault later made refuses are few = refuses
 refused_none wanted senders number at nothing fault later made refuses are few = refuses
-refused_none wanted senders number at (holds packet) fault later made (inl (lack, told, finds)) (one, others, is, numbered, link, finds_too, takes, are) few =
+refused_none wanted senders number at (skips packet) fault later made refuses are few = refuses
+refused_none wanted senders number at (holds packet) fault later made (inl (lack, told, finds)) (one, others, is, numbered, link, came, finds_too, takes, are) few =
     subst IsTaken (finds_one wanted (sight_in packet) one.what (refused lack) finds_too finds) takes
-refused_none wanted senders number at (holds packet) fault later made (inr (told, (origin, octets, finds, many))) (one, others, is, numbered, link, finds_too, takes, are) few =
+refused_none wanted senders number at (holds packet) fault later made (inr (told, (origin, octets, finds, many))) (one, others, is, numbered, link, came, finds_too, takes, are) few =
     let what : one.what ≡ found origin.place origin.sender octets = finds_one wanted (sight_in packet) one.what (found origin.place origin.sender octets) finds_too finds in
-    let all : more senders made ≡ more (tallied senders origin octets) others =
-    ap (more senders) is ∙ ap (λ (w : Found). more (senders_with senders w) others) what in
-    let new : length (tallied senders origin octets) ≡ length senders + 1 = insert-new origin_cmp origin _ senders many.1 in
-    let longer = more-longer (tallied senders origin octets) others in
+    let all : more senders made ≡ more (tallied senders origin (time_of one.came) octets) others =
+    ap (more senders) is ∙ ap (λ (w : Found). more (senders_with senders (time_of one.came) w) others) what in
+    let new : length (tallied senders origin (time_of one.came) octets) ≡ length senders + 1 = insert-new origin_cmp origin _ senders many.1 in
+    let longer = more-longer (tallied senders origin (time_of one.came) octets) others in
     let full = many.0 in
     omega (arith, ap length all)
 
@@ -150,6 +153,7 @@ module _ (wanted : Wanted) (senders : Senders) (before : Before) (at : ℕ) wher
   refused_one (section order) one other refuses again = absurd refuses
   refused_one (describes interface name) one other refuses again = absurd refuses
   refused_one nothing one other refuses again = absurd refuses
+  refused_one (skips packet) one other refuses again = absurd refuses
   refused_one (holds packet) one other (inl (lack, told, finds)) (inl (lack_too, told_too, finds_too)) =
       let both : refused lack ≡ refused lack_too = finds_one wanted (sight_in packet) (refused lack) (refused lack_too) finds finds_too in
       let same : lack ≡ lack_too = cc in
@@ -318,7 +322,7 @@ stops_whole wanted senders count before at octets (block ∷ blocks) (another �
 -- ---- captures
 
 -- whole blocks that are taken, and then less than a block
-record Ends (limit : ℕ) (wanted : Wanted) (octets : List ℕ) : Type 0 where
+record Ends (limit : Extent) (wanted : Wanted) (octets : List ℕ) : Type 0 where
   blocks : List BlockAt
   rest : List ℕ
   made : List Made
@@ -327,7 +331,7 @@ record Ends (limit : ℕ) (wanted : Wanted) (octets : List ℕ) : Type 0 where
   taken : AreTaken wanted (sightings_of blocks) made
   partial : IsPartial (context_behind (start limit) blocks) (length (octets_of blocks)) rest
 
-module _ (limit : ℕ) (wanted : Wanted) (octets : List ℕ) where
+module _ (limit : Extent) (wanted : Wanted) (octets : List ℕ) where
   from_start : (blocks : List BlockAt) (rest : List ℕ) (made : List Made) → octets ≡ octets_of blocks ++ rest → AreBlocks (start limit) 0 blocks → AreTaken wanted (sightings_of blocks) made
       → AreRead wanted [] 0 (start limit) 0 octets blocks rest made
   from_start blocks rest made whole are_blocks taken = record { whole = whole; are_blocks = are_blocks; are_made = taken.are_made; few = taken.few }

@@ -1,5 +1,5 @@
 -- One sender on one interface has one tally at most.
-use Rattle.std.proofs.Common.{◌≡◌, ◌≤◌, ◌⊎◌, ℕ, List, [], ◌∷◌, length, refl, sym, ap, subst, ◌∙◌, inl, inr, arith}
+use Rattle.std.proofs.Common.{◌≡◌, ◌≤◌, ◌⊎◌, ℕ, List, [], ◌∷◌, Option, length, refl, sym, ap, subst, ◌∙◌, inl, inr, arith}
 use Rattle.std.specs.Prelude.{Some, fold}
 use Rattle.std.specs.declared.cmp.Ordering.{Ordering}
 use Rattle.std.specs.declared.cmp.Ordering.TheVariants.{Equal}
@@ -19,6 +19,7 @@ use Rattle.babel_capture.specs.Gathering.{AreMade}
 use Rattle.babel_capture.specs.OneOrigin.{NamedIsOne}
 use Rattle.babel_capture.specs.Sight.{Carried, Sight, datagram, lacking, not_link_local, other, other_port, too_short, carries}
 use Rattle.babel_capture.specs.Tallies.{Senders, origin_cmp, senders_of, senders_with, tallied}
+use Rattle.babel_capture.specs.Times.{time_of}
 use Rattle.babel_capture.proofs.TallyLaws.{origin_total}
 
 abbrev place_of : Place → Found → Place
@@ -78,28 +79,28 @@ module _ (wanted : Address) (at : Place) where
   put_at_most senders put (inl none) = inr (put, ap (λ (s : Senders). insert_entry origin_cmp s origin put) none)
   put_at_most senders put (inr (tally, is)) = inr (put, ap (λ (s : Senders). insert_entry origin_cmp s origin put) is ∙ put_one tally put)
 
-  tallied_at_most : (senders : Senders) (packet : List ℕ) → IsOneAtMost senders → IsOneAtMost (tallied senders origin packet)
-  tallied_at_most senders packet most = put_at_most senders _ most
+  tallied_at_most : (senders : Senders) (time : Option ℕ) (packet : List ℕ) → IsOneAtMost senders → IsOneAtMost (tallied senders origin time packet)
+  tallied_at_most senders time packet most = put_at_most senders _ most
 
-  with_at_most : (sight : Sight) (senders : Senders) (what : Found) → Finds (wanteds.Sender wanted (Some at)) sight what
-      → IsOneAtMost senders → IsOneAtMost (senders_with senders what)
-  with_at_most sight senders passed finds most = most
-  with_at_most sight senders untold finds most = most
-  with_at_most sight senders (left reason) finds most = most
-  with_at_most sight senders (refused lack) finds most = most
-  with_at_most sight senders (lacked place sender lack) finds most = most
-  with_at_most sight senders (found place sender packet) finds most =
+  with_at_most : (sight : Sight) (senders : Senders) (time : Option ℕ) (what : Found) → Finds (wanteds.Sender wanted (Some at)) sight what
+      → IsOneAtMost senders → IsOneAtMost (senders_with senders time what)
+  with_at_most sight senders time passed finds most = most
+  with_at_most sight senders time untold finds most = most
+  with_at_most sight senders time (left reason) finds most = most
+  with_at_most sight senders time (refused lack) finds most = most
+  with_at_most sight senders time (lacked place sender lack) finds most = most
+  with_at_most sight senders time (found place sender packet) finds most =
       let is = found_of sight place sender packet finds in
-      subst (λ (p : Place). IsOneAtMost (tallied senders (record { place = p; sender = sender }) packet)) (sym is.0)
-      (subst (λ (a : Address). IsOneAtMost (tallied senders (record { place = at; sender = a }) packet)) (sym is.1) (tallied_at_most senders packet most))
+      subst (λ (p : Place). IsOneAtMost (tallied senders (record { place = p; sender = sender }) time packet)) (sym is.0)
+      (subst (λ (a : Address). IsOneAtMost (tallied senders (record { place = at; sender = a }) time packet)) (sym is.1) (tallied_at_most senders time packet most))
 
   all_at_most : (sightings : List Sighting) (made : List Made) (senders : Senders) → AreMade (wanteds.Sender wanted (Some at)) sightings made → IsOneAtMost senders
-      → IsOneAtMost (fold (λ (s : Senders) (one : Made). senders_with s one.what) senders made)
+      → IsOneAtMost (fold (λ (s : Senders) (one : Made). senders_with s (time_of one.came) one.what) senders made)
   all_at_most [] made senders are most =
-      subst (λ (ms : List Made). IsOneAtMost (fold (λ (s : Senders) (one : Made). senders_with s one.what) senders ms)) (sym are) most
-  all_at_most (sighting ∷ later) made senders (one, others, is, number, link, finds, takes, are) most =
-      subst (λ (ms : List Made). IsOneAtMost (fold (λ (s : Senders) (m : Made). senders_with s m.what) senders ms)) (sym is)
-      (all_at_most later others (senders_with senders one.what) are (with_at_most sighting.what senders one.what finds most))
+      subst (λ (ms : List Made). IsOneAtMost (fold (λ (s : Senders) (one : Made). senders_with s (time_of one.came) one.what) senders ms)) (sym are) most
+  all_at_most (sighting ∷ later) made senders (one, others, is, number, link, came, finds, takes, are) most =
+      subst (λ (ms : List Made). IsOneAtMost (fold (λ (s : Senders) (m : Made). senders_with s (time_of m.came) m.what) senders ms)) (sym is)
+      (all_at_most later others (senders_with senders (time_of one.came) one.what) are (with_at_most sighting.what senders (time_of one.came) one.what finds most))
 
   few : (senders : Senders) → IsOneAtMost senders → length senders ≤ 1
   few senders (inl none) = omega (arith, ap length none)

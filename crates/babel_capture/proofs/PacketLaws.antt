@@ -1,5 +1,5 @@
 -- What is found in a capture is whole packets.
-use Rattle.std.proofs.Common.{◌≡◌, ℕ, List, [], ◌∷◌, ◌++◌, refl, sym, ap, subst, ◌∙◌, inl, inr}
+use Rattle.std.proofs.Common.{◌≡◌, ℕ, List, [], ◌∷◌, ◌++◌, None, Some, refl, sym, ap, subst, ◌∙◌, inl, inr}
 use Rattle.std.specs.List.{flat_map}
 use Rattle.std.proofs.lemmas.List.{append-nil}
 use Rattle.std.proofs.lemmas.List.Concat.{flat_map-append}
@@ -17,6 +17,7 @@ use Rattle.babel_capture.specs.Findings.{Found, Finds, PayloadIs, CarriedIs, Lac
 use Rattle.babel_capture.specs.Gathering.{AreMade, Gathering, octets_found, dump_of}
 use Rattle.babel_capture.specs.Packets.{ArePackets}
 use Rattle.babel_capture.specs.Sight.{Sight, Carried, other, too_short, datagram, other_port, not_link_local, lacking, carries}
+use Rattle.babel_capture.specs.Window.{Extent}
 
 nothing_found : (octets : List ℕ) → octets ≡ [] → ArePackets octets
 nothing_found octets is = record { bodies = []; fit = All-nil IsBody; whole = is }
@@ -45,6 +46,8 @@ in_lack : (wanted : Wanted) (place : Place) (sender : Address) (lack : Lack) (wh
 in_lack wanteds.Everyone place sender lack what is = nothing_found (octets_found what) (ap octets_found is)
 in_lack wanteds.Each place sender lack what is = nothing_found (octets_found what) (ap octets_found is)
 in_lack (wanteds.Sender only there) place sender lack what is = nothing_found (octets_found what) (ap octets_found is)
+in_lack (wanteds.InTurn None there) place sender lack what is = nothing_found (octets_found what) (ap octets_found is)
+in_lack (wanteds.InTurn (Some only) there) place sender lack what is = nothing_found (octets_found what) (ap octets_found is)
 
 in_carried : (wanted : Wanted) (place : Place) (sender : Address) (carried : Carried) (what : Found) → CarriedIs wanted place sender carried what → ArePackets (octets_found what)
 in_carried wanted place sender other_port what is = nothing_found (octets_found what) (ap octets_found is)
@@ -63,7 +66,7 @@ octets_made made = flat_map (λ one. octets_found one.what) made
 
 in_made : (wanted : Wanted) (sightings : List Sighting) (made : List Made) → AreMade wanted sightings made → ArePackets (octets_made made)
 in_made wanted [] made is = nothing_found (octets_made made) (ap octets_made is)
-in_made wanted (sighting ∷ later) made (one, others, is, number, link, finds, takes, are) =
+in_made wanted (sighting ∷ later) made (one, others, is, number, link, came, finds, takes, are) =
     subst ArePackets (ap octets_made (sym is))
     (joined (octets_found one.what) (octets_made others) (in_sight wanted sighting.what one.what finds) (in_made wanted later others are))
 
@@ -71,7 +74,8 @@ in_dump : (wanted : Wanted) (sightings : List Sighting) (made : List Made) → A
 in_dump wanteds.Everyone sightings made are = nothing_found [] refl
 in_dump wanteds.Each sightings made are = nothing_found [] refl
 in_dump (wanteds.Sender sender place) sightings made are = in_made (wanteds.Sender sender place) sightings made are
+in_dump (wanteds.InTurn sender place) sightings made are = in_made (wanteds.InTurn sender place) sightings made are
 
-pub dump_packets : (limit : ℕ) (octets : List ℕ) (gathering : Gathering) → IsRead limit octets gathering → ArePackets gathering.dump
+pub dump_packets : (limit : Extent) (octets : List ℕ) (gathering : Gathering) → IsRead limit octets gathering → ArePackets gathering.dump
 dump_packets limit octets gathering read =
     subst ArePackets (sym read.gathered.dump) (in_dump gathering.wanted (sightings_of read.blocks) read.gathered.made read.gathered.taken.are_made)

@@ -3,27 +3,32 @@ use Rattle.std.proofs.Common.{◌≡◌, ℕ, ◌+◌, ◌-◌, ◌*◌, ◌%◌
 use Rattle.std.proofs.Math.Seq.{drop-append_seam}
 use Rattle.std.proofs.lemmas.List.{take_all}
 use Rattle.std.proofs.lemmas.Bool.Decides.{nat_tests}
-use Rattle.std.specs.Prelude.{Contains, Some, Ok, map, slice_range}
+use Rattle.std.specs.Prelude.{Contains, None, Some, Ok, map, slice_range, Bool, true, pos, ◌==◌, if◌then◌else◌}
 use Rattle.std.specs.List.{All, flat_map}
 use Rattle.std.proofs.lemmas.List.Elements.{All-head, All-tail}
 use Rattle.byteorder.specs.Endian.{big_bytes, big_number, little_bytes, little_number}
 use Rattle.byteorder.specs.Numbers.{big_number-reads_back, little_number-reads_back}
+use Rattle.babel_capture.specs.declared.clock.Resolution.TheVariants as resolutions
+use Rattle.babel_capture.specs.declared.layout.Interface.{Interface}
 use Rattle.babel_capture.specs.declared.layout.Layout.TheVariants as layouts
 use Rattle.babel_capture.specs.declared.link.Link.{Link}
 use Rattle.babel_capture.specs.declared.order.Order.{Order}
 use Rattle.babel_capture.specs.declared.order.Order.TheVariants as orders
 use Rattle.babel_capture.specs.Blocks.{BlockAt, AreBlocks, IsBlock, context_behind, octets_of, start}
-use Rattle.babel_capture.specs.Contents.{Captured, file, holds, block_said}
+use Rattle.babel_capture.specs.Contents.{Captured, file, holds, block_said, pcap_clock}
 use Rattle.babel_capture.specs.Context.{Before}
 use Rattle.babel_capture.specs.Lengths.{block_len, pcap_order}
 use Rattle.babel_capture.specs.Link.{link_of}
 use Rattle.babel_capture.specs.Numbers.{number_at}
 use Rattle.babel_capture.specs.Reading.{HasStarted}
+use Rattle.babel_capture.specs.Times.{moment_of}
 use Rattle.babel_capture.specs.Capture.{IsRead}
 use Rattle.babel_capture.specs.Gathering.{Gathering}
 use Rattle.babel_capture.proofs.NumberLaws.{rest_is}
 use Rattle.babel_capture.proofs.OneCapture.{blocks_one, some_header}
-use Rattle.babel_capture.specs.PcapFiles.{written, PcapRecord, record_octets, PcapFile, header_octets, pcap_octets, IsPcapRecord, IsPcap, packets_in, packets_of, held_in, IsReadAs}
+use Rattle.babel_capture.specs.PcapFiles.{record_moment, written, PcapRecord, record_octets, PcapFile, header_octets, pcap_octets, IsPcapRecord, IsPcap, packets_in, packets_of, held_in, IsReadAs}
+use Rattle.babel_capture.specs.declared.window.Window.TheVariants as windows
+use Rattle.babel_capture.specs.Window.{Extent, all_times}
 
 -- what was written is read back
 pub written-long : (order : Order) (number : ℕ) → length (written order 4 number) ≡ 4
@@ -63,19 +68,39 @@ at_captured_front orders.Big packet is =
 at_captured_front orders.Little packet is =
     written-back orders.Little 4 (length packet.frame) (little_bytes 4 packet.seconds ++ little_bytes 4 packet.fraction) (little_bytes 4 packet.whole_len ++ []) (let few = is.few in omega arith)
 
+at_seconds : (order : Order) (packet : PcapRecord) → IsPcapRecord packet → number_at order 4 (record_octets order packet) 0 ≡ packet.seconds
+at_seconds order packet is =
+    written-back order 4 packet.seconds [] (written order 4 packet.fraction ++ (written order 4 (length packet.frame) ++ (written order 4 packet.whole_len ++ packet.frame))) is.seconds_fit
+
+at_fraction : (order : Order) (packet : PcapRecord) → IsPcapRecord packet → number_at order 4 (record_octets order packet) 4 ≡ packet.fraction
+at_fraction orders.Big packet is =
+    written-back orders.Big 4 packet.fraction (big_bytes 4 packet.seconds) (big_bytes 4 (length packet.frame) ++ (big_bytes 4 packet.whole_len ++ packet.frame)) is.fraction_fits
+at_fraction orders.Little packet is =
+    written-back orders.Little 4 packet.fraction (little_bytes 4 packet.seconds) (little_bytes 4 (length packet.frame) ++ (little_bytes 4 packet.whole_len ++ packet.frame)) is.fraction_fits
+
+-- its time
+moment_by : (is_nano : Bool) (seconds fraction : ℕ)
+    → moment_of (record { resolution = if is_nano then resolutions.Ten 9 else resolutions.Ten 6; offset = pos 0 }) (record { seconds = seconds; units = fraction })
+    ≡ pos (seconds * 1000000000 + fraction * (if is_nano then 1 else 1000))
+moment_by true seconds fraction = ap pos (omega arith)
+moment_by false seconds fraction = ap pos (omega arith)
+
 frame_of : (order : Order) (packet : PcapRecord) → drop 16 (record_octets order packet) ≡ packet.frame
 frame_of orders.Big packet = refl
 frame_of orders.Little packet = refl
 
 -- what follows the header of a file
+abbrev interface_in : PcapFile → Interface
+interface_in pcap = record { link = pcap.link_number; snap_len = pcap.snap_len; clock = pcap_clock pcap.magic }
+
 abbrev behind : PcapFile → ℕ → Before
-behind pcap limit = record { limit = limit; layout = layouts.Pcap pcap.order; first = 0; interfaces = record { link = pcap.link_number; snap_len = pcap.snap_len } ∷ [] }
+behind pcap limit = record { limit = limit; layout = layouts.Pcap pcap.order; first = 0; interfaces = interface_in pcap ∷ []; window = windows.Whole; start = None }
 
-abbrev captured_in : Link → PcapRecord → Captured
-captured_in link packet = record { interface = 0; link = link; frame = packet.frame; whole_len = packet.whole_len }
+abbrev captured_in : PcapFile → Link → PcapRecord → Captured
+captured_in pcap link packet = record { interface = 0; link = link; moment = Some (record_moment pcap.magic packet); frame = packet.frame; whole_len = packet.whole_len }
 
-abbrev block_in : Order → Link → ℕ → PcapRecord → BlockAt
-block_in order link at packet = record { at = at; octets = record_octets order packet; content = holds (captured_in link packet) }
+abbrev block_in : PcapFile → Link → ℕ → PcapRecord → BlockAt
+block_in pcap link at packet = record { at = at; octets = record_octets pcap.order packet; content = holds (captured_in pcap link packet) }
 
 module _ (pcap : PcapFile) (link : Link) (limit : ℕ) (is_link : link_of pcap.link_number ≡ Some link) where
   record_is : (at : ℕ) (packet : PcapRecord) → IsPcapRecord packet → at + length (record_octets pcap.order packet) ≤ limit → IsBlock (behind pcap limit) at (record_octets pcap.order packet)
@@ -89,17 +114,20 @@ module _ (pcap : PcapFile) (link : Link) (limit : ℕ) (is_link : link_of pcap.l
       let len : block_len (behind pcap limit) at (take 16 octets) ≡ Ok (16 + length packet.frame) = rw (captured, allowed, within) refl in
       record { header = omega (arith, long); len = len ∙ ap Ok (sym long) }
 
-  record_says : (at : ℕ) (packet : PcapRecord) → IsPcapRecord packet → block_said (behind pcap limit) at (record_octets pcap.order packet) ≡ Ok (holds (captured_in link packet))
+  record_says : (at : ℕ) (packet : PcapRecord) → IsPcapRecord packet → block_said (behind pcap limit) at (record_octets pcap.order packet) ≡ Ok (holds (captured_in pcap link packet))
   unfolding block_said
   record_says at packet is =
       let octets = record_octets pcap.order packet in
       let whole : number_at pcap.order 4 octets 12 ≡ packet.whole_len = at_whole pcap.order packet is in
       let frame : slice_range octets 16 (length octets) ≡ packet.frame = rest_is 16 octets ∙ frame_of pcap.order packet in
-      rw (whole, frame, is_link) refl
+      let seconds : number_at pcap.order 4 octets 0 ≡ packet.seconds = at_seconds pcap.order packet is in
+      let fraction : number_at pcap.order 4 octets 4 ≡ packet.fraction = at_fraction pcap.order packet is in
+      let moment = moment_by (pcap.magic == 0xa1b23c4d) packet.seconds packet.fraction in
+      rw (whole, frame, seconds, fraction, is_link, moment) refl
 
   blocks_in : ℕ → List PcapRecord → List BlockAt
   blocks_in at [] = []
-  blocks_in at (packet ∷ packets) = block_in pcap.order link at packet ∷ blocks_in (at + length (record_octets pcap.order packet)) packets
+  blocks_in at (packet ∷ packets) = block_in pcap link at packet ∷ blocks_in (at + length (record_octets pcap.order packet)) packets
 
   records_are : (at : ℕ) (packets : List PcapRecord) → All IsPcapRecord packets → at + length (flat_map (record_octets pcap.order) packets) ≤ limit → AreBlocks (behind pcap limit) at
       (blocks_in at packets)
@@ -120,10 +148,10 @@ module _ (pcap : PcapFile) (link : Link) (limit : ℕ) (is_link : link_of pcap.l
   records_octets at [] = refl
   records_octets at (packet ∷ packets) = ap (λ (rest : List ℕ). record_octets pcap.order packet ++ rest) (records_octets (at + length (record_octets pcap.order packet)) packets)
 
-  records_hold : (at : ℕ) (packets : List PcapRecord) → flat_map (λ (block : BlockAt). held_in block.content) (blocks_in at packets) ≡ map (captured_in link) packets
+  records_hold : (at : ℕ) (packets : List PcapRecord) → flat_map (λ (block : BlockAt). held_in block.content) (blocks_in at packets) ≡ map (captured_in pcap link) packets
   unfolding blocks_in
   records_hold at [] = refl
-  records_hold at (packet ∷ packets) = ap (λ (rest : List Captured). captured_in link packet ∷ rest) (records_hold (at + length (record_octets pcap.order packet)) packets)
+  records_hold at (packet ∷ packets) = ap (λ (rest : List Captured). captured_in pcap link packet ∷ rest) (records_hold (at + length (record_octets pcap.order packet)) packets)
 
   records_stay : (at : ℕ) (packets : List PcapRecord) → context_behind (behind pcap limit) (blocks_in at packets) ≡ behind pcap limit
   unfolding blocks_in
@@ -134,6 +162,10 @@ module _ (pcap : PcapFile) (link : Link) (limit : ℕ) (is_link : link_of pcap.l
 
 magic_of : (magic : ℕ) → Contains (0xa1b2c3d4 ∷ 0xa1b23c4d ∷ []) magic → (magic ≡ 0xa1b2c3d4) ⊎ (magic ≡ 0xa1b23c4d)
 magic_of magic one = grind (arith, one)
+
+magic_fits : (magic : ℕ) → (magic ≡ 0xa1b2c3d4) ⊎ (magic ≡ 0xa1b23c4d) → magic < 2 ^ 32
+magic_fits magic (inl is) = omega (arith, is)
+magic_fits magic (inr is) = omega (arith, is)
 
 order_told : (order : Order) (magic : ℕ) (after : List ℕ) → (magic ≡ 0xa1b2c3d4) ⊎ (magic ≡ 0xa1b23c4d) → pcap_order (written order 4 magic ++ after) ≡ Some order
 unfolding number_at
@@ -176,18 +208,18 @@ header_order : (pcap : PcapFile) (link : Link) → IsPcap pcap link → pcap_ord
 header_order pcap link is =
     order_told pcap.order pcap.magic (past_magic pcap.order pcap.reserved pcap.reserved_too pcap.snap_len (pcap.other_bits * 2 ^ 16 + pcap.link_number)) (magic_of pcap.magic is.is_magic)
 
-header_is : (pcap : PcapFile) (link : Link) (limit : ℕ) → IsPcap pcap link → 24 ≤ limit → IsBlock (start limit) 0 (header_octets pcap)
+header_is : (pcap : PcapFile) (link : Link) (limit : ℕ) → IsPcap pcap link → 24 ≤ limit → IsBlock (start (all_times limit)) 0 (header_octets pcap)
 header_is pcap link limit is fits =
     let octets = header_octets pcap in
     let long : length octets ≡ 24 = header_long pcap.order pcap.magic pcap.reserved pcap.reserved_too pcap.snap_len (pcap.other_bits * 2 ^ 16 + pcap.link_number) in
     let all : take 24 octets ≡ octets = take_all 24 octets (omega (arith, long)) in
     let order : pcap_order octets ≡ Some pcap.order = header_order pcap link is in
     let within : nat_lt (limit - 0) 24 ≡ false = grind (arith, nat_tests) in
-    let len : block_len (start limit) 0 (take 24 octets) ≡ Ok 24 = rw (all, order, within) refl in
+    let len : block_len (start (all_times limit)) 0 (take 24 octets) ≡ Ok 24 = rw (all, order, within) refl in
     record { header = omega (arith, long); len = len ∙ ap Ok (sym long) }
 
 header_says : (pcap : PcapFile) (link : Link) (limit : ℕ) → IsPcap pcap link
-    → block_said (start limit) 0 (header_octets pcap) ≡ Ok (file pcap.order (record { link = pcap.link_number; snap_len = pcap.snap_len }))
+    → block_said (start (all_times limit)) 0 (header_octets pcap) ≡ Ok (file pcap.order (interface_in pcap))
 unfolding block_said
 header_says pcap link limit is =
     let octets = header_octets pcap in
@@ -197,16 +229,18 @@ header_says pcap link limit is =
     let order : pcap_order octets ≡ Some pcap.order = header_order pcap link is in
     let field = fields pcap.order pcap.magic pcap.reserved pcap.reserved_too pcap.snap_len bits is.snap_fits (omega arith) in
     let number : bits % 65536 ≡ pcap.link_number = omega arith in
-    rw (order, field.0, field.1, field.2, field.3, number) refl
+    let magic : number_at pcap.order 4 octets 0 ≡ pcap.magic =
+    written-back pcap.order 4 pcap.magic [] (past_magic pcap.order pcap.reserved pcap.reserved_too pcap.snap_len bits) (magic_fits pcap.magic (magic_of pcap.magic is.is_magic)) in
+    rw (order, field.0, field.1, field.2, field.3, number, magic) refl
 
-pub pcap_is_read : (limit : ℕ) (pcap : PcapFile) (link : Link) → IsPcap pcap link → length (pcap_octets pcap) ≤ limit → IsReadAs limit (pcap_octets pcap) (packets_in pcap link)
+pub pcap_is_read : (limit : ℕ) (pcap : PcapFile) (link : Link) → IsPcap pcap link → length (pcap_octets pcap) ≤ limit → IsReadAs (all_times limit) (pcap_octets pcap) (packets_in pcap link)
 pcap_is_read limit pcap link is fits =
     let header = header_octets pcap in
     let later = flat_map (record_octets pcap.order) pcap.records in
     let blocks = blocks_in pcap link limit is.is_link (0 + length header) pcap.records in
     let long : length header ≡ 24 = header_long pcap.order pcap.magic pcap.reserved pcap.reserved_too pcap.snap_len (pcap.other_bits * 2 ^ 16 + pcap.link_number) in
     let count = length-append header later in
-    let first : BlockAt = record { at = 0; octets = header; content = file pcap.order (record { link = pcap.link_number; snap_len = pcap.snap_len }) } in
+    let first : BlockAt = record { at = 0; octets = header; content = file pcap.order (interface_in pcap) } in
     record {
       blocks = first ∷ blocks;
       whole = ap (λ (rest : List ℕ). header ++ rest) (records_octets pcap link limit is.is_link (0 + length header) pcap.records);
@@ -220,7 +254,7 @@ pcap_is_read limit pcap link is fits =
       held = records_hold pcap link limit is.is_link (0 + length header) pcap.records;
     }
 
-pub packets_are_one : (limit : ℕ) (octets : List ℕ) (packets : List Captured) (gathering : Gathering) → IsReadAs limit octets packets → (read : IsRead limit octets gathering)
+pub packets_are_one : (limit : Extent) (octets : List ℕ) (packets : List Captured) (gathering : Gathering) → IsReadAs limit octets packets → (read : IsRead limit octets gathering)
     → packets_of read.blocks ≡ packets
 packets_are_one limit octets packets gathering is read =
     let same = (blocks_one (start limit) 0 is.blocks read.blocks [] [] is.are_blocks read.are_blocks (ap (λ (t : List ℕ). t ++ []) (sym is.whole ∙ read.whole))

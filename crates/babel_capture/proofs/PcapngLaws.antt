@@ -18,9 +18,12 @@ use Rattle.babel_capture.specs.Numbers.{number_at}
 use Rattle.babel_capture.specs.Options.{all_options}
 use Rattle.babel_capture.specs.PcapFiles.{written, held_in, IsReadAs}
 use Rattle.babel_capture.specs.PcapngFiles.{block_octets, SectionHeader, section_body, PcapngBlock, described, enhanced, old, simple, another, begins, body_of}
-use Rattle.babel_capture.specs.PcapngFiles.{octets_in, octets_from, pcapng_octets, Fits, NoneOf, IsSection, IsPacket, Hold, interface_of, packet_at}
+use Rattle.babel_capture.specs.PcapngFiles.{octets_in, octets_from, pcapng_octets, Fits, NoneOf, IsSection, IsPacket, Hold, halves, interface_of, packet_at}
 use Rattle.babel_capture.specs.Reading.{HasStarted}
+use Rattle.babel_capture.specs.Times.{moment_in}
 use Rattle.babel_capture.proofs.PcapLaws.{written-back}
+use Rattle.babel_capture.specs.declared.window.Window.TheVariants as windows
+use Rattle.babel_capture.specs.Window.{all_times}
 
 -- ---- a block of any type
 
@@ -61,7 +64,7 @@ front_12 orders.Little kind body = refl
 
 -- within a section, where these interfaces were described, its own from this one on
 abbrev inside : Order → ℕ → ℕ → List Interface → Before
-inside order limit first interfaces = record { limit = limit; layout = layouts.Section order; first = first; interfaces = interfaces }
+inside order limit first interfaces = record { limit = limit; layout = layouts.Section order; first = first; interfaces = interfaces; window = windows.Whole; start = None }
 
 module _ (order : Order) (limit at first : ℕ) (interfaces : List Interface) (kind : ℕ) (body : List ℕ) (kind_fits : kind < 2 ^ 32) (none : kind ≢ 0x0a0d0d0a) (is : Fits body) where
   block_is : at + (12 + length body) ≤ limit → IsBlock (inside order limit first interfaces) at (block_octets order kind body)
@@ -117,11 +120,12 @@ described_long : (order : Order) (number reserved snap : ℕ) (options : List �
 described_long orders.Big number reserved snap options = omega arith
 described_long orders.Little number reserved snap options = omega arith
 
-enhanced_fields : (order : Order) (number high low whole : ℕ) (frame more : List ℕ) → number < 2 ^ 32 → whole < 2 ^ 32 → length frame < 2 ^ 32
+enhanced_fields : (order : Order) (number high low whole : ℕ) (frame more : List ℕ) → number < 2 ^ 32 → high < 2 ^ 32 → low < 2 ^ 32 → whole < 2 ^ 32 → length frame < 2 ^ 32
     → (number_at order 4 (octets_in order (enhanced number high low whole frame more)) 8 ≡ number) × (number_at order 4 (octets_in order (enhanced number high low whole frame more)) 20 ≡ length frame)
     × (number_at order 4 (octets_in order (enhanced number high low whole frame more)) 24 ≡ whole)
+    × (number_at order 4 (octets_in order (enhanced number high low whole frame more)) 12 ≡ high) × (number_at order 4 (octets_in order (enhanced number high low whole frame more)) 16 ≡ low)
     × (drop 28 (octets_in order (enhanced number high low whole frame more)) ≡ frame ++ (more ++ written order 4 (12 + length (body_of order (enhanced number high low whole frame more)))))
-enhanced_fields orders.Big number high low whole frame more fits whole_fits len_fits =
+enhanced_fields orders.Big number high low whole frame more fits high_fits low_fits whole_fits len_fits =
     let total = big_bytes 4 (12 + length (body_of orders.Big (enhanced number high low whole frame more))) in
     let front = big_bytes 4 6 ++ total in
     let times = front ++ (big_bytes 4 number ++ (big_bytes 4 high ++ big_bytes 4 low)) in
@@ -129,9 +133,11 @@ enhanced_fields orders.Big number high low whole frame more fits whole_fits len_
       written-back orders.Big 4 number front (big_bytes 4 high ++ (big_bytes 4 low ++ (big_bytes 4 (length frame) ++ (big_bytes 4 whole ++ last)))) fits,
       written-back orders.Big 4 (length frame) times (big_bytes 4 whole ++ last) len_fits,
       written-back orders.Big 4 whole (times ++ big_bytes 4 (length frame)) last whole_fits,
+      written-back orders.Big 4 high (front ++ big_bytes 4 number) (big_bytes 4 low ++ (big_bytes 4 (length frame) ++ (big_bytes 4 whole ++ last))) high_fits,
+      written-back orders.Big 4 low (front ++ big_bytes 4 number ++ big_bytes 4 high) (big_bytes 4 (length frame) ++ (big_bytes 4 whole ++ last)) low_fits,
       append_assoc frame more total,
     )
-enhanced_fields orders.Little number high low whole frame more fits whole_fits len_fits =
+enhanced_fields orders.Little number high low whole frame more fits high_fits low_fits whole_fits len_fits =
     let total = little_bytes 4 (12 + length (body_of orders.Little (enhanced number high low whole frame more))) in
     let front = little_bytes 4 6 ++ total in
     let times = front ++ (little_bytes 4 number ++ (little_bytes 4 high ++ little_bytes 4 low)) in
@@ -139,6 +145,8 @@ enhanced_fields orders.Little number high low whole frame more fits whole_fits l
       written-back orders.Little 4 number front (little_bytes 4 high ++ (little_bytes 4 low ++ (little_bytes 4 (length frame) ++ (little_bytes 4 whole ++ last)))) fits,
       written-back orders.Little 4 (length frame) times (little_bytes 4 whole ++ last) len_fits,
       written-back orders.Little 4 whole (times ++ little_bytes 4 (length frame)) last whole_fits,
+      written-back orders.Little 4 high (front ++ little_bytes 4 number) (little_bytes 4 low ++ (little_bytes 4 (length frame) ++ (little_bytes 4 whole ++ last))) high_fits,
+      written-back orders.Little 4 low (front ++ little_bytes 4 number ++ little_bytes 4 high) (little_bytes 4 (length frame) ++ (little_bytes 4 whole ++ last)) low_fits,
       append_assoc frame more total,
     )
 
@@ -146,12 +154,13 @@ enhanced_long : (order : Order) (number high low whole : ℕ) (frame more : List
 enhanced_long orders.Big number high low whole frame more = omega (arith, length-append frame more)
 enhanced_long orders.Little number high low whole frame more = omega (arith, length-append frame more)
 
-old_fields : (order : Order) (number drops high low whole : ℕ) (frame more : List ℕ) → number < 2 ^ 16 → whole < 2 ^ 32 → length frame < 2 ^ 32
+old_fields : (order : Order) (number drops high low whole : ℕ) (frame more : List ℕ) → number < 2 ^ 16 → high < 2 ^ 32 → low < 2 ^ 32 → whole < 2 ^ 32 → length frame < 2 ^ 32
     → (number_at order 2 (octets_in order (old number drops high low whole frame more)) 8 ≡ number)
     × (number_at order 4 (octets_in order (old number drops high low whole frame more)) 20 ≡ length frame)
     × (number_at order 4 (octets_in order (old number drops high low whole frame more)) 24 ≡ whole)
+    × (number_at order 4 (octets_in order (old number drops high low whole frame more)) 12 ≡ high) × (number_at order 4 (octets_in order (old number drops high low whole frame more)) 16 ≡ low)
     × (drop 28 (octets_in order (old number drops high low whole frame more)) ≡ frame ++ (more ++ written order 4 (12 + length (body_of order (old number drops high low whole frame more)))))
-old_fields orders.Big number drops high low whole frame more fits whole_fits len_fits =
+old_fields orders.Big number drops high low whole frame more fits high_fits low_fits whole_fits len_fits =
     let total = big_bytes 4 (12 + length (body_of orders.Big (old number drops high low whole frame more))) in
     let front = big_bytes 4 2 ++ total in
     let times = front ++ (big_bytes 2 number ++ (big_bytes 2 drops ++ (big_bytes 4 high ++ big_bytes 4 low))) in
@@ -159,9 +168,11 @@ old_fields orders.Big number drops high low whole frame more fits whole_fits len
       written-back orders.Big 2 number front (big_bytes 2 drops ++ (big_bytes 4 high ++ (big_bytes 4 low ++ (big_bytes 4 (length frame) ++ (big_bytes 4 whole ++ last))))) fits,
       written-back orders.Big 4 (length frame) times (big_bytes 4 whole ++ last) len_fits,
       written-back orders.Big 4 whole (times ++ big_bytes 4 (length frame)) last whole_fits,
+      written-back orders.Big 4 high (front ++ (big_bytes 2 number ++ big_bytes 2 drops)) (big_bytes 4 low ++ (big_bytes 4 (length frame) ++ (big_bytes 4 whole ++ last))) high_fits,
+      written-back orders.Big 4 low (front ++ (big_bytes 2 number ++ big_bytes 2 drops) ++ big_bytes 4 high) (big_bytes 4 (length frame) ++ (big_bytes 4 whole ++ last)) low_fits,
       append_assoc frame more total,
     )
-old_fields orders.Little number drops high low whole frame more fits whole_fits len_fits =
+old_fields orders.Little number drops high low whole frame more fits high_fits low_fits whole_fits len_fits =
     let total = little_bytes 4 (12 + length (body_of orders.Little (old number drops high low whole frame more))) in
     let front = little_bytes 4 2 ++ total in
     let times = front ++ (little_bytes 2 number ++ (little_bytes 2 drops ++ (little_bytes 4 high ++ little_bytes 4 low))) in
@@ -169,6 +180,8 @@ old_fields orders.Little number drops high low whole frame more fits whole_fits 
       written-back orders.Little 2 number front (little_bytes 2 drops ++ (little_bytes 4 high ++ (little_bytes 4 low ++ (little_bytes 4 (length frame) ++ (little_bytes 4 whole ++ last))))) fits,
       written-back orders.Little 4 (length frame) times (little_bytes 4 whole ++ last) len_fits,
       written-back orders.Little 4 whole (times ++ little_bytes 4 (length frame)) last whole_fits,
+      written-back orders.Little 4 high (front ++ (little_bytes 2 number ++ little_bytes 2 drops)) (little_bytes 4 low ++ (little_bytes 4 (length frame) ++ (little_bytes 4 whole ++ last))) high_fits,
+      written-back orders.Little 4 low (front ++ (little_bytes 2 number ++ little_bytes 2 drops) ++ little_bytes 4 high) (little_bytes 4 (length frame) ++ (little_bytes 4 whole ++ last)) low_fits,
       append_assoc frame more total,
     )
 
@@ -198,8 +211,9 @@ sliced octets front rest place dropped =
 
 module _ (order : Order) (limit at first : ℕ) (interfaces : List Interface) where
   described_says : (number reserved snap : ℕ) (options : List ℕ) → Fits (body_of order (described number reserved snap options)) → number < 2 ^ 16 → snap < 2 ^ 32 → length interfaces < 65536
-      → (all_options order options).is_cut ≡ false
-      → block_said (inside order limit first interfaces) at (octets_in order (described number reserved snap options)) ≡ Ok (describes (interface_of number snap) (all_options order options).name)
+      → (all_options order options).is_bad ≡ false
+      → block_said (inside order limit first interfaces) at (octets_in order (described number reserved snap options))
+      ≡ Ok (describes (interface_of number snap (all_options order options)) (all_options order options).name)
   described_says number reserved snap options is number_fits snap_fits few whole =
       let octets = octets_in order (described number reserved snap options) in
       let body = body_of order (described number reserved snap options) in
@@ -212,40 +226,43 @@ module _ (order : Order) (limit at first : ℕ) (interfaces : List Interface) wh
       typed order limit at first interfaces 1 body (omega arith) (λ (e : 1 ≡ 0x0a0d0d0a). absurd (omega (arith, e))) is ∙ rw (least, room, end, read, whole, fields.0, fields.1) refl
 
   enhanced_says : (number high low whole : ℕ) (frame more : List ℕ) (packets later : List Captured) → Fits (body_of order (enhanced number high low whole frame more)) → number < 2 ^ 32
-      → (is : IsPacket interfaces (first + number) whole frame packets later)
-      → block_said (inside order limit first interfaces) at (octets_in order (enhanced number high low whole frame more)) ≡ Ok (holds (packet_at (first + number) is.link frame whole))
-  enhanced_says number high low whole frame more packets later fits number_fits is =
+      → high < 2 ^ 32 → low < 2 ^ 32 → (is : IsPacket interfaces (first + number) (halves high low) whole frame packets later)
+      → block_said (inside order limit first interfaces) at (octets_in order (enhanced number high low whole frame more))
+      ≡ Ok (holds (packet_at (first + number) is.link (moment_in is.interface.clock (halves high low)) frame whole))
+  enhanced_says number high low whole frame more packets later fits number_fits high_fits low_fits is =
       let octets = octets_in order (enhanced number high low whole frame more) in
       let body = body_of order (enhanced number high low whole frame more) in
       let few = fits.few in
       let sized = enhanced_long order number high low whole frame more in
-      let fields = enhanced_fields order number high low whole frame more number_fits is.len_fits (omega arith) in
+      let fields = enhanced_fields order number high low whole frame more number_fits high_fits low_fits is.len_fits (omega arith) in
       let long : length octets ≡ 32 + length frame + length more = block_long order 6 body ∙ omega (arith, sized) in
       let least : nat_lt (length octets) 32 ≡ false = grind (arith, nat_tests, long) in
       let room : nat_lt (length octets) (32 + length frame) ≡ false = grind (arith, nat_tests, long) in
-      let read : slice_range octets 28 (28 + length frame) ≡ frame = sliced octets frame (more ++ written order 4 (12 + length body)) 28 fields.3 in
+      let read : slice_range octets 28 (28 + length frame) ≡ frame = sliced octets frame (more ++ written order 4 (12 + length body)) 28 fields.5 in
       typed order limit at first interfaces 6 body (omega arith) (λ (e : 6 ≡ 0x0a0d0d0a). absurd (omega (arith, e))) fits
-      ∙ rw (least, fields.0, fields.1, room, read, fields.2, is.is_described, is.is_link) refl
+      ∙ rw (least, fields.0, fields.1, room, read, fields.2, fields.3, fields.4, is.is_described, is.is_link) refl
 
   old_says : (number drops high low whole : ℕ) (frame more : List ℕ) (packets later : List Captured) → Fits (body_of order (old number drops high low whole frame more))
-      → number < 2 ^ 16 → (is : IsPacket interfaces (first + number) whole frame packets later)
-      → block_said (inside order limit first interfaces) at (octets_in order (old number drops high low whole frame more)) ≡ Ok (holds (packet_at (first + number) is.link frame whole))
-  old_says number drops high low whole frame more packets later fits short is =
+      → number < 2 ^ 16 → high < 2 ^ 32 → low < 2 ^ 32 → (is : IsPacket interfaces (first + number) (halves high low) whole frame packets later)
+      → block_said (inside order limit first interfaces) at (octets_in order (old number drops high low whole frame more))
+      ≡ Ok (holds (packet_at (first + number) is.link (moment_in is.interface.clock (halves high low)) frame whole))
+  old_says number drops high low whole frame more packets later fits short high_fits low_fits is =
       let octets = octets_in order (old number drops high low whole frame more) in
       let body = body_of order (old number drops high low whole frame more) in
       let few = fits.few in
       let sized = old_long order number drops high low whole frame more in
-      let fields = old_fields order number drops high low whole frame more short is.len_fits (omega arith) in
+      let fields = old_fields order number drops high low whole frame more short high_fits low_fits is.len_fits (omega arith) in
       let long : length octets ≡ 32 + length frame + length more = block_long order 2 body ∙ omega (arith, sized) in
       let least : nat_lt (length octets) 32 ≡ false = grind (arith, nat_tests, long) in
       let room : nat_lt (length octets) (32 + length frame) ≡ false = grind (arith, nat_tests, long) in
-      let read : slice_range octets 28 (28 + length frame) ≡ frame = sliced octets frame (more ++ written order 4 (12 + length body)) 28 fields.3 in
+      let read : slice_range octets 28 (28 + length frame) ≡ frame = sliced octets frame (more ++ written order 4 (12 + length body)) 28 fields.5 in
       typed order limit at first interfaces 2 body (omega arith) (λ (e : 2 ≡ 0x0a0d0d0a). absurd (omega (arith, e))) fits
-      ∙ rw (least, fields.0, fields.1, room, read, fields.2, is.is_described, is.is_link) refl
+      ∙ rw (least, fields.0, fields.1, room, read, fields.2, fields.3, fields.4, is.is_described, is.is_link) refl
 
-  simple_says : (whole : ℕ) (frame padding : List ℕ) (packets later : List Captured) → Fits (body_of order (simple whole frame padding)) → (is : IsPacket interfaces first whole frame packets later)
+  simple_says : (whole : ℕ) (frame padding : List ℕ) (packets later : List Captured) → Fits (body_of order (simple whole frame padding))
+      → (is : IsPacket interfaces first None whole frame packets later)
       → length frame ≡ kept_len is.interface.snap_len whole
-      → block_said (inside order limit first interfaces) at (octets_in order (simple whole frame padding)) ≡ Ok (holds (packet_at first is.link frame whole))
+      → block_said (inside order limit first interfaces) at (octets_in order (simple whole frame padding)) ≡ Ok (holds (packet_at first is.link None frame whole))
   simple_says whole frame padding packets later fits is kept =
       let octets = octets_in order (simple whole frame padding) in
       let body = body_of order (simple whole frame padding) in
@@ -367,7 +384,7 @@ module _ (order : Order) (head : SectionHeader) (is : IsSection order head) wher
   small : 12 + length (section_body order head) < 2 ^ 32
   small = (let few = is.fits.few in omega arith)
 
-  header_is : (limit : ℕ) → length (header order head) ≤ limit → IsBlock (start limit) 0 (header order head)
+  header_is : (limit : ℕ) → length (header order head) ≤ limit → IsBlock (start (all_times limit)) 0 (header order head)
   header_is limit there =
       let long = block_long order 0x0a0d0d0a (section_body order head) in
       let sized = section_long order head in
@@ -378,7 +395,7 @@ module _ (order : Order) (head : SectionHeader) (is : IsSection order head) wher
       let total = section_total limit 0 (take 24 (header order head)) (told.2 0) (front_total order head small) (omega arith) in
       record { header = omega (arith, long); len = rw (none, plain) total }
 
-  header_says : (limit : ℕ) → block_said (start limit) 0 (header order head) ≡ Ok (section order)
+  header_says : (limit : ℕ) → block_said (start (all_times limit)) 0 (header order head) ≡ Ok (section order)
   unfolding block_said
   header_says limit =
       let none = (header_told order head).0 in
@@ -464,26 +481,26 @@ blocks_laid order limit at first interfaces (described number reserved snap opti
     let rest = octets_from order blocks in
     let count = length-append octets rest in
     let block = block_is order limit at first interfaces 1 body (omega arith) (λ (e : 1 ≡ 0x0a0d0d0a). absurd (omega (arith, e))) is (omega (arith, count, block_long order 1 body)) in
-    with_interface order limit at first interfaces octets rest (interface_of number snap) (all_options order options).name packets block
+    with_interface order limit at first interfaces octets rest (interface_of number snap (all_options order options)) (all_options order options).name packets block
     (described_says order limit at first interfaces number reserved snap options is number_fits snap_fits few whole)
-    (blocks_laid order limit (at + length octets) first (interfaces ++ interface_of number snap ∷ []) blocks packets hold (omega (arith, count)))
-blocks_laid order limit at first interfaces (enhanced number high low whole frame more ∷ blocks) packets (is, number_fits, (later, packet, hold)) fits =
+    (blocks_laid order limit (at + length octets) first (interfaces ++ interface_of number snap (all_options order options) ∷ []) blocks packets hold (omega (arith, count)))
+blocks_laid order limit at first interfaces (enhanced number high low whole frame more ∷ blocks) packets (is, number_fits, high_fits, low_fits, (later, packet, hold)) fits =
     let body = body_of order (enhanced number high low whole frame more) in
     let octets = octets_in order (enhanced number high low whole frame more) in
     let rest = octets_from order blocks in
     let count = length-append octets rest in
     let block = block_is order limit at first interfaces 6 body (omega arith) (λ (e : 6 ≡ 0x0a0d0d0a). absurd (omega (arith, e))) is (omega (arith, count, block_long order 6 body)) in
-    with_packet order limit at first interfaces octets rest (packet_at (first + number) packet.link frame whole) packets later block
-    (enhanced_says order limit at first interfaces number high low whole frame more packets later is number_fits packet) packet.is_packet
+    with_packet order limit at first interfaces octets rest (packet_at (first + number) packet.link (moment_in packet.interface.clock (halves high low)) frame whole) packets later block
+    (enhanced_says order limit at first interfaces number high low whole frame more packets later is number_fits high_fits low_fits packet) packet.is_packet
     (blocks_laid order limit (at + length octets) first interfaces blocks later hold (omega (arith, count)))
-blocks_laid order limit at first interfaces (old number drops high low whole frame more ∷ blocks) packets (is, short, (later, packet, hold)) fits =
+blocks_laid order limit at first interfaces (old number drops high low whole frame more ∷ blocks) packets (is, short, high_fits, low_fits, (later, packet, hold)) fits =
     let body = body_of order (old number drops high low whole frame more) in
     let octets = octets_in order (old number drops high low whole frame more) in
     let rest = octets_from order blocks in
     let count = length-append octets rest in
     let block = block_is order limit at first interfaces 2 body (omega arith) (λ (e : 2 ≡ 0x0a0d0d0a). absurd (omega (arith, e))) is (omega (arith, count, block_long order 2 body)) in
-    with_packet order limit at first interfaces octets rest (packet_at (first + number) packet.link frame whole) packets later block
-    (old_says order limit at first interfaces number drops high low whole frame more packets later is short packet) packet.is_packet
+    with_packet order limit at first interfaces octets rest (packet_at (first + number) packet.link (moment_in packet.interface.clock (halves high low)) frame whole) packets later block
+    (old_says order limit at first interfaces number drops high low whole frame more packets later is short high_fits low_fits packet) packet.is_packet
     (blocks_laid order limit (at + length octets) first interfaces blocks later hold (omega (arith, count)))
 blocks_laid order limit at first interfaces (simple whole frame padding ∷ blocks) packets (is, (later, packet, kept, hold)) fits =
     let body = body_of order (simple whole frame padding) in
@@ -491,7 +508,7 @@ blocks_laid order limit at first interfaces (simple whole frame padding ∷ bloc
     let rest = octets_from order blocks in
     let count = length-append octets rest in
     let block = block_is order limit at first interfaces 3 body (omega arith) (λ (e : 3 ≡ 0x0a0d0d0a). absurd (omega (arith, e))) is (omega (arith, count, block_long order 3 body)) in
-    with_packet order limit at first interfaces octets rest (packet_at first packet.link frame whole) packets later block
+    with_packet order limit at first interfaces octets rest (packet_at first packet.link None frame whole) packets later block
     (simple_says order limit at first interfaces whole frame padding packets later is packet kept) packet.is_packet
     (blocks_laid order limit (at + length octets) first interfaces blocks later hold (omega (arith, count)))
 blocks_laid order limit at first interfaces (another kind body ∷ blocks) packets (is, kind_fits, none, hold) fits =
@@ -510,7 +527,7 @@ blocks_laid order limit at first interfaces (begins next head ∷ blocks) packet
     (blocks_laid next limit (at + length octets) (length interfaces) interfaces blocks packets hold (omega (arith, count)))
 
 pub pcapng_is_read : (limit : ℕ) (order : Order) (head : SectionHeader) (blocks : List PcapngBlock) (packets : List Captured) → IsSection order head → Hold order 0 [] blocks packets
-    → length (pcapng_octets order head blocks) ≤ limit → IsReadAs limit (pcapng_octets order head blocks) packets
+    → length (pcapng_octets order head blocks) ≤ limit → IsReadAs (all_times limit) (pcapng_octets order head blocks) packets
 pcapng_is_read limit order head blocks packets is hold there =
     let octets = header order head in
     let later = octets_from order blocks in

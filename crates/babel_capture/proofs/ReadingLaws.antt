@@ -1,23 +1,27 @@
 -- Blocks, taken one by one.
 use Rattle.std.proofs.Common.{◌≡◌, ℕ, ◌+◌, ◌-◌, ◌≤◌, List, [], ◌∷◌, ◌++◌, length, take, drop, refl, sym, ap, subst, ◌∙◌, append_assoc, inl, inr, length-drop, arith}
-use Rattle.std.specs.Prelude.{Ok, Err, Option, Some, IfSome, ◌⊎◌}
+use Rattle.std.specs.Prelude.{Ok, Err, Option, Some, IfSome, IsTrue, ◌⊎◌, ◌&&◌, if◌then◌else◌}
 use Rattle.std.proofs.lemmas.List.{append-nil, length-append, take-append-drop}
 use Rattle.std.proofs.Math.Seq.{take-add}
 use Rattle.std.proofs.lemmas.List.Concat.{flat_map-append}
 use Rattle.babel_capture.specs.declared.fault.Fault.{Fault}
+use Rattle.babel_capture.specs.declared.packet_end.PacketEnd.{PacketEnd}
+use Rattle.babel_capture.specs.declared.tallies.Origin.{Origin}
 use Rattle.babel_capture.specs.declared.wanted.Wanted.{Wanted}
 use Rattle.babel_capture.specs.Blocks.{names_of, BlockAt, BeginsBlock, HasHeader, header_of, IsBlock, AreBlocks, Sighting, start, context_behind, octets_of, sightings_in, sightings_behind}
 use Rattle.babel_capture.specs.Blocks.{sightings_of}
 use Rattle.babel_capture.specs.Contents.{Content, block_said, context_after, names_in}
 use Rattle.babel_capture.specs.Context.{Before}
 use Rattle.babel_capture.specs.Counts.{Made, Counts}
-use Rattle.babel_capture.specs.Gathering.{AreMade, AreTaken, BlockNeedsMemory, Gathering, IsGathered, dump_of, with_taken}
+use Rattle.babel_capture.specs.Findings.{is_in_turn}
+use Rattle.babel_capture.specs.Gathering.{AreMade, AreTaken, BlockNeedsMemory, Gathering, IsGathered, OriginIs, with_taken}
 use Rattle.babel_capture.specs.Lengths.{block_len}
-use Rattle.babel_capture.specs.Reading.{Account, Progress, LeadTo, BlockFails, NeedsMemory, NeedsMemoryAt, StopsAt, Stops}
+use Rattle.babel_capture.specs.Reading.{Account, EachHasEnd, Progress, LeadTo, BlockFails, NeedsMemory, NeedsMemoryAt, StopsAt, Stops}
 use Rattle.babel_capture.specs.Tallies.{Senders, senders_of}
-use Rattle.babel_capture.specs.PacketEnds.{AreEnds}
-use Rattle.babel_capture.proofs.EndLaws.{ends-after, ends-gone, noted}
+use Rattle.babel_capture.specs.PacketEnds.{AreEnds, is_packet, time_told}
+use Rattle.babel_capture.proofs.EndLaws.{ends-after, ends-gone, noted, noted-each}
 use Rattle.babel_capture.proofs.NumberLaws.{rest_is}
+use Rattle.babel_capture.specs.Window.{Extent}
 
 -- ---- one block more
 
@@ -59,7 +63,7 @@ blocks-push before at (first ∷ blocks) b (here, one, first_said, are) is block
 
 length-made : (wanted : Wanted) (sightings : List Sighting) (made : List Made) → AreMade wanted sightings made → length made ≡ length sightings
 length-made wanted [] made are = ap length are
-length-made wanted (first ∷ sightings) made (one, others, is, number, link, finds, takes, are) =
+length-made wanted (first ∷ sightings) made (one, others, is, number, link, came, finds, takes, are) =
     (let rest : length others ≡ length sightings = length-made wanted sightings others are in omega (arith, ap length is, rest))
 
 packets-are : (sightings : List Sighting) (gathering : Gathering) → IsGathered sightings gathering → gathering.report.packets ≡ length sightings
@@ -67,7 +71,7 @@ packets-are sightings gathering gathered =
     ap (λ (c : Counts). c.packets) gathered.report ∙ length-made gathering.wanted sightings gathered.made gathered.taken.are_made
 
 -- nothing was read yet
-pub lead-none : (limit : ℕ) (progress : Progress) → progress.context ≡ start limit → progress.at ≡ 0 → IsGathered [] progress.gathering → progress.gathering.names ≡ []
+pub lead-none : (limit : Extent) (progress : Progress) → progress.context ≡ start limit → progress.at ≡ 0 → IsGathered [] progress.gathering → progress.gathering.names ≡ []
     → progress.gathering.dump ≡ [] → progress.ends ≡ [] → LeadTo (record { limit = limit; taken = [] }) [] progress
 lead-none limit progress context place gathered names dump ends = record {
   blocks = [];
@@ -80,14 +84,17 @@ lead-none limit progress context place gathered names dump ends = record {
   names = names;
 }
 
-pub lead-push : (account : Account) (read block : List ℕ) (old new : Progress) (content : Content) → IsBlock old.context old.at block → block_said old.context old.at block ≡ Ok content
+pub lead-push : (account : Account) (read block : List ℕ) (old new : Progress) (content : Content) (origin : Option Origin) → IsBlock old.context old.at block
+    → block_said old.context old.at block ≡ Ok content
     → new.context ≡ context_after old.context content → new.at ≡ old.at + length block
     → ((taken : List ℕ) (before : List Sighting) → IsGathered before (with_taken taken old.gathering)
     → IsGathered (before ++ sightings_in (old.gathering.report.packets + 1) old.at content) (with_taken taken new.gathering))
     → new.gathering.names ≡ old.gathering.names ++ names_in content → new.gathering.wanted ≡ old.gathering.wanted
-    → new.ends ≡ noted (length old.gathering.dump) (length new.gathering.dump) new.gathering.report.packets old.ends
+    → OriginIs new.gathering.wanted content origin
+    → new.ends ≡ noted (is_packet content && is_in_turn new.gathering.wanted)
+    (record { end = length new.gathering.dump; number = new.gathering.report.packets; time = time_told content; origin = origin }) old.ends
     → LeadTo account read old → LeadTo account (read ++ block) new
-lead-push account read block old new content is_block said context place gathers names wanted ends lead =
+lead-push account read block old new content origin is_block said context place gathers names wanted added ends lead =
     let b : BlockAt = record { at = old.at; octets = block; content = content } in
     let count : old.gathering.report.packets ≡ length (sightings_of lead.blocks) = packets-are (sightings_of lead.blocks) (with_taken account.taken old.gathering) lead.gathered in
     let number : old.gathering.report.packets + 1 ≡ 0 + length (sightings_of lead.blocks) + 1 = omega (arith, count) in
@@ -112,13 +119,23 @@ lead-push account read block old new content is_block said context place gathers
         senders = gathered.senders;
       };
       ends = subst (AreEnds new.gathering.wanted account.taken gathered.made) (sym ends)
-          (ends-after new.gathering.wanted account.taken old.gathering.dump new.gathering.dump (old.gathering.report.packets + 1) new.gathering.report.packets old.at content
+          (ends-after new.gathering.wanted account.taken new.gathering.dump (old.gathering.report.packets + 1) new.gathering.report.packets old.at content origin
           (sightings_of lead.blocks) lead.gathered.made gathered.made old.ends (omega (arith, count)) (packets-are sightings (with_taken account.taken new.gathering) gathered)
           (subst (λ (w : Wanted). AreMade w (sightings_of lead.blocks) lead.gathered.made) (sym wanted) lead.gathered.taken.are_made) gathered.taken.are_made
-          (subst (λ (w : Wanted). account.taken ++ old.gathering.dump ≡ dump_of w lead.gathered.made) (sym wanted) lead.gathered.dump) gathered.dump
+          added gathered.dump
           (subst (λ (w : Wanted). AreEnds w account.taken lead.gathered.made old.ends) (sym wanted) lead.ends));
       names = names ∙ ap (λ (ns : List (List ℕ)). ns ++ names_in content) lead.names ∙ sym (names-push lead.blocks b);
     }
+
+-- and in turn each packet that is read has an end
+pub turns-on : (a b c : Progress) → b.gathering.wanted ≡ a.gathering.wanted → EachHasEnd a b → EachHasEnd b c → EachHasEnd a c
+turns-on a b c wanted one two in_turn =
+    omega (arith, one in_turn, two (subst (λ (w : Wanted). IsTrue (is_in_turn w)) (sym wanted) in_turn))
+
+pub turns-push : (old new : Progress) (content : Content) (end : PacketEnd) → new.ends ≡ noted (is_packet content && is_in_turn old.gathering.wanted) end old.ends
+    → OriginIs old.gathering.wanted content end.origin → new.gathering.report.packets ≡ old.gathering.report.packets + (if is_packet content then 1 else 0) → EachHasEnd old new
+turns-push old new content end ends is counted in_turn =
+    omega (arith, counted, ap length ends, noted-each old.gathering.wanted content end old.ends is in_turn)
 
 -- ---- what stops
 

@@ -13,6 +13,7 @@ use Rattle.babel_capture.specs.Lengths.{header_len, block_len}
 use Rattle.babel_capture.specs.Reading.{Account, Progress, LeadTo, HasStarted, HasTaken, NeedsMemory, Stops, StopsAt, without_dump}
 use Rattle.babel_capture.specs.Tallies.{Senders, senders_of}
 use Rattle.babel_capture.proofs.EndLaws.{ends-gone}
+use Rattle.babel_capture.specs.Window.{Extent}
 
 pub taken-next : (account : Account) (fed piece pending all left : List ℕ) (used : ℕ) (old new : Progress) → all ≡ pending ++ piece → left ≡ drop used all
     → ((account : Account) (read : List ℕ) → LeadTo account read old → LeadTo account (read ++ take used all) new) → IsPartial new.context new.at (drop used all)
@@ -66,7 +67,7 @@ module _ (wanted : Wanted) (senders : Senders) (before : Before) (at : ℕ) (res
         fails,
       )
 
-pub stops-more : (limit : ℕ) (wanted : Wanted) (octets more : List ℕ) (fault : Fault) → Stops limit wanted octets fault → Stops limit wanted (octets ++ more) fault
+pub stops-more : (limit : Extent) (wanted : Wanted) (octets more : List ℕ) (fault : Fault) → Stops limit wanted octets fault → Stops limit wanted (octets ++ more) fault
 stops-more limit wanted octets more fault stops = record {
   blocks = stops.blocks;
   rest = stops.rest ++ more;

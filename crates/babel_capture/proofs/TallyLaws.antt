@@ -15,7 +15,7 @@ use Rattle.babel_capture.specs.declared.place.Place.{Place}
 use Rattle.babel_capture.specs.declared.place.Vlans.{Vlans}
 use Rattle.babel_capture.specs.declared.tallies.Origin.{Origin}
 use Rattle.babel_capture.specs.declared.tallies.Tally.{Tally}
-use Rattle.babel_capture.specs.Updates.{updates_in}
+use Rattle.babel_capture.specs.Updates.{interval_in, updates_in}
 use Rattle.babel_capture.specs.Tallies.{Senders, no_packets, one_more, origin_cmp, place_cmp, vlans_cmp, tallied, tally_of}
 use Rattle.babel_capture.proofs.Entries.{set_value-insert}
 
@@ -27,26 +27,29 @@ origin_order = fun_ext (λ a. fun_ext (λ b. one a b))
     one a b = search rules
 
 -- as the map's calls say them
-pub tallied-by : (senders after : Senders) (origin : Origin) (packet : List ℕ) (tally : Tally)
-    → tally ≡ one_more (unwrap_or (lookup (is_at (ghosts.cmp origin)) senders) no_packets) packet
-    → after ≡ insert_entry ghosts.cmp senders origin tally → after ≡ tallied senders origin packet
-tallied-by senders after origin packet tally is entries =
-    subst (λ (k : Origin → Origin → Ordering). after ≡ insert_entry k senders origin (one_more (unwrap_or (lookup (is_at (k origin)) senders) no_packets) packet)) origin_order
+pub tallied-by : (senders after : Senders) (origin : Origin) (time : Option ℕ) (packet : List ℕ) (tally : Tally)
+    → tally ≡ one_more (unwrap_or (lookup (is_at (ghosts.cmp origin)) senders) no_packets) time packet
+    → after ≡ insert_entry ghosts.cmp senders origin tally → after ≡ tallied senders origin time packet
+tallied-by senders after origin time packet tally is entries =
+    subst (λ (k : Origin → Origin → Ordering). after ≡ insert_entry k senders origin (one_more (unwrap_or (lookup (is_at (k origin)) senders) no_packets) time packet)) origin_order
     (entries ∙ ap (insert_entry ghosts.cmp senders origin) is)
 
 pub unknown-by : (senders : Senders) (origin : Origin) → lookup (is_at (ghosts.cmp origin)) senders ≡ tally_of senders origin
 unknown-by senders origin = ap (λ (k : Origin → Origin → Ordering). lookup (is_at (k origin)) senders) origin_order
 
 -- the first packet of a sender
-pub first_by : (senders after : Senders) (origin : Origin) (packet : List ℕ) → tally_of senders origin ≡ None
-    → after ≡ insert_entry ghosts.cmp senders origin (record { packets = 1; octets = length packet; updates = updates_in packet }) → after ≡ tallied senders origin packet
-first_by senders after origin packet none entries =
-    let one : Tally = record { packets = 1; octets = length packet; updates = updates_in packet } in
-    let is : one ≡ one_more (unwrap_or (lookup (is_at (ghosts.cmp origin)) senders) no_packets) packet =
-    ap (λ (n : ℕ). let t : Tally = record { packets = 1; octets = n; updates = updates_in packet } in t) (omega arith)
-    ∙ ap (λ (n : ℕ). let t : Tally = record { packets = 1; octets = 0 + length packet; updates = n } in t) (omega arith)
-    ∙ ap (λ (t : Option Tally). one_more (unwrap_or t no_packets) packet) (sym (unknown-by senders origin ∙ none)) in
-    tallied-by senders after origin packet one is entries
+pub first_by : (senders after : Senders) (origin : Origin) (time : Option ℕ) (packet : List ℕ) (count : ℕ) (interval : Option ℕ) → tally_of senders origin ≡ None
+    → count ≡ updates_in packet → interval ≡ interval_in packet
+    → after ≡ insert_entry ghosts.cmp senders origin (record { packets = 1; octets = length packet; updates = count; interval = interval; first = time; last = time })
+    → after ≡ tallied senders origin time packet
+first_by senders after origin time packet count interval none is_count is_interval entries =
+    let of : ℕ → ℕ → Option ℕ → Tally = λ o u i. record { packets = 1; octets = o; updates = u; interval = i; first = time; last = time } in
+    let is : of (length packet) count interval ≡ one_more (unwrap_or (lookup (is_at (ghosts.cmp origin)) senders) no_packets) time packet =
+    ap (λ (n : ℕ). of n count interval) (omega arith)
+    ∙ ap (λ (n : ℕ). of (0 + length packet) n interval) (omega (arith, is_count))
+    ∙ ap (of (0 + length packet) (0 + updates_in packet)) is_interval
+    ∙ ap (λ (t : Option Tally). one_more (unwrap_or t no_packets) time packet) (sym (unknown-by senders origin ∙ none)) in
+    tallied-by senders after origin time packet (of (length packet) count interval) is entries
 
 vlans_total : IsTotalOrder vlans_cmp
 vlans_total =
@@ -54,7 +57,7 @@ vlans_total =
     (then_total (on_total (λ (v : Vlans). v.second) nat_cmp_total)
     (then_total (on_total (λ (v : Vlans). v.third) nat_cmp_total) (on_total (λ (v : Vlans). v.fourth) nat_cmp_total)))
 
-place_total : IsTotalOrder place_cmp
+pub place_total : IsTotalOrder place_cmp
 place_total =
     then_total (on_total (λ (p : Place). p.interface) nat_cmp_total)
     (then_total (on_total (λ (p : Place). p.link) (options_total nat_cmp_total)) (on_total (λ (p : Place). p.vlans) vlans_total))
@@ -63,9 +66,9 @@ pub origin_total : IsTotalOrder origin_cmp
 origin_total = then_total (on_total (λ (o : Origin). o.place) place_total) (on_total (λ (o : Origin). o.sender) address_total)
 
 -- a tally that is there already is written in its place
-pub updated-by : (senders after : Senders) (origin : Origin) (packet : List ℕ) (before tally : Tally)
-    → lookup (is_at (ghosts.cmp origin)) senders ≡ Some before → tally ≡ one_more before packet → IsStrictlySortedBy ghosts.cmp (keys_of senders)
-    → after ≡ set_value (is_at (ghosts.cmp origin)) senders tally → after ≡ tallied senders origin packet
-updated-by senders after origin packet before tally found is sorted entries =
-    tallied-by senders after origin packet tally (is ∙ ap (λ (t : Option Tally). one_more (unwrap_or t no_packets) packet) (sym found))
+pub updated-by : (senders after : Senders) (origin : Origin) (time : Option ℕ) (packet : List ℕ) (before tally : Tally)
+    → lookup (is_at (ghosts.cmp origin)) senders ≡ Some before → tally ≡ one_more before time packet → IsStrictlySortedBy ghosts.cmp (keys_of senders)
+    → after ≡ set_value (is_at (ghosts.cmp origin)) senders tally → after ≡ tallied senders origin time packet
+updated-by senders after origin time packet before tally found is sorted entries =
+    tallied-by senders after origin time packet tally (is ∙ ap (λ (t : Option Tally). one_more (unwrap_or t no_packets) time packet) (sym found))
     (entries ∙ set_value-insert (subst IsTotalOrder (sym origin_order) origin_total) origin tally before senders sorted found)

@@ -1,18 +1,20 @@
 -- A capture as its blocks, one after another: draft-ietf-opsawg-pcap, 3; draft-ietf-opsawg-pcapng,
 -- 3.1, 3.2.
 use Rattle.std.specs.Prelude.{◌≡◌, ℕ, ◌+◌, ◌<◌, ◌≤◌, max, List, [], ◌∷◌, ◌++◌, length, take, Ok}
-use Rattle.std.specs.Prelude.{◌⊎◌}
+use Rattle.std.specs.Prelude.{◌⊎◌, None}
 use Rattle.std.specs.List.{flat_map}
 use Rattle.std.specs.Result.{IsOkAnd}
 use Rattle.babel_capture.specs.declared.layout.Layout.TheVariants as layouts
 use Rattle.babel_capture.specs.declared.link.Link.{Link}
-use Rattle.babel_capture.specs.Contents.{Captured, Content, file, section, describes, holds}
+use Rattle.babel_capture.specs.Contents.{Captured, Content, file, section, describes, holds, skips}
 use Rattle.babel_capture.specs.Contents.{names_in}
 use Rattle.babel_capture.specs.Contents.{nothing, block_said, context_after}
 use Rattle.babel_capture.specs.Context.{Before}
 use Rattle.babel_capture.specs.Frame.{frame_sight}
 use Rattle.babel_capture.specs.Lengths.{header_len, block_len}
-use Rattle.babel_capture.specs.Sight.{Sight}
+use Rattle.babel_capture.specs.Sight.{Sight, other}
+use Rattle.babel_capture.specs.Times.{Came, kept, skipped, time_in}
+use Rattle.babel_capture.specs.Window.{Extent}
 
 -- ---- one block
 
@@ -49,9 +51,16 @@ pub record BlockAt : Type 0 where
   pub octets : List ℕ
   pub content : Content
 
--- before the first block of a capture of which so many octets are read
-abbrev pub start : ℕ → Before
-start limit = record { limit = limit; layout = layouts.Start; first = 0; interfaces = [] }
+-- before the first block of a capture of which so much is read
+abbrev pub start : Extent → Before
+start limit = record {
+  limit = limit.octets;
+  layout = layouts.Start;
+  first = 0;
+  interfaces = [];
+  window = limit.window;
+  start = None;
+}
 
 -- blocks one after another, the first at this offset, each after what those before it say
 abbrev pub AreBlocks : Before → ℕ → List BlockAt → Type 0
@@ -81,6 +90,7 @@ pub record Sighting : Type 0 where
   pub number : ℕ
   pub at : ℕ
   pub link : Link
+  pub came : Came
   pub what : Sight
 
 -- what the frame of a packet is, which had at least the octets that were kept
@@ -94,7 +104,18 @@ sighting_of number at packet = record {
   number = number;
   at = at;
   link = packet.link;
+  came = kept (time_in packet.moment);
   what = sight_in packet;
+}
+
+-- nothing is seen of one that is skipped
+abbrev pub skipped_of : ℕ → ℕ → Captured → Sighting
+skipped_of number at packet = record {
+  number = number;
+  at = at;
+  link = packet.link;
+  came = skipped;
+  what = other;
 }
 
 abbrev pub sightings_in : ℕ → ℕ → Content → List Sighting
@@ -102,6 +123,7 @@ sightings_in number at (file order interface) = []
 sightings_in number at (section order) = []
 sightings_in number at (describes interface name) = []
 sightings_in number at (holds packet) = sighting_of number at packet ∷ []
+sightings_in number at (skips packet) = skipped_of number at packet ∷ []
 sightings_in number at nothing = []
 
 -- the packets of blocks, in order, after so many

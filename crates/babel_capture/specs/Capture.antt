@@ -1,6 +1,7 @@
 -- A capture, its faults, and what a reader has made of the octets that it was fed. Reading in
 -- pieces is this project's own.
 use Rattle.std.specs.Prelude.{◌≡◌, ◌≢◌, ℕ, List, [], ◌++◌, length, Option, Some, None, ◌⊎◌}
+use Rattle.std.specs.Prelude.{if◌then◌else◌}
 use Rattle.babel_capture.specs.declared.fault.Fault.{Fault}
 use Rattle.babel_capture.specs.declared.fault.Fault.TheVariants as faults
 use Rattle.babel_capture.specs.declared.wanted.Wanted.{Wanted}
@@ -10,10 +11,12 @@ use Rattle.babel_capture.specs.Context.{Before}
 use Rattle.babel_capture.specs.Counts.{Made}
 use Rattle.babel_capture.specs.Gathering.{Gathering, IsGathered, AreTaken}
 use Rattle.babel_capture.specs.Reading.{Account, Progress, HasStarted, HasTaken, Stops}
+use Rattle.babel_capture.specs.Window.{Extent, moment_up_to}
+use Rattle.babel_capture.specs.declared.timing.Timing.{Timing}
 
 -- the octets are a capture, whole blocks from the first to the last, and this is what its packets
 -- give
-pub record IsRead (limit : ℕ) (octets : List ℕ) (gathering : Gathering) : Type 0 where
+pub record IsRead (limit : Extent) (octets : List ℕ) (gathering : Gathering) : Type 0 where
   pub blocks : List BlockAt
   pub whole : octets ≡ octets_of blocks
   pub are_blocks : AreBlocks (start limit) 0 blocks
@@ -23,7 +26,7 @@ pub record IsRead (limit : ℕ) (octets : List ℕ) (gathering : Gathering) : Ty
 
 -- the octets are a capture, and then less than a block: its last one is cut short, at this offset
 -- if there are any
-pub record IsReadToCut (limit : ℕ) (octets : List ℕ) (gathering : Gathering)
+pub record IsReadToCut (limit : Extent) (octets : List ℕ) (gathering : Gathering)
     (cut : Option ℕ) : Type 0 where
   pub read : List ℕ
   pub rest : List ℕ
@@ -39,7 +42,8 @@ IsShortBy before at rest fault =
     ⊎ (HasStarted before × (rest ≢ []) × (fault ≡ faults.CutShort at))
 
 -- whole blocks that are taken, and then less than a block: the fault
-pub record EndsShort (limit : ℕ) (wanted : Wanted) (octets : List ℕ) (fault : Fault) : Type 0 where
+pub record EndsShort (limit : Extent) (wanted : Wanted) (octets : List ℕ)
+    (fault : Fault) : Type 0 where
   pub blocks : List BlockAt
   pub rest : List ℕ
   pub made : List Made
@@ -50,19 +54,26 @@ pub record EndsShort (limit : ℕ) (wanted : Wanted) (octets : List ℕ) (fault 
   pub short : IsShortBy (context_behind (start limit) blocks) (length (octets_of blocks)) rest fault
 
 -- the fault of octets that are no capture, or none that can be read
-abbrev pub CaptureFault : ℕ → Wanted → List ℕ → Fault → Type 0
+abbrev pub CaptureFault : Extent → Wanted → List ℕ → Fault → Type 0
 CaptureFault limit wanted octets fault = Stops limit wanted octets fault
     ⊎ EndsShort limit wanted octets fault
 
 -- ---- in pieces
 
--- what a reader holds: how many octets it reads at most, how far its blocks led, the octets so far
+-- what a reader holds: how much it reads, how far its blocks led, the octets so far
 -- of the next one, and the fault if it has one
 pub record State : Type 0 where
-  pub limit : ℕ
+  pub limit : Extent
   pub progress : Progress
   pub pending : List ℕ
   pub fault : Option Fault
+
+-- the moment up to which packets were read; none where one that was read has no time
+abbrev pub moment_read : State → Option ℕ
+moment_read state =
+    let timing : Timing = state.progress.gathering.report.timing in
+    if timing.has_untimed then None
+    else moment_up_to state.limit.window state.progress.context.start timing.last
 
 -- out of memory, or the fault of the octets
 abbrev pub HasFailed : State → Fault → List ℕ → Type 0

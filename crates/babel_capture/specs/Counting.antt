@@ -4,6 +4,9 @@ use Rattle.babel_capture.specs.declared.link.Link.{Link}
 use Rattle.babel_capture.specs.declared.reason.Reason.{Reason}
 use Rattle.babel_capture.specs.Findings.{Found, passed, untold, left, refused, lacked, found}
 use Rattle.babel_capture.specs.Counts.{Counts, reason_place, count_at, is_cooked_link}
+use Rattle.babel_capture.specs.Times.{Came}
+use Rattle.babel_capture.specs.Timing.{greatest, timed}
+use Rattle.babel_capture.specs.Updates.{interval_in}
 
 -- one more datagram left out, with this number
 abbrev pub one_more : ℕ → Option (ℕ × ℕ) → Option (ℕ × ℕ)
@@ -23,17 +26,20 @@ counted_with counts reason =
       left_out = left_with counts.left_out reason (counts.packets + 1);
       short = counts.short;
       cooked = counts.cooked;
+      timing = counts.timing;
+      interval = counts.interval;
     }
 
 -- the counts with a frame more that is too short to tell
 abbrev pub short_counted : Counts → Counts
 short_counted counts = record (counted_with counts None) { short = counts.short + 1 }
 
--- the counts with a Babel packet more, in a frame of this link type
-abbrev pub packet_counted : Counts → Link → Counts
-packet_counted counts link =
+-- the counts with a Babel packet more, in a frame of this link type, with this Interval
+abbrev pub packet_counted : Counts → Link → Option ℕ → Counts
+packet_counted counts link interval =
     record (counted_with counts None) {
       cooked = counts.cooked + (if is_cooked_link link then 1 else 0);
+      interval = greatest counts.interval interval;
     }
 
 -- the counts with what is made of one packet more, of this link type
@@ -43,4 +49,9 @@ counted counts link untold = short_counted counts
 counted counts link (left reason) = counted_with counts (Some reason)
 counted counts link (refused lack) = counted_with counts None
 counted counts link (lacked place sender lack) = counted_with counts None
-counted counts link (found place sender packet) = packet_counted counts link
+counted counts link (found place sender packet) = packet_counted counts link (interval_in packet)
+
+-- the counts with the time of the next packet
+abbrev pub counted_at : Counts → Came → Counts
+counted_at counts came =
+    record counts { timing = timed counts.timing (counts.packets + 1) came }

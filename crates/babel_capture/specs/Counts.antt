@@ -1,29 +1,36 @@
 -- What a report says of the packets of a capture. It is this project's own.
 use Rattle.std.specs.Prelude.{ℕ, Bool, true, false, ◌==◌, List, [], ◌∷◌, length, map, slice_get}
-use Rattle.std.specs.Prelude.{Option}
-use Rattle.std.specs.Prelude.{count_by}
+use Rattle.std.specs.Prelude.{Option, None, count_by, fold}
 use Rattle.std.specs.List.{find}
 use Rattle.std.specs.Option.{option_map, option_flatten}
 use Rattle.babel_capture.specs.declared.link.Link.{Link}
 use Rattle.babel_capture.specs.declared.link.Link.TheVariants as links
 use Rattle.babel_capture.specs.declared.reason.Reason.{Reason}
 use Rattle.babel_capture.specs.declared.reason.Reason.TheVariants as reasons
-use Rattle.babel_capture.specs.Findings.{Found, untold, left, found}
+use Rattle.babel_capture.specs.declared.timing.Timing.{Timing}
+use Rattle.babel_capture.specs.Findings.{Found, passed, untold, left, refused, lacked, found}
+use Rattle.babel_capture.specs.Times.{Came}
+use Rattle.babel_capture.specs.Timing.{greatest, no_times, timed}
+use Rattle.babel_capture.specs.Updates.{interval_in}
 
--- what is made of a packet, its number among the packets, from 1, and its link type
+-- what is made of a packet, its number among the packets, from 1, its link type, and when it came
 pub record Made : Type 0 where
   pub number : ℕ
   pub link : Link
+  pub came : Came
   pub what : Found
 
 -- how many packets there are, and for each reason, in the order of the reasons, how many datagrams
--- were left out for it and the number of the first; how many frames were too short to tell; and how
--- many Babel packets came in frames of Linux cooked, version 1, which name no interface
+-- were left out for it and the number of the first; how many frames were too short to tell; how
+-- many Babel packets came in frames of Linux cooked, version 1, which name no interface; the times
+-- of the packets; and the greatest Interval of the Updates that announce
 pub record Counts : Type 0 where
   pub packets : ℕ
   pub left_out : List (Option (ℕ × ℕ))
   pub short : ℕ
   pub cooked : ℕ
+  pub timing : Timing
+  pub interval : Option ℕ
 
 -- the place of a reason in their order
 abbrev pub reason_place : Reason → ℕ
@@ -68,10 +75,27 @@ abbrev pub is_cooked : Link → Found → Bool
 is_cooked link (found place sender packet) = is_cooked_link link
 is_cooked link what = false
 
+abbrev pub timing_of : List Made → Timing
+timing_of made = fold (λ timing one. timed timing one.number one.came) no_times made
+
+-- the Interval of the packet, if one was found
+abbrev pub interval_found : Found → Option ℕ
+interval_found passed = None
+interval_found untold = None
+interval_found (left reason) = None
+interval_found (refused lack) = None
+interval_found (lacked place sender lack) = None
+interval_found (found place sender packet) = interval_in packet
+
+abbrev pub interval_made : List Made → Option ℕ
+interval_made made = fold (λ interval one. greatest interval (interval_found one.what)) None made
+
 abbrev pub counts_of : List Made → Counts
 counts_of made = record {
   packets = length made;
   left_out = map (left_for made) all_reasons;
   short = count_by (λ one. is_short one.what) made;
   cooked = count_by (λ one. is_cooked one.link one.what) made;
+  timing = timing_of made;
+  interval = interval_made made;
 }

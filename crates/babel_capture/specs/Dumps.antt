@@ -56,6 +56,7 @@ abbrev pub dumps_with : Wanted → Dumps → ℕ → Found → Dumps
 dumps_with wanteds.Everyone dumps number what = dumps
 dumps_with wanteds.Each dumps number what = dumps_by dumps number what
 dumps_with (wanteds.Sender sender place) dumps number what = dumps
+dumps_with (wanteds.InTurn sender place) dumps number what = dumps
 
 -- each sender at each place of which a packet was found, or a datagram that is not all there, by
 -- place, then by address

@@ -8,6 +8,7 @@ use Rattle.babel_capture.specs.declared.dumps.LackAt.{LackAt}
 use Rattle.babel_capture.specs.declared.tallies.Origin.{Origin}
 use Rattle.babel_capture.specs.declared.wanted.Wanted.{Wanted}
 use Rattle.babel_capture.specs.declared.wanted.Wanted.TheVariants as wanteds
+use Rattle.babel_capture.specs.Window.{Extent}
 
 -- the datagrams of this sender alone, at this place
 abbrev pub only : Origin → Wanted
@@ -16,7 +17,7 @@ only origin = wanteds.Sender origin.sender (Some origin.place)
 -- a dump that lacks nothing is the one that the same octets give where it alone is wanted
 abbrev pub EachIsOwn : Type 0
 EachIsOwn =
-    (limit : ℕ) (octets : List ℕ) (all : Gathering) (cut : Option ℕ) (origin : Origin)
+    (limit : Extent) (octets : List ℕ) (all : Gathering) (cut : Option ℕ) (origin : Origin)
     → IsReadToCut limit octets all cut → all.wanted ≡ wanteds.Each
     → (dump_at all.dumps origin).lack ≡ None
     → (own : Gathering) × IsReadToCut limit octets own cut × (own.wanted ≡ only origin)
@@ -25,7 +26,7 @@ EachIsOwn =
 -- and where one lacks something, they give none
 abbrev pub LackingIsNone : Type 0
 LackingIsNone =
-    (limit : ℕ) (octets : List ℕ) (all own : Gathering) (cut own_cut : Option ℕ)
+    (limit : Extent) (octets : List ℕ) (all own : Gathering) (cut own_cut : Option ℕ)
     (origin : Origin) (lack : LackAt) → IsReadToCut limit octets all cut
     → all.wanted ≡ wanteds.Each → (dump_at all.dumps origin).lack ≡ Some lack
     → IsReadToCut limit octets own own_cut → own.wanted ≡ only origin → ⊥

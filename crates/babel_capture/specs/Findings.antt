@@ -1,6 +1,7 @@
 -- What is made of the packets of a capture. It is this project's own, but for what a Babel packet
 -- is: RFC 8966, 4.2.
-use Rattle.std.specs.Prelude.{◌≡◌, ◌≢◌, ℕ, ◌<◌, List, length, slice_index, Some, None, ◌⊎◌}
+use Rattle.std.specs.Prelude.{◌≡◌, ◌≢◌, ℕ, ◌<◌, Bool, true, false, List, length, slice_index}
+use Rattle.std.specs.Prelude.{Option, Some, None, ◌⊎◌}
 use Rattle.babel_prefix.specs.Address.{Address}
 use Rattle.babel_tlv.specs.Framing.{framed}
 use Rattle.babel_tlv.specs.FrameFaults.{BeginsPacket, HasHeader, LacksBody}
@@ -36,12 +37,25 @@ finding_of (findings.Refused lack) = refused lack
 finding_of (findings.Lacking place sender lack) = lacked place sender lack
 finding_of (findings.Packet place sender packet) = found place sender packet.now
 
+-- it is this one, if one is named
+abbrev pub IsOrAny : {A : Type 0} → Option A → A → Type 0
+IsOrAny None one = Unit {0}
+IsOrAny (Some named) one = one ≡ named
+
 -- this sender is wanted at this place
 abbrev pub IsWanted : Wanted → Address → Place → Type 0
 IsWanted wanteds.Everyone sender place = Unit {0}
 IsWanted wanteds.Each sender place = Unit {0}
 IsWanted (wanteds.Sender wanted None) sender place = sender ≡ wanted
 IsWanted (wanteds.Sender wanted (Some there)) sender place = (sender ≡ wanted) × (place ≡ there)
+IsWanted (wanteds.InTurn wanted there) sender place = IsOrAny wanted sender × IsOrAny there place
+
+-- packets are told as they come
+abbrev pub is_in_turn : Wanted → Bool
+is_in_turn wanteds.Everyone = false
+is_in_turn wanteds.Each = false
+is_in_turn (wanteds.Sender sender place) = false
+is_in_turn (wanteds.InTurn sender place) = true
 
 -- one claim or the other, as this holds or not
 abbrev pub Either : Type 0 → Type 0 → Type 0 → Type 0
@@ -57,12 +71,14 @@ PayloadIs place sender payload what =
     ⊎ (HasHeader payload × (slice_index payload 0 ≡ 42) × (slice_index payload 1 ≢ 2)
     × (what ≡ left reasons.BadVersion))
 
--- A datagram that lacks something is left out where no dump is wanted, and refuses the capture
--- where one is; where those of all senders are, the dump of its own lacks it.
+-- A datagram that lacks something is left out where no sender's dump is wanted, and refuses the
+-- capture where one is; where those of all senders are, the dump of its own lacks it.
 abbrev pub LackIs : Wanted → Place → Address → Lack → Found → Type 0
 LackIs wanteds.Everyone place sender lack what = what ≡ left (lack_reason lack)
 LackIs wanteds.Each place sender lack what = what ≡ lacked place sender lack
 LackIs (wanteds.Sender wanted there) place sender lack what = what ≡ refused lack
+LackIs (wanteds.InTurn None there) place sender lack what = what ≡ left (lack_reason lack)
+LackIs (wanteds.InTurn (Some wanted) there) place sender lack what = what ≡ refused lack
 
 -- what is made of a wanted datagram
 abbrev pub CarriedIs : Wanted → Place → Address → Carried → Found → Type 0

@@ -1,5 +1,6 @@
 -- What is gathered of the packets of a capture.
 use Rattle.std.specs.Prelude.{◌≡◌, ◌≤◌, ℕ, List, [], ◌∷◌, ◌++◌, ◌⊎◌, length, slice_get}
+use Rattle.std.specs.Prelude.{IsTrue, Option, None, Some}
 use Rattle.std.specs.List.{flat_map}
 use Rattle.std.specs.Option.{unwrap_or}
 use Rattle.babel_capture.specs.declared.fault.Fault.{Fault}
@@ -10,10 +11,11 @@ use Rattle.babel_capture.specs.declared.wanted.Wanted.{Wanted}
 use Rattle.babel_capture.specs.declared.wanted.Wanted.TheVariants as wanteds
 use Rattle.babel_capture.specs.Blocks.{Sighting, sight_in}
 use Rattle.babel_capture.specs.Contents.{Captured, Content, file, section, describes, holds}
-use Rattle.babel_capture.specs.Contents.{nothing}
+use Rattle.babel_capture.specs.Contents.{skips, nothing}
 use Rattle.babel_capture.specs.Counts.{Counts, Made, counts_of}
 use Rattle.babel_capture.specs.Dumps.{Dumps, dumps_of}
 use Rattle.babel_capture.specs.Findings.{Found, passed, untold, left, refused, lacked, found, Finds}
+use Rattle.babel_capture.specs.Findings.{is_in_turn}
 use Rattle.babel_capture.specs.Lack.{lack_fault}
 use Rattle.babel_capture.specs.Tallies.{CountNeedsMemory, IsOneTooMany, Senders, senders_of}
 use Rattle.babel_capture.specs.Tallies.{tally_of}
@@ -32,8 +34,8 @@ abbrev pub AreMade : Wanted → List Sighting → List Made → Type 0
 AreMade wanted [] made = made ≡ []
 AreMade wanted (sighting ∷ later) made =
     (one : Made) × (others : List Made) × (made ≡ one ∷ others) × (one.number ≡ sighting.number)
-    × (one.link ≡ sighting.link) × Finds wanted sighting.what one.what × IsTaken one.what
-    × AreMade wanted later others
+    × (one.link ≡ sighting.link) × (one.came ≡ sighting.came)
+    × Finds wanted sighting.what one.what × IsTaken one.what × AreMade wanted later others
 
 -- What is made of packets that are taken, each of them: at most 65,536 senders are kept, each
 -- counted at each place where it occurs.
@@ -50,17 +52,41 @@ octets_found (refused lack) = []
 octets_found (lacked place sender lack) = []
 octets_found (found place sender packet) = packet
 
--- the dump of the wanted sender: its packets, end to end
+-- whose packet it is
+abbrev pub origin_found : Found → Option Origin
+origin_found passed = None
+origin_found untold = None
+origin_found (left reason) = None
+origin_found (refused lack) = None
+origin_found (lacked place sender lack) = None
+origin_found (found place sender packet) = Some (record { place = place; sender = sender })
+
+-- the one dump that is wanted, of a sender or in turn: packets, end to end
 abbrev pub dump_of : Wanted → List Made → List ℕ
 dump_of wanteds.Everyone made = []
 dump_of wanteds.Each made = []
 dump_of (wanteds.Sender sender place) made = flat_map (λ one. octets_found one.what) made
+dump_of (wanteds.InTurn sender place) made = flat_map (λ one. octets_found one.what) made
 
 -- the dump with these octets, if one is wanted
 abbrev pub dump_with : Wanted → List ℕ → List ℕ → List ℕ
 dump_with wanteds.Everyone dump octets = dump
 dump_with wanteds.Each dump octets = dump
 dump_with (wanteds.Sender sender place) dump octets = dump ++ octets
+dump_with (wanteds.InTurn sender place) dump octets = dump ++ octets
+
+-- whose packet is added to it
+abbrev pub origin_added : Wanted → Found → Option Origin
+origin_added wanteds.Everyone what = None
+origin_added wanteds.Each what = None
+origin_added (wanteds.Sender sender place) what = origin_found what
+origin_added (wanteds.InTurn sender place) what = origin_found what
+
+-- the block adds a packet of this origin to it, or none
+abbrev pub OriginIs : Wanted → Content → Option Origin → Type 0
+OriginIs wanted (holds packet) origin =
+    (what : Found) × Finds wanted (sight_in packet) what × (origin ≡ origin_added wanted what)
+OriginIs wanted content origin = origin ≡ None
 
 -- what was gathered so far, and the names of the interfaces, which are empty where they have none
 pub record Gathering : Type 0 where
@@ -109,8 +135,10 @@ PacketNeedsMemory wanteds.Everyone senders origin packet =
     CountNeedsMemory (tally_of senders origin) packet
 PacketNeedsMemory wanteds.Each senders origin packet = Unit {0}
 PacketNeedsMemory (wanteds.Sender sender place) senders origin packet = Unit {0}
+PacketNeedsMemory (wanteds.InTurn sender place) senders origin packet = Unit {0}
 
--- and for a block: it describes an interface, or holds such a packet, or what a dump lacks, of each
+-- and for a block: it describes an interface, or holds such a packet, or what a dump lacks, of
+-- each, or is told in turn
 abbrev pub BlockNeedsMemory : Wanted → Senders → Content → Type 0
 BlockNeedsMemory wanted senders (file order interface) = Unit {0}
 BlockNeedsMemory wanted senders (section order) = ⊥
@@ -121,4 +149,6 @@ BlockNeedsMemory wanted senders (holds packet) =
     × PacketNeedsMemory wanted senders origin octets)
     ⊎ ((origin : Origin) × (lack : Lack)
     × Finds wanted (sight_in packet) (lacked origin.place origin.sender lack))
+    ⊎ IsTrue (is_in_turn wanted)
+BlockNeedsMemory wanted senders (skips packet) = IsTrue (is_in_turn wanted)
 BlockNeedsMemory wanted senders nothing = ⊥

@@ -25,6 +25,8 @@ next_header held = record {
 abbrev pub options : HeldOptions → Options
 options held = record {
   name = held.name.now;
+  resolution = held.resolution;
+  offset = held.offset;
   octets = held.octets.now;
-  is_cut = held.is_cut;
+  is_bad = held.is_bad;
 }

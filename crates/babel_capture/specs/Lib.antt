@@ -36,5 +36,8 @@ pub mod Reading
 pub mod Senders
 pub mod Sight
 pub mod Tallies
+pub mod Times
+pub mod Timing
 pub mod Udp
 pub mod Updates
+pub mod Window

@@ -2,16 +2,17 @@
 use Rattle.std.specs.Prelude.{◌≡◌, ℕ, List, Option}
 use Rattle.babel_capture.specs.Capture.{IsRead, IsReadToCut}
 use Rattle.babel_capture.specs.Gathering.{Gathering}
+use Rattle.babel_capture.specs.Window.{Extent}
 
 -- of the same wanted datagrams, a capture gives one dump, one report and one list of senders
 abbrev pub CaptureIsOne : Type 0
 CaptureIsOne =
-    (limit : ℕ) (octets : List ℕ) (one other : Gathering) → IsRead limit octets one
+    (limit : Extent) (octets : List ℕ) (one other : Gathering) → IsRead limit octets one
     → IsRead limit octets other → one.wanted ≡ other.wanted → one ≡ other
 
 -- so does one that may be cut short, and it is cut at one place
 abbrev pub CutCaptureIsOne : Type 0
 CutCaptureIsOne =
-    (limit : ℕ) (octets : List ℕ) (one other : Gathering) (cut other_cut : Option ℕ)
+    (limit : Extent) (octets : List ℕ) (one other : Gathering) (cut other_cut : Option ℕ)
     → IsReadToCut limit octets one cut → IsReadToCut limit octets other other_cut
     → one.wanted ≡ other.wanted → (one ≡ other) × (cut ≡ other_cut)

@@ -6,10 +6,11 @@ use Rattle.babel_capture.specs.Capture.{IsReadToCut}
 use Rattle.babel_capture.specs.Gathering.{Gathering}
 use Rattle.babel_capture.specs.declared.place.Place.{Place}
 use Rattle.babel_capture.specs.declared.wanted.Wanted.TheVariants as wanteds
+use Rattle.babel_capture.specs.Window.{Extent}
 
 -- where the datagrams of one sender are wanted, at one place, no more than this is found
 abbrev pub NamedIsOne : Type 0
 NamedIsOne =
-    (limit : ℕ) (octets : List ℕ) (gathering : Gathering) (cut : Option ℕ) (sender : Address)
+    (limit : Extent) (octets : List ℕ) (gathering : Gathering) (cut : Option ℕ) (sender : Address)
     (place : Place) → IsReadToCut limit octets gathering cut
     → gathering.wanted ≡ wanteds.Sender sender (Some place) → length gathering.senders ≤ 1

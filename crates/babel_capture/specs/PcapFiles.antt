@@ -1,6 +1,6 @@
 -- pcap files, as they are laid out, and what they are read as: draft-ietf-opsawg-pcap, 4 and 5.
 use Rattle.std.specs.Prelude.{◌≡◌, ℕ, ◌+◌, ◌*◌, ◌^◌, ◌<◌, ◌≤◌, List, [], ◌∷◌, ◌++◌, length, map}
-use Rattle.std.specs.Prelude.{Contains, Some}
+use Rattle.std.specs.Prelude.{Contains, Some, ℤ, pos, ◌==◌, if◌then◌else◌}
 use Rattle.std.specs.List.{All, flat_map}
 use Rattle.byteorder.specs.Endian.{big_bytes, little_bytes}
 use Rattle.babel_capture.specs.declared.link.Link.{Link}
@@ -8,9 +8,10 @@ use Rattle.babel_capture.specs.declared.order.Order.{Order}
 use Rattle.babel_capture.specs.declared.order.Order.TheVariants as orders
 use Rattle.babel_capture.specs.Blocks.{BlockAt, AreBlocks, context_behind, octets_of, start}
 use Rattle.babel_capture.specs.Contents.{Captured, Content, file, section, describes, holds}
-use Rattle.babel_capture.specs.Contents.{nothing}
+use Rattle.babel_capture.specs.Contents.{skips, nothing}
 use Rattle.babel_capture.specs.Link.{link_of}
 use Rattle.babel_capture.specs.Reading.{HasStarted}
+use Rattle.babel_capture.specs.Window.{Extent}
 
 -- a number in so many octets, in a file of this byte order
 abbrev pub written : Order → ℕ → ℕ → List ℕ
@@ -53,8 +54,10 @@ header_octets pcap =
 abbrev pub pcap_octets : PcapFile → List ℕ
 pcap_octets pcap = header_octets pcap ++ flat_map (record_octets pcap.order) pcap.records
 
--- lengths fit their fields, and a packet has at most 262,144 octets
+-- numbers fit their fields, and a packet has at most 262,144 octets
 pub record IsPcapRecord (packet : PcapRecord) : Type 0 where
+  pub seconds_fit : packet.seconds < 2 ^ 32
+  pub fraction_fits : packet.fraction < 2 ^ 32
   pub len_fits : packet.whole_len < 2 ^ 32
   pub few : length packet.frame ≤ 262144
 
@@ -68,11 +71,18 @@ pub record IsPcap (pcap : PcapFile) (link : Link) : Type 0 where
   pub is_link : link_of pcap.link_number ≡ Some link
   pub are_records : All IsPcapRecord pcap.records
 
+-- its time in nanoseconds since the start of 1970
+abbrev pub record_moment : ℕ → PcapRecord → ℤ
+record_moment magic packet =
+    pos (packet.seconds * 1000000000
+    + packet.fraction * (if magic == 0xa1b23c4d then 1 else 1000))
+
 -- the packets of its one interface
 abbrev pub packets_in : PcapFile → Link → List Captured
 packets_in pcap link = map (λ packet. record {
   interface = 0;
   link = link;
+  moment = Some (record_moment pcap.magic packet);
   frame = packet.frame;
   whole_len = packet.whole_len;
 }) pcap.records
@@ -83,12 +93,13 @@ held_in (file order interface) = []
 held_in (section order) = []
 held_in (describes interface name) = []
 held_in (holds packet) = packet ∷ []
+held_in (skips packet) = []
 held_in nothing = []
 
 abbrev pub packets_of : List BlockAt → List Captured
 packets_of blocks = flat_map (λ block. held_in block.content) blocks
 
-pub record IsReadAs (limit : ℕ) (octets : List ℕ) (packets : List Captured) : Type 0 where
+pub record IsReadAs (limit : Extent) (octets : List ℕ) (packets : List Captured) : Type 0 where
   pub blocks : List BlockAt
   pub whole : octets ≡ octets_of blocks
   pub are_blocks : AreBlocks (start limit) 0 blocks

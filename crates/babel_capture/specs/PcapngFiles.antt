@@ -1,14 +1,16 @@
 -- pcapng files, as they are laid out, and what they are read as: draft-ietf-opsawg-pcapng, 3.1 and
 -- 4.1 to 4.4.
 use Rattle.std.specs.Prelude.{◌≡◌, ◌≢◌, ℕ, ◌+◌, ◌%◌, ◌^◌, ◌<◌, ◌≤◌, ◌⊎◌, List, [], ◌∷◌, ◌++◌}
-use Rattle.std.specs.Prelude.{length, slice_get, false, Some}
+use Rattle.std.specs.Prelude.{◌*◌, length, slice_get, false, Option, None, Some, ℤ}
+use Rattle.babel_capture.specs.declared.clock.Stamp.{Stamp}
 use Rattle.babel_capture.specs.declared.layout.Interface.{Interface}
 use Rattle.babel_capture.specs.declared.link.Link.{Link}
 use Rattle.babel_capture.specs.declared.order.Order.{Order}
-use Rattle.babel_capture.specs.Contents.{Captured, kept_len}
+use Rattle.babel_capture.specs.Contents.{Captured, clock_in, kept_len}
 use Rattle.babel_capture.specs.Link.{link_of}
-use Rattle.babel_capture.specs.Options.{all_options}
+use Rattle.babel_capture.specs.Options.{Options, all_options}
 use Rattle.babel_capture.specs.PcapFiles.{written}
+use Rattle.babel_capture.specs.Times.{moment_in}
 
 -- 3.1: a block of this type: its type, its length, what it holds, and its length again
 abbrev pub block_octets : Order → ℕ → List ℕ → List ℕ
@@ -96,51 +98,63 @@ pub record IsSection (order : Order) (head : SectionHeader) : Type 0 where
   pub len_sized : length head.len ≡ 8
   pub fits : Fits (section_body order head)
 
-abbrev pub packet_at : ℕ → Link → List ℕ → ℕ → Captured
-packet_at number link frame whole = record {
+abbrev pub packet_at : ℕ → Link → Option ℤ → List ℕ → ℕ → Captured
+packet_at number link moment frame whole = record {
   interface = number;
   link = link;
+  moment = moment;
   frame = frame;
   whole_len = whole;
 }
 
--- the first packet is this one, of an interface that was described and a link type that is read
-pub record IsPacket (interfaces : List Interface) (number whole_len : ℕ) (frame : List ℕ)
-    (packets later : List Captured) : Type 0 where
+-- 4.3: the time of a packet, in two halves
+abbrev pub halves : ℕ → ℕ → Option Stamp
+halves high low = Some (record { seconds = 0; units = high * 2 ^ 32 + low })
+
+-- the first packet is this one, of an interface that was described and a link type that is read,
+-- and its time is counted as that interface's are
+pub record IsPacket (interfaces : List Interface) (number : ℕ) (stamp : Option Stamp)
+    (whole_len : ℕ) (frame : List ℕ) (packets later : List Captured) : Type 0 where
   pub len_fits : whole_len < 2 ^ 32
   pub interface : Interface
   pub is_described : slice_get interfaces number ≡ Some interface
   pub link : Link
   pub is_link : link_of interface.link ≡ Some link
-  pub is_packet : packets ≡ packet_at number link frame whole_len ∷ later
+  pub is_packet : packets
+      ≡ packet_at number link (moment_in interface.clock stamp) frame whole_len ∷ later
 
-abbrev pub interface_of : ℕ → ℕ → Interface
-interface_of link_number snap_len = record { link = link_number; snap_len = snap_len }
+abbrev pub interface_of : ℕ → ℕ → Options → Interface
+interface_of link_number snap_len options =
+    record { link = link_number; snap_len = snap_len; clock = clock_in options }
 
 -- Blocks, of which each fits, hold these packets, where these interfaces were described before, of
 -- which those of this section begin at `first`: the numbers of a block fit their fields; no option
--- of a description runs past it; a packet is of an interface that was described, by its number in
--- the section, of a link type that is read, and a simple one of the section's first; of a simple
--- one as much is kept as that interface keeps; blocks of other types hold none; and a section has
--- interfaces of its own.
+-- of a description runs past it, or has a length that it can't have; a packet is of an interface
+-- that was described, by its number in the section, of a link type that is read, and a simple one
+-- of the section's first; of a simple one as much is kept as that interface keeps; blocks of other
+-- types hold none; and a section has interfaces of its own.
 abbrev pub Hold : Order → ℕ → List Interface → List PcapngBlock → List Captured → Type 0
 Hold order first interfaces [] packets = packets ≡ []
 Hold order first interfaces (described link_number reserved snap_len options ∷ blocks) packets =
     Fits (body_of order (described link_number reserved snap_len options))
     × (link_number < 2 ^ 16) × (snap_len < 2 ^ 32) × (length interfaces < 65536)
-    × ((all_options order options).is_cut ≡ false)
-    × Hold order first (interfaces ++ interface_of link_number snap_len ∷ []) blocks packets
+    × ((all_options order options).is_bad ≡ false)
+    × Hold order first (interfaces ++ interface_of link_number snap_len (all_options order options)
+    ∷ []) blocks packets
 Hold order first interfaces (enhanced number high low whole_len frame more ∷ blocks) packets =
     Fits (body_of order (enhanced number high low whole_len frame more)) × (number < 2 ^ 32)
-    × ((later : List Captured) × IsPacket interfaces (first + number) whole_len frame packets later
+    × (high < 2 ^ 32) × (low < 2 ^ 32) × ((later : List Captured)
+    × IsPacket interfaces (first + number) (halves high low) whole_len frame packets later
     × Hold order first interfaces blocks later)
 Hold order first interfaces (old number drops high low whole_len frame more ∷ blocks) packets =
     Fits (body_of order (old number drops high low whole_len frame more)) × (number < 2 ^ 16)
-    × ((later : List Captured) × IsPacket interfaces (first + number) whole_len frame packets later
+    × (high < 2 ^ 32) × (low < 2 ^ 32) × ((later : List Captured)
+    × IsPacket interfaces (first + number) (halves high low) whole_len frame packets later
     × Hold order first interfaces blocks later)
 Hold order first interfaces (simple whole_len frame padding ∷ blocks) packets =
     Fits (body_of order (simple whole_len frame padding))
-    × ((later : List Captured) × (is : IsPacket interfaces first whole_len frame packets later)
+    × ((later : List Captured)
+    × (is : IsPacket interfaces first None whole_len frame packets later)
     × (length frame ≡ kept_len is.interface.snap_len whole_len)
     × Hold order first interfaces blocks later)
 Hold order first interfaces (another kind body ∷ blocks) packets =

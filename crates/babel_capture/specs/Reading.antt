@@ -1,9 +1,11 @@
 -- How far a capture was read, block by block.
-use Rattle.std.specs.Prelude.{◌≡◌, ◌≢◌, ◌≤◌, ℕ, List, [], ◌++◌, length, Ok, Err, ◌⊎◌}
+use Rattle.std.specs.Prelude.{◌≡◌, ◌≢◌, ◌≤◌, ℕ, ◌&&◌, if◌then◌else◌, List, [], ◌∷◌, ◌++◌, length}
+use Rattle.std.specs.Prelude.{IsTrue, Option, Ok, Err, ◌+◌, ◌⊎◌}
 use Rattle.babel_capture.specs.declared.fault.Fault.{Fault}
 use Rattle.babel_capture.specs.declared.layout.Layout.{Layout}
 use Rattle.babel_capture.specs.declared.layout.Layout.TheVariants as layouts
 use Rattle.babel_capture.specs.declared.packet_end.PacketEnd.{PacketEnd}
+use Rattle.babel_capture.specs.declared.tallies.Origin.{Origin}
 use Rattle.babel_capture.specs.declared.wanted.Wanted.{Wanted}
 use Rattle.babel_capture.specs.Blocks.{BlockAt, HasHeader, IsPartial, header_of, BeginsBlock}
 use Rattle.babel_capture.specs.Blocks.{AreBlocks, start, context_behind, names_of, octets_of}
@@ -11,11 +13,13 @@ use Rattle.babel_capture.specs.Blocks.{sightings_of}
 use Rattle.babel_capture.specs.Contents.{Content, block_said}
 use Rattle.babel_capture.specs.Context.{Before}
 use Rattle.babel_capture.specs.Counts.{Made}
+use Rattle.babel_capture.specs.Findings.{is_in_turn}
 use Rattle.babel_capture.specs.Gathering.{AreTaken, BlockNeedsMemory, Gathering, IsGathered}
 use Rattle.babel_capture.specs.Gathering.{IsRefused, with_taken}
 use Rattle.babel_capture.specs.Lengths.{block_len}
-use Rattle.babel_capture.specs.PacketEnds.{AreEnds}
+use Rattle.babel_capture.specs.PacketEnds.{AreEnds, is_noted, is_packet, time_told}
 use Rattle.babel_capture.specs.Tallies.{Senders, senders_of}
+use Rattle.babel_capture.specs.Window.{Extent}
 
 -- what the blocks so far say of the capture, what was gathered of their packets, where each packet
 -- of the dump ends, and where the next block begins
@@ -30,9 +34,26 @@ abbrev pub without_dump : Progress → Progress
 without_dump progress =
     record progress { gathering = record progress.gathering { dump = [] }; ends = [] }
 
--- how many octets are read at most, and what was taken out of the dump until now
+-- its ends, with that of a block that adds a packet of this origin to the dump, or none
+abbrev pub with_end : Progress → Content → Option Origin → List PacketEnd
+with_end progress content origin =
+    if is_noted (is_packet content && is_in_turn progress.gathering.wanted) origin
+    then progress.ends ++ record {
+      end = length progress.gathering.dump;
+      number = progress.gathering.report.packets;
+      time = time_told content;
+      origin = origin;
+    } ∷ [] else progress.ends
+
+-- in turn, each packet of the capture that was read in between has an end
+abbrev pub EachHasEnd : (old new : Progress) → Type 0
+EachHasEnd old new = IsTrue (is_in_turn old.gathering.wanted)
+    → length new.ends + old.gathering.report.packets
+    ≡ length old.ends + new.gathering.report.packets
+
+-- how much is read, and what was taken out of the dump until now
 pub record Account : Type 0 where
-  pub limit : ℕ
+  pub limit : Extent
   pub taken : List ℕ
 
 -- the octets are blocks, and this is how far they lead
@@ -61,7 +82,7 @@ StopsAt wanted senders before at octets fault =
     × BlockFails wanted senders before at block fault)
 
 -- the octets are blocks that are taken, and then octets that are not: their fault
-pub record Stops (limit : ℕ) (wanted : Wanted) (octets : List ℕ) (fault : Fault) : Type 0 where
+pub record Stops (limit : Extent) (wanted : Wanted) (octets : List ℕ) (fault : Fault) : Type 0 where
   pub blocks : List BlockAt
   pub rest : List ℕ
   pub made : List Made
@@ -81,7 +102,7 @@ NeedsMemoryAt wanted senders before at octets =
 
 -- memory is needed for a piece that comes after these octets: for a block that begins in it, where
 -- those before are taken
-pub record NeedsMemory (limit : ℕ) (wanted : Wanted) (fed piece : List ℕ) : Type 0 where
+pub record NeedsMemory (limit : Extent) (wanted : Wanted) (fed piece : List ℕ) : Type 0 where
   pub blocks : List BlockAt
   pub rest : List ℕ
   pub made : List Made

@@ -1,6 +1,6 @@
 -- The senders of a capture, as what has to hold of them. It is this project's own.
-use Rattle.std.specs.Prelude.{◌≡◌, ℕ, Bool, false, List, [], ◌∷◌, length, map, sum_by, Option, None}
-use Rattle.std.specs.Prelude.{Some}
+use Rattle.std.specs.Prelude.{◌≡◌, ℕ, Bool, false, List, [], ◌∷◌, length, map, fold, sum_by}
+use Rattle.std.specs.Prelude.{Option, None, Some}
 use Rattle.std.specs.List.{filter}
 use Rattle.std.specs.List.Sorted.{IsStrictlySortedBy}
 use Rattle.std.specs.BTreeMap.{is_at}
@@ -10,7 +10,9 @@ use Rattle.babel_capture.specs.declared.tallies.Tally.{Tally}
 use Rattle.babel_capture.specs.Counts.{Made}
 use Rattle.babel_capture.specs.Findings.{Found, passed, untold, left, refused, lacked, found}
 use Rattle.babel_capture.specs.Gathering.{octets_found}
-use Rattle.babel_capture.specs.Updates.{updates_in}
+use Rattle.babel_capture.specs.Times.{time_of}
+use Rattle.babel_capture.specs.Timing.{greatest, least}
+use Rattle.babel_capture.specs.Updates.{interval_in, updates_in}
 use Rattle.babel_capture.specs.Tallies.{Senders, origin_cmp, tally_of}
 
 -- a packet of this sender at this place was found
@@ -23,19 +25,29 @@ is_from origin (lacked place sender lack) = false
 is_from origin (found place sender packet) =
     is_at (origin_cmp origin) (record { place = place; sender = sender })
 
--- its packets, in order
-abbrev pub packets_from : Origin → List Made → List (List ℕ)
-packets_from origin made =
-    map (λ one. octets_found one.what) (filter (λ one. is_from origin one.what) made)
+-- a packet, and when it came
+pub record Sent : Type 0 where
+  pub time : Option ℕ
+  pub octets : List ℕ
 
--- how many packets these are, of how many octets and with how many Updates in all; nothing where
--- there are none
-abbrev pub tally_for : List (List ℕ) → Option Tally
+-- its packets, in order
+abbrev pub sent_of : Made → Sent
+sent_of one = record { time = time_of one.came; octets = octets_found one.what }
+
+abbrev pub packets_from : Origin → List Made → List Sent
+packets_from origin made = map sent_of (filter (λ one. is_from origin one.what) made)
+
+-- how many packets these are, of how many octets and with how many Updates in all, the greatest
+-- Interval of these, and the earliest and the latest time; nothing where there are no packets
+abbrev pub tally_for : List Sent → Option Tally
 tally_for [] = None
 tally_for (packet ∷ packets) = Some (record {
   packets = length (packet ∷ packets);
-  octets = sum_by length (packet ∷ packets);
-  updates = sum_by updates_in (packet ∷ packets);
+  octets = sum_by (λ sent. length sent.octets) (packet ∷ packets);
+  updates = sum_by (λ sent. updates_in sent.octets) (packet ∷ packets);
+  interval = fold (λ i sent. greatest i (interval_in sent.octets)) None (packet ∷ packets);
+  first = fold (λ t sent. least t sent.time) None (packet ∷ packets);
+  last = fold (λ t sent. greatest t sent.time) None (packet ∷ packets);
 })
 
 -- The senders, each at each place, by place and then by address, and each once: exactly

@@ -1,5 +1,5 @@
--- How many packets of Babel each sender sent, of how many octets, and with how many Updates. It is
--- this project's own.
+-- How many packets of Babel each sender sent, of how many octets, with how many Updates, when, and
+-- at which Interval. It is this project's own.
 use Rattle.std.specs.Prelude.{◌≡◌, ◌≤◌, ◌+◌, ◌^◌, ◌⊎◌, ℕ, List, [], length, fold, Option, None}
 use Rattle.std.specs.Prelude.{Some}
 use Rattle.std.specs.declared.cmp.Ordering.{Ordering}
@@ -13,7 +13,9 @@ use Rattle.babel_capture.specs.declared.place.Vlans.{Vlans}
 use Rattle.babel_capture.specs.declared.tallies.Origin.{Origin}
 use Rattle.babel_capture.specs.declared.tallies.Tally.{Tally}
 use Rattle.babel_capture.specs.Counts.{Made}
-use Rattle.babel_capture.specs.Updates.{updates_in}
+use Rattle.babel_capture.specs.Times.{time_of}
+use Rattle.babel_capture.specs.Timing.{greatest, least}
+use Rattle.babel_capture.specs.Updates.{interval_in, updates_in}
 use Rattle.babel_capture.specs.Findings.{Found, passed, untold, left, refused, lacked, found}
 
 -- by the outer number, none first, then by the others
@@ -41,14 +43,24 @@ abbrev pub tally_of : Senders → Origin → Option Tally
 tally_of senders origin = lookup (is_at (origin_cmp origin)) senders
 
 abbrev pub no_packets : Tally
-no_packets = record { packets = 0; octets = 0; updates = 0 }
+no_packets = record {
+  packets = 0;
+  octets = 0;
+  updates = 0;
+  interval = None;
+  first = None;
+  last = None;
+}
 
--- one packet more
-abbrev pub one_more : Tally → List ℕ → Tally
-one_more tally packet = record {
+-- one packet more, which came then
+abbrev pub one_more : Tally → Option ℕ → List ℕ → Tally
+one_more tally time packet = record {
   packets = tally.packets + 1;
   octets = tally.octets + length packet;
   updates = tally.updates + updates_in packet;
+  interval = greatest tally.interval (interval_in packet);
+  first = least tally.first time;
+  last = greatest tally.last time;
 }
 
 -- one packet more makes a number that has more than 64 bits
@@ -64,25 +76,25 @@ abbrev pub CountNeedsMemory : Option Tally → List ℕ → Type 0
 CountNeedsMemory None packet = Unit {0}
 CountNeedsMemory (Some tally) packet = Overflows tally packet
 
--- with a packet of this sender
-abbrev pub tallied : Senders → Origin → List ℕ → Senders
-tallied senders origin packet =
+-- with a packet of this sender, which came then
+abbrev pub tallied : Senders → Origin → Option ℕ → List ℕ → Senders
+tallied senders origin time packet =
     let before : Tally = unwrap_or (tally_of senders origin) no_packets in
-    insert_entry origin_cmp senders origin (one_more before packet)
+    insert_entry origin_cmp senders origin (one_more before time packet)
 
--- with what was made of one packet of the capture
-abbrev pub senders_with : Senders → Found → Senders
-senders_with senders passed = senders
-senders_with senders untold = senders
-senders_with senders (left reason) = senders
-senders_with senders (refused lack) = senders
-senders_with senders (lacked place sender lack) = senders
-senders_with senders (found place sender packet) =
-    tallied senders (record { place = place; sender = sender }) packet
+-- with what was made of one packet of the capture, which came then
+abbrev pub senders_with : Senders → Option ℕ → Found → Senders
+senders_with senders time passed = senders
+senders_with senders time untold = senders
+senders_with senders time (left reason) = senders
+senders_with senders time (refused lack) = senders
+senders_with senders time (lacked place sender lack) = senders
+senders_with senders time (found place sender packet) =
+    tallied senders (record { place = place; sender = sender }) time packet
 
 -- each sender at each place of which a packet was found, by place, then by address
 abbrev pub senders_of : List Made → Senders
-senders_of made = fold (λ senders one. senders_with senders one.what) [] made
+senders_of made = fold (λ senders one. senders_with senders (time_of one.came) one.what) [] made
 
 -- the sender is one more than are kept
 abbrev pub IsOneTooMany : Senders → Origin → Type 0

@@ -2,18 +2,24 @@ ghost use Rattle.std.specs.Prelude.{◌≡◌, ◌≤◌, ◌<◌, ◌+◌, ◌^
 ghost use Rattle.std.specs.Prelude.{Err};
 ghost use Rattle.babel_capture.specs.Numbers.{number_at};
 ghost use Rattle.babel_capture.specs.Lengths.{header_len};
-ghost use Rattle.babel_capture.specs.Contents.{block_said, content_of, file_said, interface_said};
-ghost use Rattle.babel_capture.specs.Contents.{kept_len, kept_said, numbered_said, packet_said};
-ghost use Rattle.babel_capture.specs.Contents.{pcapng_said, section_said, simple_said, typed_said};
-ghost use Rattle.babel_capture.specs.Contents.{versioned_said};
+ghost use Rattle.babel_capture.specs.Contents.{block_said, captured_of, content_of, file_said};
+ghost use Rattle.babel_capture.specs.Contents.{interface_said, kept_len, kept_said, numbered_said};
+ghost use Rattle.babel_capture.specs.Contents.{packet_said, packet_stamp, pcapng_said, read_by};
+ghost use Rattle.babel_capture.specs.Contents.{record_said, record_stamp, section_said};
+ghost use Rattle.babel_capture.specs.Contents.{simple_said, typed_said, versioned_said};
+ghost use Rattle.babel_capture.specs.Times.{time_asked, time_in};
+ghost use Rattle.babel_capture.specs.PacketEnds.{is_packet, time_told};
 
+use crate::clock::{Clock, Resolution, Stamp};
 use crate::context::Context;
 use crate::fault::Fault;
 use crate::layout::{Interface, Layout};
-use crate::length::{SECTION, pcap_order, section_order};
+use crate::length::{PCAP_NANOSECONDS, SECTION, pcap_order, section_order};
 use crate::link::Link;
 use crate::options::read_options;
 use crate::order::Order;
+use crate::time::Time;
+use crate::window::{Window, is_between};
 
 /// Types of blocks: draft-ietf-opsawg-pcapng, 4.2, 4.3, 4.4. The packet block is an old one, which
 /// the enhanced packet block replaced.
@@ -35,6 +41,12 @@ const SECTION_MAJOR: u16 = 1;
 
 const OTHER_MINOR: u16 = 2;
 
+/// The powers of ten of micro- and nanoseconds: draft-ietf-opsawg-pcap, 4;
+/// draft-ietf-opsawg-pcapng, 4.2.
+const MICROSECONDS: Resolution = Resolution::Ten(6);
+
+const NANOSECONDS: Resolution = Resolution::Ten(9);
+
 /// A captured packet.
 #[derive(Clone, Copy)]
 pub struct Packet<'a> {
@@ -42,10 +54,36 @@ pub struct Packet<'a> {
     pub interface: u64,
     /// The interface's link type.
     pub link: Link,
+    /// How the interface's times are counted.
+    pub clock: Clock,
+    /// The time of its record, where that has one.
+    pub stamp: Option<Stamp>,
     /// The octets that were kept.
     pub frame: &'a [u8],
     /// How many octets the packet had.
     pub whole_len: u32,
+}
+
+impl Packet<'_> {
+    /// When it came; `None` where its block has no time, or one before 1970 or after the year 9999.
+    pub fn time(&self) -> Option<Time>
+        ensures { result ≡ time_in (captured_of self.now).moment }
+    {
+        self.clock.time(self.stamp?)
+    }
+
+    /// When it came, where a time is asked for, in the block at this offset.
+    fn time_asked(&self, at: u64) -> Result<Time, Fault>
+        ensures { result ≡ time_asked at (captured_of self.now).moment }
+    {
+        let Some(stamp) = self.stamp else {
+            return Err(Fault::NoTime { at });
+        };
+        match self.clock.time(stamp) {
+            Some(time) => Ok(time),
+            None => Err(Fault::BadTime { at }),
+        }
+    }
 }
 
 /// What a block of a capture says.
@@ -65,8 +103,29 @@ pub enum Block<'a> {
     },
     /// A captured packet.
     Packet(Packet<'a>),
+    /// A captured packet that is skipped for its time.
+    Skipped(Packet<'a>),
     /// A block of another type, which is ignored.
     Other,
+}
+
+impl Block<'_> {
+    /// Whether it says a captured packet, skipped or not.
+    pub fn is_packet(&self) -> bool
+        ensures { result ≡ is_packet (content_of self.now) }
+    {
+        matches!(self, Block::Packet(_) | Block::Skipped(_))
+    }
+
+    /// When the packet came that it says, where it says one that is not skipped.
+    pub fn time(&self) -> Option<Time>
+        ensures { result ≡ time_told (content_of self.now) }
+    {
+        match self {
+            Block::Packet(packet) => packet.time(),
+            _ => None,
+        }
+    }
 }
 
 /// A block of the pcapng file that says its length again at its end.
@@ -82,28 +141,54 @@ fn read_packet<'a>(
     before: &Context,
     at: u64,
     interface: usize,
+    stamp: Option<Stamp>,
     frame: &'a [u8],
     whole_len: u32,
 ) -> Result<Block<'a>, Fault>
-    ensures ok { IfOk result (λ block. packet_said before.now at interface frame.now whole_len
+    ensures ok { IfOk result (λ block. packet_said before.now at interface stamp frame.now whole_len
         ≡ Ok (content_of block)) }
-    ensures err { IfErr result (λ fault. packet_said before.now at interface frame.now whole_len
-        ≡ Err fault) }
+    ensures err { IfErr result (λ fault. packet_said before.now at interface stamp frame.now
+        whole_len ≡ Err fault) }
 {
     let Some(described) = before.interface(interface) else {
         return Err(Fault::NoInterface { at });
     };
-    match Link::of(described.link) {
-        Some(link) => Ok(Block::Packet(Packet {
-            interface: interface as u64,
-            link,
-            frame,
-            whole_len,
-        })),
-        None => Err(Fault::UnreadLink {
+    let Some(link) = Link::of(described.link) else {
+        return Err(Fault::UnreadLink {
             at,
             number: described.link,
-        }),
+        });
+    };
+    let packet = Packet {
+        interface: interface as u64,
+        link,
+        clock: described.clock,
+        stamp,
+        frame,
+        whole_len,
+    };
+    read_by(before, at, packet)
+}
+
+/// A packet that is read, or skipped for its time.
+fn read_by<'a>(before: &Context, at: u64, packet: Packet<'a>) -> Result<Block<'a>, Fault>
+    ensures ok { IfOk result (λ block. read_by before.now.window before.now.start at (captured_of
+        packet.entry) ≡ Ok (content_of block)) }
+    ensures err { IfErr result (λ fault. read_by before.now.window before.now.start at (captured_of
+        packet.entry) ≡ Err fault) }
+{
+    let Window::Between { since, until } = before.window() else {
+        return Ok(Block::Packet(packet));
+    };
+    let time = match packet.time_asked(at) {
+        Ok(time) => time,
+        Err(fault) => return Err(fault),
+    };
+    let first = before.start().unwrap_or(time);
+    if is_between(since, until, first, time) {
+        Ok(Block::Packet(packet))
+    } else {
+        Ok(Block::Skipped(packet))
     }
 }
 
@@ -127,11 +212,53 @@ fn read_file<'a>(
     if major != FILE_MAJOR || minor != FILE_MINOR {
         return Err(Fault::Version { at, major, minor });
     }
+    let resolution = if order.u32_at(block, 0) == PCAP_NANOSECONDS {
+        NANOSECONDS
+    } else {
+        MICROSECONDS
+    };
     let interface = Interface {
         link: order.u32_at(block, 20) % 65_536,
         snap_len: order.u32_at(block, 16),
+        clock: Clock {
+            resolution,
+            offset: 0,
+        },
     };
     Ok(Block::File { order, interface })
+}
+
+/// The time of a record of a pcap file.
+fn record_stamp(order: Order, block: &[u8]) -> Stamp
+    requires { 8 ≤ length block.now }
+    ensures { result ≡ record_stamp order block.now }
+{
+    Stamp {
+        seconds: order.u32_at(block, 0),
+        units: u64::from(order.u32_at(block, 4)),
+    }
+}
+
+/// A record of a pcap file.
+fn read_record<'a>(
+    before: &Context,
+    at: u64,
+    order: Order,
+    block: &'a [u8],
+) -> Result<Block<'a>, Fault>
+    requires { 16 ≤ length block.now }
+    ensures ok { IfOk result (λ said. record_said before.now at order block.now
+        ≡ Ok (content_of said)) }
+    ensures err { IfErr result (λ fault. record_said before.now at order block.now ≡ Err fault) }
+{
+    read_packet(
+        before,
+        at,
+        0,
+        Some(record_stamp(order, block)),
+        &block[16..],
+        order.u32_at(block, 12),
+    )
 }
 
 /// The header of a section in this byte order.
@@ -188,12 +315,16 @@ fn read_interface<'a>(
         return Err(Fault::TooManyInterfaces { at });
     }
     let options = read_options(order, &block[16..block.len() - 4]);
-    if options.is_cut {
+    if options.is_bad {
         return Err(Fault::BadLength { at });
     }
     let interface = Interface {
         link: order.u16_at(block, 8) as u32,
         snap_len: order.u32_at(block, 12),
+        clock: Clock {
+            resolution: options.resolution.unwrap_or(MICROSECONDS),
+            offset: options.offset.unwrap_or(0),
+        },
     };
     Ok(Block::Interface {
         interface,
@@ -223,6 +354,19 @@ fn read_numbered<'a>(
     read_kept(before, at, order, block, number, captured)
 }
 
+/// The time of a packet in such a block.
+fn packet_stamp(order: Order, block: &[u8]) -> Stamp
+    requires { 20 ≤ length block.now }
+    ensures { result ≡ packet_stamp order block.now }
+{
+    let high = u64::from(order.u32_at(block, 12));
+    let low = u64::from(order.u32_at(block, 16));
+    Stamp {
+        seconds: 0,
+        units: (high << 32) + low,
+    }
+}
+
 /// Such a block, of which so many octets are the packet's.
 fn read_kept<'a>(
     before: &Context,
@@ -247,6 +391,7 @@ fn read_kept<'a>(
         before,
         at,
         interface,
+        Some(packet_stamp(order, block)),
         &block[28..28 + captured],
         order.u32_at(block, 24),
     )
@@ -285,7 +430,14 @@ fn read_simple<'a>(
     if block.len() < 16 + kept {
         return Err(Fault::BadLength { at });
     }
-    read_packet(before, at, before.first(), &block[12..12 + kept], whole_len)
+    read_packet(
+        before,
+        at,
+        before.first(),
+        None,
+        &block[12..12 + kept],
+        whole_len,
+    )
 }
 
 /// A block of this type.
@@ -347,7 +499,7 @@ pub fn read_block<'a>(before: &Context, at: u64, block: &'a [u8]) -> Result<Bloc
             Some(order) => read_file(before, at, order, block),
             None => read_section(at, block),
         },
-        Layout::Pcap(order) => read_packet(before, at, 0, &block[16..], order.u32_at(block, 12)),
+        Layout::Pcap(order) => read_record(before, at, order, block),
         Layout::Section(order) => read_pcapng(before, at, order, block),
     }
 }

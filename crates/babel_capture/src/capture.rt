@@ -1,8 +1,10 @@
 ghost use Rattle.std.specs.Prelude.{◌≡◌, ◌≢◌, ◌++◌, ◌⊎◌, ℕ, List, [], Some, None, Err, IfOk, IfErr};
 ghost use Rattle.std.specs.Prelude.{IfSome, OnOk};
 ghost use Rattle.babel_capture.specs.Capture.{CaptureFault, HasGiven, HasRead, IsRead, IsReadToCut};
+ghost use Rattle.babel_capture.specs.Capture.{moment_read};
 ghost use Rattle.babel_capture.specs.Gathering.{with_taken};
-ghost use Rattle.babel_capture.specs.Reading.{NeedsMemory, without_dump};
+ghost use Rattle.babel_capture.specs.Reading.{EachHasEnd, NeedsMemory, without_dump};
+ghost use Rattle.babel_capture.specs.Window.{all_times};
 
 use crate::fault::Fault;
 use crate::gathered::Gathered;
@@ -10,6 +12,7 @@ use crate::packet_end::PacketEnd;
 use crate::reader::Reader;
 use crate::stream::Stream;
 use crate::wanted::Wanted;
+use crate::window::Window;
 use std::alloc::Global;
 use std::marker::Model;
 
@@ -18,6 +21,7 @@ use std::marker::Model;
 #[derive(Drop)]
 pub struct Capture {
     limit: u64,
+    window: Window,
     stream: Stream,
     fault: Option<Fault>,
 }
@@ -28,7 +32,7 @@ impl Model for Capture {
     ghost Value = { State };
 
     ghost view = { λ c. record {
-      limit = c.limit;
+      limit = record { octets = c.limit; window = c.window };
       progress = c.stream.reader;
       pending = c.stream.pending.items;
       fault = c.fault;
@@ -40,12 +44,25 @@ impl Capture {
     pub fn new(alloc: Global, limit: u64, wanted: Wanted) -> Capture
         ensures read { HasRead result [] }
         ensures dump { result.progress.gathering.dump ≡ [] }
-        ensures made { (result.limit ≡ limit) × (result.progress.gathering.wanted ≡ wanted)
-            × (result.fault ≡ None) }
+        ensures made { (result.limit ≡ all_times limit)
+            × (result.progress.gathering.wanted ≡ wanted) × (result.fault ≡ None) }
     {
+        Capture::within(alloc, limit, Window::Whole, wanted)
+    }
+
+    /// The same of the packets of this window alone: the others are skipped. Where the window is
+    /// not whole, a packet that has no time, or one before 1970 or after the year 9999, is a fault.
+    pub fn within(alloc: Global, limit: u64, window: Window, wanted: Wanted) -> Capture
+        ensures read { HasRead result [] }
+        ensures dump { result.progress.gathering.dump ≡ [] }
+        ensures made { (result.limit ≡ record { octets = limit; window = window })
+            × (result.progress.gathering.wanted ≡ wanted) × (result.fault ≡ None) }
+    {
+        let stream = Stream::new(alloc, limit, &window, wanted);
         Capture {
             limit,
-            stream: Stream::new(alloc, limit, wanted),
+            window,
+            stream,
             fault: None,
         }
     }
@@ -81,6 +98,9 @@ impl Capture {
             ⊎ ((fed : List ℕ) → HasRead self.old fed → NeedsMemory self.old.limit
             self.old.progress.gathering.wanted fed piece.now)) }
         ensures stays { IfSome self.old.fault (λ fault. result ≡ Err fault) }
+
+        // In turn, each packet of the capture that was read has an end.
+        ensures turns { OnOk result (EachHasEnd self.old.progress self.new.progress) }
     {
         if let Some(fault) = self.fault {
             return Err(fault);
@@ -107,6 +127,25 @@ impl Capture {
         ensures { result.now ≡ self.now.progress.ends }
     {
         self.stream.reader.ends()
+    }
+
+    /// The moment up to which packets were read, in nanoseconds since the start of 1970: the last
+    /// of the window, if it names one, or else when the last packet came, by place. `None` where a
+    /// packet that was read has no time, and where none was read.
+    pub fn moment(&self) -> Option<u128>
+        ensures { result ≡ moment_read self.now }
+    {
+        let timing = self.gathered().report().timing();
+        if timing.has_untimed {
+            return None;
+        }
+        match self.window {
+            Window::Between {
+                until: Some(until),
+                ..
+            } => Some(until.from(self.stream.reader.start()?)),
+            _ => Some(timing.last?.nanoseconds()),
+        }
     }
 
     /// Takes the octets of the dump that were gathered since the last call, with the ends of their

@@ -1,16 +1,19 @@
-ghost use Rattle.std.specs.Prelude.{◌≡◌, ◌≤◌, ◌+◌, ◌-◌, ◌^◌, ◌<◌, [], length, slice_get, nat_le};
+ghost use Rattle.std.specs.Prelude.{◌≡◌, ◌≤◌, ◌+◌, ◌-◌, ◌^◌, ◌<◌, length, slice_get, nat_le};
 ghost use Rattle.std.specs.Prelude.{OnErr, OnOk, IfOk, IfErr, IfSome, IfNone, Err};
 ghost use Rattle.babel_capture.specs.Blocks.{BeginsBlock, HasHeader, IsPartial, header_of};
 ghost use Rattle.babel_capture.specs.Lengths.{block_len};
-ghost use Rattle.babel_capture.specs.Contents.{content_of, context_after};
+ghost use Rattle.babel_capture.specs.Contents.{captured_of, content_of, context_after};
+ghost use Rattle.babel_capture.specs.Contents.{started_with};
 ghost use Rattle.babel_capture.specs.Gathering.{BlockNeedsMemory};
 ghost use Rattle.babel_capture.specs.Tallies.{Senders};
-ghost use Rattle.babel_capture.specs.declared.layout.Layout.TheVariants as layouts;
+ghost use Rattle.babel_capture.specs.Blocks.{start};
 ghost use Rattle.babel_capture.specs.declared.wanted.Wanted.{Wanted as WantedSaid};
 
-use crate::block::Block;
+use crate::block::{Block, Packet};
 use crate::fault::Fault;
 use crate::layout::{Interface, Layout};
+use crate::time::Time;
+use crate::window::Window;
 use std::alloc::{AllocError, Global};
 use std::marker::Model;
 
@@ -24,6 +27,8 @@ pub struct Context {
     layout: Layout,
     first: usize,
     interfaces: Vec<Interface>,
+    window: Window,
+    start: Option<Time>,
 }
 
 impl Model for Context {
@@ -37,27 +42,41 @@ impl Model for Context {
       layout = c.layout;
       first = c.first;
       interfaces = c.interfaces.items;
+      window = c.window;
+      start = c.start;
     } };
 
     ghost invariant = { λ c. c.first ≤ length c.interfaces.items };
 }
 
 impl Context {
-    /// The context of the first block, where so many octets are read at most.
-    pub fn new(alloc: Global, limit: u64) -> Context
-        ensures { result ≡ record {
-          limit = limit;
-          layout = layouts.Start;
-          first = 0;
-          interfaces = [];
-        } }
+    /// The context of the first block, where so many octets are read at most, and packets of this
+    /// window.
+    pub fn new(alloc: Global, limit: u64, window: &Window) -> Context
+        ensures { result ≡ start (record { octets = limit; window = window.now }) }
     {
         Context {
             limit,
             layout: Layout::Start,
             first: 0,
             interfaces: Vec::new(alloc),
+            window: *window,
+            start: None,
         }
+    }
+
+    /// Which packets are read.
+    pub fn window(&self) -> Window
+        ensures { result ≡ self.now.window }
+    {
+        self.window
+    }
+
+    /// When the first packet came, where times are asked for.
+    pub fn start(&self) -> Option<Time>
+        ensures { result ≡ self.now.start }
+    {
+        self.start
     }
 
     /// How many octets of the capture are read at most.
@@ -154,8 +173,20 @@ impl Context {
                 self.first = self.interfaces.len();
             }
             Block::Interface { interface, .. } => self.interfaces.push(*interface)?,
-            Block::Packet(_) | Block::Other => (),
+            Block::Packet(packet) | Block::Skipped(packet) => self.start_with(packet),
+            Block::Other => (),
         }
         Ok(())
+    }
+
+    /// Keeps when the first packet came, where times are asked for.
+    fn start_with(&mut self, packet: &Packet<'_>)
+        ensures { self.new ≡ started_with self.old.window self.old (captured_of packet.now).moment }
+    {
+        if let Window::Between { .. } = self.window {
+            if self.start.is_none() {
+                self.start = packet.time();
+            }
+        }
     }
 }

@@ -6,6 +6,7 @@ ghost use Rattle.babel_capture.specs.Dumps.{dump_added, dump_at, own_of, own_wit
 use crate::fault::Fault;
 use crate::lack::Lack;
 use crate::tallies::Origin;
+use crate::time::Time;
 use std::alloc::{AllocError, Global};
 use std::collections::BTreeMap;
 use std::marker::Model;
@@ -22,16 +23,26 @@ pub struct LackAt {
 #[derive(Drop)]
 struct OwnDump {
     octets: Vec<u8>,
+    /// When each packet came; the start of 1970 where it has no time.
+    times: Vec<Time>,
     /// What the first of its datagrams that are not all there lacks.
     lack: Option<LackAt>,
 }
 
 impl OwnDump {
-    /// Adds octets, and what a datagram lacks.
-    fn add(&mut self, octets: &[u8], lack: Option<LackAt>) -> Result<(), AllocError>
+    /// Adds octets, which came at this time if they are a packet, and what a datagram lacks.
+    fn add(
+        &mut self,
+        octets: &[u8],
+        time: Option<Time>,
+        lack: Option<LackAt>,
+    ) -> Result<(), AllocError>
         ensures { OnOk result (own_of self.new ≡ own_with (own_of self.old) octets.now lack) }
     {
         self.octets.extend_from_slice(octets)?;
+        if let Some(time) = time {
+            self.times.push(time)?;
+        }
         self.lack = self.lack.or(lack);
         Ok(())
     }
@@ -88,20 +99,36 @@ impl Dumps {
         origins_in(alloc, &self.dumps)
     }
 
-    /// Adds octets of this sender at this place, and what a datagram of it lacks.
-    pub fn add(&mut self, origin: &Origin, octets: &[u8], lack: Option<LackAt>) -> Result<(), Fault>
+    /// When each packet of this sender at this place came; the start of 1970 where it has no time.
+    pub fn times_of(&self, origin: &Origin) -> &[Time] {
+        match self.dumps.get(origin) {
+            Some(dump) => &dump.times,
+            None => &[],
+        }
+    }
+
+    /// Adds octets of this sender at this place, which came at this time if they are a packet, and
+    /// what a datagram of it lacks.
+    pub fn add(
+        &mut self,
+        origin: &Origin,
+        octets: &[u8],
+        time: Option<Time>,
+        lack: Option<LackAt>,
+    ) -> Result<(), Fault>
         ensures ok { OnOk result (self.new ≡ dump_added self.old origin.now octets.now lack) }
         ensures err { IfErr result (λ fault. fault ≡ Fault.Memory) }
     {
         if let Some(dump) = self.dumps.get_mut(origin) {
-            dump.add(octets, lack)?;
+            dump.add(octets, time, lack)?;
             return Ok(());
         }
         let mut dump = OwnDump {
             octets: Vec::new(self.alloc),
+            times: Vec::new(self.alloc),
             lack: None,
         };
-        dump.add(octets, lack)?;
+        dump.add(octets, time, lack)?;
         match self.dumps.insert(*origin, dump) {
             Ok(_) => Ok(()),
             Err(_) => Err(Fault::Memory),

@@ -46,6 +46,13 @@ pub enum Fault {
     /// The block that begins here ends past the limit on octets.
     #[error("capture too long at {at}")]
     TooLong { at: u64 },
+    /// Where a time is asked for, that of the packet in the block that begins here is before 1970
+    /// or after the year 9999.
+    #[error("bad time at {at}")]
+    BadTime { at: u64 },
+    /// Where a time is asked for, the packet in the block that begins here has none.
+    #[error("packet without a time at {at}")]
+    NoTime { at: u64 },
     /// An allocation was refused, or the octets of one sender are 2^64 or more.
     #[error("out of memory")]
     Memory,

@@ -110,13 +110,13 @@ impl Wanted {
         ensures { LackIs self.now place sender lack (finding_of result) }
     {
         match self {
-            Wanted::Everyone => Finding::Left(lack.reason()),
+            Wanted::Everyone | Wanted::InTurn { sender: None, .. } => Finding::Left(lack.reason()),
             Wanted::Each => Finding::Lacking {
                 place,
                 sender,
                 lack,
             },
-            Wanted::Sender { .. } => Finding::Refused(lack),
+            Wanted::Sender { .. } | Wanted::InTurn { .. } => Finding::Refused(lack),
         }
     }
 }

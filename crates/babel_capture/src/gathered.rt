@@ -1,13 +1,18 @@
 ghost use Rattle.std.specs.Prelude.{◌≡◌, ℕ, ◌+◌, ◌^◌, ◌<◌, ◌≤◌, ◌++◌, ◌∷◌, [], ◌⊎◌, List, length};
-ghost use Rattle.std.specs.Prelude.{OnOk, IfOk, IfErr, None, Some};
+ghost use Rattle.std.specs.Prelude.{OnOk, IfOk, IfErr, None, Some, if◌then◌else◌};
 ghost use Rattle.std.specs.Map.{keys_of};
 ghost use Rattle.babel_capture.specs.Blocks.{Sighting, sighting_of, sightings_in};
 ghost use Rattle.babel_capture.specs.Contents.{captured_of, content_of, holds, names_in};
-ghost use Rattle.babel_capture.specs.Gathering.{BlockNeedsMemory, IsGathered, IsRefused};
+ghost use Rattle.babel_capture.specs.Gathering.{BlockNeedsMemory, IsGathered, IsRefused, OriginIs};
 ghost use Rattle.babel_capture.specs.Findings.{found};
 ghost use Rattle.babel_capture.specs.Dumps.{dump_added, dump_at, dumps_with};
-ghost use Rattle.babel_capture.specs.Gathering.{PacketNeedsMemory, dump_with, name_of, with_taken};
+ghost use Rattle.babel_capture.specs.Gathering.{PacketNeedsMemory, dump_with, name_of};
+ghost use Rattle.babel_capture.specs.Gathering.{origin_added, with_taken};
+ghost use Rattle.babel_capture.specs.PacketEnds.{is_packet};
+ghost use Rattle.babel_capture.specs.Sight.{other};
 ghost use Rattle.babel_capture.specs.Tallies.{IsOneTooMany, tallied};
+ghost use Rattle.babel_capture.specs.Times.{skipped};
+ghost use Rattle.babel_capture.specs.Updates.{interval_in, updates_in};
 
 use crate::block::{Block, Packet};
 use crate::dumps::{Dumps, LackAt};
@@ -16,6 +21,8 @@ use crate::finding::Finding;
 use crate::lack::Lack;
 use crate::report::Report;
 use crate::tallies::{Origin, Tallies, Tally};
+use crate::time::Time;
+use crate::updates::{Updates, updates_in};
 use crate::wanted::Wanted;
 use std::alloc::{AllocError, Global};
 use std::collections::BTreeMap;
@@ -102,6 +109,11 @@ impl Gathered {
         self.dumps.of(origin)
     }
 
+    /// When each packet of such a dump came; the start of 1970 where it has no time.
+    pub fn times_of(&self, origin: &Origin) -> &[Time] {
+        self.dumps.times_of(origin)
+    }
+
     /// The senders at their places that have a dump, by place, then by address, where those of each
     /// are wanted.
     pub fn origins(&self, alloc: Global) -> Result<Vec<Origin>, AllocError>
@@ -140,8 +152,8 @@ impl Gathered {
         self.senders.as_map()
     }
 
-    /// Takes the packet in the block at this offset.
-    fn take_packet(&mut self, at: u64, packet: &Packet<'_>) -> Result<(), Fault>
+    /// Takes the packet in the block at this offset: whose it is, if it is added to the dump.
+    fn take_packet(&mut self, at: u64, packet: &Packet<'_>) -> Result<Option<Origin>, Fault>
         requires { self.old.report.packets + 1 < 2 ^ 64 }
         ensures wanted { self.new.wanted ≡ self.old.wanted }
         ensures names { self.new.names ≡ self.old.names }
@@ -155,22 +167,27 @@ impl Gathered {
             (holds (captured_of packet.now)) fault) }
         ensures memory { IfErr result (λ fault. fault ≡ Fault.Memory → BlockNeedsMemory
             self.old.wanted self.old.senders (holds (captured_of packet.now))) }
-        ensures added { OnOk result ((self.new.dump ≡ self.old.dump) ⊎ BlockNeedsMemory
-            self.old.wanted self.old.senders (holds (captured_of packet.now))) }
+        ensures origin { IfOk result (λ origin. OriginIs self.old.wanted
+            (holds (captured_of packet.now)) origin) }
+        ensures counted { OnOk result
+            (self.new.report.packets ≡ self.old.report.packets + 1) }
     {
         let link = packet.link;
+        let came = packet.time();
+        let told = came;
+        self.report.take_time(told);
         match self.wanted.finding(packet) {
             Finding::Passed => {
                 self.report.count(None);
-                Ok(())
+                Ok(None)
             }
             Finding::Short => {
                 self.report.count_short();
-                Ok(())
+                Ok(None)
             }
             Finding::Left(reason) => {
                 self.report.count(Some(reason));
-                Ok(())
+                Ok(None)
             }
             Finding::Refused(lack) => Err(lack.fault(at)),
             Finding::Lacking {
@@ -186,14 +203,16 @@ impl Gathered {
                 sender,
                 packet,
             } => {
-                self.report.count_packet(link);
-                self.add(at, Origin { place, sender }, packet)
+                let updates = updates_in(packet);
+                self.report.count_packet(link, updates.interval);
+                self.add(at, Origin { place, sender }, came, packet, &updates)
             }
         }
     }
 
-    /// Takes the packet that the block at this offset says, if it says one.
-    pub fn take_said(&mut self, at: u64, said: &Block<'_>) -> Result<(), Fault>
+    /// Takes the packet that the block at this offset says, if it says one: whose it is, if it is
+    /// added to the dump.
+    pub fn take_said(&mut self, at: u64, said: &Block<'_>) -> Result<Option<Origin>, Fault>
         requires { self.old.report.packets + 1 < 2 ^ 64 }
         ensures wanted { self.new.wanted ≡ self.old.wanted }
         ensures names { OnOk result (self.new.names
@@ -207,23 +226,42 @@ impl Gathered {
             ⊎ IsRefused self.old.wanted self.old.senders at (content_of said.now) fault) }
         ensures memory { IfErr result (λ fault. fault ≡ Fault.Memory → BlockNeedsMemory
             self.old.wanted self.old.senders (content_of said.now)) }
-
-        // What is added to the dump needs memory.
-        ensures added { OnOk result ((self.new.dump ≡ self.old.dump) ⊎ BlockNeedsMemory
-            self.old.wanted self.old.senders (content_of said.now)) }
+        ensures origin { IfOk result
+            (λ origin. OriginIs self.old.wanted (content_of said.now) origin) }
+        ensures counted { OnOk result (self.new.report.packets
+            ≡ self.old.report.packets + (if is_packet (content_of said.now) then 1 else 0)) }
     {
         match said {
             Block::Packet(packet) => self.take_packet(at, packet),
+            Block::Skipped(_) => {
+                self.skip();
+                Ok(None)
+            }
             Block::File { .. } => self.add_name(&[]),
             Block::Interface { name, .. } => self.add_name(name),
-            Block::Section(_) | Block::Other => Ok(()),
+            Block::Section(_) | Block::Other => Ok(None),
         }
     }
 
-    /// Keeps the name of an interface.
-    fn add_name(&mut self, name: &[u8]) -> Result<(), Fault>
+    /// Skips a packet: it is one of the capture, and no more.
+    fn skip(&mut self)
+        requires { self.old.report.packets + 1 < 2 ^ 64 }
+        ensures others { (self.new.wanted ≡ self.old.wanted) × (self.new.names ≡ self.old.names)
+            × (self.new.dump ≡ self.old.dump)
+            × (self.new.report.packets ≡ self.old.report.packets + 1) }
+        ensures skipped { (taken : List ℕ) (before : List Sighting) (next : Sighting)
+            → next.number ≡ self.old.report.packets + 1 → next.what ≡ other → next.came ≡ skipped
+            → IsGathered before (with_taken taken self.old)
+            → IsGathered (before ++ next ∷ []) (with_taken taken self.new) }
+    {
+        self.report.count(None);
+    }
+
+    /// Keeps the name of an interface, which adds nothing to the dump.
+    fn add_name(&mut self, name: &[u8]) -> Result<Option<Origin>, Fault>
         ensures wanted { self.new.wanted ≡ self.old.wanted }
         ensures names { OnOk result (self.new.names ≡ self.old.names ++ name.now ∷ []) }
+        ensures origin { IfOk result (λ origin. origin ≡ None) }
         ensures dump { self.new.dump ≡ self.old.dump }
         ensures dumps { self.new.dumps ≡ self.old.dumps }
         ensures report { self.new.report ≡ self.old.report }
@@ -233,13 +271,14 @@ impl Gathered {
         let mut kept = Vec::new(self.alloc);
         kept.extend_from_slice(name)?;
         match self.names.push(kept) {
-            Ok(()) => Ok(()),
+            Ok(()) => Ok(None),
             Err(_) => Err(Fault::Memory),
         }
     }
 
-    /// Notes what the datagram in the packet that was counted last lacks, for its sender's dump.
-    fn add_lack(&mut self, origin: Origin, lack: Lack) -> Result<(), Fault>
+    /// Notes what the datagram in the packet that was counted last lacks, for its sender's dump:
+    /// nothing is added to the one dump.
+    fn add_lack(&mut self, origin: Origin, lack: Lack) -> Result<Option<Origin>, Fault>
         ensures wanted { self.new.wanted ≡ self.old.wanted }
         ensures names { self.new.names ≡ self.old.names }
         ensures dump { self.new.dump ≡ self.old.dump }
@@ -247,14 +286,27 @@ impl Gathered {
         ensures senders { self.new.senders ≡ self.old.senders }
         ensures dumps { OnOk result (self.new.dumps ≡ dump_added self.old.dumps origin []
             (Some (record { packet = self.old.report.packets; lack = lack }))) }
+        ensures origin { IfOk result (λ told. told ≡ None) }
         ensures err { IfErr result (λ fault. fault ≡ Fault.Memory) }
     {
         let packet = self.report.packets();
-        self.dumps.add(&origin, &[], Some(LackAt { packet, lack }))
+        self.dumps
+            .add(&origin, &[], None, Some(LackAt { packet, lack }))?;
+        Ok(None)
     }
 
-    /// Counts a packet for its sender, and adds it to a dump, if one is wanted.
-    fn add(&mut self, at: u64, origin: Origin, packet: &[u8]) -> Result<(), Fault>
+    /// Counts a packet for its sender, and adds it to a dump, if one is wanted: whose it is, if it
+    /// is added to the one dump.
+    fn add(
+        &mut self,
+        at: u64,
+        origin: Origin,
+        time: Option<Time>,
+        packet: &[u8],
+        updates: &Updates,
+    ) -> Result<Option<Origin>, Fault>
+        requires count { updates.now.count ≡ updates_in packet.now }
+        requires interval { updates.now.interval ≡ interval_in packet.now }
         ensures wanted { self.new.wanted ≡ self.old.wanted }
         ensures names { self.new.names ≡ self.old.names }
         ensures report { self.new.report ≡ self.old.report }
@@ -263,19 +315,28 @@ impl Gathered {
         ensures dumps { OnOk result (self.new.dumps ≡ dumps_with self.old.wanted self.old.dumps
             self.old.report.packets (found origin.place origin.sender packet.now)) }
         ensures senders { OnOk result (self.new.senders
-            ≡ tallied self.old.senders origin packet.now) }
+            ≡ tallied self.old.senders origin time packet.now) }
+        ensures origin { IfOk result (λ told. told ≡ origin_added self.old.wanted
+            (found origin.place origin.sender packet.now)) }
         ensures few { OnOk result (length self.new.senders ≤ 65536) }
         ensures err { IfErr result (λ fault. (fault ≡ Fault.Memory)
             ⊎ ((fault ≡ Fault.TooManySenders at) × IsOneTooMany self.old.senders origin)) }
         ensures memory { IfErr result (λ fault. fault ≡ Fault.Memory
             → PacketNeedsMemory self.old.wanted self.old.senders origin packet.now) }
     {
-        self.senders.add(at, origin, packet)?;
+        let came = time;
+        self.senders.add(at, origin, time, packet, updates)?;
         match self.wanted {
-            Wanted::Everyone => {}
-            Wanted::Each => self.dumps.add(&origin, packet, None)?,
-            Wanted::Sender { .. } => self.dump.extend_from_slice(packet)?,
+            Wanted::Everyone => Ok(None),
+            Wanted::Each => {
+                let known = came.unwrap_or(Time::first());
+                self.dumps.add(&origin, packet, Some(known), None)?;
+                Ok(None)
+            }
+            Wanted::Sender { .. } | Wanted::InTurn { .. } => {
+                self.dump.extend_from_slice(packet)?;
+                Ok(Some(origin))
+            }
         }
-        Ok(())
     }
 }

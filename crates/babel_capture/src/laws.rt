@@ -15,6 +15,7 @@ ghost use Rattle.babel_capture.specs.Contents.{Captured};
 ghost use Rattle.babel_capture.specs.declared.order.Order.{Order};
 ghost use Rattle.babel_capture.specs.Reading.{Stops};
 ghost use Rattle.babel_capture.specs.Senders.{AreSenders};
+ghost use Rattle.babel_capture.specs.Window.{Extent, all_times};
 ghost use Rattle.babel_tlv.specs.FrameFaults.{FrameFault};
 ghost use Rattle.babel_tlv.specs.declared.fault.Fault.{Fault as DumpFault};
 ghost use Rattle.babel_capture.specs.declared.fault.Fault.{Fault};
@@ -93,7 +94,7 @@ pub fn cut_is_seen()
 
 /// Octets hold one list of packets: whatever a capture gives, it is gathered of these.
 pub fn packets_are_one()
-    ensures { (limit : ℕ) (octets : List ℕ) (packets : List Captured) (gathering : Gathering)
+    ensures { (limit : Extent) (octets : List ℕ) (packets : List Captured) (gathering : Gathering)
         → IsReadAs limit octets packets → (read : IsRead limit octets gathering)
         → packets_of read.blocks ≡ packets }
 {}
@@ -103,7 +104,7 @@ pub fn packets_are_one()
 pub fn pcap_is_read()
     ensures { (limit : ℕ) (pcap : PcapFile) (link : LinkType) → IsPcap pcap link
         → length (pcap_octets pcap) ≤ limit
-        → IsReadAs limit (pcap_octets pcap) (packets_in pcap link) }
+        → IsReadAs (all_times limit) (pcap_octets pcap) (packets_in pcap link) }
 {}
 
 /// A pcapng file that is laid out as its format says, of sections in either byte order, each of
@@ -113,19 +114,20 @@ pub fn pcapng_is_read()
     ensures { (limit : ℕ) (order : Order) (head : SectionHeader) (blocks : List PcapngBlock)
         (packets : List Captured) → IsSection order head → Hold order 0 [] blocks packets
         → length (pcapng_octets order head blocks) ≤ limit
-        → IsReadAs limit (pcapng_octets order head blocks) packets }
+        → IsReadAs (all_times limit) (pcapng_octets order head blocks) packets }
 {}
 
 /// The dump of a capture is whole Babel packets, end to end.
 pub fn dump_is_packets()
-    ensures { (limit : ℕ) (octets : List ℕ) (gathering : Gathering)
+    ensures { (limit : Extent) (octets : List ℕ) (gathering : Gathering)
         → IsRead limit octets gathering → ArePackets gathering.dump }
 {}
 
 /// The dump of a capture has no fault of framing but a TLV past the end of its packet: no packet of
 /// it is truncated, or has a wrong magic or version.
 pub fn dump_is_framed()
-    ensures { (limit : ℕ) (octets : List ℕ) (gathering : Gathering) → IsRead limit octets gathering
+    ensures { (limit : Extent) (octets : List ℕ) (gathering : Gathering)
+        → IsRead limit octets gathering
         → (fault : DumpFault) → FrameFault gathering.dump fault → IsPastEnd fault }
 {}
 
@@ -133,21 +135,21 @@ pub fn dump_is_framed()
 /// each place, by place and then by address, with the number of its packets and of their
 /// octets.
 pub fn senders_are_those_found()
-    ensures { (limit : ℕ) (octets : List ℕ) (gathering : Gathering)
+    ensures { (limit : Extent) (octets : List ℕ) (gathering : Gathering)
         → (read : IsRead limit octets gathering)
         → AreSenders read.gathered.made gathering.senders }
 {}
 
 /// A fault of a capture that shows before its end stays its fault, however it goes on.
 pub fn fault_stays()
-    ensures { (limit : ℕ) (wanted : Wanted) (octets more : List ℕ) (fault : Fault)
+    ensures { (limit : Extent) (wanted : Wanted) (octets more : List ℕ) (fault : Fault)
         → Stops limit wanted octets fault
         → Stops limit wanted (octets ++ more) fault }
 {}
 
 /// The fault of a capture is never out of memory.
 pub fn fault_is_of_octets()
-    ensures { (limit : ℕ) (wanted : Wanted) (octets : List ℕ) (fault : Fault)
+    ensures { (limit : Extent) (wanted : Wanted) (octets : List ℕ) (fault : Fault)
         → CaptureFault limit wanted octets fault → fault ≢ Memory }
 {}
 

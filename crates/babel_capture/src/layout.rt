@@ -1,3 +1,4 @@
+use crate::clock::Clock;
 use crate::order::Order;
 
 /// What the blocks of a capture are.
@@ -18,4 +19,6 @@ pub struct Interface {
     pub link: u32,
     /// How many octets of a packet are kept at most; 0 is no limit.
     pub snap_len: u32,
+    /// How the times of its packets are counted.
+    pub clock: Clock,
 }

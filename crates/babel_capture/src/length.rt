@@ -11,7 +11,7 @@ use crate::order::Order;
 /// draft-ietf-opsawg-pcap, 4.
 const PCAP_MICROSECONDS: u32 = 0xa1b2_c3d4;
 
-const PCAP_NANOSECONDS: u32 = 0xa1b2_3c4d;
+pub const PCAP_NANOSECONDS: u32 = 0xa1b2_3c4d;
 
 /// The type of a section header, the same in either byte order: draft-ietf-opsawg-pcapng, 4.1.
 pub const SECTION: u32 = 0x0a0d_0d0a;

@@ -8,6 +8,7 @@
 
 mod block;
 mod capture;
+mod clock;
 mod context;
 mod dumps;
 mod ethernet;
@@ -36,9 +37,12 @@ mod report;
 mod seen;
 mod stream;
 mod tallies;
+mod time;
+mod timing;
 mod udp;
 mod updates;
 mod wanted;
+mod window;
 
 pub use capture::Capture;
 pub use dumps::LackAt;
@@ -55,4 +59,7 @@ pub use reason::Reason;
 pub use report::Report;
 pub use seen::Seen;
 pub use tallies::{MAX_SENDERS, Origin, Tally};
+pub use time::Time;
+pub use timing::Timing;
 pub use wanted::Wanted;
+pub use window::{Moment, Window};

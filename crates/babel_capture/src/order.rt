@@ -1,4 +1,5 @@
 ghost use Rattle.std.specs.Prelude.{◌≡◌, ◌≤◌, ◌+◌, length};
+ghost use Rattle.std.specs.Int.{cast_signed, w64};
 ghost use Rattle.babel_capture.specs.Numbers.{number_at};
 
 use byteorder::{BigEndian, ByteOrder, LittleEndian};
@@ -32,6 +33,17 @@ impl Order {
         match self {
             Order::Big => BigEndian::read_u32(&octets[place..]),
             Order::Little => LittleEndian::read_u32(&octets[place..]),
+        }
+    }
+
+    /// The number of 64 bits, with a sign, in the octets from this place on.
+    pub fn i64_at(self, octets: &[u8], place: usize) -> i64
+        requires { place + 8 ≤ length octets.now }
+        ensures { result ≡ cast_signed w64 (number_at self 8 octets.now place) }
+    {
+        match self {
+            Order::Big => BigEndian::read_i64(&octets[place..]),
+            Order::Little => LittleEndian::read_i64(&octets[place..]),
         }
     }
 }

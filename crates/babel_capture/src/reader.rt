@@ -1,21 +1,26 @@
 ghost use Rattle.std.specs.Prelude.{◌≡◌, ◌↔◌, IsTrue, ◌≤◌, ◌<◌, ◌+◌, ◌-◌, ◌^◌, ◌++◌, ◌⊎◌, ℕ, List};
 ghost use Rattle.std.specs.Prelude.{[], length, take, drop, OnOk, IfOk, IfErr, IfSome, IfNone, Err};
-ghost use Rattle.std.specs.Prelude.{Ok, nat_lt, if◌then◌else◌, ◌∷◌};
+ghost use Rattle.std.specs.Prelude.{Ok, ◌&&◌};
 ghost use Rattle.babel_capture.specs.Blocks.{BeginsBlock, HasHeader, IsBlock, IsPartial, header_of};
 ghost use Rattle.babel_capture.specs.Blocks.{start};
-ghost use Rattle.babel_capture.specs.Contents.{Content, block_said};
+ghost use Rattle.babel_capture.specs.Contents.{Content, block_said, content_of};
+ghost use Rattle.babel_capture.specs.Findings.{is_in_turn};
 ghost use Rattle.babel_capture.specs.Gathering.{BlockNeedsMemory};
 ghost use Rattle.babel_capture.specs.Lengths.{block_len};
-ghost use Rattle.babel_capture.specs.Reading.{Account, BlockFails, HasStarted, LeadTo, NeedsMemory};
-ghost use Rattle.babel_capture.specs.Reading.{Stops, without_dump};
+ghost use Rattle.babel_capture.specs.PacketEnds.{is_noted, is_packet};
+ghost use Rattle.babel_capture.specs.Reading.{Account, BlockFails, EachHasEnd, HasStarted, LeadTo};
+ghost use Rattle.babel_capture.specs.Reading.{NeedsMemory, Stops, with_end, without_dump};
 
-use crate::block::read_block;
+use crate::block::{Block, read_block};
 use crate::context::Context;
 use crate::fault::Fault;
 use crate::gathered::Gathered;
 use crate::layout::Layout;
 use crate::packet_end::PacketEnd;
+use crate::tallies::Origin;
+use crate::time::Time;
 use crate::wanted::Wanted;
+use crate::window::Window;
 use std::alloc::Global;
 use std::marker::Model;
 
@@ -46,15 +51,18 @@ impl Model for Reader {
 }
 
 impl Reader {
-    /// Nothing was read yet, of so many octets at most.
-    pub fn new(alloc: Global, limit: u64, wanted: Wanted) -> Reader
-        ensures none { LeadTo (record { limit = limit; taken = [] }) [] result }
-        ensures context { result.context ≡ start limit }
+    /// Nothing was read yet, of so many octets at most and of packets of this window.
+    pub fn new(alloc: Global, limit: u64, window: &Window, wanted: Wanted) -> Reader
+        ensures none { LeadTo (record {
+          limit = record { octets = limit; window = window.now };
+          taken = [];
+        }) [] result }
+        ensures context { result.context ≡ start (record { octets = limit; window = window.now }) }
         ensures wanted { result.gathering.wanted ≡ wanted }
         ensures dump { result.gathering.dump ≡ [] }
     {
         Reader {
-            context: Context::new(alloc, limit),
+            context: Context::new(alloc, limit, window),
             gathered: Gathered::new(alloc, wanted),
             ends: Vec::new(alloc),
             at: 0,
@@ -84,40 +92,53 @@ impl Reader {
         ensures memory { IfErr result (λ fault. fault ≡ Fault.Memory → (content : Content)
             × (block_said self.old.context self.old.at block.now ≡ Ok content)
             × BlockNeedsMemory self.old.gathering.wanted self.old.gathering.senders content) }
+        ensures turns { OnOk result (EachHasEnd self.old self.new) }
     {
         let said = read_block(&self.context, self.at, block)?;
         let at = self.at;
-        let dump_len = self.gathered.dump().len();
         self.at += block.len() as u64;
-        self.gathered.take_said(at, &said)?;
-        self.note_end(dump_len)?;
+        let origin = self.gathered.take_said(at, &said)?;
+        self.note_end(&said, origin)?;
         self.context.take(&said)?;
         Ok(())
     }
 
-    /// Notes where the dump ends, if it was so long before its last packet.
-    fn note_end(&mut self, before: usize) -> Result<(), Fault>
+    /// Notes where the dump ends, if the block that was taken last added a packet of this origin to
+    /// it, or says one that is told in turn.
+    fn note_end(&mut self, said: &Block<'_>, origin: Option<Origin>) -> Result<(), Fault>
         ensures others { (self.new.context ≡ self.old.context)
             × (self.new.gathering ≡ self.old.gathering) × (self.new.at ≡ self.old.at) }
-        ensures ends { OnOk result (self.new.ends
-            ≡ (if nat_lt before (length self.old.gathering.dump)
-            then self.old.ends ++ record {
-              end = length self.old.gathering.dump;
-              number = self.old.gathering.report.packets;
-            } ∷ []
-            else self.old.ends)) }
+        ensures ends { OnOk result
+            (self.new.ends ≡ with_end self.old (content_of said.now) origin) }
         ensures err { IfErr result (λ fault. (fault ≡ Fault.Memory)
-            × (before < length self.old.gathering.dump)) }
+            × IsTrue (is_noted (is_packet (content_of said.now)
+            && is_in_turn self.old.gathering.wanted) origin)) }
     {
-        let end = self.gathered.dump().len();
-        if before >= end {
+        let added = origin;
+        if !self.is_noted(said, added) {
             return Ok(());
         }
+        let end = self.gathered.dump().len();
         let number = self.gathered.report().packets();
-        match self.ends.push(PacketEnd { end, number }) {
+        let time = said.time();
+        let packet = PacketEnd {
+            end,
+            number,
+            time,
+            origin,
+        };
+        match self.ends.push(packet) {
             Ok(()) => Ok(()),
             Err(_) => Err(Fault::Memory),
         }
+    }
+
+    /// Whether the end of what the block added to the dump is noted.
+    fn is_noted(&self, said: &Block<'_>, origin: Option<Origin>) -> bool
+        ensures { result ≡ is_noted (is_packet (content_of said.now)
+            && is_in_turn self.now.gathering.wanted) origin }
+    {
+        origin.is_some() || (said.is_packet() && self.gathered.wanted().is_in_turn())
     }
 
     /// The whole block that the octets begin with; `None` if they are less than a block.
@@ -161,6 +182,7 @@ impl Reader {
             → (account : Account) (read : List ℕ)
             → LeadTo account read self.old
             → NeedsMemory account.limit self.old.gathering.wanted read octets.now) }
+        ensures turns { OnOk result (EachHasEnd self.old self.new) }
     {
         let mut used = 0;
         while let Some(block) = self.first_block(&octets[used..])? {
@@ -175,6 +197,13 @@ impl Reader {
         ensures { IsTrue result ↔ HasStarted self.now.context }
     {
         !matches!(self.context.layout(), Layout::Start)
+    }
+
+    /// When the first packet came, where times are asked for.
+    pub fn start(&self) -> Option<Time>
+        ensures { result ≡ self.now.context.start }
+    {
+        self.context.start()
     }
 
     /// What was gathered so far.

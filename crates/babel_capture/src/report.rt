@@ -1,10 +1,14 @@
 ghost use Rattle.std.specs.Prelude.{◌≡◌, ◌+◌, ◌^◌, ◌<◌, [], IfSome};
 ghost use Rattle.babel_capture.specs.Counts.{Counts, count_at, counts_of, reason_place};
-ghost use Rattle.babel_capture.specs.Counting.{counted_with, one_more, packet_counted};
+ghost use Rattle.babel_capture.specs.Counting.{counted_at, counted_with, one_more, packet_counted};
 ghost use Rattle.babel_capture.specs.Counting.{short_counted};
+ghost use Rattle.babel_capture.specs.Times.{kept};
 
 use crate::link::Link;
 use crate::reason::Reason;
+use crate::time::Time;
+use crate::timing::Timing;
+use crate::updates::greater;
 use std::marker::Model;
 
 /// How many packets a capture has, and which wanted datagrams were left out.
@@ -14,6 +18,8 @@ pub struct Report {
     left_out: [Option<(u64, u64)>; 8],
     short: u64,
     cooked: u64,
+    timing: Timing,
+    interval: Option<u16>,
 }
 
 impl Model for Report {
@@ -27,6 +33,8 @@ impl Model for Report {
       left_out = r.left_out;
       short = r.short;
       cooked = r.cooked;
+      timing = r.timing;
+      interval = r.interval;
     } };
 
     ghost invariant = { λ r. (length r.left_out ≡ 8)
@@ -38,6 +46,8 @@ impl Model for Report {
       left_out = r.left_out;
       short = r.short;
       cooked = r.cooked;
+      timing = r.timing;
+      interval = r.interval;
     } };
 }
 
@@ -72,6 +82,20 @@ impl Report {
         self.cooked
     }
 
+    /// What is told of the times of the packets, but for those that are skipped.
+    pub fn timing(&self) -> Timing
+        ensures { result ≡ self.now.timing }
+    {
+        self.timing
+    }
+
+    /// The greatest Interval of the Updates that announce, in centiseconds, of the wanted senders.
+    pub fn interval(&self) -> Option<u16>
+        ensures { result ≡ self.now.interval }
+    {
+        self.interval
+    }
+
     /// The report of no packet.
     pub(crate) fn new() -> Report
         ensures { result ≡ counts_of [] }
@@ -81,7 +105,17 @@ impl Report {
             left_out: [None; 8],
             short: 0,
             cooked: 0,
+            timing: Timing::new(),
+            interval: None,
         }
+    }
+
+    /// Notes the time of the next packet.
+    pub(crate) fn take_time(&mut self, time: Option<Time>)
+        requires { self.old.packets + 1 < 2 ^ 64 }
+        ensures { self.new ≡ counted_at self.old (kept time) }
+    {
+        self.timing = self.timing.with(self.packets + 1, time);
     }
 
     /// Counts a packet, and the datagram that is left out for this reason, if for any.
@@ -105,12 +139,13 @@ impl Report {
         self.short += 1;
     }
 
-    /// Counts a Babel packet that was found in a frame of this link type.
-    pub(crate) fn count_packet(&mut self, link: Link)
+    /// Counts a Babel packet that was found in a frame of this link type, with this Interval.
+    pub(crate) fn count_packet(&mut self, link: Link, interval: Option<u16>)
         requires { self.old.packets + 1 < 2 ^ 64 }
-        ensures { self.new ≡ packet_counted self.old link }
+        ensures { self.new ≡ packet_counted self.old link interval }
     {
         self.packets += 1;
+        self.interval = greater(self.interval, interval);
         if link == Link::Cooked {
             self.cooked += 1;
         }

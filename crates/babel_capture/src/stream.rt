@@ -2,12 +2,13 @@ ghost use Rattle.std.specs.Prelude.{◌≡◌, ◌≢◌, ◌≤◌, ◌++◌, �
 ghost use Rattle.std.specs.Prelude.{OnOk, IfOk, IfErr};
 ghost use Rattle.babel_capture.specs.Capture.{CaptureFault, IsRead, IsReadToCut};
 ghost use Rattle.babel_capture.specs.Gathering.{with_taken};
-ghost use Rattle.babel_capture.specs.Reading.{Account, HasTaken, NeedsMemory, Stops};
+ghost use Rattle.babel_capture.specs.Reading.{Account, EachHasEnd, HasTaken, NeedsMemory, Stops};
 
 use crate::fault::Fault;
 use crate::gathered::Gathered;
 use crate::reader::Reader;
 use crate::wanted::Wanted;
+use crate::window::Window;
 use std::alloc::Global;
 
 /// The octets of a capture in pieces: its blocks are read as soon as they are whole, and less than
@@ -47,6 +48,7 @@ impl Stream {
             → (self.old.pending.items ≢ []) ⊎ ((account : Account) (fed : List ℕ)
             → HasTaken account self.old.reader self.old.pending.items fed
             → NeedsMemory account.limit self.old.reader.gathering.wanted fed piece.now)) }
+        ensures turns { OnOk result (EachHasEnd self.old.reader self.new.reader) }
     {
         if self.pending.is_empty() {
             return self.take_in_place(piece);
@@ -66,6 +68,7 @@ impl Stream {
             ⊎ ((account : Account) (fed : List ℕ)
             → HasTaken account self.old.reader self.old.pending.items fed
             → Stops account.limit self.old.reader.gathering.wanted (fed ++ piece.now) fault)) }
+        ensures turns { OnOk result (EachHasEnd self.old.reader self.new.reader) }
     {
         let (block, rest) = piece.split_at(self.lacking_of(piece));
         self.take_behind(block)?;
@@ -90,6 +93,7 @@ impl Stream {
             ⊎ ((account : Account) (fed : List ℕ)
             → HasTaken account self.old.reader self.old.pending.items fed
             → Stops account.limit self.old.reader.gathering.wanted (fed ++ piece.now) fault)) }
+        ensures turns { OnOk result (EachHasEnd self.old.reader self.new.reader) }
     {
         self.pending.extend_from_slice(piece)?;
         let used = self.reader.take_blocks(&self.pending)?;
@@ -111,6 +115,7 @@ impl Stream {
             → (self.old.pending.items ≢ []) ⊎ ((account : Account) (fed : List ℕ)
             → HasTaken account self.old.reader self.old.pending.items fed
             → NeedsMemory account.limit self.old.reader.gathering.wanted fed piece.now)) }
+        ensures turns { OnOk result (EachHasEnd self.old.reader self.new.reader) }
     {
         if !self.pending.is_empty() {
             return self.take_behind(piece);
@@ -124,15 +129,17 @@ impl Stream {
         Ok(())
     }
 
-    /// No octets yet, of so many at most.
-    pub fn new(alloc: Global, limit: u64, wanted: Wanted) -> Stream
-        ensures none { HasTaken (record { limit = limit; taken = [] }) result.reader
-            result.pending.items [] }
+    /// No octets yet, of so many at most and of packets of this window.
+    pub fn new(alloc: Global, limit: u64, window: &Window, wanted: Wanted) -> Stream
+        ensures none { HasTaken (record {
+          limit = record { octets = limit; window = window.now };
+          taken = [];
+        }) result.reader result.pending.items [] }
         ensures wanted { result.reader.gathering.wanted ≡ wanted }
         ensures dump { result.reader.gathering.dump ≡ [] }
     {
         Stream {
-            reader: Reader::new(alloc, limit, wanted),
+            reader: Reader::new(alloc, limit, window, wanted),
             pending: Vec::new(alloc),
         }
     }

@@ -1,10 +1,13 @@
 ghost use Rattle.std.specs.Prelude.{◌≡◌, ◌≤◌, ◌⊎◌, [], length, IfErr, IfNone, IfSome, None, OnOk};
 ghost use Rattle.babel_capture.specs.Tallies.{CountNeedsMemory, IsOneTooMany, Overflows, one_more};
 ghost use Rattle.babel_capture.specs.Tallies.{tallied, tally_of};
+ghost use Rattle.babel_capture.specs.Updates.{interval_in, updates_in};
 
 use crate::fault::Fault;
 use crate::place::Place;
-use crate::updates::updates_in;
+use crate::time::Time;
+use crate::timing::{earlier, later};
+use crate::updates::{Updates, greater};
 use babel_prefix::Addr;
 use std::alloc::Global;
 use std::collections::BTreeMap;
@@ -22,25 +25,35 @@ pub struct Origin {
 }
 
 /// How many packets a sender sent, how many octets these are, header and body, without what comes
-/// after them, and how many Updates they have.
+/// after them, how many Updates they have, and when they came.
 #[derive(Clone, Copy, Debug, PartialEq, Eq)]
 pub struct Tally {
     pub packets: u64,
     pub octets: u64,
     pub updates: u64,
+    /// The greatest Interval of the Updates that announce, in centiseconds.
+    pub interval: Option<u16>,
+    /// The earliest and the latest time, of those that have one.
+    pub first: Option<Time>,
+    pub last: Option<Time>,
 }
 
 impl Tally {
-    /// With one packet more; `None` if its packets, their octets or their Updates are more than
-    /// 2^64 - 1.
-    fn with(self, packet: &[u8]) -> Option<Tally>
-        ensures some { IfSome result (λ tally. tally ≡ one_more self packet.now) }
+    /// With one packet more, with these Updates; `None` if its packets, their octets or their
+    /// Updates are more than 2^64 - 1.
+    fn with(self, time: Option<Time>, packet: &[u8], updates: &Updates) -> Option<Tally>
+        requires count { updates.now.count ≡ updates_in packet.now }
+        requires interval { updates.now.interval ≡ interval_in packet.now }
+        ensures some { IfSome result (λ tally. tally ≡ one_more self time packet.now) }
         ensures none { IfNone result (Overflows self packet.now) }
     {
         Some(Tally {
             packets: self.packets.checked_add(1)?,
             octets: self.octets.checked_add(packet.len() as u64)?,
-            updates: self.updates.checked_add(updates_in(packet))?,
+            updates: self.updates.checked_add(updates.count)?,
+            interval: greater(self.interval, updates.interval),
+            first: earlier(self.first, time),
+            last: later(self.last, time),
         })
     }
 }
@@ -81,9 +94,18 @@ impl Tallies {
 
     /// Counts the first packet of a sender.
     #[tactic(auto, using(crate::proofs::TallyLaws::first_by))]
-    fn add_first(&mut self, at: u64, origin: Origin, packet: &[u8]) -> Result<(), Fault>
-        requires { tally_of self.old origin ≡ None }
-        ensures ok { OnOk result (self.new ≡ tallied self.old origin packet.now) }
+    fn add_first(
+        &mut self,
+        at: u64,
+        origin: Origin,
+        time: Option<Time>,
+        packet: &[u8],
+        updates: &Updates,
+    ) -> Result<(), Fault>
+        requires none { tally_of self.old origin ≡ None }
+        requires count { updates.now.count ≡ updates_in packet.now }
+        requires interval { updates.now.interval ≡ interval_in packet.now }
+        ensures ok { OnOk result (self.new ≡ tallied self.old origin time packet.now) }
         ensures few { OnOk result (length self.new ≤ 65536) }
         ensures err { IfErr result (λ fault. (fault ≡ Fault.Memory)
             ⊎ ((fault ≡ Fault.TooManySenders at) × IsOneTooMany self.old origin)) }
@@ -91,10 +113,14 @@ impl Tallies {
         if self.tallies.len() >= MAX_SENDERS {
             return Err(Fault::TooManySenders { at });
         }
+        let last = time;
         let tally = Tally {
             packets: 1,
             octets: packet.len() as u64,
-            updates: updates_in(packet),
+            updates: updates.count,
+            interval: updates.interval,
+            first: time,
+            last,
         };
         match self.tallies.insert(origin, tally) {
             Ok(_) => Ok(()),
@@ -102,9 +128,18 @@ impl Tallies {
         }
     }
 
-    /// Counts a packet, which is in the block at this offset.
-    pub fn add(&mut self, at: u64, origin: Origin, packet: &[u8]) -> Result<(), Fault>
-        ensures ok { OnOk result (self.new ≡ tallied self.old origin packet.now) }
+    /// Counts a packet with these Updates, which is in the block at this offset.
+    pub fn add(
+        &mut self,
+        at: u64,
+        origin: Origin,
+        time: Option<Time>,
+        packet: &[u8],
+        updates: &Updates,
+    ) -> Result<(), Fault>
+        requires count { updates.now.count ≡ updates_in packet.now }
+        requires interval { updates.now.interval ≡ interval_in packet.now }
+        ensures ok { OnOk result (self.new ≡ tallied self.old origin time packet.now) }
         ensures few { OnOk result (length self.new ≤ 65536) }
         ensures err { IfErr result (λ fault. (fault ≡ Fault.Memory)
             ⊎ ((fault ≡ Fault.TooManySenders at) × IsOneTooMany self.old origin)) }
@@ -112,9 +147,9 @@ impl Tallies {
             → CountNeedsMemory (tally_of self.old origin) packet.now) }
     {
         let Some(tally) = self.tallies.get_mut(&origin) else {
-            return self.add_first(at, origin, packet);
+            return self.add_first(at, origin, time, packet, updates);
         };
-        let Some(more) = tally.with(packet) else {
+        let Some(more) = tally.with(time, packet, updates) else {
             return Err(Fault::Memory);
         };
         *tally = more;

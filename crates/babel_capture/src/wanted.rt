@@ -1,5 +1,5 @@
 ghost use Rattle.std.specs.Prelude.{◌≡◌, ◌↔◌, IsTrue};
-ghost use Rattle.babel_capture.specs.Findings.{IsWanted};
+ghost use Rattle.babel_capture.specs.Findings.{IsWanted, is_in_turn};
 
 use crate::place::Place;
 use babel_prefix::Addr;
@@ -12,7 +12,16 @@ pub enum Wanted {
     /// Those of each sender, for its dump at each place.
     Each,
     /// Those of one sender: at one place where it is named, and else at all.
-    Sender { sender: Addr, place: Option<Place> },
+    Sender {
+        sender: Addr,
+        place: Option<Place>,
+    },
+    /// Those of each sender, or of one where it is named, at each place or at one, in one dump, as
+    /// they come.
+    InTurn {
+        sender: Option<Addr>,
+        place: Option<Place>,
+    },
 }
 
 impl Wanted {
@@ -30,6 +39,16 @@ impl Wanted {
                 sender,
                 place: Some(place),
             } => from == *sender && at == *place,
+            Wanted::InTurn { sender, place } => {
+                from == sender.unwrap_or(from) && at == place.unwrap_or(at)
+            }
         }
+    }
+
+    /// Whether packets are told as they come, those too that are none of the dump's.
+    pub fn is_in_turn(&self) -> bool
+        ensures { result ≡ is_in_turn self.now }
+    {
+        matches!(self, Wanted::InTurn { .. })
     }
 }

@@ -1,43 +1,57 @@
-use Rattle.std.proofs.Common.{ℕ, ◌+◌, ◌++◌, refl, ap, subst, sym, ◌∙◌, inl, inr}
-use Rattle.std.specs.Prelude.{None, Some}
+use Rattle.std.proofs.Common.{◌≡◌, ℕ, ◌+◌, ◌++◌, refl, ap, subst, sym, ◌∙◌, inl, inr}
+use Rattle.std.specs.Prelude.{None, Option, Some}
 use Rattle.babel_capture.specs.Blocks.{sight_in, sighting_of}
 use Rattle.babel_capture.specs.Contents.{captured_of}
-use Rattle.babel_capture.specs.Counting.{counted_with, packet_counted, short_counted}
+use Rattle.babel_capture.specs.Counting.{counted_at, counted_with, packet_counted, short_counted}
 use Rattle.babel_capture.specs.Counts.{Counts}
-use Rattle.babel_capture.specs.Findings.{Finds, finding_of, found, lacked}
+use Rattle.babel_capture.specs.Findings.{Finds, finding_of, found, lacked, left, passed, untold}
 use Rattle.babel_capture.specs.Dumps.{dumps_by, dumps_with}
-use Rattle.babel_capture.specs.Gathering.{Gathering, dump_with, with_taken}
+use Rattle.babel_capture.specs.Gathering.{Gathering, dump_with, origin_added, with_taken}
 use Rattle.babel_capture.specs.Tallies.{tallied}
-use Rattle.babel_capture.proofs.GatherLaws.{dump-after, each_wanted, finds-at, found-added, found-needs, found-push, if-err-all, on-ok, on-ok-all, on-ok4}
-use Rattle.babel_capture.proofs.GatherLaws.{lack-refused, lacked-push, left-push, passed-push, short-push, too-many-refused}
+use Rattle.babel_capture.specs.Times.{kept, time_in}
+use Rattle.babel_capture.specs.Updates.{interval_in}
+use Rattle.babel_capture.proofs.GatherLaws.{dump-after, each_wanted, finds-at, found-needs, found-push, if-err-all, on-ok, on-ok4}
+use Rattle.babel_capture.proofs.GatherLaws.{lack-refused, lacked-push, left-push, no-origin, none-added, passed-push, short-push, some-origin, too-many-refused}
 use Rattle.babel_capture.proofs.MemoryLaws.{lack-other}
 use Rattle.babel_capture.proofs.gathered.Gathered.take_packet.Goals as goal
 
 pub returns-in-Passed-clause-ok : goal.returns-in-Passed-clause-ok
 returns-in-Passed-clause-ok c taken before gathered =
     let wanted = ap (λ (g : Gathering). g.wanted) c.self.view_is in
+    let came = kept (time_in (captured_of c.args.packet.now).moment) in
+    let timed : c.take_time.new.self ≡ counted_at c.args.self.now.report came =
+    c.take_time.ensures ∙ ap (λ (g : Gathering). counted_at g.report (kept c.time-came.result)) c.self.view_is
+    ∙ ap (λ (t : Option ℕ). counted_at c.args.self.now.report (kept t)) c.time-came.ensures in
     passed-push before (sighting_of (c.args.self.now.report.packets + 1) c.args.at (captured_of c.args.packet.now)) (with_taken taken c.args.self.now) _ _ (ap finding_of c.in-Passed.is) wanted
     (ap (λ (g : Gathering). taken ++ g.dump) c.self.view_is) (ap (λ (g : Gathering). g.dumps) c.self.view_is)
-    (c.count.ensures ∙ ap (λ (g : Gathering). counted_with g.report None) c.self.view_is)
+    (c.count.ensures ∙ ap (λ (r : Counts). counted_with r None) timed)
     (ap (λ (g : Gathering). g.senders) c.self.view_is)
     gathered refl (finds-at _ _ _ _ wanted c.finding.ensures)
 
 pub returns-in-Short-clause-ok : goal.returns-in-Short-clause-ok
 returns-in-Short-clause-ok c taken before gathered =
     let wanted = ap (λ (g : Gathering). g.wanted) c.self.view_is in
+    let came = kept (time_in (captured_of c.args.packet.now).moment) in
+    let timed : c.take_time.new.self ≡ counted_at c.args.self.now.report came =
+    c.take_time.ensures ∙ ap (λ (g : Gathering). counted_at g.report (kept c.time-came.result)) c.self.view_is
+    ∙ ap (λ (t : Option ℕ). counted_at c.args.self.now.report (kept t)) c.time-came.ensures in
     short-push before (sighting_of (c.args.self.now.report.packets + 1) c.args.at (captured_of c.args.packet.now)) (with_taken taken c.args.self.now) _ _ (ap finding_of c.in-Short.is) wanted
     (ap (λ (g : Gathering). taken ++ g.dump) c.self.view_is) (ap (λ (g : Gathering). g.dumps) c.self.view_is)
-    (c.count_short.ensures ∙ ap (λ (g : Gathering). short_counted g.report) c.self.view_is)
+    (c.count_short.ensures ∙ ap short_counted timed)
     (ap (λ (g : Gathering). g.senders) c.self.view_is)
     gathered refl (finds-at _ _ _ _ wanted c.finding.ensures)
 
 pub returns-in-Left-clause-ok : goal.returns-in-Left-clause-ok
 returns-in-Left-clause-ok c taken before gathered =
     let wanted = ap (λ (g : Gathering). g.wanted) c.self.view_is in
+    let came = kept (time_in (captured_of c.args.packet.now).moment) in
+    let timed : c.take_time.new.self ≡ counted_at c.args.self.now.report came =
+    c.take_time.ensures ∙ ap (λ (g : Gathering). counted_at g.report (kept c.time-came.result)) c.self.view_is
+    ∙ ap (λ (t : Option ℕ). counted_at c.args.self.now.report (kept t)) c.time-came.ensures in
     left-push before (sighting_of (c.args.self.now.report.packets + 1) c.args.at (captured_of c.args.packet.now)) (with_taken taken c.args.self.now) _ _ c.in-Left.reason (ap finding_of c.in-Left.is)
     wanted
     (ap (λ (g : Gathering). taken ++ g.dump) c.self.view_is) (ap (λ (g : Gathering). g.dumps) c.self.view_is)
-    (c.count-in-Left.ensures ∙ ap (λ (g : Gathering). counted_with g.report (Some c.in-Left.reason)) c.self.view_is)
+    (c.count-in-Left.ensures ∙ ap (λ (r : Counts). counted_with r (Some c.in-Left.reason)) timed)
     (ap (λ (g : Gathering). g.senders) c.self.view_is)
     gathered refl (finds-at _ _ _ _ wanted c.finding.ensures)
 
@@ -50,16 +64,22 @@ returns-in-Refused-clause-err c =
 pub returns-in-Packet-clause-ok : goal.returns-in-Packet-clause-ok
 returns-in-Packet-clause-ok c =
     let wanted = ap (λ (g : Gathering). g.wanted) c.self.view_is in
+    let came = kept (time_in (captured_of c.args.packet.now).moment) in
+    let timed : c.take_time.new.self ≡ counted_at c.args.self.now.report came =
+    c.take_time.ensures ∙ ap (λ (g : Gathering). counted_at g.report (kept c.time-came.result)) c.self.view_is
+    ∙ ap (λ (t : Option ℕ). counted_at c.args.self.now.report (kept t)) c.time-came.ensures in
     on-ok4 c.add.result (λ dump dumps senders few taken before gathered.
     found-push before (sighting_of (c.args.self.now.report.packets + 1) c.args.at (captured_of c.args.packet.now)) (with_taken taken c.args.self.now) (with_taken taken c.add.new.self) _
     c.in-Packet.place c.in-Packet.sender c.in-Packet.packet.now (ap finding_of c.in-Packet.is)
     (c.add.ensures.wanted ∙ wanted)
     (ap (λ d. taken ++ d) (dump ∙ ap (λ (g : Gathering). dump_with g.wanted g.dump c.in-Packet.packet.now) c.self.view_is) ∙ dump-after c.args.self.now.wanted taken _ _)
     (dumps ∙ ap (λ (n : ℕ). dumps_with c.self.inside.wanted c.self.inside.dumps n (found c.in-Packet.place c.in-Packet.sender c.in-Packet.packet.now))
-    (ap (λ (r : Counts). r.packets) c.count_packet.ensures)
+    (ap (λ (r : Counts). r.packets) c.count_packet.ensures ∙ ap (λ (r : Counts). r.packets + 1) c.take_time.ensures)
     ∙ ap (λ (g : Gathering). dumps_with g.wanted g.dumps (g.report.packets + 1) (found c.in-Packet.place c.in-Packet.sender c.in-Packet.packet.now)) c.self.view_is)
-    (c.add.ensures.report ∙ c.count_packet.ensures ∙ ap (λ (g : Gathering). packet_counted g.report c.args.packet.now.link) c.self.view_is)
-    (senders ∙ ap (λ (g : Gathering). tallied g.senders (record { place = c.in-Packet.place; sender = c.in-Packet.sender }) c.in-Packet.packet.now) c.self.view_is)
+    (c.add.ensures.report ∙ c.count_packet.ensures ∙ ap (packet_counted c.take_time.new.self c.args.packet.now.link) c.updates_in-updates.ensures.interval
+    ∙ ap (λ (r : Counts). packet_counted r c.args.packet.now.link (interval_in c.in-Packet.packet.now)) timed)
+    (senders ∙ ap (λ (g : Gathering). tallied g.senders (record { place = c.in-Packet.place; sender = c.in-Packet.sender }) c.time-came.result c.in-Packet.packet.now) c.self.view_is
+    ∙ ap (λ (t : Option ℕ). tallied c.args.self.now.senders (record { place = c.in-Packet.place; sender = c.in-Packet.sender }) t c.in-Packet.packet.now) c.time-came.ensures)
     few gathered refl (finds-at _ _ _ _ wanted c.finding.ensures)) c.add.ensures.dump c.add.ensures.dumps c.add.ensures.senders c.add.ensures.few
 
 pub returns-in-Packet-clause-err : goal.returns-in-Packet-clause-err
@@ -69,12 +89,23 @@ returns-in-Packet-clause-err c =
     (record { place = c.in-Packet.place; sender = c.in-Packet.sender }) c.in-Packet.packet.now _
     (ap (λ (g : Gathering). g.senders) c.self.view_is) (ap finding_of c.in-Packet.is) (finds-at _ _ _ _ wanted c.finding.ensures) c.add.ensures.err
 
-pub returns-in-Packet-clause-added : goal.returns-in-Packet-clause-added
-returns-in-Packet-clause-added c =
-    let wanted = ap (λ (g : Gathering). g.wanted) c.self.view_is in
-    found-added c.add.result c.args.self.now.wanted c.args.self.now.senders (captured_of c.args.packet.now) (record { place = c.in-Packet.place; sender = c.in-Packet.sender }) c.in-Packet.packet.now _
-    (ap finding_of c.in-Packet.is) (finds-at _ _ _ _ wanted c.finding.ensures) c.args.self.now.dump c.add.new.self.dump
-    (on-ok c.add.result (λ dump. dump ∙ ap (λ (g : Gathering). dump_with g.wanted g.dump c.in-Packet.packet.now) c.self.view_is) c.add.ensures.dump)
+pub returns-in-Passed-clause-origin : goal.returns-in-Passed-clause-origin
+returns-in-Passed-clause-origin c =
+    no-origin c.args.self.now.wanted _ _ passed (ap finding_of c.in-Passed.is) refl (finds-at _ _ _ _ (ap (λ (g : Gathering). g.wanted) c.self.view_is) c.finding.ensures)
+
+pub returns-in-Short-clause-origin : goal.returns-in-Short-clause-origin
+returns-in-Short-clause-origin c =
+    no-origin c.args.self.now.wanted _ _ untold (ap finding_of c.in-Short.is) refl (finds-at _ _ _ _ (ap (λ (g : Gathering). g.wanted) c.self.view_is) c.finding.ensures)
+
+pub returns-in-Left-clause-origin : goal.returns-in-Left-clause-origin
+returns-in-Left-clause-origin c =
+    no-origin c.args.self.now.wanted _ _ (left c.in-Left.reason) (ap finding_of c.in-Left.is) refl (finds-at _ _ _ _ (ap (λ (g : Gathering). g.wanted) c.self.view_is) c.finding.ensures)
+
+pub returns-in-Packet-clause-origin : goal.returns-in-Packet-clause-origin
+returns-in-Packet-clause-origin c =
+    let what = found c.in-Packet.place c.in-Packet.sender c.in-Packet.packet.now in
+    some-origin c.add.result c.args.self.now.wanted _ _ what _ (ap finding_of c.in-Packet.is) (finds-at _ _ _ _ (ap (λ (g : Gathering). g.wanted) c.self.view_is) c.finding.ensures)
+    (ap (λ (g : Gathering). origin_added g.wanted what) c.self.view_is) c.add.ensures.origin
 
 pub returns-in-Refused-clause-memory : goal.returns-in-Refused-clause-memory
 returns-in-Refused-clause-memory c memory = absurd (lack-other c.args.at c.in-Refused.lack (sym c.fault.ensures.value ∙ memory))
@@ -89,6 +120,10 @@ returns-in-Packet-clause-memory c =
 pub returns-in-Lacking-clause-ok : goal.returns-in-Lacking-clause-ok
 returns-in-Lacking-clause-ok c =
     let wanted = ap (λ (g : Gathering). g.wanted) c.self.view_is in
+    let came = kept (time_in (captured_of c.args.packet.now).moment) in
+    let timed : c.take_time.new.self ≡ counted_at c.args.self.now.report came =
+    c.take_time.ensures ∙ ap (λ (g : Gathering). counted_at g.report (kept c.time-came.result)) c.self.view_is
+    ∙ ap (λ (t : Option ℕ). counted_at c.args.self.now.report (kept t)) c.time-came.ensures in
     let place = c.in-Lacking.place in
     let sender = c.in-Lacking.sender in
     let finds = subst (Finds c.args.self.now.wanted (sight_in (captured_of c.args.packet.now))) (ap finding_of c.in-Lacking.is) (finds-at _ _ _ _ wanted c.finding.ensures) in
@@ -96,20 +131,24 @@ returns-in-Lacking-clause-ok c =
     lacked-push before (sighting_of (c.args.self.now.report.packets + 1) c.args.at (captured_of c.args.packet.now)) (with_taken taken c.args.self.now) (with_taken taken c.add_lack.new.self) _
     place sender c.in-Lacking.lack (ap finding_of c.in-Lacking.is) (each_wanted _ _ _ _ _ finds) (c.add_lack.ensures.wanted ∙ wanted)
     (ap (λ d. taken ++ d) (c.add_lack.ensures.dump ∙ ap (λ (g : Gathering). g.dump) c.self.view_is))
-    (dumps ∙ ap (λ (n : ℕ). dumps_by c.self.inside.dumps n (lacked place sender c.in-Lacking.lack)) (ap (λ (r : Counts). r.packets) c.count-in-Lacking.ensures)
+    (dumps ∙ ap (λ (n : ℕ). dumps_by c.self.inside.dumps n (lacked place sender c.in-Lacking.lack)) (ap (λ (r : Counts). r.packets) c.count-in-Lacking.ensures
+    ∙ ap (λ (r : Counts). r.packets + 1) c.take_time.ensures)
     ∙ ap (λ (g : Gathering). dumps_by g.dumps (g.report.packets + 1) (lacked place sender c.in-Lacking.lack)) c.self.view_is)
-    (c.add_lack.ensures.report ∙ c.count-in-Lacking.ensures ∙ ap (λ (g : Gathering). counted_with g.report None) c.self.view_is)
+    (c.add_lack.ensures.report ∙ c.count-in-Lacking.ensures ∙ ap (λ (r : Counts). counted_with r None) timed)
     (c.add_lack.ensures.senders ∙ ap (λ (g : Gathering). g.senders) c.self.view_is)
     gathered refl (finds-at _ _ _ _ wanted c.finding.ensures)) c.add_lack.ensures.dumps
 
-pub returns-in-Lacking-clause-added : goal.returns-in-Lacking-clause-added
-returns-in-Lacking-clause-added c = on-ok-all c.add_lack.result (inl (c.add_lack.ensures.dump ∙ ap (λ (g : Gathering). g.dump) c.self.view_is))
+pub returns-in-Lacking-clause-origin : goal.returns-in-Lacking-clause-origin
+returns-in-Lacking-clause-origin c =
+    let what = lacked c.in-Lacking.place c.in-Lacking.sender c.in-Lacking.lack in
+    some-origin c.add_lack.result c.args.self.now.wanted _ _ what None (ap finding_of c.in-Lacking.is) (finds-at _ _ _ _ (ap (λ (g : Gathering). g.wanted) c.self.view_is) c.finding.ensures)
+    (none-added c.args.self.now.wanted what refl) c.add_lack.ensures.origin
 
 pub returns-in-Lacking-clause-memory : goal.returns-in-Lacking-clause-memory
 returns-in-Lacking-clause-memory c =
     let wanted = ap (λ (g : Gathering). g.wanted) c.self.view_is in
-    if-err-all c.add_lack.result (λ fault memory. inr (
+    if-err-all c.add_lack.result (λ fault memory. inr (inl (
       record { place = c.in-Lacking.place; sender = c.in-Lacking.sender },
       c.in-Lacking.lack,
       subst (Finds c.args.self.now.wanted (sight_in (captured_of c.args.packet.now))) (ap finding_of c.in-Lacking.is) (finds-at _ _ _ _ wanted c.finding.ensures),
-    ))
+    )))

@@ -1,7 +1,7 @@
 use Rattle.std.proofs.Common.{◌++◌, inr, ◌∙◌, take}
 use Rattle.std.proofs.lemmas.Result.{err_from_is_err_and}
 use Rattle.babel_capture.specs.Blocks.{BeginsBlock}
-use Rattle.babel_capture.proofs.ReadingLaws.{rest_of, used-within, lead-more, some_of, header-stops, block-needs, block-stops, else-by}
+use Rattle.babel_capture.proofs.ReadingLaws.{rest_of, used-within, lead-more, some_of, header-stops, block-needs, block-stops, else-by, turns-on}
 use Rattle.babel_capture.proofs.MemoryLaws.{header-other}
 use Rattle.babel_capture.proofs.reader.Reader.take_blocks.Goals as goal
 
@@ -37,6 +37,7 @@ returns-in_err-take_block-clause-memory c =
 
 pub loop-block-preserved : goal.loop-block-preserved
 loop-block-preserved c = record {
+  turns = turns-on c.args.self.now c.loop-block.self c.take_block.new.self c.loop-block.invariant.wanted c.loop-block.invariant.turns c.in_ok-take_block.ensures.turns;
   wanted = c.take_block.ensures.wanted ∙ c.loop-block.invariant.wanted;
   within = used-within c.loop-block.self.context c.loop-block.self.at c.loop-block.used c.args.octets.now c.in-Some.block.now c.loop-block.invariant.within
       (some_of c.in_ok-block.field-0 _ (λ block. BeginsBlock c.loop-block.self.context c.loop-block.self.at (rest_of c.loop-block.used c.args.octets.now) block.now) c.in-Some.is

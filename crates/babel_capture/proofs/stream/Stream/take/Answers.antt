@@ -1,5 +1,7 @@
 -- Two parts of a piece, one after the other, are taken as the piece is.
 use Rattle.std.proofs.Common.{rules, ◌≡◌, ◌++◌}
+use Rattle.babel_capture.specs.Reading.{EachHasEnd}
+use Rattle.babel_capture.proofs.ReadingLaws.{turns-on}
 use Rattle.babel_capture.proofs.StreamLaws.{Fails, Takes, err-map, fails-first, fails-later, ok-map, split-whole, takes-both}
 use Rattle.babel_capture.proofs.stream.Stream.take.Goals as goal
 
@@ -35,3 +37,11 @@ returns-clause-err c =
     (λ fault. fails-later c.split_at.result.0.now c.split_at.result.1.now c.args.piece.now whole old.reader next.reader old.pending.items next.pending.items fault c.in_ok-take_behind.ensures.wanted
     c.in_ok-take_behind.ensures.ok)
     c.take_past_header.ensures.err
+
+pub returns-clause-turns : goal.returns-clause-turns
+returns-clause-turns c =
+    let old = c.args.self.now.reader in
+    let next = c.take_behind.new.self.reader in
+    let new = c.take_past_header.new.self.reader in
+    ok-map (EachHasEnd next new) (EachHasEnd old new) c.take_past_header.result
+    (turns-on old next new c.in_ok-take_behind.ensures.wanted c.in_ok-take_behind.ensures.turns) c.take_past_header.ensures.turns

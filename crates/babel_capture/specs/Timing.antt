@@ -1,0 +1,43 @@
+-- What is told of the times of a capture's packets. It is this project's own.
+use Rattle.std.specs.Prelude.{ℕ, true, false, min, max, nat_lt, if◌then◌else◌, Option, None}
+use Rattle.std.specs.Prelude.{Some}
+use Rattle.std.specs.Option.{option_or}
+use Rattle.babel_capture.specs.declared.timing.Timing.{Timing}
+use Rattle.babel_capture.specs.Times.{Came, skipped, kept}
+
+-- the least and the greatest number, where there is one
+abbrev pub least : Option ℕ → Option ℕ → Option ℕ
+least None number = number
+least (Some one) None = Some one
+least (Some one) (Some other) = Some (min one other)
+
+abbrev pub greatest : Option ℕ → Option ℕ → Option ℕ
+greatest None number = number
+greatest (Some one) None = Some one
+greatest (Some one) (Some other) = Some (max one other)
+
+abbrev pub no_times : Timing
+no_times = record {
+  has_untimed = false;
+  earliest = None;
+  latest = None;
+  last = None;
+  backwards = None;
+}
+
+-- the packet with this number came then, which is before the last one of those that have a time
+abbrev pub backwards_at : ℕ → ℕ → Option ℕ → Option ℕ
+backwards_at number time None = None
+backwards_at number time (Some last) = if nat_lt time last then Some number else None
+
+-- with one packet more, which has this number; one that is skipped does not count
+abbrev pub timed : Timing → ℕ → Came → Timing
+timed timing number skipped = timing
+timed timing number (kept None) = record timing { has_untimed = true }
+timed timing number (kept (Some time)) = record {
+  has_untimed = timing.has_untimed;
+  earliest = least timing.earliest (Some time);
+  latest = greatest timing.latest (Some time);
+  last = Some time;
+  backwards = option_or timing.backwards (backwards_at number time timing.last);
+}

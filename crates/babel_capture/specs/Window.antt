@@ -1,0 +1,43 @@
+-- Which packets of a capture are read, by when they came. It is this project's own.
+use Rattle.std.specs.Prelude.{ℕ, ◌+◌, ◌*◌, Bool, true, ◌&&◌, nat_le, Option, None}
+use Rattle.std.specs.Prelude.{Some}
+use Rattle.std.specs.Option.{option_map}
+use Rattle.babel_capture.specs.declared.window.Moment.{Moment}
+use Rattle.babel_capture.specs.declared.window.Moment.TheVariants as moments
+use Rattle.babel_capture.specs.declared.window.Window.{Window}
+use Rattle.babel_capture.specs.declared.window.Window.TheVariants as windows
+
+-- how much of a capture is read: so many octets at most, and the packets of these times
+pub record Extent : Type 0 where
+  pub octets : ℕ
+  pub window : Window
+
+-- so many octets, and all packets, whether they have a time or not
+abbrev pub all_times : ℕ → Extent
+all_times octets = record { octets = octets; window = windows.Whole }
+
+-- a moment in nanoseconds since the start of 1970, of a capture whose first packet came then
+abbrev pub moment_from : ℕ → Moment → ℕ
+moment_from first (moments.At time) = time
+moment_from first (moments.After seconds nanoseconds) =
+    first + (seconds * 1000000000 + nanoseconds)
+
+-- The moment up to which packets are read, of a capture whose first packet came at `start`, and the
+-- last one, by place, at `last`: that of the window, if it names one.
+abbrev pub moment_up_to : Window → (start last : Option ℕ) → Option ℕ
+moment_up_to (windows.Between since (Some until)) start last =
+    option_map (λ first. moment_from first until) start
+moment_up_to (windows.Between since None) start last = last
+moment_up_to windows.Whole start last = last
+
+-- a packet of such a capture came neither before the one moment nor after the other
+abbrev pub is_since : ℕ → ℕ → Option Moment → Bool
+is_since first time None = true
+is_since first time (Some moment) = nat_le (moment_from first moment) time
+
+abbrev pub is_until : ℕ → ℕ → Option Moment → Bool
+is_until first time None = true
+is_until first time (Some moment) = nat_le time (moment_from first moment)
+
+abbrev pub is_between : Option Moment → Option Moment → ℕ → ℕ → Bool
+is_between since until first time = is_since first time since && is_until first time until

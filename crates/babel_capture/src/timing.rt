@@ -1,0 +1,84 @@
+ghost use Rattle.std.specs.Prelude.{◌≡◌, None};
+ghost use Rattle.babel_capture.specs.Times.{kept};
+ghost use Rattle.babel_capture.specs.Timing.{greatest, least, no_times, timed};
+
+use crate::time::Time;
+
+/// What is told of the times of a capture's packets, but for those that are skipped.
+#[derive(Clone, Copy, Debug, PartialEq, Eq)]
+pub struct Timing {
+    /// Whether one of them has no time, or one before 1970 or after the year 9999.
+    pub has_untimed: bool,
+    pub earliest: Option<Time>,
+    pub latest: Option<Time>,
+    /// That of the last one, by place, which has a time.
+    pub last: Option<Time>,
+    /// The number of the first that came before the one before it.
+    pub backwards: Option<u64>,
+}
+
+impl Timing {
+    /// That of no packets.
+    pub(crate) fn new() -> Timing
+        ensures { result ≡ no_times }
+    {
+        Timing {
+            has_untimed: false,
+            earliest: None,
+            latest: None,
+            last: None,
+            backwards: None,
+        }
+    }
+
+    /// With one packet more, which has this number.
+    pub(crate) fn with(self, number: u64, time: Option<Time>) -> Timing
+        ensures { result ≡ timed self number (kept time) }
+    {
+        let Some(time) = time else {
+            return Timing {
+                has_untimed: true,
+                ..self
+            };
+        };
+        let backwards = match self.last {
+            Some(last) if time.nanoseconds() < last.nanoseconds() => Some(number),
+            _ => None,
+        };
+        Timing {
+            has_untimed: self.has_untimed,
+            earliest: earlier(self.earliest, Some(time)),
+            latest: later(self.latest, Some(time)),
+            last: Some(time),
+            backwards: self.backwards.or(backwards),
+        }
+    }
+}
+
+/// The earlier of two times, or the one that there is.
+pub(crate) fn earlier(one: Option<Time>, other: Option<Time>) -> Option<Time>
+    ensures { result ≡ least one other }
+{
+    match (one, other) {
+        (Some(one), Some(other)) => Some(if other.nanoseconds() < one.nanoseconds() {
+            other
+        } else {
+            one
+        }),
+        (one, other) => one.or(other),
+    }
+}
+
+/// The later of two times, or the one that there is.
+pub(crate) fn later(one: Option<Time>, other: Option<Time>) -> Option<Time>
+    ensures { result ≡ greatest one other }
+{
+    match (one, other) {
+        (Some(one), Some(other)) => Some(if one.nanoseconds() < other.nanoseconds() {
+            other
+        } else {
+            one
+        }),
+        (one, other) => one.or(other),
+    }
+}
