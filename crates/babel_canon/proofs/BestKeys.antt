@@ -121,4 +121,4 @@ best_from d s seen (row ∷ later) best is =
 
 -- rows have a best one, or none matches
 pub best_of : (rows : List Pair) (d s : Address) → (best : Option Pair) × IsBestOf rows d s best
-best_of rows d s = best_from d s [] rows None (record { none = λ row c. absurd (omega (arith, c.1)) })
+best_of rows d s = best_from d s [] rows None (λ key held c. absurd (omega (arith, c.1)))

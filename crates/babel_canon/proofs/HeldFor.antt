@@ -19,7 +19,7 @@ abbrev pub held_for : Mode → List Event → RouteKey → Option Held
 held_for mode events key = fold (held_after mode key) None events
 
 abbrev pub IsAnswer : Mode → List Event → Address → Address → Option Held → Type 0
-IsAnswer mode events = IsBestAmong (λ pair. Holds mode events pair.0 pair.1)
+IsAnswer mode events = IsBestAmong (Holds mode events)
 
 after-quiet : (mode : Mode) (key : RouteKey) (old : Option Held) (event : Event) → held_after mode key old (quiet event) ≡ held_after mode key old event
 after-quiet mode key old (events.Announce other ann) = refl

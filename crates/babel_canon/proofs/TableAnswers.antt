@@ -21,7 +21,7 @@ use Rattle.babel_tlv.specs.declared.mode.Mode.{Mode}
 use Rattle.babel_tlv.specs.Framing.{packet_octets}
 use Rattle.babel_tlv.specs.Pair.{Pair}
 use Rattle.babel_tlv.specs.Route.{RouteKey}
-use Rattle.babel_table.specs.BestMatch.{ContainsBoth, HasNoMatch, IsMoreSpecific}
+use Rattle.babel_table.specs.BestMatch.{ContainsBoth, IsBestMatch, IsMoreSpecific}
 use Rattle.babel_table.specs.Bounds.{Bounds, start_of}
 use Rattle.babel_table.specs.Rows.{Routes, entries_of}
 use Rattle.babel_table.specs.TableOf.{IsTableOf}
@@ -143,10 +143,10 @@ module _ (mode : Mode) (said : List Event) (rows : List Pair) (are : AreHeld mod
       ∙ one_held mode said from.pair.0 best.0 from.pair.1 best.1 same
       (are.held from.pair.0 from.pair.1 from.member) (are.held best.0 best.1 most.listed))
 
-  none-answer : HasNoMatch (Contains rows) d s → answer_for (entries_of rows) d s ≡ None
+  none-answer : IsBestMatch rows d s None → answer_for (entries_of rows) d s ≡ None
   none-answer none = answer_for-none (entries_of rows) d s (sym one_family) (λ entry c both.
       let from = Listed-map entry_of rows entry (Listed-from_Contains (entries_of rows) entry c) in
-      none.none from.0 (Contains-from_Listed rows from.0 from.1)
+      none from.0.0 from.0.1 (Contains-from_Listed rows from.0 from.1)
       (subst (HasBoth d s) (sym from.2) both))
 
   -- ---- the answer of the events
@@ -160,17 +160,17 @@ module _ (mode : Mode) (said : List Event) (rows : List Pair) (are : AreHeld mod
   settled_by : (best : Option Pair) → IsBestOf rows d s best → Settled
   settled_by None none = record {
     answer = None;
-    is_answer = record { none = λ pair is. none.none pair (are.all pair.0 pair.1 is) };
+    is_answer = λ key held is. none key held (are.all key held is);
     rows_too = none-answer none;
   }
   settled_by (Some best) most = record {
     answer = Some best.1;
-    is_answer = record {
-      key = best.0;
-      listed = are.held best.0 best.1 most.listed;
-      matching = most.matching;
-      best = λ pair is. most.best pair (are.all pair.0 pair.1 is);
-    };
+    is_answer = (
+      best.0,
+      are.held best.0 best.1 most.listed,
+      most.matching,
+      (λ key held is. most.best (key, held) (are.all key held is)),
+    );
     rows_too = most-answer best most;
   }
 
@@ -181,14 +181,13 @@ module _ (mode : Mode) (said : List Event) (rows : List Pair) (are : AreHeld mod
       → IsAnswer mode said d s other → answer ≡ other
   answer_one None None is too = refl
   answer_one None (Some held) is too =
-      absurd (is.none (too.key, held) too.listed too.matching)
-  answer_one (Some held) None is too = absurd (too.none (is.key, held) is.listed is.matching)
+      absurd (is too.0 held too.1 too.2)
+  answer_one (Some held) None is too = absurd (too is.0 held is.1 is.2)
   answer_one (Some held) (Some other) is too =
-      let same : is.key ≡ too.key = key_one d s is.key too.key (are.clean is.key held is.listed)
-      (are.clean too.key other too.listed) is.matching too.matching
-      (too.best (is.key, held) is.listed is.matching)
-      (is.best (too.key, other) too.listed too.matching) in
-      ap Some (one_held mode said is.key too.key held other same is.listed too.listed)
+      let same : is.0 ≡ too.0 = key_one d s is.0 too.0 (are.clean is.0 held is.1)
+      (are.clean too.0 other too.1) is.2 too.2 (too.3 is.0 held is.1 is.2)
+      (is.3 too.0 other too.1 too.2) in
+      ap Some (one_held mode said is.0 too.0 held other same is.1 too.1)
 
   -- the events and the rows have one answer
   answer_is : (answer : Option Held) → IsAnswer mode said d s answer

@@ -33,7 +33,7 @@ length-flat a b = ap length (flat-append a b) ∙ length-append (flat_map packet
 pub sayings-append : (start : Start) (a b : List (List TlvAt)) → sayings start (a ++ b) ≡ sayings start a ++ sayings start b
 sayings-append start a b = flat_map-append (sayings_after start []) a b
 
-placed-append : (at place : ℕ) (a b : List (List TlvAt)) → ArePackets at a → place ≡ at + length (flat_map packet_octets a) → ArePackets place b → ArePackets at (a ++ b)
+pub placed-append : (at place : ℕ) (a b : List (List TlvAt)) → ArePackets at a → place ≡ at + length (flat_map packet_octets a) → ArePackets place b → ArePackets at (a ++ b)
 placed-append at place [] b placed here later = subst (λ (n : ℕ). ArePackets n b) (omega (arith, here)) later
 placed-append at place (tlvs ∷ a) b placed here later =
     (placed.0, placed.1, placed-append (at + length (packet_octets tlvs)) place a b placed.2 (omega (arith, here, length-append (packet_octets tlvs) (flat_map packet_octets a))) later)

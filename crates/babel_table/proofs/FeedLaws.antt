@@ -1,5 +1,5 @@
 -- Octets that a feeder takes, within the limit on all.
-use Rattle.std.proofs.Common.{◌≡◌, ◌≢◌, ℕ, ◌+◌, ◌-◌, ◌<◌, ◌≤◌, List, [], ◌∷◌, ◌++◌, length, take, drop, Option, Some, None, refl, sym, ap, subst, ◌∙◌, append_assoc, inl, inr, arith}
+use Rattle.std.proofs.Common.{◌≡◌, ◌≢◌, ℕ, ◌+◌, ◌-◌, ◌<◌, ◌≤◌, Bool, List, [], ◌∷◌, ◌++◌, length, take, drop, Option, Some, None, refl, sym, ap, subst, ◌∙◌, append_assoc, inl, inr, arith}
 use Rattle.std.specs.Prelude.{◌⊎◌, Result, Ok, Err, IfOk, IfErr}
 use Rattle.std.specs.List.{flat_map}
 use Rattle.std.proofs.Math.Seq.{take-append-add}
@@ -22,6 +22,7 @@ use Rattle.babel_table.specs.TableOf.{IsTableOf}
 use Rattle.babel_table.specs.DumpFault.{DumpFault, HasNoFault, IsTruncated, MayGoOn, StreamFault}
 use Rattle.babel_table.specs.Feeding.{StandsBehind, TookPackets, StopsWithin, Progress, IsPartial, IsLasting, NeedsMemory, HasTaken, HasFailed, HasReadTo, HasRead, routes}
 use Rattle.babel_table.specs.Rows.{Routes, entries_of}
+use Rattle.babel_table.specs.Words.{TimedRows}
 use Rattle.babel_table.specs.declared.answer.Answer.{Answer}
 use Rattle.babel_table.proofs.FineLaws.{stands-none}
 use Rattle.babel_table.proofs.DumpLaws.{HasTakenTo, HasStopped, taken-then, stopped-then, only_truncated, truncated}
@@ -254,9 +255,22 @@ stops-within bytes b mode entries e start s at pending octets old fault is_b is_
     (subst (λ (n : ℕ). StopsWithin bytes mode n s at pending octets old fault) is_e (subst (λ (n : ℕ). StopsWithin n mode e s at pending octets old fault) is_b stops))
 
 -- a feeder that was fed nothing
-pub taken-none : (limits : Bounds) (mode : Mode) (sender : Address) (rows : List (RouteKey × Held)) (report : Counts) (pending : List ℕ) → rows ≡ [] → report ≡ counts_of [] → pending ≡ []
-    → HasTaken (record { limits = limits; mode = mode; sender = sender; table = routes rows report; at = 0; pending = pending; fault = None }) []
-taken-none limits mode sender rows report pending is_rows is_report is_pending = record {
+pub taken-none : (limits : Bounds) (mode : Mode) (sender : Address) (rows : List (RouteKey × Held)) (report : Counts) (pending : List ℕ)
+    (runs : Bool) (factor time : ℕ) (words : TimedRows) → rows ≡ [] → report ≡ counts_of [] → pending ≡ []
+    → HasTaken (record {
+      limits = limits;
+      mode = mode;
+      sender = sender;
+      table = routes rows report;
+      at = 0;
+      pending = pending;
+      fault = None;
+      runs = runs;
+      factor = factor;
+      time = time;
+      words = words;
+    }) []
+taken-none limits mode sender rows report pending runs factor time words is_rows is_report is_pending = record {
   packets = [];
   in_limit = omega arith;
   reads = record { whole = sym is_pending; placed = tt };

@@ -22,10 +22,10 @@ packets-none mode entries start at octets old = record {
   takes = λ before stands. subst (StandsBehind mode entries old) (sym (append-nil before)) stands;
 }
 
-length-framed : (body : List ℕ) → length (framed body) ≡ 4 + length body
+pub length-framed : (body : List ℕ) → length (framed body) ≡ 4 + length body
 length-framed body = omega arith
 
-placed-push : (at : ℕ) (packets : List (List TlvAt)) (tlvs : List TlvAt) (place : ℕ) → ArePackets at packets
+pub placed-push : (at : ℕ) (packets : List (List TlvAt)) (tlvs : List TlvAt) (place : ℕ) → ArePackets at packets
     → place ≡ at + length (flat_map packet_octets packets) → IsBody (flat_map tlv_octets tlvs) → ArePlaced (place + 4) tlvs
     → ArePackets at (packets ++ tlvs ∷ [])
 placed-push at [] tlvs place placed here fits parts = (fits, subst (λ (p : ℕ). ArePlaced (p + 4) tlvs) (omega (arith, here)) parts, tt)

@@ -15,7 +15,7 @@ use Rattle.babel_tlv.specs.Keys.{key_cmp}
 use Rattle.babel_tlv.specs.Pair.{Pair}
 use Rattle.babel_tlv.specs.Route.{RouteKey}
 use Rattle.babel_tlv.proofs.OrderLaws.{key_exact, key_total}
-use Rattle.babel_table.specs.BestMatch.{ContainsBoth, HasNoMatch, IsBestMatch, IsMoreSpecific}
+use Rattle.babel_table.specs.BestMatch.{ContainsBoth, IsBestMatch, IsMoreSpecific}
 use Rattle.babel_table.specs.Live.{Kept, current, live_rows}
 use Rattle.babel_table.specs.Lookup.{IsBetter}
 use Rattle.babel_table.specs.Said.{Words, standing, AreDistinct}
@@ -32,7 +32,7 @@ pub record IsBestRow (rows : List Pair) (d s : Address) (row : Pair) : Type 0 wh
 
 -- the best row, or none where no row contains both addresses
 abbrev pub IsBestOf : List Pair → Address → Address → Option Pair → Type 0
-IsBestOf rows d s best = MatchOption best (HasNoMatch (Contains rows) d s) (IsBestRow rows d s)
+IsBestOf rows d s best = MatchOption best (IsBestMatch rows d s None) (IsBestRow rows d s)
 
 longer_still : (a b c : RouteKey) → IsMoreSpecific a b → IsMoreSpecific b c → IsMoreSpecific a c
 longer_still a b c (inl ab) (inl bc) = inl (omega (arith, ab, bc))
@@ -59,16 +59,14 @@ module _ (rows : List Pair) (d s : Address) (row : Pair) where
     where
       not_better : (best : Option Pair) → IsBestOf rows d s best → IfSome best (λ b. IsMoreSpecific row.0 b.0) → (other : Pair) → Contains rows other
           → ContainsBoth d s other.0 → ¬ IsMoreSpecific other.0 row.0
-      not_better None none more other c both = absurd (none.none other c both)
+      not_better None none more other c both = absurd (none other.0 other.1 c both)
       not_better (Some b) best more other c both = λ longer. best.best other c both (longer_still other.0 row.0 b.0 longer more)
 
   pub no_better : (best : Option Pair) → IsBestOf rows d s best → ¬ IsBetter d s row.0 best → IsBestOf (rows ++ row ∷ []) d s best
-  no_better None none not = record {
-    none = λ other c both. elim (Contains-push_cases rows row other c) [
-      | inl earlier ↦ none.none other earlier both
-      | inr same ↦ not (subst (λ (o : Pair). ContainsBoth d s o.0) (sym same) both, tt)
-    ];
-  }
+  no_better None none not = λ key held c both. elim (Contains-push_cases rows row (key, held) c) [
+    | inl earlier ↦ none key held earlier both
+    | inr same ↦ not (subst (λ (o : Pair). ContainsBoth d s o.0) (sym same) both, tt)
+  ]
   no_better (Some b) best not = record {
     listed = Contains-append_left rows (row ∷ []) b best.listed;
     matching = best.matching;
@@ -94,7 +92,7 @@ abbrev pub IsBestSaid : ℕ → Words → Address → Address → Option Pair �
 IsBestSaid wipes ws d s best = IsBestOf (listing wipes ws) d s best
 
 pub best-none : (wipes : ℕ) (d s : Address) → IsBestSaid wipes [] d s None
-best-none wipes d s = record { none = λ row c. absurd (omega (arith, c.1)) }
+best-none wipes d s key held c = absurd (omega (arith, c.1))
 
 module _ (wipes : ℕ) (ws : Words) (d s : Address) (best : Option Pair) (so_far : IsBestSaid wipes ws d s best) (w : RouteKey × Option Kept) where
   pushed : (rest : List Pair) (now : Option Pair) → with_word wipes w.0 w.1 [] ≡ rest → IsBestOf (listing wipes ws ++ rest) d s now → IsBestSaid wipes (ws ++ w ∷ []) d s now
@@ -135,13 +133,8 @@ module _ (wipes : ℕ) (ws : Words) (distinct : AreDistinct (keys_of ws)) where
   is_said row c = contained-found (listing wipes ws) row (found-listed wipes row.0 ws distinct ∙ found-contained live row distinct-live c)
 
   best-matches : (d s : Address) (best : Option Pair) → IsBestSaid wipes ws d s best → IsBestMatch live d s (option_map (λ row. row.1) best)
-  best-matches d s None none = record { none = λ row c. none.none row (is_said row c) }
-  best-matches d s (Some b) best = record {
-    key = b.0;
-    listed = stands b best.listed;
-    matching = best.matching;
-    best = λ other c. best.best other (is_said other c);
-  }
+  best-matches d s None none = λ key held c. none key held (is_said (key, held) c)
+  best-matches d s (Some b) best = (b.0, stands b best.listed, best.matching, (λ key held c. best.best (key, held) (is_said (key, held) c)))
 
   -- the best row that the words say is the best match among the rows that stand
   pub best-found : (d s : Address) (so_far best : Option Pair) (n : ℕ) → length ws ≤ n → so_far ≡ best → IsBestSaid wipes (take n ws) d s so_far → IsBestMatch live d s (option_map (λ row. row.1) best)

@@ -1,7 +1,8 @@
 -- What a feeder has made of the octets that it was fed. Reading in pieces is this project's own:
 -- RFC 8966, 4 has each packet come whole, in a datagram. Where packets and TLVs end is that of RFC
 -- 8966, 4.2 and 4.3.
-use Rattle.std.specs.Prelude.{◌≡◌, ℕ, ◌+◌, ◌-◌, ◌<◌, ◌≤◌, List, [], ◌∷◌, ◌++◌, length, take, Option}
+use Rattle.std.specs.Prelude.{◌≡◌, ℕ, ◌+◌, ◌-◌, ◌<◌, ◌≤◌, Bool}
+use Rattle.std.specs.Prelude.{true, List, [], ◌∷◌, ◌++◌, length, take, Option}
 use Rattle.std.specs.Prelude.{Some, None, Result, Ok, Err, ◌⊎◌}
 use Rattle.std.specs.List.{flat_map, Contains}
 use Rattle.babel_prefix.specs.Address.{Address}
@@ -22,6 +23,8 @@ use Rattle.babel_table.specs.Bounds.{Bounds, start_of}
 use Rattle.babel_table.specs.Counts.{Counts, counts_of}
 use Rattle.babel_table.specs.Holds.{AreRowsOf}
 use Rattle.babel_table.specs.Rows.{Routes}
+use Rattle.babel_table.specs.Moments.{AreHeard, Heard, dump_of, told_of}
+use Rattle.babel_table.specs.Words.{TimedRows, after_all}
 use Rattle.babel_table.specs.TableOf.{AreFine}
 use Rattle.babel_table.specs.DumpFault.{RefusedBy, DumpFault, HoldsMoreThan}
 
@@ -161,7 +164,8 @@ StopsWithin bytes mode entries start at pending octets old fault =
 -- ---- a feeder
 
 -- what a feeder holds: what it was made with, the rows and the counts of the whole packets, where
--- the next packet begins, its octets so far, and the fault if it has one
+-- the next packet begins, its octets so far, and the fault if it has one; whether times are kept,
+-- how long words last, the time that it is, and the words with their times
 pub record Progress : Type 0 where
   pub limits : Bounds
   pub mode : Mode
@@ -170,6 +174,10 @@ pub record Progress : Type 0 where
   pub at : ℕ
   pub pending : List ℕ
   pub fault : Option Fault
+  pub runs : Bool
+  pub factor : ℕ
+  pub time : ℕ
+  pub words : TimedRows
 
 -- without a fault: as many TLVs at most as octets, no octet past the limit, and less than a packet
 -- pending
@@ -210,3 +218,19 @@ HasReadTo progress (Some fault) fed = HasFailed progress fault fed
 -- the feeder stands where these octets, fed since it was made, have led it
 abbrev pub HasRead : Progress → List ℕ → Type 0
 HasRead progress fed = HasReadTo progress progress.fault fed
+
+-- ---- a feeder that keeps times
+
+-- without a fault: the words are those after the packets that were heard, and nothing is pending
+pub record HasHeardAll (progress : Progress) (given : List (ℕ × List ℕ)) : Type 0 where
+  pub none : progress.pending ≡ []
+  pub all : List Heard
+  pub heard : AreHeard given all
+  pub words : progress.words ≡ after_all progress.mode progress.factor
+      (told_of (start_of progress.limits progress.sender) all) []
+
+-- the feeder stands where these packets, each with the time when it came, have led it
+pub record HasHeard (progress : Progress) (given : List (ℕ × List ℕ)) : Type 0 where
+  pub runs : progress.runs ≡ true
+  pub read : HasRead progress (dump_of given)
+  pub told : progress.fault ≡ None → HasHeardAll progress given

@@ -12,9 +12,12 @@ pub mod Streams
 pub mod BestMatch
 pub mod Answers
 pub mod Lookup
+pub mod Moments
+pub mod LastTold
 pub mod Nested
 pub mod OneOutcome
 pub mod Compact
 pub mod Left
 pub mod Said
 pub mod Seen
+pub mod Words

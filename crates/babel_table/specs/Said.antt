@@ -1,7 +1,8 @@
 -- How rows of a family are kept: what was last said of each key, in the order in which the keys
 -- came, and where each is found. This project's own.
 use Rattle.std.specs.Prelude.{◌≡◌, ℕ, ◌<◌, ◌≤◌, ◌+◌, ◌-◌, ◌*◌, ◌/◌, ◌%◌, ◌^◌, ◌⊎◌, false, Option}
-use Rattle.std.specs.Prelude.{Some, None, List, [], ◌∷◌, bit_xor, length, take}
+use Rattle.std.specs.Prelude.{Some, None, List, [], ◌∷◌, bit_xor, length, take, map, count_by, Bool}
+use Rattle.std.specs.Option.{option_and_then}
 use Rattle.std.specs.List.{AllByRecursion, HoldsAt, IsDistinct, list_any}
 use Rattle.std.specs.List.Sorted.{IsStrictlySortedBy}
 use Rattle.std.specs.Ordering.{eq_by_cmp}
@@ -24,6 +25,18 @@ say key None entries = remove_entry (is_at (key_cmp key)) entries
 abbrev pub standing : Words → List (RouteKey × Kept)
 standing [] = []
 standing (word ∷ words) = say word.0 word.1 (standing words)
+
+-- something was said for which the test holds
+abbrev pub is_said : (Kept → Bool) → Option Kept → Bool
+is_said test None = false
+is_said test (Some said) = test said
+
+abbrev pub said_count : (Kept → Bool) → Words → ℕ
+said_count test words = count_by (λ word. is_said test word.1) words
+
+-- the words with what this gives in place of what was said
+abbrev pub said_as : (Kept → Option Kept) → Words → Words
+said_as give words = map (λ word. (word.0, option_and_then give word.1)) words
 
 abbrev pub AreDistinct : List RouteKey → Type 0
 AreDistinct keys = IsDistinct (eq_by_cmp key_cmp) keys

@@ -1,6 +1,7 @@
 ghost use Rattle.std.specs.Prelude.{◌≡◌, IsTrue};
 ghost use Rattle.babel_tlv.specs.Views.{no_address, seen};
 ghost use Rattle.babel_table.specs.Compact.{CanKeep};
+ghost use Rattle.babel_table.specs.Words.{is_route};
 
 use crate::hop::Hop;
 use babel_prefix::{Addr, Family};
@@ -66,6 +67,13 @@ impl<H: Hop> CompactHeld<H> {
             Some(ann) => Held::Route(ann),
             None => Held::Unreachable,
         }
+    }
+
+    /// Whether a route is held.
+    pub fn is_route(&self) -> bool
+        ensures { result ≡ is_route self.now }
+    {
+        self.metric != INFINITY
     }
 
     /// Whether both are kept in the same octets, so that both hold the same.

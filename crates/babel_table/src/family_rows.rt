@@ -1,21 +1,27 @@
 ghost use Rattle.std.specs.Prelude.{◌≡◌, ◌<◌, ◌+◌, ◌^◌, ◌∷◌, ◌++◌, ◌↔◌, ◌⊎◌, if◌then◌else◌, []};
 ghost use Rattle.std.specs.Prelude.{IfErr, IfOk, IsTrue, MatchOption, MatchResult, None, OnErr};
-ghost use Rattle.std.specs.Prelude.{OnOk, Some, is_some, length, true};
+ghost use Rattle.std.specs.Prelude.{IfSome, OnOk, Some, count_by, is_some, length, true};
+ghost use Rattle.std.specs.Option.{option_and_then, option_map};
+ghost use Rattle.babel_tlv.specs.declared.held.Held.TheVariants as helds;
 ghost use Rattle.std.specs.List.Sorted.{IsPermutation, IsStrictlySortedBy};
 ghost use Rattle.std.specs.BTreeMap.{insert_entry, is_at};
 ghost use Rattle.std.specs.Map.{keys_of, lookup, remove_entry};
 ghost use Rattle.babel_tlv.specs.Keys.{key_cmp};
 ghost use Rattle.babel_table.specs.BestMatch.{IsBestMatch};
 ghost use Rattle.babel_table.specs.Compact.{CanKeep, address_in};
-ghost use Rattle.babel_table.specs.Live.{kept, live_rows};
+ghost use Rattle.babel_table.specs.Live.{kept, kept_at, lasting, left_of, live_rows, passes};
+ghost use Rattle.babel_table.specs.Live.{what_is_left};
 ghost use Rattle.babel_table.specs.Lookup.{IsBetter};
 ghost use Rattle.babel_table.specs.Rows.{IsRising};
-ghost use Rattle.babel_table.specs.Said.{AreDistinct, AreIndexed, IsPlace, AreAbove, standing};
+ghost use Rattle.babel_table.specs.Said.{AreAbove, AreDistinct, AreIndexed, IsPlace, is_said};
+ghost use Rattle.babel_table.specs.Said.{said_as, said_count, standing};
+ghost use Rattle.babel_table.specs.Words.{replaced};
 
 use crate::compact_held::CompactHeld;
 use crate::compact_key::CompactKey;
 use crate::compact_row::CompactRow;
 use crate::hop::Hop;
+use crate::moment::{Left, Moment};
 use crate::places::Places;
 use crate::stored::Stored;
 use crate::word::Word;
@@ -89,20 +95,20 @@ impl<W: Word, H: Hop> FamilyRows<W, H> {
         self.count
     }
 
-    /// Keeps this for the key. Where there is nothing for it, the refusal is answered, if there is
-    /// one.
+    /// Keeps this for the key, with its mark. Where there is nothing for it, the refusal is
+    /// answered, if there is one.
     pub fn put(
         &mut self,
         key: &Key,
         held: Held,
-        wipes: u64,
+        mark: u64,
         refusal: Option<Fault>,
     ) -> Result<(), Fault>
         requires family { key.now.dst.address.family ≡ W.family }
         requires fits { CanKeep H.fits held }
         requires few { length self.old < 2 ^ 62 }
         ensures ok { OnOk result
-            (self.new ≡ insert_entry key_cmp self.old key.now (kept held wipes)) }
+            (self.new ≡ insert_entry key_cmp self.old key.now (kept held mark)) }
         ensures len { OnOk result (length self.new ≡ length self.old
             + (if is_some (lookup (is_at (key_cmp key.now)) self.old) then 0 else 1)) }
         ensures room { OnOk result ((refusal ≡ None)
@@ -113,7 +119,7 @@ impl<W: Word, H: Hop> FamilyRows<W, H> {
     {
         let key = CompactKey::of(key);
         let held = CompactHeld::of(held);
-        let stored = Stored { held, wipes };
+        let stored = Stored { held, mark };
         if let Some(place) = find(&self.rows, self.next, self.rising, &self.places, &key) {
             let was = self.rows[place].1.is_some();
             if let Some(fault) = refusal {
@@ -222,6 +228,22 @@ impl<W: Word, H: Hop> FamilyRows<W, H> {
         self.count = 0;
     }
 
+    /// For how many keys there is a route that has passed at the moment.
+    pub fn count_passed(&self, moment: &Moment<'_>) -> usize
+        ensures count { result + length (lasting moment.now self.now) ≡ length self.now }
+        ensures small { result < 2 ^ 63 }
+    {
+        count_passed(&self.rows, moment)
+    }
+
+    /// Keeps what is left at the moment.
+    pub fn leave(&mut self, moment: &Moment<'_>)
+        ensures { self.new ≡ replaced (kept_at moment.now) self.old }
+    {
+        leave_all(&mut self.rows, moment);
+        self.count = count_said(&self.rows);
+    }
+
     /// The rows that these stand for after so many wipes, in order.
     pub fn listed(self, alloc: Global, wipes: u64) -> Result<Vec<CompactRow<W, H>>, AllocError>
         ensures { IfOk result (λ rows. rows.items ≡ live_rows wipes self) }
@@ -270,6 +292,78 @@ fn best_standing<W: Word, H: Hop>(
     match best {
         Some((_, held)) => Some(held),
         None => None,
+    }
+}
+
+/// In how many rows a route was said that has passed at the moment.
+fn count_passed<W: Word, H: Hop>(rows: &[WordRow<W, H>], moment: &Moment<'_>) -> usize
+    ensures { result ≡ said_count (passes moment.now) rows.now }
+{
+    let mut count = 0;
+    for row in rows {
+        count += usize::from(has_passed(&row.1, moment));
+    }
+    count
+}
+
+/// In how many rows something was said.
+fn count_said<W: Word, H: Hop>(rows: &[WordRow<W, H>]) -> usize
+    ensures { result ≡ count_by (λ word. is_some word.1) rows.now }
+{
+    let mut count = 0;
+    for row in rows {
+        count += usize::from(row.1.is_some());
+    }
+    count
+}
+
+/// Keeps in the rows what is left at the moment.
+fn leave_all<W: Word, H: Hop>(rows: &mut [WordRow<W, H>], moment: &Moment<'_>)
+    ensures { rows.new ≡ said_as (kept_at moment.now) rows.old }
+{
+    for row in rows.iter_mut() {
+        leave(&mut row.1, moment);
+    }
+}
+
+/// Keeps what is left at the moment.
+fn leave<H: Hop>(said: &mut Option<Stored<H>>, moment: &Moment<'_>)
+    ensures { said.new ≡ option_and_then (kept_at moment.now) said.old }
+{
+    match left(said, moment) {
+        Left::All => {}
+        Left::Unreachable => retract(said),
+        Left::Nothing => *said = None,
+    }
+}
+
+/// What is left at the moment: nothing where nothing was said.
+fn left<H: Hop>(said: &Option<Stored<H>>, moment: &Moment<'_>) -> Left
+    ensures { IfSome said.now (λ stored. what_is_left result stored.held
+        ≡ left_of moment.now stored) }
+{
+    match said {
+        Some(stored) => stored.left(moment),
+        None => Left::Nothing,
+    }
+}
+
+/// Keeps that the key is unreachable, where something was said.
+fn retract<H: Hop>(said: &mut Option<Stored<H>>)
+    ensures { said.new ≡ option_map (λ stored. kept helds.Unreachable stored.mark) said.old }
+{
+    if let Some(stored) = said {
+        stored.held = CompactHeld::of(Held::Unreachable);
+    }
+}
+
+/// Whether a route was said, and has passed at the moment.
+fn has_passed<H: Hop>(said: &Option<Stored<H>>, moment: &Moment<'_>) -> bool
+    ensures { result ≡ is_said (passes moment.now) said.now }
+{
+    match said {
+        Some(stored) => stored.has_passed(moment),
+        None => false,
     }
 }
 

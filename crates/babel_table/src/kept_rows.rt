@@ -6,11 +6,13 @@ ghost use Rattle.std.specs.Map.{keys_of, lookup, remove_entry};
 ghost use Rattle.babel_tlv.specs.Keys.{key_cmp};
 ghost use Rattle.babel_tlv.specs.Pairs.{IsPair};
 ghost use Rattle.babel_table.specs.BestMatch.{IsBestMatch};
-ghost use Rattle.babel_table.specs.Live.{kept, live_rows};
+ghost use Rattle.babel_table.specs.Live.{kept, kept_at, lasting, live_rows};
+ghost use Rattle.babel_table.specs.Words.{replaced};
 ghost use Rattle.babel_table.specs.TableRows.{AreRows};
 
 use crate::family_rows::FamilyRows;
 use crate::halves::Halves;
+use crate::moment::Moment;
 use crate::nested_rows::NestedRows;
 use crate::sorted_rows::SortedRows;
 use crate::v4_rows::V4Rows;
@@ -59,19 +61,19 @@ impl KeptRows {
         self.v4.len() + self.v6.len()
     }
 
-    /// Keeps this for the key. Where there is nothing for it, the refusal is answered, if there is
-    /// one.
+    /// Keeps this for the key, with its mark. Where there is nothing for it, the refusal is
+    /// answered, if there is one.
     pub fn put(
         &mut self,
         key: &Key,
         held: Held,
-        wipes: u64,
+        mark: u64,
         refusal: Option<Fault>,
     ) -> Result<(), Fault>
         requires pair { IsPair (key.now, held) }
         requires few { length self.old < 2 ^ 62 }
         ensures ok { OnOk result
-            (self.new ≡ insert_entry key_cmp self.old key.now (kept held wipes)) }
+            (self.new ≡ insert_entry key_cmp self.old key.now (kept held mark)) }
         ensures len { OnOk result (length self.new ≡ length self.old
             + (if is_some (lookup (is_at (key_cmp key.now)) self.old) then 0 else 1)) }
         ensures room { OnOk result ((refusal ≡ None)
@@ -81,8 +83,8 @@ impl KeptRows {
             ⊎ ((refusal ≡ Some fault) × (lookup (is_at (key_cmp key.now)) self.old ≡ None))) }
     {
         match key.dst().family() {
-            Family::V4 => self.v4.put(key, held, wipes, refusal),
-            Family::V6 => self.v6.put(key, held, wipes, refusal),
+            Family::V4 => self.v4.put(key, held, mark, refusal),
+            Family::V6 => self.v6.put(key, held, mark, refusal),
         }
     }
 
@@ -102,6 +104,21 @@ impl KeptRows {
     {
         self.v4.clear();
         self.v6.clear();
+    }
+
+    /// For how many keys there is a route that has passed at the moment.
+    pub fn count_passed(&self, moment: &Moment<'_>) -> usize
+        ensures { result + length (lasting moment.now self.now) ≡ length self.now }
+    {
+        self.v4.count_passed(moment) + self.v6.count_passed(moment)
+    }
+
+    /// Keeps what is left at the moment.
+    pub fn leave(&mut self, moment: &Moment<'_>)
+        ensures { self.new ≡ replaced (kept_at moment.now) self.old }
+    {
+        self.v4.leave(moment);
+        self.v6.leave(moment);
     }
 
     /// The rows that these stand for after so many wipes.

@@ -1,6 +1,8 @@
 //! Laws of the definitions.
+ghost use Rattle.babel_table.specs.LastTold.{PlainIsLast};
 ghost use Rattle.babel_table.specs.OneOutcome.{FaultIsOne, FaultIsOfOctets, FaultStays, TableIsOne};
 ghost use Rattle.babel_table.specs.OneOutcome.{HopsFit, KeysNeedMemory, RoutesNeedMemory};
+ghost use Rattle.babel_table.specs.Words.{WordsAreHeld};
 
 /// A dump has at most one fault.
 pub fn fault_is_one()
@@ -34,4 +36,14 @@ pub fn fault_stays()
 pub fn rows_need_memory()
     ensures plain { RoutesNeedMemory }
     ensures hold { KeysNeedMemory }
+{}
+
+/// What is left of the words that are kept is what is held at the moment.
+pub fn words_are_held()
+    ensures { WordsAreHeld }
+{}
+
+/// In mode Plain a route is held at a moment where it was announced last and has not passed.
+pub fn plain_is_last()
+    ensures { PlainIsLast }
 {}

@@ -1,5 +1,5 @@
 ghost use Rattle.std.specs.Prelude.{◌≡◌, ◌≤◌, ◌<◌, ◌+◌, ◌^◌, ◌∷◌, [], length, drop};
-ghost use Rattle.std.specs.Prelude.{OnOk, IfOk, IfErr};
+ghost use Rattle.std.specs.Prelude.{OnOk, IfOk, IfErr, List, true};
 ghost use Rattle.babel_table.specs.Feeding.{IsRefused, IsPartial, event_at};
 ghost use Rattle.babel_tlv.specs.Pairs.{EventFits};
 ghost use Rattle.babel_tlv.specs.EventKinds.{event_of};
@@ -7,19 +7,25 @@ ghost use Rattle.babel_tlv.specs.Says.{sayings_after};
 ghost use Rattle.babel_tlv.specs.Framing.{tlvs_of};
 ghost use Rattle.babel_tlv.specs.FrameFaults.{AreTlvs};
 ghost use Rattle.babel_tlv.specs.Frames.{tlv_value};
+ghost use Rattle.babel_tlv.specs.declared.start.Start.{Start as StartValue};
+ghost use Rattle.babel_tlv.specs.Context.{context_after, first_context};
+ghost use Rattle.babel_tlv.specs.Framing.{TlvAt};
+ghost use Rattle.babel_table.specs.Live.{KeepsTime};
+ghost use Rattle.babel_table.specs.Moments.{told_at, told_from};
+ghost use Rattle.babel_table.specs.Words.{HearsPackets, after_all, after_told, told_then};
 
 use crate::live::LiveRows;
 use crate::report::Report;
 use babel_tlv::{EventKind, Fault, Frame, Route, Start, State, Tlv, Tlvs, frame};
 
-/// The table so far. All was retracted at most as often as TLVs were seen.
+/// The table so far. Marks have been made at most as often as TLVs were seen.
 #[derive(Drop)]
 pub struct SoFar {
     /// What is held for each key.
     pub rows: LiveRows,
     /// What was seen of TLVs.
     pub report: Report,
-    ghost counted: { rows.wipes ≤ report.tlvs },
+    ghost counted: { rows.last ≤ report.tlvs },
 }
 
 impl SoFar {
@@ -39,8 +45,13 @@ impl SoFar {
             (event_at (tlv_value tlv.now) (event_of kind route.now) ∷ []) self.new) }
         ensures refused { IfErr result (IsRefused self.old.rows.mode self.old.rows.entries
             tlv.now.at (event_of kind route.now) self.old.rows.rows) }
+        ensures time { KeepsTime self.old.rows self.new.rows }
+        ensures words { self.old.rows.runs ≡ true → OnOk result (self.new.rows.words
+            ≡ after_told self.old.rows.mode self.old.rows.factor (told_then self.old.rows.when.time
+            (tlv_value tlv.now) (event_of kind route.now)) self.old.rows.words) }
     {
         self.report.count(tlv, kind);
+        self.rows.set_interval(tlv.body);
         let taken = self.rows.take(kind, route, tlv.at);
         self.rows.are_few();
         taken
@@ -57,6 +68,13 @@ impl SoFar {
         ensures ok { OnOk result
             (TakesTlv self.old state.old (tlv_value tlv.now) self.new state.new) }
         ensures fails { IfErr result (FailsAtTlv self.old state.old (tlv_value tlv.now)) }
+        ensures time { KeepsTime self.old.rows self.new.rows }
+        ensures words { self.old.rows.runs ≡ true → OnOk result (self.new.rows.words
+            ≡ after_told self.old.rows.mode self.old.rows.factor
+            (told_at self.old.rows.when.time state.old (tlv_value tlv.now)) self.old.rows.words) }
+        ensures state { OnOk result ((start : StartValue) (earlier : List TlvAt)
+            → state.old ≡ context_after start earlier
+            → state.new ≡ context_after start (tlv_value tlv.now ∷ earlier)) }
     {
         let kind = state.step_into(tlv, route)?;
         self.take(tlv, kind, route)
@@ -76,6 +94,10 @@ impl SoFar {
         ensures ok { OnOk result
             (TakesSayings self.old (sayings_after start.now [] (tlvs_of at body.now)) self.new) }
         ensures fails { IfErr result (FailsInBody self.old start.now at body.now) }
+        ensures time { KeepsTime self.old.rows self.new.rows }
+        ensures words { self.old.rows.runs ≡ true → OnOk result (self.new.rows.words
+            ≡ after_all self.old.rows.mode self.old.rows.factor (told_from self.old.rows.when.time
+            (first_context start.now) (tlvs_of at body.now)) self.old.rows.words) }
     {
         let mut state = State::at(*start);
         let mut route = Route::unwritten();
@@ -102,6 +124,10 @@ impl SoFar {
         ensures tlvs { IfOk result (λ used. self.new.report.tlvs ≤ self.old.report.tlvs + used) }
         ensures partial { IfOk result (λ used. IsPartial (drop used octets.now)) }
         ensures stops { IfErr result (StopsInPackets self.old start.now at octets.now) }
+        ensures time { KeepsTime self.old.rows self.new.rows }
+        ensures words { self.old.rows.runs ≡ true → IfOk result (λ used. HearsPackets
+            self.old.rows.mode self.old.rows.factor self.old.rows.when.time start.now at octets.now
+            self.old.rows.words self.new.rows.words (drop used octets.now)) }
     {
         let mut rest = octets;
         let mut place = at;

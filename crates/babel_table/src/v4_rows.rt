@@ -8,10 +8,12 @@ ghost use Rattle.babel_tlv.specs.Keys.{key_cmp};
 ghost use Rattle.babel_tlv.specs.Pairs.{FitsKey};
 ghost use Rattle.babel_table.specs.BestMatch.{IsBestMatch};
 ghost use Rattle.babel_table.specs.Compact.{AreOf, is_via_v6};
-ghost use Rattle.babel_table.specs.Live.{kept, live_rows};
+ghost use Rattle.babel_table.specs.Live.{kept, kept_at, lasting, live_rows};
+ghost use Rattle.babel_table.specs.Words.{replaced};
 ghost use Rattle.babel_table.specs.TableRows.{AreRows};
 
 use crate::family_rows::FamilyRows;
+use crate::moment::Moment;
 use crate::nested_rows::NestedRows;
 use crate::nested_v4::NestedV4;
 use babel_prefix::{Addr, Family};
@@ -79,20 +81,20 @@ impl V4Rows {
         }
     }
 
-    /// Keeps this for the key. Where there is nothing for it, the refusal is answered, if there is
-    /// one.
+    /// Keeps this for the key, with its mark. Where there is nothing for it, the refusal is
+    /// answered, if there is one.
     pub fn put(
         &mut self,
         key: &Key,
         held: Held,
-        wipes: u64,
+        mark: u64,
         refusal: Option<Fault>,
     ) -> Result<(), Fault>
         requires family { key.now.dst.address.family ≡ V4 }
         requires fits { FitsKey key.now held }
         requires few { length self.old < 2 ^ 62 }
         ensures ok { OnOk result
-            (self.new ≡ insert_entry key_cmp self.old key.now (kept held wipes)) }
+            (self.new ≡ insert_entry key_cmp self.old key.now (kept held mark)) }
         ensures len { OnOk result (length self.new ≡ length self.old
             + (if is_some (lookup (is_at (key_cmp key.now)) self.old) then 0 else 1)) }
         ensures room { OnOk result ((refusal ≡ None)
@@ -102,10 +104,10 @@ impl V4Rows {
             ⊎ ((refusal ≡ Some fault) × (lookup (is_at (key_cmp key.now)) self.old ≡ None))) }
     {
         if self.is_wide {
-            return self.wide.put(key, held, wipes, refusal);
+            return self.wide.put(key, held, mark, refusal);
         }
         if !is_via_v6(&held) {
-            return self.narrow.put(key, held, wipes, refusal);
+            return self.narrow.put(key, held, mark, refusal);
         }
         if let Some(fault) = refusal {
             if !self.narrow.has(key) {
@@ -115,7 +117,7 @@ impl V4Rows {
         self.wide = self.narrow.widened(self.seed)?;
         self.narrow = FamilyRows::new(self.alloc, self.seed);
         self.is_wide = true;
-        self.wide.put(key, held, wipes, refusal)
+        self.wide.put(key, held, mark, refusal)
     }
 
     /// Keeps nothing for the key.
@@ -136,6 +138,29 @@ impl V4Rows {
     {
         self.wide.clear();
         self.narrow.clear();
+    }
+
+    /// For how many keys there is a route that has passed at the moment.
+    pub fn count_passed(&self, moment: &Moment<'_>) -> usize
+        ensures count { result + length (lasting moment.now self.now) ≡ length self.now }
+        ensures small { result < 2 ^ 63 }
+    {
+        if self.is_wide {
+            self.wide.count_passed(moment)
+        } else {
+            self.narrow.count_passed(moment)
+        }
+    }
+
+    /// Keeps what is left at the moment.
+    pub fn leave(&mut self, moment: &Moment<'_>)
+        ensures { self.new ≡ replaced (kept_at moment.now) self.old }
+    {
+        if self.is_wide {
+            self.wide.leave(moment);
+        } else {
+            self.narrow.leave(moment);
+        }
     }
 
     /// The rows that these stand for after so many wipes, in order.

@@ -43,7 +43,7 @@ returns-in-Some-clause-ok g c =
     (standing-set c.self.inside.count c.self.inside.rows.items c.self.inside.rising c.self.inside.places c.self.invariant k c.in-Some.place place c.index.result.now _)
 
 pub returns-in-Some-clause-len : goal.returns-in-Some-clause-len
-returns-in-Some-clause-len g c = said-length c.args.key.now (kept c.args.held c.args.wipes) c.self.inside.rows.items c.args.self.now _ c.self.view_is (returns-in-Some-clause-ok g c)
+returns-in-Some-clause-len g c = said-length c.args.key.now (kept c.args.held c.args.mark) c.self.inside.rows.items c.args.self.now _ c.self.view_is (returns-in-Some-clause-ok g c)
 
 -- ---- a refusal, where the key has nothing
 
@@ -144,4 +144,4 @@ returns-clause-ok g c =
     ]
 
 pub returns-clause-len : goal.returns-clause-len
-returns-clause-len g c = said-length c.args.key.now (kept c.args.held c.args.wipes) c.self.inside.rows.items c.args.self.now _ c.self.view_is (returns-clause-ok g c)
+returns-clause-len g c = said-length c.args.key.now (kept c.args.held c.args.mark) c.self.inside.rows.items c.args.self.now _ c.self.view_is (returns-clause-ok g c)

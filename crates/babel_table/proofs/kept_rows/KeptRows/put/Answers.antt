@@ -8,20 +8,20 @@ use Rattle.babel_table.proofs.kept_rows.KeptRows.put.Goals as goal
 pub invariant_of-self : goal.invariant_of-self
 invariant_of-self c =
     let is : c.args.key.now.dst.address.family ≡ V4 = cc in
-    (of-put c.put.result V4 c.args.key.now (kept c.args.held c.args.wipes) c.self.inside.v4 c.put.new.self c.put.ensures.ok c.put.ensures.err is c.self.invariant.0, c.self.invariant.1)
+    (of-put c.put.result V4 c.args.key.now (kept c.args.held c.args.mark) c.self.inside.v4 c.put.new.self c.put.ensures.ok c.put.ensures.err is c.self.invariant.0, c.self.invariant.1)
 
 pub invariant_of-self-in-V6 : goal.invariant_of-self-in-V6
 invariant_of-self-in-V6 c =
     let is : c.args.key.now.dst.address.family ≡ V6 = cc in (
       c.self.invariant.0,
-      of-put c.put-in-V6.result V6 c.args.key.now (kept c.args.held c.args.wipes) c.self.inside.v6 c.put-in-V6.new.self
+      of-put c.put-in-V6.result V6 c.args.key.now (kept c.args.held c.args.mark) c.self.inside.v6 c.put-in-V6.new.self
           c.put-in-V6.ensures.ok c.put-in-V6.ensures.err is c.self.invariant.1,
     )
 
 pub returns-in-V4-clause-ok : goal.returns-in-V4-clause-ok
 returns-in-V4-clause-ok c =
     let is : c.args.key.now.dst.address.family ≡ V4 = cc in
-    rw (← c.self.view_is) (put-v4 c.put.result c.args.key.now (kept c.args.held c.args.wipes) c.self.inside.v4 c.put.new.self c.self.inside.v6 is c.self.invariant.1 c.put.ensures.ok)
+    rw (← c.self.view_is) (put-v4 c.put.result c.args.key.now (kept c.args.held c.args.mark) c.self.inside.v4 c.put.new.self c.self.inside.v6 is c.self.invariant.1 c.put.ensures.ok)
 
 pub returns-in-V4-clause-len : goal.returns-in-V4-clause-len
 returns-in-V4-clause-len c =
@@ -51,7 +51,7 @@ returns-in-V6-clause-cause c =
 pub returns-in-V6-clause-ok : goal.returns-in-V6-clause-ok
 returns-in-V6-clause-ok c =
     let is : c.args.key.now.dst.address.family ≡ V6 = cc in
-    rw (← c.self.view_is) (put-v6 c.put-in-V6.result c.args.key.now (kept c.args.held c.args.wipes) c.self.inside.v4 c.self.inside.v6 c.put-in-V6.new.self is c.self.invariant.0 c.put-in-V6.ensures.ok)
+    rw (← c.self.view_is) (put-v6 c.put-in-V6.result c.args.key.now (kept c.args.held c.args.mark) c.self.inside.v4 c.self.inside.v6 c.put-in-V6.new.self is c.self.invariant.0 c.put-in-V6.ensures.ok)
 
 pub returns-in-V6-clause-len : goal.returns-in-V6-clause-len
 returns-in-V6-clause-len c =

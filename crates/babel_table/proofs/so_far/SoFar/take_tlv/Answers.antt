@@ -5,6 +5,8 @@ use Rattle.babel_tlv.specs.Frames.{tlv_value}
 use Rattle.babel_tlv.specs.EventKinds.{event_of}
 use Rattle.babel_table.specs.Feeding.{routes}
 use Rattle.babel_table.proofs.TookLaws.{took-refused, tlv-taken, tlv-failed}
+use Rattle.babel_table.proofs.HeardLaws.{told-taken}
+use Rattle.babel_table.proofs.TimeLaws.{on_ok}
 use Rattle.babel_table.proofs.so_far.SoFar.take_tlv.Goals as goal
 
 pub returns-clause-ok : goal.returns-clause-ok
@@ -22,3 +24,12 @@ returns-in_err-kind-clause-fails c =
     rw (exit.1, exit.2) (λ start old all left some. took-refused c.args.self.now.rows.mode c.args.self.now.rows.entries start old all
     (routes c.args.self.now.rows.rows c.args.self.now.report) c.args.state.now (tlv_value c.args.tlv.now) left
     c.in_err-kind.field-0.0 some (sym c.in_err-kind.ensures.said))
+
+pub returns-clause-words : goal.returns-clause-words
+returns-clause-words c = λ runs.
+    told-taken c.args.self.now.rows.mode c.args.self.now.rows.factor c.take.result c.args.self.now.rows.when.time c.args.state.now
+    (tlv_value c.args.tlv.now) (event_of c.in_ok-kind.kind c.step_into.new.route)
+    c.args.self.now.rows.words _ c.in_ok-kind.ensures.said (c.take.ensures.words runs)
+
+pub returns-clause-state : goal.returns-clause-state
+returns-clause-state c = on_ok c.take.result _ c.in_ok-kind.ensures.state
