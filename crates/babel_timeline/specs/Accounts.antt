@@ -1,0 +1,91 @@
+-- How changes account for what was said: this project's own.
+use Rattle.std.specs.Prelude.{◌≡◌, ◌≢◌, ℕ, ◌≤◌, List, ◌∷◌, ◌++◌, map, Option, Some, None}
+use Rattle.std.specs.List.{AllByRecursion, filter}
+use Rattle.std.specs.List.Sorted.{IsStrictlySortedBy}
+use Rattle.std.specs.Option.{option_map}
+use Rattle.std.specs.Map.{keys_of}
+use Rattle.std.specs.declared.cmp.Ordering.{Ordering}
+use Rattle.std.specs.BTreeMap.{is_at}
+use Rattle.babel_tlv.specs.declared.event.Event.{Event}
+use Rattle.babel_tlv.specs.declared.held.Held.TheVariants as helds
+use Rattle.babel_tlv.specs.Route.{RouteKey, Announcement}
+use Rattle.babel_tlv.specs.declared.mode.Mode.TheVariants as modes
+use Rattle.babel_table.specs.Moments.{HoldsAt, Told, When, Word, last_word, word}
+use Rattle.babel_timeline.specs.declared.change.Change.{Change}
+use Rattle.babel_timeline.specs.declared.row.Row.{Row}
+use Rattle.babel_timeline.specs.declared.subject.Subject.{Subject}
+use Rattle.babel_timeline.specs.Changes.{held_after, told_by}
+use Rattle.babel_timeline.specs.Rows.{Ends, Rows, end_of, row_at, subject_cmp}
+
+-- ---- what is held at a moment
+
+-- this is held for the key at the moment. Where no factor is given, nothing passes
+abbrev pub IsHeldAt : Option ℕ → ℕ → List Told → RouteKey → Announcement → Type 0
+IsHeldAt None moment told key ann =
+    option_map (λ said. said.held) (last_word modes.Plain 0 told key) ≡ Some (helds.Route ann)
+IsHeldAt (Some factor) moment told key ann =
+    HoldsAt modes.Plain factor moment told key (helds.Route ann)
+
+-- what was said then has ended at the moment
+pub record HasEnded (factor : Option ℕ) (moment : ℕ) (when : When) : Type 0 where
+  pub time : ℕ
+  pub end : end_of factor when ≡ Some time
+  pub passed : time ≤ moment
+
+-- a row is the last word on its key, or there is none since that word has ended
+abbrev pub IsLeft : Option ℕ → ℕ → Option Row → Option Word → Type 0
+IsLeft factor moment None (Some said) = HasEnded factor moment said.when
+IsLeft factor moment row said =
+    option_map (λ row. word row.when (helds.Route row.ann)) row ≡ said
+
+-- ---- what many senders say
+
+pub record Said (S : Type 0) : Type 0 where
+  pub sender : S
+  pub told : Told
+
+abbrev pub said : {S : Type 0} → S → When → Event → Said S
+said sender when event =
+    record { sender = sender; told = record { when = when; event = event } }
+
+-- of this sender all is about to be retracted
+abbrev pub IsLeaving : {S : Type 0} → Option S → S → Type 0
+IsLeaving None sender = ⊥
+IsLeaving (Some leaving) sender = sender ≡ leaving
+
+module _ {S : Type 0} (cmp : S → S → Ordering) where
+  -- what one of them says
+  abbrev pub said_by : S → List (Said S) → List Told
+  said_by sender all = map (λ one. one.told) (filter (λ one. is_at (cmp sender) one.sender) all)
+
+  -- the last word on a subject, which in mode Plain is the same by any factor
+  abbrev pub word_on : List (Said S) → Subject S → Option Word
+  word_on all subject = last_word modes.Plain 0 (said_by subject.sender all) subject.key
+
+  -- ---- accounts
+
+  -- after the changes before it, a change changes what is held, and does not come before them
+  pub record Turns (before : List (Change S)) (told : Change S) : Type 0 where
+    pub changes : told_by cmp before told.subject ≢ held_after told.kind
+    pub in_time : AllByRecursion (λ earlier. earlier.time ≤ told.time) before
+
+  -- each change turns
+  abbrev pub EachTurns : List (Change S) → Type 0
+  EachTurns changes = (before after : List (Change S)) (told : Change S)
+      → changes ≡ before ++ told ∷ after → Turns before told
+
+  -- the changes up to the moment account for the rows, and the rows are what is left then of what
+  -- was said, but for a sender of whom all is about to be retracted
+  pub record IsAccount (factor : Option ℕ) (leaving : Option S) (all : List (Said S)) (moment : ℕ)
+      (changes : List (Change S)) (rows : Rows S) : Type 0 where
+    pub rising : IsStrictlySortedBy (subject_cmp cmp) (keys_of rows)
+    pub told : (subject : Subject S)
+        → told_by cmp changes subject ≡ option_map (λ row. row.ann) (row_at cmp rows subject)
+    pub turns : EachTurns changes
+    pub past : AllByRecursion (λ told. told.time ≤ moment) changes
+    pub left : (subject : Subject S) → ¬ IsLeaving leaving subject.sender
+        → IsLeft factor moment (row_at cmp rows subject) (word_on all subject)
+    pub gone : (subject : Subject S) → IsLeaving leaving subject.sender
+        → word_on all subject ≡ None
+    pub ahead : (subject : Subject S) (time : ℕ) → Ends cmp factor rows subject time
+        → moment ≤ time

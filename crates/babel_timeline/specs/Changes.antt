@@ -1,0 +1,37 @@
+-- What changes say: this project's own.
+use Rattle.std.specs.Prelude.{◌≡◌, ◌≢◌, ℕ, if◌then◌else◌, List, Option, Some, None, fold}
+use Rattle.std.specs.declared.cmp.Ordering.{Ordering}
+use Rattle.std.specs.BTreeMap.{is_at}
+use Rattle.babel_tlv.specs.Route.{Announcement}
+use Rattle.babel_timeline.specs.declared.change.Change.{Change}
+use Rattle.babel_timeline.specs.declared.change.ChangeKind.{ChangeKind}
+use Rattle.babel_timeline.specs.declared.change.ChangeKind.TheVariants as kinds
+use Rattle.babel_timeline.specs.declared.row.Row.{Row}
+use Rattle.babel_timeline.specs.declared.subject.Subject.{Subject}
+use Rattle.babel_timeline.specs.Rows.{subject_cmp}
+
+-- what is held after a change
+abbrev pub held_after : ChangeKind → Option Announcement
+held_after (kinds.Announced ann) = Some ann
+held_after (kinds.Changed ann) = Some ann
+held_after kinds.Retracted = None
+held_after kinds.Expired = None
+
+abbrev pub change : {S : Type 0} → ℕ → Subject S → ChangeKind → Change S
+change time subject kind = record { time = time; subject = subject; kind = kind }
+
+-- what an announcement changes where this was held: nothing if the same was announced before
+abbrev pub TellsAnnouncement : {S : Type 0} → ℕ → Subject S → Option Row → Announcement
+    → Option (Change S) → Type 0
+TellsAnnouncement time subject None ann told =
+    told ≡ Some (change time subject (kinds.Announced ann))
+TellsAnnouncement time subject (Some row) ann None = row.ann ≡ ann
+TellsAnnouncement time subject (Some row) ann (Some told) =
+    (row.ann ≢ ann) × (told ≡ change time subject (kinds.Changed ann))
+
+-- what changes say is held for a subject: what the last of them says, and nothing before any
+abbrev pub told_by : {S : Type 0} → (S → S → Ordering) → List (Change S) → Subject S
+    → Option Announcement
+told_by cmp changes subject =
+    fold (λ held told. if is_at (subject_cmp cmp subject) told.subject
+    then held_after told.kind else held) None changes

@@ -1,0 +1,7 @@
+pub mod Rows
+pub mod Kept
+pub mod Changes
+pub mod Accounts
+pub mod Laws
+pub mod Telling
+pub mod Taking

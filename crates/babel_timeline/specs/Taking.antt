@@ -1,0 +1,50 @@
+-- The steps by which a packet's TLVs are taken and told: this project's own.
+use Rattle.std.specs.Prelude.{◌≡◌, ◌≢◌, ℕ, List, [], ◌∷◌, ◌++◌, ◌⊎◌, map, Option, Some, None}
+use Rattle.std.specs.Prelude.{unwrap_or}
+use Rattle.std.specs.declared.cmp.Ordering.{Ordering}
+use Rattle.std.specs.BTreeMap.{is_at}
+use Rattle.std.specs.Map.{lookup}
+use Rattle.babel_tlv.specs.Route.{Announcement}
+use Rattle.babel_timeline.specs.declared.change.Change.{Change}
+use Rattle.babel_timeline.specs.declared.subject.Subject.{Subject}
+use Rattle.babel_timeline.specs.declared.telling.Telling.{Telling}
+use Rattle.babel_timeline.specs.declared.telling.Telling.TheVariants as tellings
+use Rattle.babel_timeline.specs.Accounts.{Said}
+use Rattle.babel_timeline.specs.Rows.{Held, Rows, row_at}
+use Rattle.babel_timeline.specs.Telling.{AskedFor, IsAnswer, KeepsAccount}
+
+-- only the rows change
+abbrev pub KeepsBounds : {S : Type 0} → Held S → Held S → Type 0
+KeepsBounds old new = (new.factor ≡ old.factor) × (new.limit ≡ old.limit)
+
+-- each change, unless addresses are asked for
+abbrev pub changes_told : {S : Type 0} → AskedFor → List (Change S) → List (Telling S)
+changes_told None changes = map tellings.Change changes
+changes_told (Some pair) changes = []
+
+module _ {S : Type 0} (cmp : S → S → Ordering) where
+  -- how many octets of the sender were heard
+  abbrev pub octets_heard : List (S × ℕ) → S → ℕ
+  octets_heard heard sender = unwrap_or (lookup (is_at (cmp sender)) heard) 0
+
+  -- only rows of this sender change
+  abbrev pub OthersStay : S → Rows S → Rows S → Type 0
+  OthersStay sender rows after =
+      (other : Subject S) → other.sender ≢ sender → row_at cmp after other ≡ row_at cmp rows other
+
+  -- the answer is told if it is another one than that before
+  abbrev pub TellsAnswer : AskedFor → Rows S → ℕ → S → Option Announcement → List (Telling S)
+      → List (Telling S) → Type 0
+  TellsAnswer None rows time sender before old new = before ≡ None → new ≡ old
+  TellsAnswer (Some pair) rows time sender before old new =
+      (answer : Option Announcement) × IsAnswer cmp pair rows sender answer
+      × (((answer ≡ before) × (new ≡ old))
+      ⊎ ((answer ≢ before) × (new ≡ old ++ tellings.Answer time sender answer ∷ [])))
+
+  -- what a sender says then is taken, and its changes are told
+  pub record Takes (factor : Option ℕ) (asked : AskedFor) (sender : S) (more : List (Said S))
+      (time : ℕ) (rows after : Rows S) (old new : List (Telling S)) : Type 0 where
+    pub changes : List (Change S)
+    pub account : KeepsAccount cmp factor more time rows changes after
+    pub told : new ≡ old ++ changes_told asked changes
+    pub others : OthersStay sender rows after

@@ -1,0 +1,151 @@
+-- What is told of many senders as their packets come: this project's own.
+use Rattle.std.specs.Prelude.{◌≡◌, ◌≢◌, ℕ, ◌+◌, ◌≤◌, ◌==◌, Bool, true, ◌&&◌, if◌then◌else◌, List}
+use Rattle.std.specs.Prelude.{[], ◌∷◌, ◌++◌, map, fold, Option, Some, None}
+use Rattle.std.specs.declared.cmp.Ordering.{Ordering}
+use Rattle.std.specs.BTreeMap.{is_at}
+use Rattle.babel_prefix.specs.Address.{Address, AddressPrefix, prefix_at}
+use Rattle.babel_prefix.specs.Block.{leading_bits}
+use Rattle.babel_prefix.specs.Width.{same_family, width_of}
+use Rattle.babel_tlv.specs.declared.event.Event.{Event}
+use Rattle.babel_tlv.specs.declared.event.Event.TheVariants as events
+use Rattle.babel_tlv.specs.declared.start.Start.{Start}
+use Rattle.babel_tlv.specs.declared.view.View.{View}
+use Rattle.babel_tlv.specs.Context.{first_context}
+use Rattle.babel_tlv.specs.Framing.{ArePlaced, TlvAt, packet_octets}
+use Rattle.babel_tlv.specs.Route.{Announcement, RouteKey}
+use Rattle.babel_tlv.specs.Views.{seen_announcement}
+use Rattle.babel_table.specs.Moments.{Told, told_from}
+use Rattle.babel_timeline.specs.declared.change.Change.{Change}
+use Rattle.babel_timeline.specs.declared.change.ChangeKind.TheVariants as kinds
+use Rattle.babel_timeline.specs.declared.row.Row.{Row}
+use Rattle.babel_timeline.specs.declared.telling.Telling.{Telling}
+use Rattle.babel_timeline.specs.declared.telling.Telling.TheVariants as tellings
+use Rattle.babel_timeline.specs.Accounts.{IsAccount, Said, said}
+use Rattle.babel_timeline.specs.Changes.{change}
+use Rattle.babel_timeline.specs.Laws.{without}
+use Rattle.babel_timeline.specs.Rows.{AllLast, EndsFirst, HasNoneUpTo, IsLastUpTo, Rows}
+
+-- ---- what is said
+
+-- a destination and a source address that are asked for, or none
+abbrev pub AskedFor : Type 0
+AskedFor = Option (Address × Address)
+
+-- RFC 8966, 4.1.5: whether the prefix has the address
+abbrev pub covers : AddressPrefix → Address → Bool
+covers prefix address =
+    let width = width_of prefix.address.family in
+    same_family prefix.address.family address.family
+    && (leading_bits width prefix.len address.bits
+    == leading_bits width prefix.len prefix.address.bits)
+
+-- whether a key counts: where addresses are asked for, each of its prefixes has one of them
+abbrev pub counts : AskedFor → RouteKey → Bool
+counts None key = true
+counts (Some pair) key = covers key.dst pair.0 && covers key.src pair.1
+
+-- what counts of an event, as the view sees it
+abbrev pub seen_event : AskedFor → View → Event → Event
+seen_event asked view (events.Announce key ann) =
+    if counts asked key
+    then events.Announce key (seen_announcement view key.dst.address.family ann)
+    else events.Nothing
+seen_event asked view event = event
+
+abbrev pub said_of : {S : Type 0} → AskedFor → View → S → List Told → List (Said S)
+said_of asked view sender told =
+    map (λ one. said sender one.when (seen_event asked view one.event)) told
+
+-- ---- answers
+
+-- the key of the two addresses alone
+abbrev pub key_alone : Address × Address → RouteKey
+key_alone pair = record {
+  dst = prefix_at (width_of pair.0.family) pair.0;
+  src = prefix_at (width_of pair.1.family) pair.1;
+}
+
+module _ {S : Type 0} (cmp : S → S → Ordering) where
+  -- what the sender answered last, and nothing before
+  abbrev pub answer_after : S → Option Announcement → Telling S → Option Announcement
+  answer_after sender old (tellings.Change told) = old
+  answer_after sender old (tellings.Answer time other answer) =
+      if is_at (cmp sender) other then answer else old
+
+  abbrev pub answered : List (Telling S) → S → Option Announcement
+  answered told sender = fold (answer_after sender) None told
+
+  -- what the sender answers: what it announced for the last key up to that of the addresses, where
+  -- rows are of keys that count alone
+  abbrev pub IsAnswer : Address × Address → Rows S → S → Option Announcement → Type 0
+  IsAnswer pair rows sender None = HasNoneUpTo cmp sender (key_alone pair) rows
+  IsAnswer pair rows sender (Some ann) =
+      (row : Row) × IsLastUpTo cmp sender (key_alone pair) rows row × (row.ann ≡ ann)
+
+  -- an answer, and another one than that before
+  abbrev pub AnswersAnew : List (Telling S) → Telling S → Type 0
+  AnswersAnew before (tellings.Change told) = ⊥
+  AnswersAnew before (tellings.Answer time sender answer) = answered before sender ≢ answer
+
+  -- the tellings are answers, the last of each sender is what it answers, and none tells the same
+  -- again
+  pub record AreAnswers (pair : Address × Address) (told : List (Telling S)) (rows : Rows S)
+      : Type 0 where
+    pub last : (sender : S) → IsAnswer pair rows sender (answered told sender)
+    pub anew : (before after : List (Telling S)) (one : Telling S)
+        → told ≡ before ++ one ∷ after → AnswersAnew before one
+
+  -- ---- what is told
+
+  -- each change; or, where addresses are asked for, answers: if there were answers before, there
+  -- are after
+  abbrev pub IsTold : AskedFor → List (Change S) → Rows S → Rows S → List (Telling S)
+      → List (Telling S) → Type 0
+  IsTold None changes rows after old new = new ≡ old ++ map tellings.Change changes
+  IsTold (Some pair) changes rows after old new =
+      (answers : List (Telling S)) × (new ≡ old ++ answers)
+      × ((before : List (Telling S)) → AreAnswers pair before rows
+      → AreAnswers pair (before ++ answers) after)
+
+  module _ (factor : Option ℕ) where
+    -- what ends until this time, in order, and nothing else
+    abbrev pub AllEnd : ℕ → Rows S → List (Change S) → Rows S → Type 0
+    AllEnd until rows [] after = (rows ≡ after) × AllLast cmp factor until rows
+    AllEnd until rows (told ∷ later) after =
+        EndsFirst cmp factor rows told.subject told.time × (told.time ≤ until)
+        × (told ≡ change told.time told.subject kinds.Expired)
+        × AllEnd until (without cmp told.subject rows) later after
+
+    -- with what is said until this time, and these changes, an account stays one
+    abbrev pub KeepsAccount : List (Said S) → ℕ → Rows S → List (Change S) → Rows S → Type 0
+    KeepsAccount more time rows changes after =
+        (all : List (Said S)) (moment : ℕ) (before : List (Change S)) → moment ≤ time
+        → IsAccount cmp factor None all moment before rows
+        → IsAccount cmp factor None (all ++ more) time (before ++ changes) after
+
+    module _ (asked : AskedFor) where
+      -- what has expired by this time is told
+      pub record TellsEnds (until : ℕ) (rows after : Rows S) (old new : List (Telling S))
+          : Type 0 where
+        pub changes : List (Change S)
+        pub ends : AllEnd until rows changes after
+        pub told : IsTold asked changes rows after old new
+
+      -- what changes by what is said until this time is told
+      pub record Tells (more : List (Said S)) (time : ℕ) (rows after : Rows S)
+          (old new : List (Telling S)) : Type 0 where
+        pub changes : List (Change S)
+        pub account : KeepsAccount more time rows changes after
+        pub told : IsTold asked changes rows after old new
+
+      -- the packet, which lies at this offset and came at this time, is TLVs, and what changes by
+      -- them is told
+      pub record Hears (view : View) (sender : S) (start : Start) (time at : ℕ) (packet : List ℕ)
+          (rows after : Rows S) (old new : List (Telling S)) : Type 0 where
+        pub tlvs : List TlvAt
+        pub rest : List ℕ
+        pub whole : packet ≡ packet_octets tlvs ++ rest
+        pub placed : ArePlaced (at + 4) tlvs
+        pub tells : Tells
+            (said_of asked view sender (told_from time (first_context start) tlvs)) time rows
+            after old new

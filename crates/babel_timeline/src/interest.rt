@@ -1,0 +1,340 @@
+//! What is told of what senders hold.
+ghost use Rattle.std.specs.Prelude.{◌≡◌, ◌+◌, ◌<◌, ◌^◌, ◌∷◌, ◌++◌, [], List, length, slice_index};
+ghost use Rattle.std.specs.Prelude.{IfNone, IfSome, None, OnOk};
+ghost use Rattle.babel_tlv.specs.declared.event.Event.TheVariants as events;
+ghost use Rattle.babel_tlv.specs.declared.start.Start.{Start as StartValue};
+ghost use Rattle.babel_tlv.specs.Context.{context_after, first_context};
+ghost use Rattle.babel_tlv.specs.EventKinds.{event_of};
+ghost use Rattle.babel_tlv.specs.FrameFaults.{AreTlvs};
+ghost use Rattle.babel_tlv.specs.Frames.{tlv_value};
+ghost use Rattle.babel_tlv.specs.Framing.{TlvAt, tlvs_of};
+ghost use Rattle.babel_tlv.specs.Views.{seen_announcement};
+ghost use Rattle.babel_table.specs.Moments.{told_at, told_from, update_interval};
+ghost use Rattle.babel_timeline.specs.declared.change.ChangeKind.TheVariants as kinds;
+ghost use Rattle.babel_timeline.specs.Accounts.{said};
+ghost use Rattle.babel_timeline.specs.Changes.{change};
+ghost use Rattle.babel_timeline.specs.Kept.{expiring};
+ghost use Rattle.babel_timeline.specs.Laws.{without};
+ghost use Rattle.babel_timeline.specs.Rows.{AllLast};
+ghost use Rattle.babel_timeline.specs.Taking.{KeepsBounds, Takes, TellsAnswer, changes_told};
+ghost use Rattle.babel_timeline.specs.Telling.{IsAnswer, IsTold, Tells, TellsEnds, counts};
+ghost use Rattle.babel_timeline.specs.Telling.{said_of, seen_event};
+
+use crate::asked::Asked;
+use crate::change::{Change, ChangeKind};
+use crate::queue::Expiry;
+use crate::row::Row;
+use crate::sender::Sender;
+use crate::subject::Subject;
+use crate::telling::Telling;
+use crate::timeline::Timeline;
+use crate::when::When;
+use babel_prefix::Family;
+use babel_tlv::{
+    Ann, EventKind, Fault, Held, Key, Route, Start, State, Tlv, Tlvs, View, check_body,
+};
+use std::alloc::AllocError;
+
+/// What is told of what senders hold: each change of it, as the view sees it; or, where two
+/// addresses are asked for, each change of a sender's answer for them.
+#[derive(Clone, Copy)]
+pub(crate) struct Interest {
+    pub(crate) view: View,
+    pub(crate) asked: Option<Asked>,
+}
+
+/// The octet at this place; 0 past the end.
+fn octet(octets: &[u8], place: usize) -> u8
+    ensures { result ≡ slice_index octets.now place }
+{
+    match octets.get(place) {
+        Some(octet) => *octet,
+        None => 0,
+    }
+}
+
+/// The Interval of an Update with this body, in hundredths of a second: RFC 8966, 4.6.9.
+fn interval(body: &[u8]) -> u16
+    ensures { result ≡ update_interval body.now }
+{
+    octet(body, 4) as u16 * 256 + octet(body, 5) as u16
+}
+
+/// What the view sees of an announcement for a key of the family.
+fn seen(view: View, family: Family, ann: Ann) -> Ann
+    ensures { result ≡ seen_announcement view family ann }
+{
+    match view.seen(family, Held::Route(ann)) {
+        Held::Route(seen) => seen,
+        Held::Unreachable => ann,
+    }
+}
+
+impl Interest {
+    /// What the sender answers for the addresses that are asked for.
+    fn answer<S: Sender>(&self, timeline: &Timeline<S>, sender: S) -> Option<Ann>
+        ensures none { IfNone self.now.asked (result ≡ None) }
+        ensures some { IfSome self.now.asked
+            (λ pair. IsAnswer S.cmp pair timeline.now.rows sender result) }
+    {
+        let asked = self.asked?;
+        let row = timeline.last_of(sender, &asked.key())?;
+        Some(row.ann)
+    }
+
+    /// Whether rows are held for the key.
+    fn counts(&self, key: &Key) -> bool
+        ensures { result ≡ counts self.now.asked key.now }
+    {
+        match &self.asked {
+            None => true,
+            Some(asked) => asked.is_in(key),
+        }
+    }
+
+    /// Tells a change, unless addresses are asked for.
+    fn tell<S: Sender>(
+        &self,
+        change: Change<S>,
+        told: &mut Vec<Telling<S>>,
+    ) -> Result<(), AllocError>
+        ensures { OnOk result (told.new.items
+            ≡ told.old.items ++ changes_told self.now.asked (change ∷ [])) }
+    {
+        if self.asked.is_none() {
+            told.push(Telling::Change(change))?;
+        }
+        Ok(())
+    }
+
+    /// Tells what the sender answers, if it answered otherwise before.
+    fn tell_answer<S: Sender>(
+        &self,
+        timeline: &Timeline<S>,
+        time: u128,
+        sender: S,
+        before: Option<Ann>,
+        told: &mut Vec<Telling<S>>,
+    ) -> Result<(), AllocError>
+        ensures { OnOk result (TellsAnswer S.cmp self.now.asked timeline.now.rows time sender
+            before told.old.items told.new.items) }
+    {
+        let answer = self.answer(timeline, sender);
+        if answer != before {
+            told.push(Telling::Answer {
+                time,
+                sender,
+                answer,
+            })?;
+        }
+        Ok(())
+    }
+
+    /// Takes it that what is held for a subject ends.
+    fn end<S: Sender>(
+        &self,
+        timeline: &mut Timeline<S>,
+        first: &Expiry<S>,
+        told: &mut Vec<Telling<S>>,
+    ) -> Result<(), AllocError>
+        ensures rows { timeline.new ≡ record timeline.old {
+          rows = without S.cmp (expiring first.now) timeline.old.rows;
+        } }
+        ensures told { OnOk result (IsTold S.cmp self.now.asked
+            (change first.now.time (expiring first.now) kinds.Expired ∷ [])
+            timeline.old.rows timeline.new.rows told.old.items told.new.items) }
+    {
+        let time = first.time;
+        let subject = first.subject();
+        let before = self.answer(timeline, subject.sender);
+        timeline.take(&subject);
+        let change = Change {
+            time,
+            subject,
+            kind: ChangeKind::Expired,
+        };
+        self.tell(change, told)?;
+        self.tell_answer(timeline, time, subject.sender, before, told)
+    }
+
+    /// Takes all that has expired by this time, in order; adds what it tells.
+    pub(crate) fn expire<S: Sender>(
+        &self,
+        timeline: &mut Timeline<S>,
+        until: u128,
+        told: &mut Vec<Telling<S>>,
+    ) -> Result<(), AllocError>
+        ensures bounds { KeepsBounds timeline.old timeline.new }
+        ensures ok { OnOk result (TellsEnds S.cmp timeline.old.factor self.now.asked until
+            timeline.old.rows timeline.new.rows told.old.items told.new.items) }
+        ensures last { OnOk result (AllLast S.cmp timeline.old.factor until timeline.new.rows) }
+    {
+        while let Some(first) = timeline.first_end(until) {
+            self.end(timeline, &first, told)?;
+        }
+        Ok(())
+    }
+
+    /// Takes it that a sender announces this for a key. The offset is that of the Update.
+    fn announce<S: Sender>(
+        &self,
+        timeline: &mut Timeline<S>,
+        subject: &Subject<S>,
+        row: &Row,
+        at: u64,
+        told: &mut Vec<Telling<S>>,
+    ) -> Result<(), Fault>
+        requires { AllLast S.cmp timeline.old.factor row.now.when.time timeline.old.rows }
+        ensures bounds { KeepsBounds timeline.old timeline.new }
+        ensures ok { OnOk result (Takes S.cmp timeline.old.factor self.now.asked subject.now.sender
+            (said subject.now.sender row.now.when (seen_event self.now.asked self.now.view
+            (events.Announce subject.now.key row.now.ann)) ∷ [])
+            row.now.when.time timeline.old.rows timeline.new.rows told.old.items told.new.items) }
+    {
+        if !self.counts(&subject.key) {
+            return Ok(());
+        }
+        let family = subject.key.dst().family();
+        let row = Row {
+            ann: seen(self.view, family, row.ann),
+            when: row.when,
+        };
+        if let Some(change) = timeline.announce(subject, &row, at)? {
+            self.tell(change, told)?;
+        }
+        Ok(())
+    }
+
+    /// Takes it that a sender retracts a key.
+    fn retract<S: Sender>(
+        &self,
+        timeline: &mut Timeline<S>,
+        subject: &Subject<S>,
+        when: When,
+        told: &mut Vec<Telling<S>>,
+    ) -> Result<(), AllocError>
+        requires { AllLast S.cmp timeline.old.factor when.time timeline.old.rows }
+        ensures bounds { KeepsBounds timeline.old timeline.new }
+        ensures ok { OnOk result (Takes S.cmp timeline.old.factor self.now.asked subject.now.sender
+            (said subject.now.sender when (events.Retract subject.now.key) ∷ [])
+            when.time timeline.old.rows timeline.new.rows told.old.items told.new.items) }
+    {
+        if let Some(change) = timeline.retract(subject, when.time()) {
+            self.tell(change, told)?;
+        }
+        Ok(())
+    }
+
+    /// Takes it that a sender retracts all.
+    fn retract_all<S: Sender>(
+        &self,
+        timeline: &mut Timeline<S>,
+        sender: S,
+        when: When,
+        told: &mut Vec<Telling<S>>,
+    ) -> Result<(), AllocError>
+        requires { AllLast S.cmp timeline.old.factor when.time timeline.old.rows }
+        ensures bounds { KeepsBounds timeline.old timeline.new }
+        ensures ok { OnOk result (Takes S.cmp timeline.old.factor self.now.asked sender
+            (said sender when events.RetractAll ∷ [])
+            when.time timeline.old.rows timeline.new.rows told.old.items told.new.items) }
+    {
+        while let Some(change) = timeline.retract_next(sender, when.time()) {
+            self.tell(change, told)?;
+        }
+        Ok(())
+    }
+
+    /// Takes what a TLV at this offset says of a route.
+    fn take<S: Sender>(
+        &self,
+        timeline: &mut Timeline<S>,
+        sender: S,
+        when: When,
+        kind: EventKind,
+        route: &Route,
+        at: u64,
+        told: &mut Vec<Telling<S>>,
+    ) -> Result<(), Fault>
+        requires { AllLast S.cmp timeline.old.factor when.time timeline.old.rows }
+        ensures bounds { KeepsBounds timeline.old timeline.new }
+        ensures ok { OnOk result (Takes S.cmp timeline.old.factor self.now.asked sender
+            (said sender when
+            (seen_event self.now.asked self.now.view (event_of kind route.now)) ∷ [])
+            when.time timeline.old.rows timeline.new.rows told.old.items told.new.items) }
+    {
+        let key = route.key;
+        let subject = Subject { sender, key };
+        match kind {
+            EventKind::Announce => {
+                let ann = route.ann;
+                self.announce(timeline, &subject, &Row { ann, when }, at, told)
+            }
+            EventKind::Retract => Ok(self.retract(timeline, &subject, when, told)?),
+            EventKind::RetractAll => Ok(self.retract_all(timeline, sender, when, told)?),
+            EventKind::Nothing => Ok(()),
+            EventKind::Ignored(_) => Ok(()),
+        }
+    }
+
+    /// Takes a TLV of a packet that came at this time, after the TLVs that left this state.
+    fn take_tlv<S: Sender>(
+        &self,
+        timeline: &mut Timeline<S>,
+        sender: S,
+        time: u128,
+        state: &mut State,
+        route: &mut Route,
+        tlv: &Tlv<'_>,
+        told: &mut Vec<Telling<S>>,
+    ) -> Result<(), Fault>
+        requires { time < 2 ^ 96 }
+        ensures bounds { KeepsBounds timeline.old timeline.new }
+        ensures ok { OnOk result (Tells S.cmp timeline.old.factor self.now.asked
+            (said_of self.now.asked self.now.view sender
+            (told_at time state.old (tlv_value tlv.now) ∷ [])) time
+            timeline.old.rows timeline.new.rows told.old.items told.new.items) }
+        ensures state { OnOk result ((start : StartValue) (earlier : List TlvAt)
+            → state.old ≡ context_after start earlier
+            → state.new ≡ context_after start (tlv_value tlv.now ∷ earlier)) }
+    {
+        self.expire(timeline, time, told)?;
+        let kind = state.step_into(tlv, route)?;
+        let when = When::new(time, interval(tlv.body));
+        let before = self.answer(timeline, sender);
+        self.take(timeline, sender, when, kind, route, tlv.at, told)?;
+        self.tell_answer(timeline, time, sender, before, told)?;
+        Ok(())
+    }
+
+    /// Takes the TLVs of a body, whose first octet lies at this offset, and what has expired when
+    /// it came. Where the body is not TLVs to its end (RFC 8966, 4.3), none of them is taken.
+    pub(crate) fn take_body<S: Sender>(
+        &self,
+        timeline: &mut Timeline<S>,
+        sender: S,
+        start: &Start,
+        time: u128,
+        body: &[u8],
+        at: u64,
+        told: &mut Vec<Telling<S>>,
+    ) -> Result<(), Fault>
+        requires fits { at + length body.now < 2 ^ 64 }
+        requires in_time { time < 2 ^ 96 }
+        ensures bounds { KeepsBounds timeline.old timeline.new }
+        ensures whole { OnOk result (AreTlvs at body.now (tlvs_of at body.now)) }
+        ensures ok { OnOk result (Tells S.cmp timeline.old.factor self.now.asked
+            (said_of self.now.asked self.now.view sender
+            (told_from time (first_context start.now) (tlvs_of at body.now))) time
+            timeline.old.rows timeline.new.rows told.old.items told.new.items) }
+    {
+        check_body(body, at)?;
+        let mut state = State::at(*start);
+        let mut route = Route::unwritten();
+        let mut tlvs = Tlvs::new(body, at);
+        while let Some(tlv) = tlvs.advance() {
+            self.take_tlv(timeline, sender, time, &mut state, &mut route, &tlv, told)?;
+        }
+        Ok(self.expire(timeline, time, told)?)
+    }
+}
