@@ -6,7 +6,7 @@ use Rattle.babel_capture.specs.Reading.{Stops}
 use Rattle.babel_capture.specs.declared.fault.Fault.{Fault}
 use Rattle.babel_capture.specs.declared.fault.Fault.TheVariants as faults
 use Rattle.babel_capture.specs.declared.wanted.Wanted.{Wanted}
-use Rattle.babel_dump.specs.CaptureGiven.{CaptureInput, GaveCapture, IsFaultOfCapture, IsFedWhole, IsReadSo}
+use Rattle.babel_dump.specs.CaptureGiven.{extent_of, CaptureInput, GaveCapture, IsFaultOfCapture, IsFedWhole, IsReadSo}
 use Rattle.babel_dump.specs.declared.capture_reading.CaptureReading.{CaptureReading}
 use Rattle.babel_dump.proofs.CaptureLimits.{taken_within}
 use Rattle.babel_dump.specs.Device.{Gave, InputState, IsSpent}
@@ -40,10 +40,10 @@ fed_whole f reader b turns buf so_far gave end met = record {
 }
 
 -- without a fault the turns are fewer than the limit and 24
-pub fed_within : (f : State) (a b : InputState) (turns : ℕ) → IsFedSoFar f a b turns → f.fault ≡ None → turns < f.limit + 24
+pub fed_within : (f : State) (a b : InputState) (turns : ℕ) → IsFedSoFar f a b turns → f.fault ≡ None → turns < f.limit.octets + 24
 fed_within f a b turns so_far none =
     let taken = subst (λ (fault : Option Fault). HasGivenTo f [] fault so_far.octets) none so_far.fed in
-    let within : length so_far.octets < f.limit + 24 = taken_within (account_of f []) f.progress f.pending so_far.octets taken in
+    let within : length so_far.octets < f.limit.octets + 24 = taken_within (account_of f []) f.progress f.pending so_far.octets taken in
     let _some = so_far.some_each in
     omega arith
 
@@ -51,7 +51,7 @@ pub ruleset feeding = (fed_more, fed_whole, fed_within)
 
 -- the capture is read so
 pub record IsReadFrom (f : State) (reading : CaptureReading) (whose : Wanted) : Type 0 where
-  pub limit : f.limit ≡ reading.limit
+  pub limit : f.limit ≡ extent_of reading
   pub wanted : f.progress.gathering.wanted ≡ whose
 
 -- a fault that is kept is want of memory, or that of the octets however they go on
@@ -68,7 +68,7 @@ pub fed_fault : (reader : CaptureInput) (f h : State) (b : InputState) (turns n 
 fed_fault reader f h b turns n buf fault from so_far gave fed kept not_memory =
     let octets = so_far.octets ++ take n buf in
     let stops = kept_stops h fault octets not_memory kept (fed so_far.octets so_far.fed) in
-    let is : Stops reader.reading.limit reader.wanted octets fault = rw (← from.limit, ← from.wanted) stops in
+    let is : Stops (extent_of reader.reading) reader.wanted octets fault = rw (← from.limit, ← from.wanted) stops in
     record {
       given = octets;
       gave = gave_more reader.old b reader.new _ _ so_far.gave gave;
@@ -80,7 +80,7 @@ pub given_capture : (reader : CaptureInput) (f : State) (gathering : Gathering) 
     → ((fed : List ℕ) → HasRead f fed → IsReadSo reader.reading.accept_cut f.limit fed gathering cut)
     → gathering.wanted ≡ f.progress.gathering.wanted → GaveCapture reader gathering cut
 given_capture reader f gathering cut from all answered wanted =
-    let read : IsReadSo reader.reading.accept_cut reader.reading.limit all.given gathering cut = rw (← from.limit) (answered all.given all.fed) in
+    let read : IsReadSo reader.reading.accept_cut (extent_of reader.reading) all.given gathering cut = rw (← from.limit) (answered all.given all.fed) in
     record { octets = all.given; gave = all.gave; is_read = read; wanted = wanted ∙ from.wanted }
 
 -- the octets have a fault
@@ -88,7 +88,7 @@ pub given_fault : (reader : CaptureInput) (f : State) (fault : Fault) → IsRead
     → (reader.reading.accept_cut ≡ true → fault ≡ faults.NotCapture)
     → ((fed : List ℕ) → HasRead f fed → CaptureFault f.limit f.progress.gathering.wanted fed fault) → IsFaultOfCapture reader fault
 given_fault reader f fault from all not_accepted refused =
-    let is : CaptureFault reader.reading.limit reader.wanted all.given fault = rw (← from.limit, ← from.wanted) (refused all.given all.fed) in
+    let is : CaptureFault (extent_of reader.reading) reader.wanted all.given fault = rw (← from.limit, ← from.wanted) (refused all.given all.fed) in
     record {
       given = all.given;
       gave = all.gave.gave;

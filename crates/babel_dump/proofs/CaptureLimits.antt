@@ -1,6 +1,8 @@
 -- How many octets a capture without a fault has at most.
 use Rattle.std.proofs.Common.{◌≡◌, refl, ℕ, ◌+◌, ◌-◌, ◌<◌, ◌≤◌, Bool, true, false, if◌then◌else◌, List, [], ◌∷◌, length, nat_lt, arith, ap, sym, ◌∙◌, subst, inl, inr, length-append}
-use Rattle.std.specs.Prelude.{Result, Ok, Err}
+use Rattle.std.specs.Prelude.{Result, Ok, Err, Option, ℤ}
+use Rattle.babel_capture.specs.declared.window.Window.{Window}
+use Rattle.babel_capture.specs.declared.window.Window.TheVariants as windows
 use Rattle.std.specs.Result.{IsOkAnd}
 use Rattle.std.proofs.lemmas.Bool.Decides.{nat_tests}
 use Rattle.babel_capture.specs.declared.fault.Fault.{Fault}
@@ -8,7 +10,7 @@ use Rattle.babel_capture.specs.declared.fault.Fault.TheVariants as faults
 use Rattle.babel_capture.specs.declared.layout.Layout.{Layout}
 use Rattle.babel_capture.specs.declared.layout.Layout.TheVariants as layouts
 use Rattle.babel_capture.specs.Blocks.{AreBlocks, BlockAt, IsPartial, context_behind, header_of, octets_of, start}
-use Rattle.babel_capture.specs.Contents.{Content, context_after, describes, file, holds, nothing, section}
+use Rattle.babel_capture.specs.Contents.{Content, context_after, describes, file, holds, nothing, section, skips, started_with}
 use Rattle.babel_capture.specs.Context.{Before}
 use Rattle.babel_capture.specs.Lengths.{block_len, header_len, layout_len, len_within}
 use Rattle.babel_capture.specs.Reading.{Account, HasTaken, Progress}
@@ -27,11 +29,16 @@ within_ok limit at (Ok n) len is =
     let same : n ≡ len = not.1 in
     omega (arith, fits, same)
 
+limit_started : (window : Window) (before : Before) (moment : Option ℤ) → (started_with window before moment).limit ≡ before.limit
+limit_started windows.Whole before moment = refl
+limit_started (windows.Between since until) before moment = refl
+
 limit_after : (before : Before) (content : Content) → (context_after before content).limit ≡ before.limit
 limit_after before (file order interface) = refl
 limit_after before (section order) = refl
 limit_after before (describes interface name) = refl
-limit_after before (holds packet) = refl
+limit_after before (holds packet) = limit_started before.window before packet.moment
+limit_after before (skips packet) = limit_started before.window before packet.moment
 limit_after before nothing = refl
 
 limit_behind : (before : Before) (blocks : List BlockAt) → (context_behind before blocks).limit ≡ before.limit
@@ -69,11 +76,11 @@ partial_short before at pending within (inr (header, less)) =
     omega (arith, below, within)
 
 -- octets without a fault are fewer than the limit and 24
-pub taken_within : (account : Account) (progress : Progress) (pending fed : List ℕ) → HasTaken account progress pending fed → length fed < account.limit + 24
+pub taken_within : (account : Account) (progress : Progress) (pending fed : List ℕ) → HasTaken account progress pending fed → length fed < account.limit.octets + 24
 taken_within account progress pending fed taken =
-    let behind : progress.context.limit ≡ account.limit =
+    let behind : progress.context.limit ≡ account.limit.octets =
     ap (λ (c : Before). c.limit) taken.leads.context ∙ limit_behind (start account.limit) taken.leads.blocks in
-    let blocks : 0 + length (octets_of taken.leads.blocks) ≤ account.limit =
+    let blocks : 0 + length (octets_of taken.leads.blocks) ≤ account.limit.octets =
     blocks_within (start account.limit) 0 taken.leads.blocks (omega arith) taken.leads.are_blocks in
     let place : progress.at ≡ length (octets_of taken.leads.blocks) = taken.leads.place ∙ ap length taken.leads.whole in
     let read : length taken.read ≡ progress.at = sym taken.leads.place in

@@ -5,10 +5,11 @@ use Rattle.std.proofs.lemmas.Option.{none-some, same_Some}
 use Rattle.babel_capture.specs.Capture.{EndsShort, IsRead, IsReadToCut}
 use Rattle.std.specs.Io.KnownBytes.{Consumes, IsAtEnd}
 use Rattle.babel_capture.specs.Gathering.{Gathering, with_taken}
+use Rattle.babel_capture.specs.Window.{Extent}
 use Rattle.babel_capture.specs.declared.fault.Fault.TheVariants as faults
-use Rattle.babel_dump.specs.CaptureGiven.{CaptureInput, GaveCapture, GaveWhole, IsReadSo}
+use Rattle.babel_dump.specs.CaptureGiven.{extent_of, CaptureInput, GaveCapture, GaveWhole, IsReadSo}
 use Rattle.babel_dump.specs.CapturedDump.{HandedIsDump, IsDumpIn, NoDumpCause, RefusalHasCause, capture_with}
-use Rattle.babel_dump.specs.Device.{HandsOf, InputState, fresh}
+use Rattle.babel_dump.specs.Device.{HandsOf, InputState, fresh, no_times}
 use Rattle.babel_dump.specs.Drained.{CaptureSource, EndsRefused, Hands, HasDrained, HasHandedAll, Held, IsAccepted, IsWhole, Stands, part_of}
 use Rattle.babel_dump.proofs.Devices.{gave_known}
 use Rattle.babel_dump.proofs.Drains.{all_given}
@@ -20,18 +21,18 @@ use Rattle.babel_dump.specs.declared.input_fault.InputFault.TheVariants as input
 pub record GaveToCut (reader : CaptureInput) (gathering : Gathering) (cut : Option ℕ) : Type 0 where
   pub octets : List ℕ
   pub gave : GaveWhole reader octets
-  pub is_read : IsReadToCut reader.reading.limit octets gathering cut
+  pub is_read : IsReadToCut (extent_of reader.reading) octets gathering cut
   pub wanted : gathering.wanted ≡ reader.wanted
 
 -- without a cut the octets are whole blocks
-no_cut : (limit : ℕ) (octets : List ℕ) (gathering : Gathering) (cut : Option ℕ) → cut ≡ None → IsReadToCut limit octets gathering cut
+no_cut : (limit : Extent) (octets : List ℕ) (gathering : Gathering) (cut : Option ℕ) → cut ≡ None → IsReadToCut limit octets gathering cut
     → IsRead limit octets gathering
 no_cut limit octets gathering cut none read = elim read.where_cut [
   | inl end ↦ subst (λ (all : List ℕ). IsRead limit all gathering) (sym (read.whole ∙ ap (λ rest. read.read ++ rest) end.0 ∙ append-nil read.read)) read.is_read
   | inr more ↦ absurd (none-some _ (sym none ∙ more.1))
 ]
 
-read_so : (accept_cut : Bool) (limit : ℕ) (octets : List ℕ) (gathering : Gathering) (cut : Option ℕ) → IsAccepted accept_cut cut
+read_so : (accept_cut : Bool) (limit : Extent) (octets : List ℕ) (gathering : Gathering) (cut : Option ℕ) → IsAccepted accept_cut cut
     → IsReadToCut limit octets gathering cut → IsReadSo accept_cut limit octets gathering cut
 read_so false limit octets gathering cut accepted read = (no_cut limit octets gathering cut (accepted refl) read, accepted refl)
 read_so true limit octets gathering cut accepted read = read
@@ -41,12 +42,12 @@ pub gave_so : (reader : CaptureInput) (gathering : Gathering) (cut : Option ℕ)
 gave_so reader gathering cut accepted given = record {
   octets = given.octets;
   gave = given.gave;
-  is_read = read_so reader.reading.accept_cut reader.reading.limit given.octets gathering cut accepted given.is_read;
+  is_read = read_so reader.reading.accept_cut (extent_of reader.reading) given.octets gathering cut accepted given.is_read;
   wanted = given.wanted;
 }
 
 -- with one they end within a block
-cut_short : (limit : ℕ) (octets : List ℕ) (gathering : Gathering) (cut : Option ℕ) (at : ℕ) → cut ≡ Some at
+cut_short : (limit : Extent) (octets : List ℕ) (gathering : Gathering) (cut : Option ℕ) (at : ℕ) → cut ≡ Some at
     → IsReadToCut limit octets gathering cut → EndsShort limit gathering.wanted octets (faults.CutShort at)
 cut_short limit octets gathering cut at some read = elim read.where_cut [
   | inl end ↦ absurd (none-some _ (sym end.1 ∙ some))
@@ -69,8 +70,8 @@ end_refused reader gathering cut (input_faults.Dump fault) given cause = cause
 end_refused reader gathering cut (input_faults.Ignored tlv) given cause = absurd cause
 end_refused reader gathering cut (input_faults.Capture fault) given cause = λ not_memory.
     let at = cause.1.0 in
-    let short : EndsShort reader.reading.limit reader.wanted given.octets fault =
-    rw (cause.1.2, ← given.wanted) (cut_short reader.reading.limit given.octets gathering cut at cause.1.1 given.is_read) in
+    let short : EndsShort (extent_of reader.reading) reader.wanted given.octets fault =
+    rw (cause.1.2, ← given.wanted) (cut_short (extent_of reader.reading) given.octets gathering cut at cause.1.1 given.is_read) in
     record {
       given = given.octets;
       gave = given.gave.gave;
@@ -110,7 +111,7 @@ ends_with_taken source dump cut input_faults.Read ends = ends
 
 -- the device's reader, when its capture has ended, or a read has failed
 abbrev pub last_state : CaptureSource → InputState
-last_state source = record { left = source.left; captured = None; left_out = None; failures = 1; reads = 1; ends = 1 }
+last_state source = record { left = source.left; captured = None; left_out = None; times = no_times; failures = 1; reads = 1; ends = 1 }
 
 abbrev pub reader_of : Option (List ℕ) → CaptureSource → CaptureInput
 reader_of first source = capture_with (fresh first) (last_state source) source.reading
@@ -118,7 +119,7 @@ reader_of first source = capture_with (fresh first) (last_state source) source.r
 given_whole : (first : Option (List ℕ)) (source : CaptureSource) (fed : List ℕ) → Consumes first source.left fed → IsAtEnd source.left
     → GaveWhole (reader_of first source) fed
 given_whole first source fed gave at_end = record {
-  gave = gave_known (fresh first) (last_state source) fed refl refl refl gave;
+  gave = gave_known (fresh first) (last_state source) fed refl refl refl (λ none. none) gave;
   all = (at_end, tt);
   met_end = omega arith;
 }
@@ -136,7 +137,7 @@ given_to_cut first source taken cut drained whole = record {
 pub drained_well : (first : Option (List ℕ)) (source : CaptureSource) (taken dump : List ℕ) (notes : CaptureNotes) → HasDrained first source taken
     → dump ≡ taken ++ part_of source → source.end ≡ Some (Ok notes) → IsDumpIn (reader_of first source) dump notes
 drained_well first source taken dump notes drained dump_is is =
-    let stands = subst (Stands source drained.fed taken) is drained.stands in
+    let stands = (subst (Stands source drained.fed taken) is drained.stands).1 in
     let given = given_to_cut first source taken stands.0 drained stands.1 in
     record {
       gathering = with_taken taken source.capture.progress.gathering;
@@ -154,12 +155,12 @@ drained_refused first source dump fault drained is = elim (subst (Stands source 
   | inr (inl (of, is_of, refused)) ↦ rw is_of (λ not_memory. elim (refused not_memory) [
     | inl stops ↦ record {
       given = drained.fed;
-      gave = gave_known (fresh first) (last_state source) drained.fed refl refl refl drained.gave;
+      gave = gave_known (fresh first) (last_state source) drained.fed refl refl refl (λ none. none) drained.gave;
       refused = inl (rw (← drained.limit, ← drained.wanted) stops);
     }
     | inr (at_end, not_capture, short) ↦ record {
       given = drained.fed;
-      gave = gave_known (fresh first) (last_state source) drained.fed refl refl refl drained.gave;
+      gave = gave_known (fresh first) (last_state source) drained.fed refl refl refl (λ none. none) drained.gave;
       refused = inr (record {
         all = given_whole first source drained.fed drained.gave at_end;
         short = rw (← drained.limit, ← drained.wanted) short;

@@ -10,13 +10,13 @@ use Rattle.babel_capture.specs.Capture.{CaptureFault, HasFailed, HasGiven, HasGi
 use Rattle.babel_capture.specs.Gathering.{with_taken}
 use Rattle.babel_capture.specs.declared.fault.Fault.{Fault}
 use Rattle.babel_capture.specs.declared.fault.Fault.TheVariants as faults
-use Rattle.babel_dump.specs.Drained.{CaptureSource, EndsRefused, EndsWith, HasDrained, HasHanded, HasHandedAll, Hands, Held, Stands, capture_limit, next_of, part_of, wanted_by}
+use Rattle.babel_dump.specs.Drained.{dump_extent, CaptureSource, EndsRefused, EndsWith, HasDrained, HasHanded, HasHandedAll, Hands, Held, Stands, next_of, part_of, wanted_by}
 use Rattle.babel_dump.specs.declared.captured.CaptureNotes.{CaptureNotes}
 use Rattle.babel_dump.specs.declared.input_fault.InputFault.{InputFault}
 use Rattle.babel_dump.specs.declared.input_fault.InputFault.TheVariants as input_faults
 use Rattle.babel_dump.specs.declared.reading.Reading.{Reading}
 
-none_given : (a : Option (List ℕ)) → Consumes a a []
+pub none_given : (a : Option (List ℕ)) → Consumes a a []
 none_given None = tt
 none_given (Some xs) = refl
 
@@ -27,7 +27,7 @@ kept_given (Some xs) None kept = absurd kept
 kept_given (Some xs) (Some ys) kept = sym kept
 
 -- nothing was read yet
-pub begun : (source : CaptureSource) → HasRead source.capture [] → source.capture.limit ≡ capture_limit source.reading.limits.bytes
+pub begun : (source : CaptureSource) → HasRead source.capture [] → source.capture.limit ≡ dump_extent source.reading
     → source.capture.progress.gathering.wanted ≡ wanted_by source.reading → source.capture.fault ≡ None → source.end ≡ None → HasDrained source.left source []
 begun source read limit wanted sound going = record {
   fed = [];
@@ -39,8 +39,9 @@ begun source read limit wanted sound going = record {
 }
 
 -- nothing was given yet
-pub begun_device : (first : Option (List ℕ)) (source : CaptureSource) (given : ℕ) → given ≡ 0 → HasDrained first source [] → HasHanded first (record { source = source; given = given }) []
-begun_device first source given none drained = record {
+pub begun_device : (first : Option (List ℕ)) (source : CaptureSource) (given place : ℕ) → given ≡ 0 → HasDrained first source []
+    → HasHanded first (record { source = source; given = given; place = place }) []
+begun_device first source given place none drained = record {
   taken = [];
   drained = drained;
   given_is = rw none refl;
@@ -59,7 +60,7 @@ drained_more first old new piece part taken reading limit wanted gave feeds stan
       fed = drained.fed ++ piece;
       gave = Consumes-trans first old.left new.left _ _ drained.gave gave;
       read = read;
-      limit = limit ∙ drained.limit ∙ ap (λ (r : Reading). capture_limit r.limits.bytes) (sym reading);
+      limit = limit ∙ drained.limit ∙ ap dump_extent (sym reading);
       wanted = wanted ∙ drained.wanted ∙ ap wanted_by (sym reading);
       stands = stands (drained.fed ++ piece) (taken ++ part) read;
     }
@@ -96,13 +97,13 @@ stands_refused source fault refused kept fed dump given =
     )))
 
 -- it ends here
-pub ends_well : (source : CaptureSource) (fed dump : List ℕ) (cut : Option ℕ) (end : Result CaptureNotes InputFault) → IsAtEnd source.left
+pub ends_well : (source : CaptureSource) (fed dump : List ℕ) (cut : Option ℕ) (end : Result CaptureNotes InputFault) → IsAtEnd source.left → source.capture.fault ≡ None
     → IsReadToCut source.capture.limit fed (with_taken dump source.capture.progress.gathering) cut
     → IfOk end (EndsWith source.reading.accept_cut source.capture.progress.gathering cut)
     → IfErr end (EndsRefused source.reading.accept_cut source.reading.strict source.capture.progress.gathering cut)
     → Stands source fed dump (Some end)
-ends_well source fed dump cut (Ok notes) at_end read well refused = (cut, record { all = at_end; is_read = read }, well)
-ends_well source fed dump cut (Err fault) at_end read well refused = inr (inr (cut, record { all = at_end; is_read = read }, refused))
+ends_well source fed dump cut (Ok notes) at_end sound read well refused = (sound, (cut, record { all = at_end; is_read = read }, well))
+ends_well source fed dump cut (Err fault) at_end sound read well refused = inr (inr (cut, record { all = at_end; is_read = read }, refused))
 
 pub ends_not_begun : (source : CaptureSource) (fed dump : List ℕ) (fault : Fault) → IsAtEnd source.left → fault ≡ faults.NotCapture
     → (fault ≢ faults.Memory → CaptureFault source.capture.limit source.capture.progress.gathering.wanted fed fault)
@@ -113,7 +114,7 @@ ends_not_begun source fed dump fault at_end is refused =
 -- how it ended is said of it, ended
 pub stands_ended : (source : CaptureSource) (fed dump : List ℕ) (end : Option (Result CaptureNotes InputFault)) (result : Result CaptureNotes InputFault)
     → Stands source fed dump (Some result) → Stands (record source { end = end }) fed dump (Some result)
-stands_ended source fed dump end (Ok notes) (cut, whole, well) = (cut, record { all = whole.all; is_read = whole.is_read }, well)
+stands_ended source fed dump end (Ok notes) (sound, (cut, whole, well)) = (sound, (cut, record { all = whole.all; is_read = whole.is_read }, well))
 stands_ended source fed dump end (Err fault) (inl unread) = inl unread
 stands_ended source fed dump end (Err fault) (inr (inl refused)) = inr (inl refused)
 stands_ended source fed dump end (Err fault) (inr (inr (cut, whole, ends))) =
@@ -124,14 +125,12 @@ stands_ended source fed dump end (Err fault) (inr (inr (cut, whole, ends))) =
 pub all_given : (n : ℕ) (part : List ℕ) → drop n part ≡ [] → take n part ≡ part
 all_given n part spent = sym (append-nil (take n part)) ∙ ap (λ (t : List ℕ). take n part ++ t) (sym spent) ∙ take-append-drop n part
 
-pub nothing_left : (n : ℕ) (buf all rest : List ℕ) → n ≡ 0 → all ≡ take n buf ++ rest → rest ≡ [] → all ≡ []
-nothing_left n buf all rest zero split none = split ∙ ap (λ (k : ℕ). take k buf ++ rest) zero ∙ none
-
 -- the next octets of the part were given
-pub handed_on : (source : CaptureSource) (old new : ℕ) (octets rest : List ℕ) → drop old (part_of source) ≡ octets ++ rest → new ≡ old + length octets
-    → Hands (record { source = source; given = old }) (record { source = source; given = new }) octets
-handed_on source old new octets rest split moved = record {
+pub handed_on : (source : CaptureSource) (old new place next : ℕ) (octets rest : List ℕ) → drop old (part_of source) ≡ octets ++ rest → new ≡ old + length octets
+    → Hands (record { source = source; given = old; place = place }) (record { source = source; given = new; place = next }) octets
+handed_on source old new place next octets rest split moved = record {
   reading = refl;
+  sound = λ sound. sound;
   handed = λ first before handed. record {
     taken = handed.taken;
     drained = handed.drained;
@@ -146,14 +145,17 @@ handed_on source old new octets rest split moved = record {
 pub hands_trans : (a b c : Held) (one two : List ℕ) → Hands a b one → Hands b c two → Hands a c (one ++ two)
 hands_trans a b c one two front next = record {
   reading = next.reading ∙ front.reading;
+  sound = λ sound. front.sound (next.sound sound);
   handed = λ first given handed. subst (HasHanded first c) (append_assoc given one two) (next.handed first (given ++ one) (front.handed first given handed));
 }
 
 -- the next part was read
 pub hands_part : (old new : Held) → next_of old ≡ [] → new.given ≡ 0 → new.source.reading ≡ old.source.reading
+    → (new.source.capture.fault ≡ None → old.source.capture.fault ≡ None)
     → ((first : Option (List ℕ)) (taken : List ℕ) → HasDrained first old.source taken → HasDrained first new.source (taken ++ part_of old.source)) → Hands old new []
-hands_part old new spent none reading more = record {
+hands_part old new spent none reading sound more = record {
   reading = reading;
+  sound = sound;
   handed = λ first before handed. record {
     taken = handed.taken ++ part_of old.source;
     drained = more first handed.taken handed.drained;
@@ -183,15 +185,17 @@ end_reads (Ok n) old new buf here spent ends =
 end_reads (Err e) old new buf here spent ends = here
 
 -- nothing is left of the part, and the capture has ended
-pub hands_end : {E : Type 0} (read : Result ℕ E) (old : Held) (now new : CaptureSource) (given : ℕ) (buf : List ℕ) → Hands old (record { source = now; given = given }) []
+pub hands_end : {E : Type 0} (read : Result ℕ E) (old : Held) (now new : CaptureSource) (given place : ℕ) (buf : List ℕ)
+    → Hands old (record { source = now; given = given; place = place }) []
     → drop given (part_of now) ≡ [] → new.reading ≡ now.reading → new.capture ≡ now.capture
     → ((first : Option (List ℕ)) (taken : List ℕ) → HasDrained first now taken → HasDrained first new taken)
     → IfOk read (λ n. (n ≡ 0) × ((notes : CaptureNotes) × (new.end ≡ Some (Ok notes))))
-    → MatchResult read (λ n. Hands old (record { source = new; given = given }) (take n buf) × (n ≡ 0 → 0 < length buf → HasHandedAll (record { source = new; given = given })))
-    (λ _. Hands old (record { source = new; given = given }) [])
-hands_end read old now new given buf before spent reading same drains ends =
-    end_reads read old (record { source = new; given = given }) buf (record {
+    → MatchResult read (λ n. Hands old (record { source = new; given = given; place = place }) (take n buf)
+    × (n ≡ 0 → 0 < length buf → HasHandedAll (record { source = new; given = given; place = place }))) (λ _. Hands old (record { source = new; given = given; place = place }) [])
+hands_end read old now new given place buf before spent reading same drains ends =
+    end_reads read old (record { source = new; given = given; place = place }) buf (record {
       reading = reading ∙ before.reading;
+      sound = λ sound. before.sound (ap (λ (s : State). s.fault) (sym same) ∙ sound);
       handed = λ first octets handed.
           let here = before.handed first octets handed in
           record {

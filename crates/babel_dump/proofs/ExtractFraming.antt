@@ -19,9 +19,10 @@ use Rattle.babel_table.specs.DumpFault.{DumpFault, IsTruncated, RefusedBy, Refus
 use Rattle.babel_table.proofs.DumpLaws.{begins-more, header-more}
 use Rattle.babel_capture.specs.Gathering.{Gathering}
 use Rattle.babel_capture.specs.Packets.{ArePackets, IsPastEnd}
+use Rattle.babel_capture.specs.Window.{Extent}
 use Rattle.babel_capture.proofs.FramingLaws.{framing_fine}
 use Rattle.babel_capture.proofs.PacketLaws.{dump_packets}
-use Rattle.babel_dump.specs.CaptureGiven.{IsReadSo}
+use Rattle.babel_dump.specs.CaptureGiven.{extent_of, IsReadSo}
 use Rattle.babel_dump.specs.CaptureText.{dump_text}
 use Rattle.babel_dump.specs.ExtractLaws.{Extracted, ExtractedIsFramed, IsOfFraming}
 use Rattle.babel_dump.specs.OneOutcome.{octets_at}
@@ -132,7 +133,7 @@ dump_framed limits mode sender dump are fault (inr (past, is, cut)) = too_long_a
 
 -- ---- what `extract` writes
 
-gathered_packets : (accept_cut : Bool) (limit : ℕ) (octets : List ℕ) (gathering : Gathering) (cut : Option ℕ) → IsReadSo accept_cut limit octets gathering cut → ArePackets gathering.dump
+gathered_packets : (accept_cut : Bool) (limit : Extent) (octets : List ℕ) (gathering : Gathering) (cut : Option ℕ) → IsReadSo accept_cut limit octets gathering cut → ArePackets gathering.dump
 gathered_packets false limit octets gathering cut read = dump_packets limit octets gathering read.0
 gathered_packets true limit octets gathering cut read = dump_packets limit read.read gathering read.is_read
 
@@ -146,7 +147,7 @@ extracted_packets dump done =
     let gathered : text ≡ says.gathering.dump = says.text_is ∙ as_it_is says.gathering.dump in
     let same : text ≡ dump = append_cancel_left done.before text dump (sym (appended _ _ done.before (done.before ++ dump) text done.ran.took done.ran.takes wrote)) in
     subst ArePackets (sym gathered ∙ same)
-    (gathered_packets done.reading.accept_cut done.reading.limit says.gave.given.octets says.gathering says.cut says.gave.given.is_read)
+    (gathered_packets done.reading.accept_cut (extent_of done.reading) says.gave.given.octets says.gathering says.cut says.gave.given.is_read)
 
 not_memory : (fault : Fault) → IsOfFraming fault → fault ≢ faults.Memory
 not_memory fault framing is = subst IsOfFraming is framing

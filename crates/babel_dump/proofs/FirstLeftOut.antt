@@ -10,11 +10,12 @@ use Rattle.babel_capture.specs.declared.reason.Reason.{Reason}
 use Rattle.babel_capture.specs.declared.reason.Reason.TheVariants as reasons
 use Rattle.babel_capture.specs.declared.wanted.Wanted.{Wanted}
 use Rattle.babel_capture.specs.Blocks.{BlockAt, sightings_behind, sightings_in}
-use Rattle.babel_capture.specs.Contents.{Content, file, section, describes, holds, nothing}
+use Rattle.babel_capture.specs.Contents.{Content, file, section, describes, holds, skips, nothing}
 use Rattle.babel_capture.specs.Counts.{Counts, Made, all_reasons, count_at, counts_of, is_left_for, left_for, reason_place}
 use Rattle.babel_capture.specs.Findings.{Found, passed, untold, left, refused, lacked, found}
 use Rattle.babel_capture.specs.Gathering.{AreMade, Gathering}
-use Rattle.babel_dump.specs.CaptureGiven.{IsReadSo}
+use Rattle.babel_capture.specs.Window.{Extent}
+use Rattle.babel_dump.specs.CaptureGiven.{IsReadSo, extent_of}
 use Rattle.babel_dump.specs.FirstLeftOut.{IsFirstLeftOut, NoneIsLeftOut, RefusedIsFirst, made_of}
 use Rattle.babel_dump.specs.LeftOut.{first_among, first_counted, left_out_for, sooner}
 use Rattle.babel_dump.specs.declared.left_out.LeftOutDatagram.{LeftOutDatagram}
@@ -197,16 +198,19 @@ rises_in wanted count (block ∷ blocks) made are = by (λ n m a. rises_in wante
     by again (section order) are = subst (λ (n : ℕ). RisesFrom n made) (omega arith) (again (count + 0) made are)
     by again (describes interface name) are = subst (λ (n : ℕ). RisesFrom n made) (omega arith) (again (count + 0) made are)
     by again nothing are = subst (λ (n : ℕ). RisesFrom n made) (omega arith) (again (count + 0) made are)
-    by again (holds packet) (one, others, is, number, link, finds, takes, later) =
+    by again (holds packet) (one, others, is, number, link, came, finds, takes, later) =
+        let next : RisesFrom one.number others = subst (λ (n : ℕ). RisesFrom n others) (sym number) (again (count + 1) others later) in
+        subst (RisesFrom count) (sym is) (omega (arith, number), next)
+    by again (skips packet) (one, others, is, number, link, came, finds, takes, later) =
         let next : RisesFrom one.number others = subst (λ (n : ℕ). RisesFrom n others) (sym number) (again (count + 1) others later) in
         subst (RisesFrom count) (sym is) (omega (arith, number), next)
 
-rises_of : (accept_cut : Bool) (limit : ℕ) (octets : List ℕ) (gathering : Gathering) (cut : Option ℕ) (read : IsReadSo accept_cut limit octets gathering cut)
+rises_of : (accept_cut : Bool) (limit : Extent) (octets : List ℕ) (gathering : Gathering) (cut : Option ℕ) (read : IsReadSo accept_cut limit octets gathering cut)
     → RisesFrom 0 (made_of accept_cut limit octets gathering cut read)
 rises_of false limit octets gathering cut read = rises_in gathering.wanted 0 read.0.blocks read.0.gathered.made read.0.gathered.taken.are_made
 rises_of true limit octets gathering cut read = rises_in gathering.wanted 0 read.is_read.blocks read.is_read.gathered.made read.is_read.gathered.taken.are_made
 
-counted_in : (accept_cut : Bool) (limit : ℕ) (octets : List ℕ) (gathering : Gathering) (cut : Option ℕ) (read : IsReadSo accept_cut limit octets gathering cut)
+counted_in : (accept_cut : Bool) (limit : Extent) (octets : List ℕ) (gathering : Gathering) (cut : Option ℕ) (read : IsReadSo accept_cut limit octets gathering cut)
     → gathering.report ≡ counts_of (made_of accept_cut limit octets gathering cut read)
 counted_in false limit octets gathering cut read = read.0.gathered.report
 counted_in true limit octets gathering cut read = read.is_read.gathered.report
@@ -263,7 +267,7 @@ first_of made datagram rises least = by (find (tests_for least.reason) made) ref
 pub refused_is_first : RefusedIsFirst
 refused_is_first reader datagram gave =
     let read = gave.given.is_read in
-    let made = made_of reader.reading.accept_cut reader.reading.limit gave.given.octets gave.gathering gave.cut read in
-    let counted : gave.gathering.report ≡ counts_of made = counted_in reader.reading.accept_cut reader.reading.limit gave.given.octets gave.gathering gave.cut read in
-    first_of made datagram (rises_of reader.reading.accept_cut reader.reading.limit gave.given.octets gave.gathering gave.cut read)
+    let made = made_of reader.reading.accept_cut (extent_of reader.reading) gave.given.octets gave.gathering gave.cut read in
+    let counted : gave.gathering.report ≡ counts_of made = counted_in reader.reading.accept_cut (extent_of reader.reading) gave.given.octets gave.gathering gave.cut read in
+    first_of made datagram (rises_of reader.reading.accept_cut (extent_of reader.reading) gave.given.octets gave.gathering gave.cut read)
     (is_least (counts_of made) all_reasons datagram (sym (ap (λ (c : Counts). first_among c all_reasons) counted) ∙ gave.first))

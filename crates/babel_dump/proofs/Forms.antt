@@ -1,5 +1,5 @@
 -- What the canonical octets, and the canonical pairs, of a reader's dump are.
-use Rattle.std.proofs.Common.{◌≡◌, ℕ, List, ap, subst, sym, ◌∙◌, arith, inl, inr}
+use Rattle.std.proofs.Common.{◌≡◌, ℕ, List, Option, None, ap, subst, sym, ◌∙◌, arith, inl, inr}
 use Rattle.std.specs.Prelude.{◌≢◌}
 use Rattle.babel_tlv.specs.declared.fault.Fault.{Fault}
 use Rattle.babel_tlv.specs.declared.fault.Fault.TheVariants as faults
@@ -8,6 +8,8 @@ use Rattle.babel_tlv.specs.Group.{IsCanonicalText}
 use Rattle.babel_tlv.specs.Pair.{Pair}
 use Rattle.babel_tlv.specs.Views.{keeps_all}
 use Rattle.babel_table.specs.Bounds.{Bounds, AreBounds}
+use Rattle.babel_table.specs.DumpFault.{HasNoFault}
+use Rattle.babel_table.specs.TableOf.{IsTableOf}
 use Rattle.babel_table.specs.Counts.{Counts}
 use Rattle.babel_table.specs.Rows.{Routes}
 use Rattle.babel_table.specs.Seen.{seen_rows, seen_table}
@@ -25,31 +27,36 @@ use Rattle.babel_canon.specs.Normalises.{Headline, NormaliseFault, Normalises, S
 use Rattle.babel_canon.specs.Packing.{TextIsOne}
 use Rattle.babel_canon.specs.Views.{HeadlineUnder}
 use Rattle.babel_canon.specs.ViewsTell.{AllNormalises}
-use Rattle.babel_dump.specs.Given.{GaveNormal, GaveRoutes, GaveTable, Input, IsFaultOfForm, IsNormal}
+use Rattle.babel_dump.specs.Given.{GaveNormal, GaveRoutes, GaveTable, Input, IsFaultOfForm, IsNormal, IsNormalOfDump, IsTableRead, expired_of}
+use Rattle.babel_dump.specs.declared.input.Expired.{Expired}
 use Rattle.babel_dump.specs.Parts.{SaysPairs}
 use Rattle.babel_dump.specs.declared.reading.Reading.{Reading}
 
+-- a table of which nothing is left out is that of the dump
+pub table_of_dump : (reader : Input) (dump : List ℕ) (table : Routes) → expired_of reader ≡ None → IsTableRead (expired_of reader) reader dump table
+    → IsTableOf reader.reading.limits reader.reading.mode reader.reading.sender dump table
+table_of_dump reader dump table all is = subst (λ (at : Option Expired). IsTableRead at reader dump table) all is
+
 -- the canonical octets of what is seen of the table are those of the dump under the view
-pub gave_normal : Headline → HeadlineUnder → AllNormalises → AnswersAreTold
-    → (reader : Input) (view : View) (body : ℕ) (table seen : Routes) (report : Counts) (octets : List ℕ) → AreBounds reader.reading.limits
-    → IsBodySize body → GaveTable reader table → seen ≡ seen_table view table → report ≡ seen.report → SaysCanonical reader.reading.limits body seen.rows octets
-    → GaveNormal reader view body report octets
-gave_normal headline under all are_told reader view body table seen report octets bounds size given seen_is report_is says_seen =
+normal_of_dump : Headline → HeadlineUnder → AllNormalises → AnswersAreTold
+    → (reader : Input) (view : View) (body : ℕ) (table : Routes) (octets : List ℕ) → AreBounds reader.reading.limits
+    → IsBodySize body → (dump : List ℕ) → HasNoFault reader.reading.limits reader.reading.mode reader.reading.sender dump
+    → IsTableOf reader.reading.limits reader.reading.mode reader.reading.sender dump table → SaysCanonical reader.reading.limits body (seen_rows view table.rows) octets
+    → IsNormalOfDump reader.reading view body dump octets
+normal_of_dump headline under all are_told reader view body table octets bounds size dump accepted is_table says =
     let reading = reader.reading in
-    let gave = given.given in
-    let it : Sent = sent reading.sender gave.dump in
-    let says : SaysCanonical reading.limits body (seen_rows view table.rows) octets = subst (λ (t : Routes). SaysCanonical reading.limits body t.rows octets) seen_is says_seen in
+    let it : Sent = sent reading.sender dump in
     let normal : Normalises (seen_rows view) reading.limits reading.mode body it octets = record {
-      no_fault = gave.accepted;
+      no_fault = accepted;
       table = table;
-      is_table = gave.is_table;
+      is_table = is_table;
       boxes = says.pairs;
       are_boxes = says.are_canonical.boxes;
       few = says.are_canonical.few;
       text = says.text;
     } in
     let fewest : SaysFewest (seen_rows view) reading.limits reading.mode body it octets =
-    record { table = table; is_table = gave.is_table; pairs = says.pairs; fewest = says.are_canonical.fewest; text = says.text } in
+    record { table = table; is_table = is_table; pairs = says.pairs; fewest = says.are_canonical.fewest; text = says.text } in
     let told = under view reading.limits reading.mode body bounds size it octets normal in
     let plain_of : view ≡ keeps_all → Normalises as_they_are reading.limits reading.mode body it octets =
     λ keeps. (all reading.limits reading.mode body it octets).0 (subst (λ (v : View). Normalises (seen_rows v) reading.limits reading.mode body it octets) keeps normal) in
@@ -60,16 +67,31 @@ gave_normal headline under all are_told reader view body table seen report octet
     let plain = plain_of keeps in
     let rows : seen_rows view table.rows ≡ table.rows = ap (λ (v : View). seen_rows v table.rows) keeps ∙ all_rows table.rows in
     let plain_fewest : SaysFewest as_they_are reading.limits reading.mode body it octets =
-    record { table = table; is_table = gave.is_table; pairs = says.pairs; fewest = subst (λ (l : List Pair). AreFewest l says.pairs) rows says.are_canonical.fewest; text = says.text } in
+    record { table = table; is_table = is_table; pairs = says.pairs; fewest = subst (λ (l : List Pair). AreFewest l says.pairs) rows says.are_canonical.fewest; text = says.text } in
     let plain_told = headline reading.limits reading.mode body bounds size it octets plain in
     record { normalises = plain; fewest = plain_fewest; tells_apart = plain_told.0; reads_again = plain_told.1 } in
     record {
-      table = table;
-      gave = given;
       under = record { normalises = normal; fewest = fewest; tells_apart = told.0; reads_again = λ any. (told.1 any).0 };
       reads_without = λ any. (told.1 any).1;
       whole = whole;
       told = plain_told_of;
+    }
+
+-- the canonical octets of what is seen of the table are what was asked for
+pub gave_normal : Headline → HeadlineUnder → AllNormalises → AnswersAreTold
+    → (reader : Input) (view : View) (body : ℕ) (table seen : Routes) (report : Counts) (octets : List ℕ) → AreBounds reader.reading.limits
+    → IsBodySize body → GaveTable reader table → seen ≡ seen_table view table → report ≡ seen.report → SaysCanonical reader.reading.limits body seen.rows octets
+    → GaveNormal reader view body report octets
+gave_normal headline under all are_told reader view body table seen report octets bounds size given seen_is report_is says_seen =
+    let says : SaysCanonical reader.reading.limits body (seen_rows view table.rows) octets =
+    subst (λ (t : Routes). SaysCanonical reader.reading.limits body t.rows octets) seen_is says_seen in
+    let dump = given.given.dump in
+    record {
+      table = table;
+      gave = given;
+      says = says;
+      of_dump = λ whole. normal_of_dump headline under all are_told reader view body table octets bounds size dump given.given.accepted
+          (table_of_dump reader dump table whole given.given.is_table) says;
       report_is = report_is ∙ ap (λ (t : Routes). t.report) seen_is;
     }
 
@@ -92,17 +114,19 @@ pub gave_routes : RoutesHeadline → (reader : Input) (view : View) (body : ℕ)
     → GaveTable reader table → AreRows table.rows → seen ≡ seen_table view table → report ≡ seen.report → IsCanonicalText body seen.rows octets → GaveRoutes reader view body report octets
 gave_routes headline reader view body table seen report octets bounds size given rows seen_is report_is text =
     let reading = reader.reading in
-    let says : SaysRoutes view reading.limits reading.mode body (sent reading.sender given.given.dump) octets = record {
+    let seen_text : IsCanonicalText body (seen_rows view table.rows) octets = subst (λ (t : Routes). IsCanonicalText body t.rows octets) seen_is text in
+    let says : expired_of reader ≡ None → SaysRoutes view reading.limits reading.mode body (sent reading.sender given.given.dump) octets = λ whole. record {
       no_fault = given.given.accepted;
       table = table;
-      is_table = given.given.is_table;
+      is_table = table_of_dump reader given.given.dump table whole given.given.is_table;
       rows = rows;
-      text = subst (λ (t : Routes). IsCanonicalText body t.rows octets) seen_is text;
+      text = seen_text;
     } in
     record {
       table = table;
       gave = given;
-      are = headline view reading.limits reading.mode body bounds size _ octets says;
+      text = seen_text;
+      are = λ whole. headline view reading.limits reading.mode body bounds size _ octets (says whole);
       report_is = report_is ∙ ap (λ (t : Routes). t.report) seen_is;
     }
 

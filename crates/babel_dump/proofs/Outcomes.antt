@@ -6,6 +6,7 @@ use Rattle.std.specs.Option.{SomeIff}
 use Rattle.std.specs.Io.KnownBytes.{Appends, Consumes, IsAtEnd}
 use Rattle.babel_prefix.specs.Address.{Address}
 use Rattle.babel_capture.specs.Gathering.{Gathering}
+use Rattle.babel_capture.specs.Window.{Extent}
 use Rattle.babel_capture.specs.declared.wanted.Wanted.{Wanted}
 use Rattle.babel_capture.specs.declared.wanted.Wanted.TheVariants as wanteds
 use Rattle.babel_capture.proofs.OneCapture.{capture_is_one, cut_capture_is_one}
@@ -40,17 +41,19 @@ use Rattle.babel_canon.proofs.OneVerdict.{verdict_is_one}
 use Rattle.babel_dump.specs.AnySource.{HasSourceSpecific, LooksUpAnySource, any_source}
 use Rattle.babel_dump.proofs.AnySourceLaws.{told_one}
 use Rattle.babel_dump.specs.AskedPairs.{AskFor, IsFirstWrong, asking, lines_of}
-use Rattle.babel_dump.specs.CaptureGiven.{GaveCapture, GaveSound, IsReadSo}
+use Rattle.babel_dump.specs.CaptureGiven.{extent_of, GaveCapture, GaveSound, IsReadSo}
 use Rattle.babel_dump.specs.CaptureRun.{CaptureCause, IsOutcomeOf}
 use Rattle.babel_dump.specs.CaptureText.{dump_status, dump_text, senders_in, senders_status}
 use Rattle.babel_dump.specs.Command.{CompareCause, Compares, DifferencesCause, HaveDifferences, InTurn, IsOfMany, IsOfMemory, ListsDifferences, ListsPairs, WritesNormal}
 use Rattle.babel_dump.specs.Each.{EachCause, GavePairsOf, GaveText, LooksUpAsked, RefusesPairs}
 use Rattle.babel_dump.specs.Files.{name_of}
 use Rattle.babel_dump.specs.Filter.{kept_pairs_in, kept_rows}
-use Rattle.babel_dump.specs.Given.{GaveAll, GaveDump, GaveTable, GaveUnread, GaveTables, Input, IsFaultOfForm, IsFaultOfGiven, IsOfWhole, Reads, dump_of}
+use Rattle.babel_dump.specs.Given.{GaveAll, GaveDump, GaveTable, GaveUnread, GaveTables, Input, IsFaultOfForm, IsFaultOfGiven, IsOfWhole, Reads, dump_of, expired, expired_of}
 use Rattle.babel_dump.specs.InFormat.{answer_line_in, differences_or_count_in, each_in, lookup_in, verdict_in}
 use Rattle.babel_dump.specs.JobRun.{CauseBy, SaysBy, capture_of}
 use Rattle.babel_dump.specs.KeyText.{key_line}
+use Rattle.babel_dump.specs.Device.{TimesTold}
+use Rattle.babel_dump.proofs.Forms.{table_of_dump}
 use Rattle.babel_dump.specs.OneOutcome.{Contents, FaultIsOfAll, FaultIsOne, HasContents, IsOfDump, IsOfOctets, NothingWritten}
 use Rattle.babel_dump.specs.OneOutcome.{OutcomeIsOne, OutcomeOrFault, RanOver, WrittenIsPrefix, octets_at, reading_at}
 use Rattle.babel_dump.specs.Run.{InputCause, OfFirst, UnlessWrite}
@@ -116,11 +119,22 @@ pub record IsUnread (reading : Reading) (dump : Contents) (fault : InputFault) :
   pub strict : reading.strict ≡ true
   pub unread : IsNotReadWhole dump.left_out table.report fault
 
+-- nothing is left out of the table of a reader that tells no times
+none_expired : (factor moment : Option ℕ) → moment ≡ None → expired factor moment ≡ None
+none_expired None moment none = refl
+none_expired (Some factor) None none = refl
+none_expired (Some factor) (Some moment) none = absurd cc
+
+all_told : (reader : Input) (contents : Contents) (octets : List ℕ) → HasContents reader.old contents → GaveAll reader octets → expired_of reader ≡ None
+all_told reader contents octets has gave =
+    none_expired reader.reading.expiry reader.new.times.moment (ap (λ (t : TimesTold). t.moment) (gave.gave.timeless has.timeless))
+
 is_dump : (reader : Input) (dump : Contents) (table : Routes) → HasContents reader.old dump → GaveDump reader table → IsDump reader.reading dump.octets table
 is_dump reader dump table has given =
     let same = gave_all reader dump.octets given.dump has.octets given.gave in record {
       accepted = subst (λ (d : List ℕ). HasNoFault reader.reading.limits reader.reading.mode reader.reading.sender d) same given.accepted;
-      is_table = subst (λ (d : List ℕ). IsTableOf reader.reading.limits reader.reading.mode reader.reading.sender d table) same given.is_table;
+      is_table = subst (λ (d : List ℕ). IsTableOf reader.reading.limits reader.reading.mode reader.reading.sender d table) same
+          (table_of_dump reader given.dump table (all_told reader dump given.dump has given.gave) given.is_table);
     }
 
 sound : (reader : Input) (dump : Contents) (table : Routes) → HasContents reader.old dump → GaveTable reader table → IsSound reader.reading dump table
@@ -231,8 +245,8 @@ normal_one reading view body hex dump one two text text_too outcome outcome_too 
     λ reader octets given has gave normal. subst (λ (d : List ℕ). Normalises (seen_rows view) reading.limits reading.mode body (sent reading.sender d) octets)
     (gave_all (dump_of reader reading) dump.octets given has.octets gave) normal in
     let same = form_is_one (seen_rows view) _ _ body _ says.octets again.octets
-    (of_all one says.octets _ has says.gave.gave.given.gave says.gave.under.normalises)
-    (of_all two again.octets _ has_too again.gave.gave.given.gave again.gave.under.normalises) in
+    (of_all one says.octets _ has says.gave.gave.given.gave (says.gave.of_dump (all_told (dump_of one reading) dump _ has says.gave.gave.given.gave)).under.normalises)
+    (of_all two again.octets _ has_too again.gave.gave.given.gave (again.gave.of_dump (all_told (dump_of two reading) dump _ has_too again.gave.gave.given.gave)).under.normalises) in
     let tables = table_one reading dump one two says.gave.table again.gave.table has has_too says.gave.gave again.gave.gave in
     let reported = says.gave.report_is ∙ ap (λ (t : Routes). t.report) tables ∙ sym again.gave.report_is in (
       says.text_is ∙ ap (form_text hex) same ∙ sym again.text_is,
@@ -250,8 +264,8 @@ routes_one reading view body hex dump one two text text_too outcome outcome_too 
     λ reader octets given has gave of_given. subst (λ (d : List ℕ). SaysDumpRoutes view reading.limits reading.mode body (sent reading.sender d) octets)
     (gave_all (dump_of reader reading) dump.octets given has.octets gave) of_given in
     let same = route_octets_one view _ _ body _ says.octets again.octets
-    (of_all one says.octets _ has says.gave.gave.given.gave says.gave.are.says)
-    (of_all two again.octets _ has_too again.gave.gave.given.gave again.gave.are.says) in
+    (of_all one says.octets _ has says.gave.gave.given.gave (says.gave.are (all_told (dump_of one reading) dump _ has says.gave.gave.given.gave)).says)
+    (of_all two again.octets _ has_too again.gave.gave.given.gave (again.gave.are (all_told (dump_of two reading) dump _ has_too again.gave.gave.given.gave)).says) in
     let tables = table_one reading dump one two says.gave.table again.gave.table has has_too says.gave.gave again.gave.gave in
     let reported = says.gave.report_is ∙ ap (λ (t : Routes). t.report) tables ∙ sym again.gave.report_is in (
       says.text_is ∙ ap (form_text hex) same ∙ sym again.text_is,
@@ -408,7 +422,7 @@ each_one reading format dump pairs one two one_pairs two_pairs text text_too out
     second.text_is second.outcome_is
 
 -- a capture gives one gathering, from whichever reader
-read_one : (accept_cut : Bool) (limit : ℕ) (octets : List ℕ) (one other : Gathering) (cut other_cut : Option ℕ) → IsReadSo accept_cut limit octets one cut
+read_one : (accept_cut : Bool) (limit : Extent) (octets : List ℕ) (one other : Gathering) (cut other_cut : Option ℕ) → IsReadSo accept_cut limit octets one cut
     → IsReadSo accept_cut limit octets other other_cut → one.wanted ≡ other.wanted → (one ≡ other) × (cut ≡ other_cut)
 read_one false limit octets one other cut other_cut read again wanted =
     (capture_is_one limit octets one other read.0 again.0 wanted, read.1 ∙ sym again.1)
@@ -416,19 +430,19 @@ read_one true limit octets one other cut other_cut read again wanted = cut_captu
 
 -- the octets are a capture of which this is read, of the wanted datagrams
 pub record IsGatheringOf (reading : CaptureReading) (wanted : Wanted) (octets : List ℕ) (gathering : Gathering) (cut : Option ℕ) : Type 0 where
-  pub is_read : IsReadSo reading.accept_cut reading.limit octets gathering cut
+  pub is_read : IsReadSo reading.accept_cut (extent_of reading) octets gathering cut
   pub wanted_is : gathering.wanted ≡ wanted
 
 reads_one : (reading : CaptureReading) (wanted : Wanted) (octets : List ℕ) (one two : Gathering) (cut cut_too : Option ℕ) → IsGatheringOf reading wanted octets one cut
     → IsGatheringOf reading wanted octets two cut_too → (one ≡ two) × (cut ≡ cut_too)
 reads_one reading wanted octets one two cut cut_too is is_too =
-    read_one reading.accept_cut reading.limit octets one two cut cut_too is.is_read is_too.is_read (is.wanted_is ∙ sym is_too.wanted_is)
+    read_one reading.accept_cut (extent_of reading) octets one two cut cut_too is.is_read is_too.is_read (is.wanted_is ∙ sym is_too.wanted_is)
 
 is_read : (reading : CaptureReading) (wanted : Wanted) (reader : Reads) (contents : Contents) (gathering : Gathering) (cut : Option ℕ) → HasContents reader.old contents
     → GaveCapture (capture_of reader reading wanted) gathering cut → IsGatheringOf reading wanted contents.octets gathering cut
 is_read reading wanted reader contents gathering cut has gave =
     let all = all_of reader.old.left reader.new.left contents.octets gave.octets has.octets gave.gave.gave.consumed gave.gave.all.0 in record {
-      is_read = subst (λ (t : List ℕ). IsReadSo reading.accept_cut reading.limit t gathering cut) all gave.is_read;
+      is_read = subst (λ (t : List ℕ). IsReadSo reading.accept_cut (extent_of reading) t gathering cut) all gave.is_read;
       wanted_is = gave.wanted;
     }
 
@@ -795,8 +809,9 @@ normal_no_fault : (reading : Reading) (view : View) (body : ℕ) (hex : Bool) (r
     → HasContents reader.old dump → WritesNormal (dump_of reader reading) view body hex text outcome → FaultOfForm reading view dump fault → ⊥
 normal_no_fault reading view body hex reader dump text outcome fault has says is_fault =
     let gave = says.gave in
-    let normal = gave.under.normalises in
-    let same = table_is_one _ _ _ gave.gave.given.dump gave.table normal.table gave.gave.given.is_table normal.is_table in
+    let all = all_told (dump_of reader reading) dump _ has gave.gave.given.gave in
+    let normal = (gave.of_dump all).under.normalises in
+    let same = table_is_one _ _ _ gave.gave.given.dump gave.table normal.table (table_of_dump (dump_of reader reading) _ gave.table all gave.gave.given.is_table) normal.is_table in
     form_no_fault reading view dump gave.table normal.boxes fault (sound (dump_of reader reading) dump gave.table has gave.gave)
     (subst (λ (t : Routes). AreBoxes (seen_rows view t.rows) normal.boxes) (sym same) normal.are_boxes) normal.few is_fault
 

@@ -13,7 +13,7 @@ use Rattle.babel_dump.specs.declared.format.Format.{Format}
 use Rattle.babel_dump.specs.declared.format.Format.TheVariants as formats
 use Rattle.babel_dump.proofs.SliceLaws.{broke_on, broke_within, pushed, took_more}
 
-name_between : (front before octets after end : List ℕ) → front ++ (before ++ octets ++ after) ++ end ≡ (front ++ before) ++ (octets ++ (after ++ end))
+pub name_between : (front before octets after end : List ℕ) → front ++ (before ++ octets ++ after) ++ end ≡ (front ++ before) ++ (octets ++ (after ++ end))
 name_between front before octets after end = grind (arith, common_steps)
 
 -- the parts before the octets of the name, these, and those after them are the line

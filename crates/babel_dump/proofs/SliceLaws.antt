@@ -155,7 +155,7 @@ next : (i : ℕ) → suc i ≡ i + 1
 next i = omega arith
 
 -- the text of the items from one on
-next_text : {A : Type 0} (f : A → List ℕ) (xs : List A) (i : ℕ) (x : A) → i < length xs → x ≡ get_or xs i x
+pub next_text : {A : Type 0} (f : A → List ℕ) (xs : List A) (i : ℕ) (x : A) → i < length xs → x ≡ get_or xs i x
     → flat_map f (drop i xs) ≡ f x ++ flat_map f (drop (i + 1) xs)
 next_text f xs i x within is =
     ap (flat_map f) (drop-cons xs i x within ∙ ap (λ y. y ∷ drop (suc i) xs) (sym is)) ∙ ap (λ (k : ℕ). f x ++ flat_map f (drop k xs)) (next i)

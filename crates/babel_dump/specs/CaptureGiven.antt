@@ -3,6 +3,7 @@ use Rattle.std.specs.Prelude.{ℕ, Bool, true, false, ◌≡◌, ◌⊎◌, List
 use Rattle.babel_capture.specs.Capture.{EndsShort, HasRead, IsRead, IsReadToCut, State}
 use Rattle.babel_capture.specs.Gathering.{Gathering}
 use Rattle.babel_capture.specs.Reading.{Stops}
+use Rattle.babel_capture.specs.Window.{Extent}
 use Rattle.babel_capture.specs.declared.fault.Fault.{Fault}
 use Rattle.babel_capture.specs.declared.fault.Fault.TheVariants as faults
 use Rattle.babel_capture.specs.declared.wanted.Wanted.{Wanted}
@@ -27,9 +28,14 @@ capture_from old new reading wanted =
 abbrev pub GaveWhole : CaptureInput → List ℕ → Type 0
 GaveWhole reader = GaveOctets reader.old reader.new
 
+-- how much of the capture is read
+abbrev pub extent_of : CaptureReading → Extent
+extent_of reading = record { octets = reading.limit; window = reading.window }
+
 -- the octets are a capture; where a cut is accepted, its last block may be cut short, and this is
 -- where
-abbrev pub IsReadSo : (accept_cut : Bool) → (limit : ℕ) → List ℕ → Gathering → Option ℕ → Type 0
+abbrev pub IsReadSo : (accept_cut : Bool) → (limit : Extent) → List ℕ → Gathering → Option ℕ
+    → Type 0
 IsReadSo false limit octets gathering cut = IsRead limit octets gathering × (cut ≡ None)
 IsReadSo true limit octets gathering cut = IsReadToCut limit octets gathering cut
 
@@ -39,7 +45,8 @@ pub record GaveCapture (reader : CaptureInput) (gathering : Gathering) (cut : Op
     Type 0 where
   pub octets : List ℕ
   pub gave : GaveWhole reader octets
-  pub is_read : IsReadSo reader.reading.accept_cut reader.reading.limit octets gathering cut
+  pub is_read : IsReadSo reader.reading.accept_cut (extent_of reader.reading) octets
+      gathering cut
   pub wanted : gathering.wanted ≡ reader.wanted
 
 -- the reader gave such a capture, of which no wanted datagram was left out if it is read strictly
@@ -60,7 +67,7 @@ pub record GaveLeftOut (reader : CaptureInput) (datagram : LeftOutDatagram) : Ty
 -- accepted, within a later one
 pub record EndsTooSoon (reader : CaptureInput) (octets : List ℕ) (fault : Fault) : Type 0 where
   pub all : GaveWhole reader octets
-  pub short : EndsShort reader.reading.limit reader.wanted octets fault
+  pub short : EndsShort (extent_of reader.reading) reader.wanted octets fault
   pub not_accepted : reader.reading.accept_cut ≡ true → fault ≡ faults.NotCapture
 
 -- the fault is that of the octets that the reader gave, however they go on; or they end too soon
@@ -68,7 +75,8 @@ pub record IsFaultOfCapture (reader : CaptureInput) (fault : Fault) : Type 0 whe
   pub given : List ℕ
   pub gave : Gave reader.old reader.new given
   pub refused :
-      Stops reader.reading.limit reader.wanted given fault ⊎ EndsTooSoon reader given fault
+      Stops (extent_of reader.reading) reader.wanted given fault
+      ⊎ EndsTooSoon reader given fault
 
 -- what a reader of captures was fed is what the device gave, all that it had
 pub record IsFedWhole (capture : State) (reader : CaptureInput) : Type 0 where

@@ -1,5 +1,6 @@
 -- The lines that the runs of captures write: this project's own.
-use Rattle.std.specs.Prelude.{ℕ, Bool, ◌==◌, ◌||◌, if◌then◌else◌, List, [], ◌∷◌, ◌++◌}
+use Rattle.std.specs.Prelude.{ℕ, ◌/◌, ◌%◌, Bool, true, false, ◌==◌, ◌||◌, if◌then◌else◌, List, []}
+use Rattle.std.specs.Prelude.{◌∷◌, ◌++◌}
 use Rattle.std.specs.Prelude.{map, codes, Option, None, Some}
 use Rattle.std.specs.List.{flat_map}
 use Rattle.std.specs.Fmt.{decimal}
@@ -16,6 +17,7 @@ use Rattle.babel_dump.specs.InFormat.{in_format}
 use Rattle.babel_dump.specs.JsonText.{quoted}
 use Rattle.babel_dump.specs.RunText.{form_text, newline}
 use Rattle.babel_dump.specs.Spelling.{address_text}
+use Rattle.babel_dump.specs.TimeText.{time_json, time_or, two_digits}
 use Rattle.babel_dump.specs.declared.format.Format.{Format}
 use Rattle.babel_dump.specs.declared.format.Format.TheVariants as formats
 use Rattle.babel_dump.specs.declared.spelling.Spelling.{Spelling}
@@ -57,10 +59,10 @@ abbrev pub link_text : Option ℕ → List ℕ
 link_text None = []
 link_text (Some number) = codes " link " ++ decimal number
 
--- `N`, or `null`
-abbrev pub link_json : Option ℕ → List ℕ
-link_json None = codes "null"
-link_json (Some number) = decimal number
+-- the number, or `null`
+abbrev pub number_json : Option ℕ → List ℕ
+number_json None = codes "null"
+number_json (Some number) = decimal number
 
 -- numbers in decimal: the first after one mark, each later one after the other
 abbrev pub marked : (first later : List ℕ) → List ℕ → List ℕ
@@ -75,7 +77,19 @@ vlans_text vlans = marked (codes " vlan ") (codes ".") (vlan_numbers vlans)
 abbrev pub vlans_json : Vlans → List ℕ
 vlans_json vlans = codes "[" ++ marked [] (codes ",") (vlan_numbers vlans) ++ codes "]"
 
--- `ADDRESS interface N`, and ` link N vlan N.N packets N octets N updates N`
+-- hundredths of a second in seconds, `N.NN`, or `-` where there is none
+abbrev pub interval_text : Option ℕ → List ℕ
+interval_text None = codes "-"
+interval_text (Some interval) =
+    decimal (interval / 100) ++ codes "." ++ two_digits (interval % 100)
+
+-- the times of a sender are told where each packet of the capture has one
+abbrev pub with_times : (has_untimed : Bool) → Tally → Tally
+with_times true tally = record tally { first = None; last = None }
+with_times false tally = tally
+
+-- `ADDRESS interface N`, and ` link N vlan N.N packets N octets N updates N interval N.NN first
+-- TIME last TIME`
 abbrev pub sender_front : Spelling → Origin → List ℕ
 sender_front spelling origin =
     address_text spelling origin.sender ++ codes " interface " ++ decimal origin.place.interface
@@ -84,30 +98,35 @@ abbrev pub sender_end : Place → Tally → List ℕ
 sender_end place tally =
     link_text place.link ++ vlans_text place.vlans ++ codes " packets " ++ decimal tally.packets
     ++ codes " octets " ++ decimal tally.octets ++ codes " updates " ++ decimal tally.updates
-    ++ newline
+    ++ codes " interval " ++ interval_text tally.interval ++ codes " first " ++ time_or tally.first
+    ++ codes " last " ++ time_or tally.last ++ newline
 
--- `ADDRESS interface N (NAME) link N vlan N.N packets N octets N updates N`
+-- `ADDRESS interface N (NAME) link N vlan N.N packets N octets N updates N interval N.NN first TIME
+-- last TIME`
 abbrev pub sender_line : Spelling → (name : List ℕ) → Origin × Tally → List ℕ
 sender_line spelling name sender =
     sender_front spelling sender.0 ++ name_text name ++ sender_end sender.0.place sender.1
 
 -- `{"address":"ADDRESS","interface":N,"link":N,"vlans":[N,N],"name":`, and
--- `,"packets":N,"octets":N,"updates":N}`
+-- `,"packets":N,"octets":N,"updates":N,"interval":N,"first":"TIME","last":"TIME"}`
 abbrev pub sender_front_json : Spelling → Origin → List ℕ
 sender_front_json spelling origin =
     codes "{\"address\":\"" ++ address_text spelling origin.sender ++ codes "\",\"interface\":"
     ++ decimal origin.place.interface
-    ++ codes ",\"link\":" ++ link_json origin.place.link ++ codes ",\"vlans\":"
+    ++ codes ",\"link\":" ++ number_json origin.place.link ++ codes ",\"vlans\":"
     ++ vlans_json origin.place.vlans
     ++ codes ",\"name\":"
 
 abbrev pub sender_end_json : Tally → List ℕ
 sender_end_json tally =
     codes ",\"packets\":" ++ decimal tally.packets ++ codes ",\"octets\":" ++ decimal tally.octets
-    ++ codes ",\"updates\":" ++ decimal tally.updates ++ codes "}" ++ newline
+    ++ codes ",\"updates\":" ++ decimal tally.updates
+    ++ codes ",\"interval\":" ++ number_json tally.interval
+    ++ codes ",\"first\":" ++ time_json tally.first
+    ++ codes ",\"last\":" ++ time_json tally.last ++ codes "}" ++ newline
 
 -- `{"address":"ADDRESS","interface":N,"link":N,"vlans":[N,N],"name":"NAME"`, and then
--- `,"packets":N,"octets":N,"updates":N}`
+-- `,"packets":N,"octets":N,"updates":N,"interval":N,"first":"TIME","last":"TIME"}`
 abbrev pub sender_json : Spelling → (name : List ℕ) → Origin × Tally → List ℕ
 sender_json spelling name sender =
     sender_front_json spelling sender.0 ++ name_json name ++ sender_end_json sender.1
@@ -119,7 +138,8 @@ sender_in (formats.Json spelling) name sender = sender_json spelling name sender
 -- with the name that the capture has for its interface
 abbrev pub named_in : Format → Gathering → Origin × Tally → List ℕ
 named_in format gathering sender =
-    sender_in format (name_of gathering sender.0.place.interface) sender
+    sender_in format (name_of gathering sender.0.place.interface)
+    (sender.0, with_times gathering.report.timing.has_untimed sender.1)
 
 -- a line for each sender at each place
 abbrev pub senders_in : Format → Gathering → List ℕ

@@ -14,6 +14,7 @@ use Rattle.babel_dump.specs.declared.reading.Reading.{Reading}
 abbrev pub capture_reading_of : Reading → CaptureReading
 capture_reading_of reading = record {
   limit = capture_limit reading.limits.bytes;
+  window = reading.window;
   accept_cut = reading.accept_cut;
   strict = reading.strict;
 }

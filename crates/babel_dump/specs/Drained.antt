@@ -6,6 +6,7 @@ use Rattle.std.specs.Io.KnownBytes.{Consumes, IsAtEnd}
 use Rattle.babel_capture.specs.Capture.{EndsShort, HasGiven, IsReadToCut, State}
 use Rattle.babel_capture.specs.Gathering.{Gathering, with_taken}
 use Rattle.babel_capture.specs.Reading.{Stops}
+use Rattle.babel_capture.specs.Window.{Extent}
 use Rattle.babel_capture.specs.declared.fault.Fault.{Fault}
 use Rattle.babel_capture.specs.declared.fault.Fault.TheVariants as capture_faults
 use Rattle.babel_capture.specs.declared.wanted.Wanted.{Wanted}
@@ -22,6 +23,11 @@ use Rattle.babel_dump.specs.declared.reading.Reading.{Reading}
 -- a capture may have 2^30 octets, or as many as its dump if that is more
 abbrev pub capture_limit : ℕ → ℕ
 capture_limit dump = max (2 ^ 30) dump
+
+-- how much of a capture is read for its dump
+abbrev pub dump_extent : Reading → Extent
+dump_extent reading =
+    record { octets = capture_limit reading.limits.bytes; window = reading.window }
 
 -- the datagrams of the dump's sender, at its place if one is named
 abbrev pub wanted_by : Reading → Wanted
@@ -97,8 +103,9 @@ abbrev pub Stands :
     CaptureSource → (fed taken : List ℕ) → Option (Result CaptureNotes InputFault) → Type 0
 Stands source fed taken None = source.capture.fault ≡ None
 Stands source fed taken (Some (Ok notes)) =
-    (cut : Option ℕ) × IsWhole source fed taken cut
-    × EndsWith source.reading.accept_cut source.capture.progress.gathering cut notes
+    (source.capture.fault ≡ None)
+    × ((cut : Option ℕ) × IsWhole source fed taken cut
+    × EndsWith source.reading.accept_cut source.capture.progress.gathering cut notes)
 Stands source fed taken (Some (Err fault)) = IsRefusedFor source fed taken fault
 
 -- Of a reader that had this first, a capture was fed what is no longer left, and these octets were
@@ -108,15 +115,16 @@ pub record HasDrained (first : Option (List ℕ)) (source : CaptureSource)
   pub fed : List ℕ
   pub gave : Consumes first source.left fed
   pub read : HasGiven source.capture taken fed
-  pub limit : source.capture.limit ≡ capture_limit source.reading.limits.bytes
+  pub limit : source.capture.limit ≡ dump_extent source.reading
   pub wanted : source.capture.progress.gathering.wanted ≡ wanted_by source.reading
   pub stands : Stands source fed taken source.end
 
 -- what a device holds of a capture: besides, how many octets of the part that the capture keeps
--- were given
+-- were given, and how many packets of it whole
 pub record Held : Type 0 where
   pub source : CaptureSource
   pub given : ℕ
+  pub place : ℕ
 
 -- the part, and its octets that are given next
 abbrev pub part_of : CaptureSource → List ℕ
@@ -133,9 +141,10 @@ source_of remaining source = record {
   end = source.end;
 }
 
-abbrev pub held_of : {R : Type 0} → (remaining : R → Option (List ℕ)) → Source R → (given : ℕ)
-    → Held
-held_of remaining source given = record { source = source_of remaining source; given = given }
+abbrev pub held_of : {R : Type 0} → (remaining : R → Option (List ℕ)) → Source R
+    → (given place : ℕ) → Held
+held_of remaining source given place =
+    record { source = source_of remaining source; given = given; place = place }
 
 -- the device gave these octets since it was made, over a reader that had this first: those that
 -- were taken out of the dump, and the first ones of the part
@@ -145,9 +154,10 @@ pub record HasHanded (first : Option (List ℕ)) (held : Held) (octets : List �
   pub given_is : octets ≡ taken ++ take held.given (part_of held.source)
   pub within : held.given ≤ length (part_of held.source)
 
--- between the two the device gave these octets
+-- between the two the device gave these octets; a fault of the capture stays
 pub record Hands (old new : Held) (octets : List ℕ) : Type 0 where
   pub reading : new.source.reading ≡ old.source.reading
+  pub sound : new.source.capture.fault ≡ None → old.source.capture.fault ≡ None
   pub handed : (first : Option (List ℕ)) (before : List ℕ) → HasHanded first old before
       → HasHanded first new (before ++ octets)
 

@@ -5,12 +5,13 @@ use Rattle.babel_capture.specs.declared.reason.Reason.{Reason}
 use Rattle.babel_capture.specs.Counts.{Made, counts_of}
 use Rattle.babel_capture.specs.Findings.{left}
 use Rattle.babel_capture.specs.Gathering.{Gathering}
-use Rattle.babel_dump.specs.CaptureGiven.{CaptureInput, GaveLeftOut, IsReadSo}
+use Rattle.babel_capture.specs.Window.{Extent}
+use Rattle.babel_dump.specs.CaptureGiven.{extent_of, CaptureInput, GaveLeftOut, IsReadSo}
 use Rattle.babel_dump.specs.LeftOut.{LeavesNoneOut}
 use Rattle.babel_dump.specs.declared.left_out.LeftOutDatagram.{LeftOutDatagram}
 
 -- what is made of the packets of a capture that is read so
-abbrev pub made_of : (accept_cut : Bool) → (limit : ℕ) → (octets : List ℕ)
+abbrev pub made_of : (accept_cut : Bool) → (limit : Extent) → (octets : List ℕ)
     → (gathering : Gathering) → (cut : Option ℕ)
     → IsReadSo accept_cut limit octets gathering cut → List Made
 made_of false limit octets gathering cut read = read.0.gathered.made
@@ -38,5 +39,5 @@ abbrev pub RefusedIsFirst : Type 0
 RefusedIsFirst =
     (reader : CaptureInput) (datagram : LeftOutDatagram) (gave : GaveLeftOut reader datagram)
     → IsFirstLeftOut
-    (made_of reader.reading.accept_cut reader.reading.limit gave.given.octets gave.gathering
+    (made_of reader.reading.accept_cut (extent_of reader.reading) gave.given.octets gave.gathering
     gave.cut gave.given.is_read) datagram

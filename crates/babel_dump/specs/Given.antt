@@ -1,19 +1,22 @@
 -- What readers gave, as dumps. No RFC speaks of readers: these are this project's own.
-use Rattle.std.specs.Prelude.{ℕ, ◌≡◌, ◌≢◌, ◌⊎◌, Bool, false, true, List, None, Some}
+use Rattle.std.specs.Prelude.{ℕ, ◌≡◌, ◌≢◌, ◌⊎◌, Bool, false, true, List, Option, None, Some}
 use Rattle.babel_prefix.specs.Address.{Address}
+use Rattle.babel_capture.specs.declared.window.Window.TheVariants as windows
 use Rattle.babel_tlv.specs.declared.fault.Fault.{Fault}
 use Rattle.babel_tlv.specs.declared.fault.Fault.TheVariants as faults
 use Rattle.babel_tlv.specs.declared.mode.Mode.{Mode}
 use Rattle.babel_tlv.specs.declared.view.View.{View}
+use Rattle.babel_tlv.specs.Group.{IsCanonicalText}
 use Rattle.babel_tlv.specs.Pair.{Pair}
 use Rattle.babel_tlv.specs.Views.{keeps_all}
 use Rattle.babel_table.specs.Bounds.{Bounds}
 use Rattle.babel_table.specs.Counts.{Counts}
+use Rattle.babel_table.specs.Moments.{IsTableAt, dump_of as dump_heard}
 use Rattle.babel_table.specs.TableOf.{IsTableOf}
 use Rattle.babel_table.specs.DumpFault.{DumpFault, HasNoFault}
 use Rattle.babel_table.specs.Rows.{Routes}
 use Rattle.babel_table.specs.Seen.{seen_rows}
-use Rattle.babel_canon.specs.Canonical.{Canonical, HasManyBoxes, IsCanonical}
+use Rattle.babel_canon.specs.Canonical.{Canonical, HasManyBoxes, IsCanonical, SaysCanonical}
 use Rattle.babel_canon.specs.Answers.{AnswerTheSame}
 use Rattle.babel_canon.specs.AnswersTell.{AnswersTell}
 use Rattle.babel_canon.specs.Fewest.{AreFewest}
@@ -23,7 +26,9 @@ use Rattle.babel_canon.specs.Sent.{Sent, sent}
 use Rattle.babel_canon.specs.Normalises.{NormaliseFault, Normalises, SaysFewest, as_they_are}
 use Rattle.babel_canon.specs.Views.{AnswerTheSameUnder, ReadsAgainSeen}
 use Rattle.babel_dump.specs.Device.{Gave, GaveOctets, InputState}
+use Rattle.babel_dump.specs.Reads.{AreUncut, GaveReads}
 use Rattle.babel_dump.specs.Strict.{IsNotReadWhole, IsReadWhole}
+use Rattle.babel_dump.specs.declared.input.Expired.{Expired}
 use Rattle.babel_dump.specs.declared.input_fault.InputFault.{InputFault}
 use Rattle.babel_dump.specs.declared.reading.Reading.{Reading}
 
@@ -54,6 +59,9 @@ usual_reading limits mode sender = record {
   mode = mode;
   sender = sender;
   place = None;
+  window = windows.Whole;
+  time_option = None;
+  expiry = None;
   accept_cut = false;
   strict = false;
 }
@@ -66,13 +74,40 @@ input limits mode sender old new = read_from old new (usual_reading limits mode 
 abbrev pub GaveAll : Input → List ℕ → Type 0
 GaveAll reader = GaveOctets reader.old reader.new
 
--- the reader gave a dump, all that it had, which has no fault, and this is the table of that dump
+-- what is left out of a table: what was not said again within so many ten-millionths of its
+-- Interval at this moment, where that is asked and the moment is told
+abbrev pub expired : (factor moment : Option ℕ) → Option Expired
+expired (Some factor) (Some moment) = Some (record { factor = factor; moment = moment })
+expired factor moment = None
+
+-- of a dump that is read so from a reader that tells this of times
+abbrev pub expired_of : Input → Option Expired
+expired_of reader = expired reader.reading.expiry reader.new.times.moment
+
+-- The reader gave the dump read by read, each read with the time that it told. Where it tells
+-- times, and no read cut a packet, this is the table at the moment.
+pub record IsTableThen (reader : Input) (at : Expired) (dump : List ℕ) (table : Routes) :
+    Type 0 where
+  pub given : List (ℕ × List ℕ)
+  pub gave : GaveReads reader.old reader.new given
+  pub whole : dump ≡ dump_heard given
+  pub is_table : reader.old.times.told ≡ true → AreUncut given
+      → IsTableAt reader.reading.limits reader.reading.mode reader.reading.sender given
+      at.factor at.moment table
+
+-- the table of the dump, without what is left out of it
+abbrev pub IsTableRead : Option Expired → Input → (dump : List ℕ) → Routes → Type 0
+IsTableRead None reader dump =
+    IsTableOf reader.reading.limits reader.reading.mode reader.reading.sender dump
+IsTableRead (Some at) reader dump = IsTableThen reader at dump
+
+-- the reader gave a dump, all that it had, which has no fault, and this is the table of that dump,
+-- without what is left out of it
 pub record GaveDump (reader : Input) (table : Routes) : Type 0 where
   pub dump : List ℕ
   pub gave : GaveAll reader dump
   pub accepted : HasNoFault reader.reading.limits reader.reading.mode reader.reading.sender dump
-  pub is_table :
-      IsTableOf reader.reading.limits reader.reading.mode reader.reading.sender dump table
+  pub is_table : IsTableRead (expired_of reader) reader dump table
 
 -- the reader gave such a dump, of which nothing was left unread if it is read strictly
 pub record GaveTable (reader : Input) (table : Routes) : Type 0 where
@@ -126,35 +161,42 @@ pub record IsNormal (Same : List Pair → List Pair → Type 0) (see : List Pair
   pub reads_again : (any : Address) → ReadsAgain Same (Normalises see limits mode body)
       (NormaliseFault see limits mode) limits mode one octets any
 
--- the reader gave a dump, all that it had, and these are its canonical octets under the view, read
--- again with it or without; and, if it keeps every field, its canonical octets, of which the
--- headline is told in plain definitions
+-- These are the canonical octets of a dump that is read so, under the view, read again with it or
+-- without; and, if it keeps every field, its canonical octets, of which the headline is told in
+-- plain definitions.
+pub record IsNormalOfDump (reading : Reading) (view : View) (body : ℕ) (dump : List ℕ)
+    (octets : List ℕ) : Type 0 where
+  pub under : IsNormal (AnswerTheSameUnder view) (seen_rows view)
+      reading.limits reading.mode body (sent reading.sender dump) octets
+  pub reads_without : (any : Address) → ReadsAgainSeen view as_they_are
+      reading.limits reading.mode body (sent reading.sender dump) octets any
+  pub whole : view ≡ keeps_all → IsNormal AnswerTheSame as_they_are
+      reading.limits reading.mode body (sent reading.sender dump) octets
+  pub told : view ≡ keeps_all → AnswersTell
+      (Normalises as_they_are reading.limits reading.mode body)
+      (NormaliseFault as_they_are reading.limits reading.mode)
+      reading.limits.via_v6 reading.mode (sent reading.sender dump) octets
+
+-- the reader gave a dump, all that it had, and these are the canonical octets of what the view sees
+-- of its table, with the fewest pairs; and, if nothing is left out of that, those of the dump
 pub record GaveNormal (reader : Input) (view : View) (body : ℕ) (report : Counts)
     (octets : List ℕ) : Type 0 where
   pub table : Routes
   pub gave : GaveTable reader table
-  pub under : IsNormal (AnswerTheSameUnder view) (seen_rows view)
-      reader.reading.limits reader.reading.mode body
-      (sent reader.reading.sender gave.given.dump) octets
-  pub reads_without : (any : Address) → ReadsAgainSeen view as_they_are
-      reader.reading.limits reader.reading.mode body
-      (sent reader.reading.sender gave.given.dump) octets any
-  pub whole : view ≡ keeps_all → IsNormal AnswerTheSame as_they_are
-      reader.reading.limits reader.reading.mode body
-      (sent reader.reading.sender gave.given.dump) octets
-  pub told : view ≡ keeps_all → AnswersTell
-      (Normalises as_they_are reader.reading.limits reader.reading.mode body)
-      (NormaliseFault as_they_are reader.reading.limits reader.reading.mode)
-      reader.reading.limits.via_v6 reader.reading.mode
-      (sent reader.reading.sender gave.given.dump) octets
+  pub says : SaysCanonical reader.reading.limits body (seen_rows view table.rows) octets
+  pub of_dump : expired_of reader ≡ None
+      → IsNormalOfDump reader.reading view body gave.given.dump octets
   pub report_is : report ≡ table.report
 
--- the reader gave a dump, all that it had, and these are its route octets under the view
+-- the reader gave a dump, all that it had, and these are the octets of what the view sees of its
+-- table's rows; and, if nothing is left out of that, its route octets under the view
 pub record GaveRoutes (reader : Input) (view : View) (body : ℕ) (report : Counts)
     (octets : List ℕ) : Type 0 where
   pub table : Routes
   pub gave : GaveTable reader table
-  pub are : AreRouteOctets view reader.reading.limits reader.reading.mode body
+  pub text : IsCanonicalText body (seen_rows view table.rows) octets
+  pub are : expired_of reader ≡ None
+      → AreRouteOctets view reader.reading.limits reader.reading.mode body
       (sent reader.reading.sender gave.given.dump) octets
   pub report_is : report ≡ table.report
 

@@ -9,7 +9,7 @@ use Rattle.babel_tlv.specs.declared.fault.Fault.TheVariants as faults
 use Rattle.babel_table.specs.DumpFault.{DumpFault}
 use Rattle.babel_dump.specs.CaptureGiven.{CaptureInput}
 use Rattle.babel_dump.specs.CaptureRun.{IsOnSeveral}
-use Rattle.babel_dump.specs.Device.{InputState}
+use Rattle.babel_dump.specs.Device.{InputState, no_times}
 use Rattle.babel_dump.specs.Given.{Reads}
 use Rattle.babel_dump.specs.JobRun.{RanJob}
 use Rattle.babel_dump.specs.Run.{Output}
@@ -32,8 +32,9 @@ pub record Contents : Type 0 where
   pub octets : List ℕ
   pub left_out : Option LeftOutDatagram
 
--- the reader says that it has these
+-- the reader says that it has these, and tells no times
 pub record HasContents (state : InputState) (contents : Contents) : Type 0 where
+  pub timeless : state.times ≡ no_times
   pub octets : state.left ≡ Some contents.octets
   pub left_out : state.left_out ≡ contents.left_out
 

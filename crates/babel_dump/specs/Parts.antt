@@ -9,7 +9,8 @@ use Rattle.babel_table.specs.Bounds.{Bounds}
 use Rattle.babel_table.specs.Counts.{Counts}
 use Rattle.babel_table.specs.Rows.{Routes}
 use Rattle.babel_table.specs.Seen.{seen_rows, seen_table}
-use Rattle.babel_table.specs.Feeding.{Progress, HasRead}
+use Rattle.babel_table.specs.Feeding.{Progress, HasHeard, HasRead}
+use Rattle.babel_table.specs.Moments.{dump_of}
 use Rattle.babel_table.specs.declared.answer.Answer.{Answer}
 use Rattle.babel_canon.specs.Canonical.{Canonical, IsCanonical}
 use Rattle.babel_canon.specs.Differences.{AreDifferences}
@@ -24,6 +25,7 @@ use Rattle.babel_dump.specs.Command.{IsOutcomeOfBoth}
 use Rattle.babel_dump.specs.Device.{AppendsPrefix}
 use Rattle.babel_dump.specs.Given.{GaveAll, GaveTables, Input, Reads}
 use Rattle.babel_dump.specs.InFormat.{differences_or_count_in, verdict_in}
+use Rattle.babel_dump.specs.Reads.{AreUncut, GaveReads}
 use Rattle.babel_dump.specs.JobRun.{CauseBy, OtherCalled, SaysBy, first_calls, other_calls}
 use Rattle.babel_dump.specs.Run.{Called, Calls, Output}
 use Rattle.babel_dump.specs.RunText.{answer_in, differences_status, form_text, verdict_status}
@@ -38,11 +40,16 @@ use Rattle.babel_dump.specs.declared.run_fault.RunFault.{RunFault}
 use Rattle.babel_dump.specs.declared.run_fault.RunFault.TheVariants as run_faults
 use Rattle.babel_dump.specs.declared.slices.Found.{Found}
 
--- what a feeder was fed is what the reader gave, all that it had
-pub record IsFedAll (feeder : Progress) (reader : Input) : Type 0 where
+-- what a feeder was fed is what the reader gave, all that it had; and read by read, each read with
+-- its time, it is what a feeder heard that keeps times, if no read cut a packet
+pub record IsFedAll (first feeder : Progress) (reader : Input) : Type 0 where
   pub given : List ℕ
   pub fed : HasRead feeder given
   pub gave : GaveAll reader given
+  pub reads : List (ℕ × List ℕ)
+  pub gave_reads : GaveReads reader.old reader.new reads
+  pub whole : given ≡ dump_of reads
+  pub heard : HasHeard first [] → AreUncut reads → HasHeard feeder reads
 
 -- a dump was given, and this is what its table answers for the addresses, and its report
 pub record GaveAnswer (Gave : Routes → Type 0) (dst src : Address) (answer : Answer) : Type 0 where

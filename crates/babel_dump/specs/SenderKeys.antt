@@ -34,6 +34,7 @@ use Rattle.babel_dump.specs.declared.spelling.Spelling.TheVariants as spellings
 abbrev pub capture_read_by : SenderKeys → CaptureReading
 capture_read_by keys = record {
   limit = capture_limit keys.limits.bytes;
+  window = keys.window;
   accept_cut = keys.accept_cut;
   strict = keys.strict;
 }
@@ -48,6 +49,9 @@ read_by keys origin = record {
   mode = keys.mode;
   sender = origin.sender;
   place = Some origin.place;
+  window = keys.window;
+  time_option = None;
+  expiry = keys.expiry;
   accept_cut = keys.accept_cut;
   strict = keys.strict;
 }
@@ -73,11 +77,15 @@ pub record MakesKey (reader : Input) (view : View) (routes : Bool) (name : List 
   pub gave : GaveTable reader table
   pub rows_is : key.rows ≡ length table.rows
 
+-- a reader that has this dump and nothing else, whatever it tells of times
+abbrev pub HasDump : InputState → (dump : List ℕ) → Type 0
+HasDump state dump = state ≡ record (fresh (Some dump)) { times = state.times }
+
 -- a reader of this dump, which is that of a sender at its place, and nothing else
 pub record ReadsDump (keys : SenderKeys) (origin : Origin) (dump : List ℕ) (reader : Input) :
     Type 0 where
   pub reading : reader.reading ≡ read_by keys origin
-  pub has : reader.old ≡ fresh (Some dump)
+  pub has : HasDump reader.old dump
 
 -- the key of such a dump
 abbrev pub IsKeyOfDump : SenderKeys → Origin → (dump : List ℕ) → MadeKey → Type 0

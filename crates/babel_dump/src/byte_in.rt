@@ -1,6 +1,8 @@
-ghost use Rattle.std.specs.Prelude.{◌≡◌, ◌+◌, ◌-◌, ◌^◌, ◌<◌, None, length};
+ghost use Rattle.std.specs.Prelude.{◌≡◌, ◌+◌, ◌-◌, ◌^◌, ◌<◌, None, IfSome, length};
 ghost use Rattle.std.specs.Io.{ReadsAtMost};
 ghost use Rattle.babel_dump.specs.Device.{InputState, ReadGave, failed_calls, ended_reads};
+ghost use Rattle.babel_dump.specs.Device.{no_times};
+ghost use Rattle.babel_dump.specs.Reads.{ReadsPacket};
 
 use crate::left_out::LeftOutDatagram;
 use babel_table::USUAL_SEED;
@@ -10,8 +12,8 @@ use std::io::Read;
 /// A device that gives octets, as std's `Read` does, with counts that contracts alone see.
 pub trait ByteIn {
     // The octets that are left to give, where the device says them, what it holds of a capture, if
-    // it reads one, what was left out of its octets, how many calls failed, how many reads there
-    // were, and how many of them met the end.
+    // it reads one, what was left out of its octets, what it tells of times, how many calls failed,
+    // how many reads there were, and how many of them met the end.
     ghost state: { Self → InputState };
 
     /// Gives its next octets, at least one where there are more and the buffer isn't empty.
@@ -25,6 +27,7 @@ pub trait ByteIn {
         requires few_ends { (state self.old).ends < 2 ^ 64 - 1 }
         ensures bound { ReadsAtMost result buf.new }
         ensures octets { ReadGave (state self.old) (state self.new) result buf.new }
+        ensures packet { ReadsPacket (state self.old) (state self.new) result buf.new }
         ensures counts_failure { (state self.new).failures
             ≡ (state self.old).failures + failed_calls result }
         ensures counts_read { (state self.new).reads ≡ (state self.old).reads + 1 }
@@ -34,6 +37,26 @@ pub trait ByteIn {
     /// The first datagram that was left out of what it gave, if that was cut from a capture.
     fn left_out(&self) -> Option<LeftOutDatagram>
         ensures { result ≡ (state self.now).left_out };
+
+    /// Whether it tells times: it then gives octets of one packet a read, and a packet whole where
+    /// there is room.
+    fn has_times(&self) -> bool
+        ensures { result ≡ (state self.now).times.told };
+
+    /// When the packet came whose octets it gave last, in nanoseconds since the start of 1970, if
+    /// it tells that.
+    fn time(&self) -> Option<u128>
+        ensures time { result ≡ (state self.now).times.last }
+        ensures fits { IfSome result (λ time. time < 2 ^ 96) };
+
+    /// The moment up to which the packets were read that it gave, if it tells when each came.
+    fn moment(&self) -> Option<u128>
+        ensures { result ≡ (state self.now).times.moment };
+
+    /// Keeps how many rows of the table of what it gave were not said again in time, for the notes.
+    fn keep_passed(&mut self, _passed: usize)
+        ensures { state self.new ≡ state self.old }
+    {}
 
     /// The seed by which keys are found in what it gave: `Feeder::with_seed`.
     fn seed(&self) -> u128 {
@@ -58,6 +81,7 @@ impl<R: Read> FromReader<R> {
           left = R.remaining reader;
           captured = None;
           left_out = None;
+          times = no_times;
           failures = 0;
           reads = 0;
           ends = 0;
@@ -73,6 +97,7 @@ impl<R: Read> FromReader<R> {
           left = R.remaining reader;
           captured = None;
           left_out = left_out;
+          times = no_times;
           failures = 0;
           reads = 0;
           ends = 0;
@@ -93,6 +118,7 @@ impl<R: Read> ByteIn for FromReader<R> {
       left = R.remaining d.reader;
       captured = None;
       left_out = d.left_out;
+      times = no_times;
       failures = d.failures;
       reads = d.reads;
       ends = d.ends;
@@ -116,5 +142,17 @@ impl<R: Read> ByteIn for FromReader<R> {
 
     fn left_out(&self) -> Option<LeftOutDatagram> {
         self.left_out
+    }
+
+    fn has_times(&self) -> bool {
+        false
+    }
+
+    fn time(&self) -> Option<u128> {
+        None
+    }
+
+    fn moment(&self) -> Option<u128> {
+        None
     }
 }

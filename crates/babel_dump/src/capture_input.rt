@@ -1,7 +1,7 @@
 //! What a reader gives, as a capture.
 ghost use Rattle.std.specs.Prelude.{◌≡◌, ◌≢◌, ℕ, true, List, [], None, IfOk, IfErr, OnOk};
 ghost use Rattle.babel_capture.specs.Capture.{CaptureFault, HasRead};
-ghost use Rattle.babel_dump.specs.CaptureGiven.{GaveCapture, GaveSound, IsFedWhole};
+ghost use Rattle.babel_dump.specs.CaptureGiven.{extent_of, GaveCapture, GaveSound, IsFedWhole};
 ghost use Rattle.babel_dump.specs.CaptureGiven.{IsReadSo, capture_from};
 ghost use Rattle.babel_dump.specs.CaptureRun.{CaptureCause, IsNoFault, capture_calls};
 ghost use Rattle.babel_dump.specs.Device.{HasRoomToCount};
@@ -26,6 +26,8 @@ pub struct CaptureRead {
     pub gathered: babel_capture::Gathered,
     /// The offset where it is cut short, if it is and that is accepted.
     pub cut: Option<u64>,
+    /// The moment up to which its packets were read, if each has a time: `Capture::moment`.
+    pub moment: Option<u128>,
 }
 
 /// Reads a capture to its end, or to its first fault. One that is read strictly is refused where a
@@ -41,8 +43,9 @@ pub(crate) fn read_capture<R: ByteIn>(
         Gathered (capture_calls input) (CaptureCause input IsNoFault)
         (λ read. GaveSound input read.gathered read.cut) result }
 {
+    let strict = reading.strict;
     let read = read_whole(alloc, reading, wanted, reader)?;
-    if reading.strict {
+    if strict {
         if let Some(datagram) = first_left_out(&read.gathered.report()) {
             return Err(InputFault::LeftOut(datagram));
         }
@@ -62,9 +65,15 @@ fn read_whole<R: ByteIn>(
         Gathered (capture_calls input) (CaptureCause input IsNoFault)
         (λ read. GaveCapture input read.gathered read.cut) result }
 {
-    let mut capture = Capture::new(alloc, u64::from(reading.limit), wanted);
-    feed_all(&mut capture, reading, reader)?;
-    let read = finished(capture, reading.accept_cut)?;
+    let CaptureReading {
+        limit,
+        window,
+        accept_cut,
+        ..
+    } = reading;
+    let mut capture = Capture::within(alloc, u64::from(limit), window, wanted);
+    feed_all(&mut capture, CaptureReading { ..reading }, reader)?;
+    let read = finished(capture, accept_cut)?;
     Ok(read)
 }
 
@@ -80,14 +89,20 @@ fn finished(capture: Capture, accept_cut: bool) -> Result<CaptureRead, Fault>
     ensures accepted { capture.fault ≡ None → accept_cut ≡ true
         → IfErr result (λ fault. fault ≡ Fault.NotCapture) }
 {
+    let moment = capture.moment();
     if accept_cut {
         let (gathered, cut) = capture.finish_at_cut()?;
-        return Ok(CaptureRead { gathered, cut });
+        return Ok(CaptureRead {
+            gathered,
+            cut,
+            moment,
+        });
     }
     let gathered = capture.finish()?;
     Ok(CaptureRead {
         gathered,
         cut: None,
+        moment,
     })
 }
 
@@ -99,11 +114,11 @@ pub(crate) fn feed_all<R: ByteIn>(
     reader: &mut R,
 ) -> Result<(), InputFault>
     requires counts { HasRoomToCount (R.state reader.old) }
-    requires limit { capture.old.limit ≡ reading.limit }
+    requires limit { capture.old.limit ≡ extent_of reading }
     requires fresh { HasRead capture.old [] }
     requires no_fault { capture.old.fault ≡ None }
 
-    ensures limit { capture.new.limit ≡ reading.limit }
+    ensures limit { capture.new.limit ≡ extent_of reading }
     ensures wanted { capture.new.progress.gathering.wanted ≡ capture.old.progress.gathering.wanted }
     ensures sound { OnOk result (capture.new.fault ≡ None) }
     ensures gathered { let wanted = capture.old.progress.gathering.wanted in

@@ -57,7 +57,8 @@ const AFTER_SHOW: &str = after_help!(
     "show --from fe80::1 x.pcap",
     "show --hold --from fe80::1 x.pcap | grep -v unreachable",
     "show --quiet --match 10.1.2.3 --from fe80::1 x.pcap",
-    "show --summary --from fe80::1 x.pcap";
+    "show --summary --from fe80::1 x.pcap",
+    "show --until +30 --expiry 3.5 --from fe80::1 x.pcap";
     "0  done"
 );
 
@@ -111,7 +112,8 @@ const AFTER_COMPARE: &str = after_help!(
 const AFTER_DIFF: &str = after_help!(
     examples:
     "diff --from fe80::1 before.pcap now.pcap",
-    "diff --stat --color auto --from fe80::1 before.pcap now.pcap";
+    "diff --stat --color auto --from fe80::1 before.pcap now.pcap",
+    "diff --until +30 --other-until +60 --from fe80::1 x.pcap x.pcap";
     "0  no route differs",
     "1  at least one route differs"
 );
@@ -120,7 +122,7 @@ const AFTER_SENDERS: &str = after_help!(
     refused: "a capture";
     examples:
     "senders x.pcap",
-    "senders --json < x.pcap";
+    "senders --since +30 --json < x.pcap";
     "0  there are senders",
     "1  there are no senders"
 );
@@ -132,6 +134,18 @@ const AFTER_EXTRACT: &str = after_help!(
     "extract --from fe80::1 x.pcap | babel-dump show --from fe80::1";
     "0  done",
     "1  there are no packets from the sender"
+);
+
+const AFTER_EVENTS: &str = after_help!(
+    refused: "a capture";
+    "Each packet has to have a time. Lines are printed as the capture is read, so that it can be \
+     followed while it is recorded; after an error those before it stand.\n",
+    examples:
+    "events x.pcap",
+    "events --expiry 3.5 --from fe80::1 x.pcap",
+    "events --to 10.1.2.3 --src 0.0.0.0 --json x.pcap";
+    "0  done",
+    "1  there are no Babel packets"
 );
 
 /// The program's command line.
@@ -154,7 +168,8 @@ pub(crate) fn command<'a>(alloc: Global) -> Result<Command<'a>, AllocError> {
         .subcommand(compare(alloc)?)?
         .subcommand(diff(alloc)?)?
         .subcommand(senders(alloc)?)?
-        .subcommand(extract(alloc)?)
+        .subcommand(extract(alloc)?)?
+        .subcommand(events(alloc)?)
 }
 
 /// The command line with the commands for the rows of a dump.
@@ -349,12 +364,24 @@ fn of_two_dumps<'a>(alloc: Global, command: Command<'a>) -> Result<Command<'a>, 
         "other-interface",
         "The same for OTHER, if it is a capture",
     );
+    let other_since = moment(
+        alloc,
+        "other-since",
+        "The same for OTHER [default: that of --since]",
+    );
+    let other_until = moment(
+        alloc,
+        "other-until",
+        "The same for OTHER [default: that of --until]",
+    );
     let command = command
         .arg(from)?
         .arg(other_from.required(false))?
         .arg(interface)?
         .arg(other_interface)?;
     with_settings(alloc, command)?
+        .arg(other_since)?
+        .arg(other_until)?
         .arg(strict(alloc))?
         .arg(ignore(alloc))?
         .arg(dump(
@@ -417,19 +444,65 @@ fn extract<'a>(alloc: Global) -> Result<Command<'a>, AllocError> {
     of_one_capture(alloc, command)
 }
 
-/// The command with what each command over a capture has.
+/// The command for what changed in a capture.
+fn events<'a>(alloc: Global) -> Result<Command<'a>, AllocError> {
+    let about = "Print what changed in a capture, and when";
+    let command = Command::new(alloc, "events")
+        .about(about)
+        .after_help(AFTER_EVENTS);
+    let from = address(
+        alloc,
+        "from",
+        "The source address of the packets; if omitted, what each sender announces is told",
+    );
+    let interface = place(
+        alloc,
+        "interface",
+        "The place in the capture: the interface, with its link and VLANs, as senders lists it; if \
+         omitted, what is announced at each place is told by itself",
+    );
+    let expiry = expiry(
+        alloc,
+        "Tell as well when a route was not announced again within FACTOR times its Interval; 3.5 \
+         in RFC 8966, appendix B",
+    );
+    let to = address(
+        alloc,
+        "to",
+        "Tell when the answer for this destination changes, and not what routes do",
+    );
+    let src = address(
+        alloc,
+        "src",
+        "The source of that answer, of the destination's family",
+    );
+    let max_routes = max_routes(
+        alloc,
+        "How many routes there may be, of all senders together [default: 262144]",
+    );
+    with_times(alloc, command.arg(from.required(false))?.arg(interface)?)?
+        .arg(expiry)?
+        .arg(ignore(alloc))?
+        .arg(to.required(false).requires_arg("src")?)?
+        .arg(src.required(false).requires_arg("to")?)?
+        .arg(v4_via_v6(alloc))?
+        .arg(accept_cut(alloc))?
+        .arg(max_routes)?
+        .arg(json(alloc))?
+        .arg(quiet_of_capture(alloc))?
+        .arg(capture(alloc))
+}
+
+/// The command with what `senders` and `extract` have.
 fn of_one_capture<'a>(alloc: Global, command: Command<'a>) -> Result<Command<'a>, AllocError> {
-    let file = Arg::new(alloc, "file")
-        .value_name("CAPTURE")
-        .help("The capture; standard input if omitted or -");
-    command
+    with_times(alloc, command)?
         .arg(flag(
             alloc,
             "strict",
             "Reject a capture if any datagram is left out",
         ))?
         .arg(accept_cut(alloc))?
-        .arg(flag(alloc, "quiet", "Suppress the notes on standard error"))?
+        .arg(quiet_of_capture(alloc))?
         .arg(number(
             alloc,
             "max-octets",
@@ -437,7 +510,19 @@ fn of_one_capture<'a>(alloc: Global, command: Command<'a>) -> Result<Command<'a>
             i64::from(u32::MAX),
             "How many octets the capture may have [default: 1073741824]",
         ))?
-        .arg(file)
+        .arg(capture(alloc))
+}
+
+/// The capture of a command that reads no dumps.
+fn capture<'a>(alloc: Global) -> Arg<'a> {
+    Arg::new(alloc, "file")
+        .value_name("CAPTURE")
+        .help("The capture; standard input if omitted or -")
+}
+
+/// The option that leaves the notes of such a command out.
+fn quiet_of_capture<'a>(alloc: Global) -> Arg<'a> {
+    flag(alloc, "quiet", "Suppress the notes on standard error")
 }
 
 /// A required dump.
@@ -462,22 +547,27 @@ fn with_reading<'a>(alloc: Global, command: Command<'a>) -> Result<Command<'a>, 
     with_settings(alloc, command.arg(from)?.arg(interface(alloc))?)
 }
 
-/// The command with what each command has that reads a dump: how retractions and IPv4 routes with
-/// IPv6 next hops are read, whether there are notes, and the limits.
+/// The command with what each command has that reads a dump: when its packets came, which routes
+/// have expired, how retractions and IPv4 routes with IPv6 next hops are read, whether there are
+/// notes, and the limits.
 fn with_settings<'a>(alloc: Global, command: Command<'a>) -> Result<Command<'a>, AllocError> {
-    command
+    let expiry = expiry(
+        alloc,
+        "Leave out what was not announced again within FACTOR times its Interval, at --until or \
+         else at the end of a capture; 3.5 in RFC 8966, appendix B",
+    );
+    let max_routes = max_routes(
+        alloc,
+        "How many routes, and how many canonical pairs or differences, there may be [default: \
+         262144]",
+    );
+    with_times(alloc, command)?
+        .arg(expiry)?
         .arg(hold(alloc))?
         .arg(v4_via_v6(alloc))?
         .arg(quiet(alloc))?
         .arg(accept_cut(alloc))?
-        .arg(number(
-            alloc,
-            "max-routes",
-            "ROUTES",
-            MOST_ROUTES,
-            "How many routes, and how many canonical pairs or differences, there may be [default: \
-             262144]",
-        ))?
+        .arg(max_routes)?
         .arg(number(
             alloc,
             "max-octets",
@@ -486,6 +576,41 @@ fn with_settings<'a>(alloc: Global, command: Command<'a>) -> Result<Command<'a>,
             "How many octets a dump may have, also one in a capture [default: 33554432, or 83 for \
              each of the routes if that is more]",
         ))
+}
+
+/// The command with the moments between which a capture is read.
+fn with_times<'a>(alloc: Global, command: Command<'a>) -> Result<Command<'a>, AllocError> {
+    command
+        .arg(moment(
+            alloc,
+            "since",
+            "Skip what a capture has before TIME: a time with an offset, as 2026-11-25T13:30:22Z, \
+             seconds since 1970, as @1764077422.5, or seconds since the first record, as +90",
+        ))?
+        .arg(moment(alloc, "until", "Skip what a capture has after TIME"))
+}
+
+/// An option whose value is a moment.
+fn moment<'a>(alloc: Global, id: &'a str, help: &'a str) -> Arg<'a> {
+    Arg::new(alloc, id)
+        .long(id)
+        .value_name("TIME")
+        .action(ArgAction::Set)
+        .help(help)
+}
+
+/// The option for routes that were not announced again.
+fn expiry<'a>(alloc: Global, help: &'a str) -> Arg<'a> {
+    Arg::new(alloc, "expiry")
+        .long("expiry")
+        .value_name("FACTOR")
+        .action(ArgAction::Set)
+        .help(help)
+}
+
+/// The option for the most routes.
+fn max_routes<'a>(alloc: Global, help: &'a str) -> Arg<'a> {
+    number(alloc, "max-routes", "ROUTES", MOST_ROUTES, help)
 }
 
 /// An option whose value is a number from 1 to this one.

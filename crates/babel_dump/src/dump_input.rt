@@ -142,4 +142,32 @@ impl<R: Read + Drop> ByteIn for DumpInput<R> {
             DumpInput::Captured(dump) => dump.left_out(),
         }
     }
+
+    fn has_times(&self) -> bool {
+        match self {
+            DumpInput::Stream(stream) => stream.has_times(),
+            DumpInput::Captured(dump) => dump.has_times(),
+        }
+    }
+
+    fn time(&self) -> Option<u128> {
+        match self {
+            DumpInput::Stream(stream) => stream.time(),
+            DumpInput::Captured(dump) => dump.time(),
+        }
+    }
+
+    fn moment(&self) -> Option<u128> {
+        match self {
+            DumpInput::Stream(stream) => stream.moment(),
+            DumpInput::Captured(dump) => dump.moment(),
+        }
+    }
+
+    fn keep_passed(&mut self, passed: usize) {
+        match self {
+            DumpInput::Stream(stream) => stream.keep_passed(passed),
+            DumpInput::Captured(dump) => dump.keep_passed(passed),
+        }
+    }
 }

@@ -1,5 +1,7 @@
 //! What a user can do where an input is refused.
 use crate::dump_input::begins_capture;
+use crate::events_fault::EventsFault;
+use crate::events_job::Events;
 use crate::ignored::IgnoredTlv;
 use crate::input_fault::InputFault;
 use crate::job::Job;
@@ -158,6 +160,20 @@ impl Hint {
                 },
             ) => Hint::of_encoding(keys.limits),
             InputFault::LeftOut(datagram) => Hint::of_lack(datagram.reason),
+            _ => None,
+        }
+    }
+
+    /// What to do about a fault of `events`, of a capture that begins with these octets.
+    pub fn of_events(events: &Events, fault: &EventsFault, begins: &[u8]) -> Option<Hint> {
+        match fault {
+            EventsFault::Input(InputFault::Capture(fault)) => {
+                Hint::of_capture(events.limits.bytes(), fault, begins)
+            }
+            EventsFault::Input(InputFault::NoPackets(_)) => Some(Hint::Senders),
+            EventsFault::Sender(_, Fault::TooManyRoutes { .. }) => {
+                Some(Hint::Routes(events.limits.entries()))
+            }
             _ => None,
         }
     }

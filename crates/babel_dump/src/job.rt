@@ -7,7 +7,8 @@ use crate::capture_reading::CaptureReading;
 use crate::filter::Filter;
 use crate::format::Format;
 use crate::key_text::Named;
-use crate::reading::Reading;
+use crate::reading::{Reading, TimeOption};
+use crate::run_fault::Side;
 use crate::spelling::Spelling;
 use babel_canon::Body;
 use babel_capture::Place;
@@ -307,21 +308,39 @@ impl Job {
     /// The option that is for captures alone and was given for a dump, by whether FILE and OTHER
     /// are captures.
     pub fn misplaced(&self, is_capture: bool, other_is_capture: bool) -> Option<&'static str> {
-        let reading = self.reading()?;
-        let other_place = match self.other_reading() {
-            Some(other) => other.place,
-            None => None,
-        };
-        if reading.place.is_some() && !is_capture {
+        let (first, other) = (
+            for_captures(self.reading()),
+            for_captures(self.other_reading()),
+        );
+        if first.has_place && !is_capture {
             return Some("--interface");
         }
-        if other_place.is_some() && !other_is_capture {
+        if other.has_place && !other_is_capture {
             return Some("--other-interface");
         }
-        if reading.accept_cut && !is_capture && !other_is_capture {
+        let has_no_capture = !is_capture && !other_is_capture;
+        if first.accept_cut && has_no_capture {
             return Some("--accept-cut");
         }
-        None
+        if first.time_option.is_some() && has_no_capture {
+            return first.time_option.map(TimeOption::name);
+        }
+        if other_is_capture {
+            None
+        } else {
+            other.time_option.and_then(TimeOption::other_name)
+        }
+    }
+
+    /// Whether a time is asked for of the input on this side, if it is a capture.
+    pub(crate) fn is_timed(&self, side: Side) -> bool {
+        if let Job::Senders { reading, .. } | Job::Extract { reading, .. } = self {
+            return reading.is_timed();
+        }
+        match side {
+            Side::First => is_timed(self.reading()),
+            Side::Other => is_timed(self.other_reading()),
+        }
     }
 
     /// How many octets of an input are read at most.
@@ -390,5 +409,37 @@ pub enum Refusal {
 impl From<AllocError> for Refusal {
     fn from(_error: AllocError) -> Refusal {
         Refusal::Memory
+    }
+}
+
+/// What is for captures alone of how an input is read.
+#[derive(Clone, Copy)]
+struct ForCaptures {
+    has_place: bool,
+    time_option: Option<TimeOption>,
+    accept_cut: bool,
+}
+
+/// What is for captures alone where an input is read so.
+fn for_captures(reading: Option<Reading>) -> ForCaptures {
+    match reading {
+        Some(reading) => ForCaptures {
+            has_place: reading.place.is_some(),
+            time_option: reading.time_option,
+            accept_cut: reading.accept_cut,
+        },
+        None => ForCaptures {
+            has_place: false,
+            time_option: None,
+            accept_cut: false,
+        },
+    }
+}
+
+/// Whether a time is asked for of a capture that is read so.
+fn is_timed(reading: Option<Reading>) -> bool {
+    match reading {
+        Some(reading) => reading.of_capture().is_timed(),
+        None => false,
     }
 }

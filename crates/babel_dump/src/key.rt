@@ -30,6 +30,19 @@ pub struct MadeKey {
     pub report: Report,
     /// How many rows that table has.
     pub rows: usize,
+    /// How many of them were not announced again in time, if none was left out for that.
+    pub passed: usize,
+}
+
+impl MadeKey {
+    /// The same of a table of which so many rows were not announced again in time.
+    pub(crate) fn with_passed(self, passed: usize) -> MadeKey
+        ensures { result ≡ record self { passed = passed } }
+    {
+        let mut key = self;
+        key.passed = passed;
+        key
+    }
 }
 
 /// Reads a dump to its end, or to its first fault, and makes the line of its key, which names this
@@ -73,7 +86,12 @@ pub(crate) fn make_key<R: ByteIn>(
     let (report, rows) = (*table.report(), table.rows().len());
     let octets = usual_octets(alloc, reading, view, routes, table)?;
     let line = key_line(alloc, &octets, name)?;
-    Ok(MadeKey { line, report, rows })
+    Ok(MadeKey {
+        line,
+        report,
+        rows,
+        passed: 0,
+    })
 }
 
 /// What `normalise` writes of a table, in packets of the usual size.

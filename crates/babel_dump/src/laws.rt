@@ -6,6 +6,7 @@ ghost use Rattle.babel_dump.specs.FirstLeftOut.{NoneIsLeftOut, RefusedIsFirst};
 ghost use Rattle.babel_dump.specs.OneOutcome.{FaultIsOfAll, FaultIsOne, NamedIsNotSeveral};
 ghost use Rattle.babel_dump.specs.OneOutcome.{NothingWritten, OutcomeIsOne, OutcomeOrFault};
 ghost use Rattle.babel_dump.specs.OneOutcome.{WrittenIsPrefix};
+ghost use Rattle.babel_dump.specs.Records.{ReadsAreRecords, TableIsOfRecords};
 
 /// What a job's run over devices that say their octets answers, failed calls and running out of
 /// memory aside, is settled by the octets of its readers: one outcome and one text, or one fault.
@@ -59,4 +60,12 @@ pub fn left_out_is_first()
 pub fn handed_is_dump()
     ensures dump { HandedIsDump }
     ensures refused { RefusalHasCause }
+{}
+
+/// What a run was given, read by read, by a device over a capture, to its end, are the packets of
+/// the capture's records, each with the time of its record: no read cut a packet. So the table at a
+/// moment is that of these packets and times.
+pub fn reads_are_records()
+    ensures reads { ReadsAreRecords }
+    ensures table { TableIsOfRecords }
 {}

@@ -20,6 +20,14 @@ pub enum Note {
     CaptureCut(u64),
     /// So many frames were too short to tell whether they had a datagram of Babel.
     TooShort(u64),
+    /// Times run backwards at the packet with this number.
+    Backwards(u64),
+    /// What was read of a capture spans so many hundredths of a second, which is less than the
+    /// greatest Interval of an Update that announces.
+    ShortSpan { span: u64, interval: u16 },
+    /// So many rows of a table were not announced again within 3.5 times their Interval, and are in
+    /// it all the same.
+    Expired(u64),
     /// A dump has no Update.
     NoUpdates,
     /// So many routes differ of two dumps that answer the same.
@@ -41,6 +49,22 @@ impl fmt::Display for Note {
             Note::CaptureCut(at) => write!(f, "capture cut short at {at}, and read up to there"),
             Note::TooShort(1) => f.write_str("1 frame too short to tell"),
             Note::TooShort(frames) => write!(f, "{frames} frames too short to tell"),
+            Note::Backwards(packet) => write!(f, "times run backwards at packet {packet}"),
+            Note::ShortSpan { span, interval } => write!(
+                f,
+                "the capture spans {} s, the Interval is {} s: routes may be missing",
+                Hundredths(*span),
+                Hundredths(u64::from(*interval))
+            ),
+            Note::Expired(1) => f.write_str(
+                "1 route was not announced again within 3.5 times its Interval; --expiry 3.5 \
+                 leaves it out",
+            ),
+            Note::Expired(routes) => write!(
+                f,
+                "{routes} routes were not announced again within 3.5 times their Interval; \
+                 --expiry 3.5 leaves them out"
+            ),
             Note::NoUpdates => f.write_str("no Updates"),
             Note::RoutesDiffer(routes) => {
                 let differ = if *routes == 1 {
@@ -55,6 +79,22 @@ impl fmt::Display for Note {
             }
             Note::Source(Spelling::Long, source) => write_source(f, source),
             Note::Source(Spelling::Short, source) => write_source(f, &Short(*source)),
+        }
+    }
+}
+
+/// Hundredths of a second, in seconds, without zeros at the end.
+#[derive(Clone, Copy)]
+struct Hundredths(u64);
+
+impl fmt::Display for Hundredths {
+    fn fmt<W: fmt::Write>(&self, f: &mut fmt::Formatter<W>) -> fmt::Result {
+        let (seconds, rest) = (self.0 / 100, self.0 % 100);
+        let (tenths, hundredths) = (rest / 10, rest % 10);
+        match (tenths, hundredths) {
+            (0, 0) => write!(f, "{seconds}"),
+            (_, 0) => write!(f, "{seconds}.{tenths}"),
+            _ => write!(f, "{seconds}.{tenths}{hundredths}"),
         }
     }
 }

@@ -7,8 +7,10 @@ ghost use Rattle.babel_dump.specs.Slices.{WroteText};
 
 use crate::byte_out::ByteOut;
 use crate::captured::CaptureNotes;
+use crate::events_job::Events;
 use crate::ignored_note::IgnoredNote;
 use crate::job::Job;
+use crate::key::MadeKey;
 use crate::left_out::LeftOutNote;
 use crate::note::{Note, SideNote};
 use crate::outcome::{Outcome, Reports};
@@ -16,11 +18,15 @@ use crate::push_note::push_note_json;
 use crate::run_fault::{RunFault, Side};
 use crate::sender_keys::SenderKeys;
 use crate::write::{WriteFailed, write_all, write_text};
+use babel_capture::{Report as CaptureReport, Window};
 use babel_table::Report;
 use std::alloc::{AllocError, Global};
 
-/// No job has more notes: five about each dump of a comparison, and one about both.
-const MOST: usize = 11;
+/// No job has more notes: eight about each dump of a comparison, and one about both.
+const MOST: usize = 17;
+
+/// The nanoseconds of a hundredth of a second.
+const HUNDREDTH: u128 = 10_000_000;
 
 /// The JSON object of a note has no more octets, and the end of its line.
 const LONGEST: usize = 1_600;
@@ -84,7 +90,13 @@ impl Notes {
                 }
             }
             Reports::Capture { report, cut } => {
-                self.add_capture(Side::First, CaptureNotes { report, cut })?;
+                let is_timed = job.is_timed(Side::First);
+                let notes = CaptureNotes {
+                    report,
+                    cut,
+                    passed: 0,
+                };
+                self.add_capture(Side::First, notes, is_timed)?;
                 match (job, report.short()) {
                     (Job::Senders { .. }, 1..) => {
                         self.add(Side::First, Note::TooShort(report.short()))
@@ -95,27 +107,51 @@ impl Notes {
         }
     }
 
-    /// What there is to know of the capture of `key` without `--from`: nothing if that is quiet.
+    /// Gathers the notes of what `events` read of a capture.
+    pub fn gather_followed(
+        &mut self,
+        events: &Events,
+        outcome: &Outcome,
+    ) -> Result<(), AllocError> {
+        match outcome.reports {
+            Reports::Capture { report, cut } => {
+                let passed = 0;
+                let capture = CaptureNotes {
+                    report,
+                    cut,
+                    passed,
+                };
+                self.gather_capture(events.quiet, events.window, capture)
+            }
+            _ => Ok(()),
+        }
+    }
+
+    /// What there is to know of the capture of `events`, or of `key` without `--from`, of which the
+    /// packets in a window are read: nothing if the command is quiet.
     pub fn gather_capture(
         &mut self,
-        keys: &SenderKeys,
+        quiet: bool,
+        window: Window,
         capture: CaptureNotes,
     ) -> Result<(), AllocError> {
         self.list.clear();
-        if keys.quiet {
+        if quiet {
             return Ok(());
         }
-        self.add_capture(Side::First, capture)
+        let is_timed = matches!(window, Window::Between { .. });
+        self.add_capture(Side::First, capture, is_timed)
     }
 
-    /// What there is to know of the dump of a sender in it, of which this is the report.
-    pub fn gather_sender(&mut self, keys: &SenderKeys, report: Report) -> Result<(), AllocError> {
+    /// What there is to know of the dump of a sender in it, which has this key.
+    pub fn gather_sender(&mut self, keys: &SenderKeys, key: &MadeKey) -> Result<(), AllocError> {
         self.list.clear();
         if keys.quiet {
             return Ok(());
         }
-        self.add_ignored(Side::First, report)?;
-        self.add_updates(Side::First, report)
+        self.add_ignored(Side::First, key.report)?;
+        self.add_passed(Side::First, key.passed)?;
+        self.add_updates(Side::First, key.report)
     }
 
     fn add(&mut self, side: Side, note: Note) -> Result<(), AllocError> {
@@ -123,8 +159,8 @@ impl Notes {
         Ok(())
     }
 
-    /// Adds what was ignored of the dump on this side, what was left out of the capture that has
-    /// it, and that it has no Update.
+    /// Adds what was ignored of the dump on this side, what there is to know of the capture that
+    /// has it, and that it has no Update.
     fn add_dump(
         &mut self,
         job: &Job,
@@ -136,9 +172,19 @@ impl Notes {
             self.add_ignored(side, report)?;
         }
         if let Some(capture) = capture {
-            self.add_capture(side, capture)?;
+            let passed = capture.passed;
+            self.add_capture(side, capture, job.is_timed(side))?;
+            self.add_passed(side, passed)?;
         }
         self.add_updates(side, report)
+    }
+
+    /// Adds how many rows of a dump's table were not announced again in time, if any.
+    fn add_passed(&mut self, side: Side, passed: usize) -> Result<(), AllocError> {
+        match passed {
+            0 => Ok(()),
+            _ => self.add(side, Note::Expired(passed as u64)),
+        }
     }
 
     /// Adds what was ignored of a dump.
@@ -157,17 +203,29 @@ impl Notes {
         }
     }
 
-    /// Adds what was left out of a capture, that frames named no interface, and where it is cut
-    /// short.
-    fn add_capture(&mut self, side: Side, capture: CaptureNotes) -> Result<(), AllocError> {
+    /// Adds what was left out of a capture, that frames named no interface, where it is cut short,
+    /// where times run backwards, if times are asked for, and that it is shorter than an Interval.
+    fn add_capture(
+        &mut self,
+        side: Side,
+        capture: CaptureNotes,
+        is_timed: bool,
+    ) -> Result<(), AllocError> {
         if let Some(note) = LeftOutNote::of(capture.report) {
             self.add(side, Note::LeftOut(note))?;
         }
         if capture.report.cooked() > 0 {
             self.add(side, Note::Cooked)?;
         }
-        match capture.cut {
-            Some(at) => self.add(side, Note::CaptureCut(at)),
+        if let Some(at) = capture.cut {
+            self.add(side, Note::CaptureCut(at))?;
+        }
+        match capture.report.timing().backwards {
+            Some(packet) if is_timed => self.add(side, Note::Backwards(packet))?,
+            _ => {}
+        }
+        match short_span(&capture.report) {
+            Some(note) => self.add(side, note),
             None => Ok(()),
         }
     }
@@ -182,6 +240,25 @@ impl Notes {
         write_notes(writer, &self.list, &mut self.line)?;
         Ok(())
     }
+}
+
+/// That what was read of a capture spans less than the greatest Interval of an Update that
+/// announces, where each packet has a time.
+fn short_span(report: &CaptureReport) -> Option<Note> {
+    let interval = report.interval()?;
+    let timing = report.timing();
+    if timing.has_untimed {
+        return None;
+    }
+    let span = timing
+        .latest?
+        .nanoseconds()
+        .checked_sub(timing.earliest?.nanoseconds())?;
+    if span >= u128::from(interval) * HUNDREDTH {
+        return None;
+    }
+    let span = u64::try_from(span / HUNDREDTH).ok()?;
+    Some(Note::ShortSpan { span, interval })
 }
 
 /// Writes a JSON object for each of these notes, each by way of the line, and flushes.

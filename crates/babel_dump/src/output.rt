@@ -131,7 +131,7 @@ pub(crate) fn push_after_name(
 }
 
 /// The text before the octets of a name, or in place of one.
-fn opening(format: Format, name: &[u8]) -> &'static str
+pub(crate) fn opening(format: Format, name: &[u8]) -> &'static str
     ensures text { result.now ≡ opening format name.now }
     ensures short { length result.now ≤ 4 }
 {
@@ -144,7 +144,7 @@ fn opening(format: Format, name: &[u8]) -> &'static str
 }
 
 /// The text after the octets of a name.
-fn closing(format: Format, name: &[u8]) -> &'static str
+pub(crate) fn closing(format: Format, name: &[u8]) -> &'static str
     ensures text { result.now ≡ closing format name.now }
     ensures short { length result.now ≤ 4 }
 {

@@ -1,5 +1,5 @@
 //! Places of a capture, as `--interface` names them.
-use babel_capture::{Place, Vlans};
+use babel_capture::{Origin, Place, Vlans};
 use std::fmt;
 use std::num::ParseIntError;
 use std::str::FromStr;
@@ -50,6 +50,21 @@ impl fmt::Display for PlaceInWords {
     }
 }
 
+/// A sender and its place in words, unless that is interface 0 alone.
+#[derive(Clone, Copy, Debug, PartialEq, Eq)]
+pub(crate) struct SenderInWords(pub Origin);
+
+impl fmt::Display for SenderInWords {
+    fn fmt<W: fmt::Write>(&self, f: &mut fmt::Formatter<W>) -> fmt::Result {
+        let Origin { place, sender } = self.0;
+        write!(f, "{sender}")?;
+        if place.interface == 0 && place.link.is_none() && place.vlans == Vlans::none() {
+            return Ok(());
+        }
+        write!(f, "{}", PlaceInWords(place))
+    }
+}
+
 /// The place that a word of `--interface` names, as `PlaceWord` gives it: `1`, `1/3`, `1:10` or
 /// `1/3:10.20`. `None` for any other word.
 pub fn parse_place(word: &str) -> Option<Place> {
@@ -84,7 +99,7 @@ fn parse_vlans(word: &str) -> Option<Vlans> {
 }
 
 /// A number in decimal, of digits alone.
-fn parse_number<N: FromStr<Err = ParseIntError>>(word: &str) -> Option<N> {
+pub(crate) fn parse_number<N: FromStr<Err = ParseIntError>>(word: &str) -> Option<N> {
     if word.bytes().all(|octet| octet.is_ascii_digit()) {
         word.parse().ok()
     } else {

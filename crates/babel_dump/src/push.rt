@@ -2,7 +2,7 @@
 ghost use Rattle.std.specs.Prelude.{◌≡◌, ◌+◌, ◌∷◌, [], ◌++◌, ◌*◌, ◌≤◌, if◌then◌else◌, length};
 ghost use Rattle.std.specs.Fmt.{decimal};
 ghost use Rattle.babel_tlv.specs.Views.{keeps_all};
-ghost use Rattle.babel_dump.specs.CaptureText.{link_text, marked, octet_text};
+ghost use Rattle.babel_dump.specs.CaptureText.{interval_text, link_text, marked, octet_text};
 ghost use Rattle.babel_dump.specs.CaptureText.{sender_end, sender_front};
 ghost use Rattle.babel_dump.specs.RunText.{announcement_text, answer_line, answer_text};
 ghost use Rattle.babel_dump.specs.RunText.{counts_text, count_text, differ_lines};
@@ -13,6 +13,7 @@ ghost use Rattle.babel_dump.specs.TextParts.{hex_digits, nonzero};
 
 use crate::addr_pair::AddrPair;
 use crate::push_addr::{Shown, push_addr, push_from, push_prefix};
+use crate::push_time::{push_time_or, push_two_digits};
 use crate::spelling::Spelling;
 use babel_capture::{Origin, Place, Tally};
 use babel_prefix::Addr;
@@ -144,9 +145,9 @@ pub(crate) fn push_sender_front(buffer: &mut Vec<u8>, spelling: Spelling, origin
 
 /// Appends the link and the VLANs of a sender, and what it sent: the end of a line.
 pub(crate) fn push_sender_end(buffer: &mut Vec<u8>, place: Place, tally: Tally)
-    requires { HasRoom buffer.old 147 }
+    requires { HasRoom buffer.old 239 }
     ensures text { buffer.new.items ≡ buffer.old.items ++ sender_end place tally }
-    ensures room { TookRoom buffer.old buffer.new 147 }
+    ensures room { TookRoom buffer.old buffer.new 239 }
 {
     push_link(buffer, place.link);
     push_marked(buffer, " vlan ", ".", &place.vlans.numbers());
@@ -156,7 +157,29 @@ pub(crate) fn push_sender_end(buffer: &mut Vec<u8>, place: Place, tally: Tally)
     push_decimal(buffer, tally.octets);
     push_text(buffer, " updates ");
     push_decimal(buffer, tally.updates);
+    push_text(buffer, " interval ");
+    push_interval(buffer, tally.interval);
+    push_text(buffer, " first ");
+    push_time_or(buffer, tally.first);
+    push_text(buffer, " last ");
+    push_time_or(buffer, tally.last);
     push_octet(buffer, b'\n');
+}
+
+/// Appends hundredths of a second in seconds, or `-` where there is none.
+fn push_interval(buffer: &mut Vec<u8>, interval: Option<u16>)
+    requires { HasRoom buffer.old 8 }
+    ensures text { buffer.new.items ≡ buffer.old.items ++ interval_text interval }
+    ensures room { TookRoom buffer.old buffer.new 8 }
+{
+    match interval {
+        Some(interval) => {
+            push_decimal(buffer, interval / 100);
+            push_text(buffer, ".");
+            push_two_digits(buffer, u32::from(interval % 100));
+        }
+        None => push_text(buffer, "-"),
+    }
 }
 
 /// Appends the number of a link, or nothing where there is none.
@@ -207,7 +230,12 @@ pub(crate) fn push_name_octet(buffer: &mut Vec<u8>, escape: &str, octet: u8)
 }
 
 /// Appends what is answered, under a view: what stands for a key, or `none`.
-fn push_answer(buffer: &mut Vec<u8>, spelling: Spelling, view: View, answer: Option<Held>)
+pub(crate) fn push_answer(
+    buffer: &mut Vec<u8>,
+    spelling: Spelling,
+    view: View,
+    answer: Option<Held>,
+)
     requires { HasRoom buffer.old 88 }
     ensures text { buffer.new.items ≡ buffer.old.items ++ answer_text spelling view answer }
     ensures room { TookRoom buffer.old buffer.new 88 }
@@ -231,7 +259,7 @@ fn push_held(buffer: &mut Vec<u8>, spelling: Spelling, view: View, held: Held)
 }
 
 /// Appends the route that is announced, under a view.
-fn push_announcement(buffer: &mut Vec<u8>, spelling: Spelling, view: View, ann: Ann)
+pub(crate) fn push_announcement(buffer: &mut Vec<u8>, spelling: Spelling, view: View, ann: Ann)
     requires { HasRoom buffer.old 88 }
     ensures text { buffer.new.items ≡ buffer.old.items ++ announcement_text spelling view ann }
     ensures room { TookRoom buffer.old buffer.new 88 }

@@ -2,8 +2,9 @@
 //! or a router-id has a character that JSON escapes.
 ghost use Rattle.std.specs.Prelude.{◌≡◌, ◌+◌, ◌++◌, Some, length};
 ghost use Rattle.hex.specs.Hex.{encode_lower};
-ghost use Rattle.babel_dump.specs.CaptureText.{link_json, sender_end_json};
+ghost use Rattle.babel_dump.specs.CaptureText.{number_json, sender_end_json};
 ghost use Rattle.babel_dump.specs.CaptureText.{sender_front_json, vlans_json};
+ghost use Rattle.babel_dump.specs.EventText.{place_json};
 ghost use Rattle.babel_dump.specs.JsonText.{addressed_json, announcement_json, answer_json};
 ghost use Rattle.babel_dump.specs.JsonText.{answered_line, counts_json, differ_json};
 ghost use Rattle.babel_dump.specs.JsonText.{count_json, kept_json, pair_json, quoted};
@@ -12,8 +13,9 @@ ghost use Rattle.babel_dump.specs.Spelling.{address_text};
 
 use crate::push::{push_decimal, push_marked, push_number, push_octet, push_router_id, push_text};
 use crate::push_addr::{Shown, push_addr};
+use crate::push_time::push_time_json;
 use crate::spelling::Spelling;
-use babel_capture::{Origin, Tally, Vlans};
+use babel_capture::{Origin, Place, Tally, Vlans};
 use babel_prefix::Addr;
 use babel_tlv::{Ann, Held, Key, View};
 
@@ -118,17 +120,32 @@ pub(crate) fn push_sender_front_json(buffer: &mut Vec<u8>, spelling: Spelling, o
     push_text(buffer, r#"","interface":"#);
     push_decimal(buffer, origin.place.interface);
     push_text(buffer, r#","link":"#);
-    push_link_json(buffer, origin.place.link);
+    push_number_json(buffer, origin.place.link);
     push_text(buffer, r#","vlans":"#);
     push_vlans_json(buffer, origin.place.vlans);
     push_text(buffer, r#","name":"#);
 }
 
+/// Appends a place, from the end of its sender's address up to the interface's name.
+pub(crate) fn push_place_json(buffer: &mut Vec<u8>, place: Place)
+    requires { HasRoom buffer.old 115 }
+    ensures text { buffer.new.items ≡ buffer.old.items ++ place_json place }
+    ensures room { TookRoom buffer.old buffer.new 115 }
+{
+    push_text(buffer, r#"","interface":"#);
+    push_decimal(buffer, place.interface);
+    push_text(buffer, r#","link":"#);
+    push_number_json(buffer, place.link);
+    push_text(buffer, r#","vlans":"#);
+    push_vlans_json(buffer, place.vlans);
+    push_text(buffer, r#","name":"#);
+}
+
 /// Appends what a sender sent: the end of an object.
 pub(crate) fn push_sender_end_json(buffer: &mut Vec<u8>, tally: Tally)
-    requires { HasRoom buffer.old 94 }
+    requires { HasRoom buffer.old 193 }
     ensures text { buffer.new.items ≡ buffer.old.items ++ sender_end_json tally }
-    ensures room { TookRoom buffer.old buffer.new 94 }
+    ensures room { TookRoom buffer.old buffer.new 193 }
 {
     push_text(buffer, r#","packets":"#);
     push_decimal(buffer, tally.packets);
@@ -136,6 +153,12 @@ pub(crate) fn push_sender_end_json(buffer: &mut Vec<u8>, tally: Tally)
     push_decimal(buffer, tally.octets);
     push_text(buffer, r#","updates":"#);
     push_decimal(buffer, tally.updates);
+    push_text(buffer, r#","interval":"#);
+    push_interval_json(buffer, tally.interval);
+    push_text(buffer, r#","first":"#);
+    push_time_json(buffer, tally.first);
+    push_text(buffer, r#","last":"#);
+    push_time_json(buffer, tally.last);
     push_text(buffer, "}");
     push_octet(buffer, b'\n');
 }
@@ -151,10 +174,22 @@ fn push_vlans_json(buffer: &mut Vec<u8>, vlans: Vlans)
     push_text(buffer, "]");
 }
 
-/// Appends the number of a link, or `null`.
-fn push_link_json(buffer: &mut Vec<u8>, link: Option<u32>)
+/// Appends an Interval, or `null`.
+fn push_interval_json(buffer: &mut Vec<u8>, interval: Option<u16>)
+    requires { HasRoom buffer.old 5 }
+    ensures text { buffer.new.items ≡ buffer.old.items ++ number_json interval }
+    ensures room { TookRoom buffer.old buffer.new 5 }
+{
+    match interval {
+        Some(interval) => push_decimal(buffer, interval),
+        None => push_text(buffer, "null"),
+    }
+}
+
+/// Appends a number, or `null`.
+fn push_number_json(buffer: &mut Vec<u8>, link: Option<u32>)
     requires { HasRoom buffer.old 10 }
-    ensures text { buffer.new.items ≡ buffer.old.items ++ link_json link }
+    ensures text { buffer.new.items ≡ buffer.old.items ++ number_json link }
     ensures room { TookRoom buffer.old buffer.new 10 }
 {
     match link {
@@ -164,7 +199,7 @@ fn push_link_json(buffer: &mut Vec<u8>, link: Option<u32>)
 }
 
 /// Appends a destination and a source: two members of an object.
-fn push_addressed<A: Shown>(buffer: &mut Vec<u8>, spelling: Spelling, dst: A, src: A)
+pub(crate) fn push_addressed<A: Shown>(buffer: &mut Vec<u8>, spelling: Spelling, dst: A, src: A)
     requires { HasRoom buffer.old 118 }
     ensures text { buffer.new.items
         ≡ buffer.old.items ++ addressed_json (A.text spelling dst) (A.text spelling src) }
@@ -178,7 +213,12 @@ fn push_addressed<A: Shown>(buffer: &mut Vec<u8>, spelling: Spelling, dst: A, sr
 }
 
 /// Appends what is answered, under a view: the object of a route, `"unreachable"`, or `null`.
-fn push_answer_json(buffer: &mut Vec<u8>, spelling: Spelling, view: View, answer: Option<Held>)
+pub(crate) fn push_answer_json(
+    buffer: &mut Vec<u8>,
+    spelling: Spelling,
+    view: View,
+    answer: Option<Held>,
+)
     requires { HasRoom buffer.old 114 }
     ensures text { buffer.new.items ≡ buffer.old.items ++ answer_json spelling view answer }
     ensures room { TookRoom buffer.old buffer.new 114 }

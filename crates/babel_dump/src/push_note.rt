@@ -43,6 +43,9 @@ fn name(note: &Note) -> &'static str
         Note::Cooked => "cooked-1",
         Note::CaptureCut(_) => "capture-cut",
         Note::TooShort(_) => "too-short",
+        Note::Backwards(_) => "backwards",
+        Note::ShortSpan { .. } => "short-span",
+        Note::Expired(_) => "expired",
         Note::NoUpdates => "no-updates",
         Note::RoutesDiffer(_) => "routes-differ",
         Note::Source(_, _) => "source",
@@ -71,7 +74,14 @@ fn push_members(buffer: &mut Vec<u8>, note: &Note)
         Note::LeftOut(note) => push_left_out(buffer, &note.report),
         Note::CaptureCut(at) => push_member(buffer, "at", *at),
         Note::TooShort(frames) => push_member(buffer, "frames", *frames),
-        Note::RoutesDiffer(routes) => push_member(buffer, "routes", *routes),
+        Note::Backwards(packet) => push_member(buffer, "packet", *packet),
+        Note::ShortSpan { span, interval } => {
+            push_member(buffer, "span", *span);
+            push_member(buffer, "interval", u64::from(*interval));
+        }
+        Note::Expired(routes) | Note::RoutesDiffer(routes) => {
+            push_member(buffer, "routes", *routes);
+        }
         Note::Source(spelling, source) => push_source(buffer, *spelling, *source),
         Note::Cooked | Note::NoUpdates => {}
     }

@@ -4,13 +4,42 @@ ghost use Rattle.babel_dump.specs.Drained.{capture_limit, wanted_by};
 ghost use Rattle.babel_dump.specs.Given.{usual_reading};
 
 use crate::capture_reading::CaptureReading;
-use babel_capture::{Place, Wanted};
+use crate::factor::Factor;
+use babel_capture::{Place, Wanted, Window};
 use babel_prefix::Addr;
 use babel_table::Limits;
 use babel_tlv::Mode;
 
 /// How many octets a capture may have where its dump may not have more.
 const USUAL_CAPTURE: u32 = 1_073_741_824;
+
+/// An option that asks for times.
+#[derive(Clone, Copy, Debug, PartialEq, Eq)]
+pub enum TimeOption {
+    Since,
+    Until,
+    Expiry,
+}
+
+impl TimeOption {
+    /// The option, for an input or the first of two.
+    pub(crate) fn name(self) -> &'static str {
+        match self {
+            TimeOption::Since => "--since",
+            TimeOption::Until => "--until",
+            TimeOption::Expiry => "--expiry",
+        }
+    }
+
+    /// The option for the other of two inputs, if it has one of its own.
+    pub(crate) fn other_name(self) -> Option<&'static str> {
+        match self {
+            TimeOption::Since => Some("--other-since"),
+            TimeOption::Until => Some("--other-until"),
+            TimeOption::Expiry => None,
+        }
+    }
+}
 
 /// How a dump is read, or the dump of its sender in a capture.
 #[derive(Clone, Copy, Debug)]
@@ -25,6 +54,14 @@ pub struct Reading {
     /// The place where they were captured, in a capture: `--interface`, or `--other-interface`.
     /// Where it is left out, there may be only one.
     pub place: Option<Place>,
+    /// Which packets of a capture are read, by when they came: `--since`, `--until`, or
+    /// `--other-since`, `--other-until`.
+    pub window: Window,
+    /// The first of these options, if one was given for this input.
+    pub time_option: Option<TimeOption>,
+    /// After how many times its Interval a row of a capture's table is gone: `--expiry`. None is
+    /// where it is left out.
+    pub expiry: Option<Factor>,
     /// Whether a capture that is cut short is read to its last whole record: `--accept-cut`.
     pub accept_cut: bool,
     /// Whether the dump is refused if a TLV of it is ignored, a datagram was left out of it, or it
@@ -42,6 +79,9 @@ impl Reading {
             mode,
             sender,
             place: None,
+            window: Window::Whole,
+            time_option: None,
+            expiry: None,
             accept_cut: false,
             strict: false,
         }
@@ -53,6 +93,7 @@ impl Reading {
     {
         CaptureReading {
             limit: capture_limit(self.limits.bytes()),
+            window: self.window,
             accept_cut: self.accept_cut,
             strict: self.strict,
         }

@@ -32,6 +32,22 @@ impl<R: ByteIn> ByteIn for Seeded<R> {
         self.device.left_out()
     }
 
+    fn has_times(&self) -> bool {
+        self.device.has_times()
+    }
+
+    fn time(&self) -> Option<u128> {
+        self.device.time()
+    }
+
+    fn moment(&self) -> Option<u128> {
+        self.device.moment()
+    }
+
+    fn keep_passed(&mut self, passed: usize) {
+        self.device.keep_passed(passed);
+    }
+
     fn seed(&self) -> u128 {
         self.seed
     }

@@ -11,11 +11,12 @@ ghost use Rattle.babel_dump.specs.SenderKeys.{capture_read_by, each_from, is_ask
 ghost use Rattle.babel_dump.specs.SenderKeys.{sender_name};
 ghost use Rattle.babel_dump.specs.Slices.{WroteText};
 
-use crate::byte_in::{ByteIn, FromReader};
+use crate::byte_in::ByteIn;
 use crate::byte_out::ByteOut;
 use crate::capture_input::{CaptureRead, read_capture};
 use crate::capture_reading::CaptureReading;
 use crate::diff::{ROOM, push_place};
+use crate::factor::Factor;
 use crate::input_fault::InputFault;
 use crate::job::DumpFile;
 use crate::key::{MadeKey, make_key};
@@ -26,8 +27,9 @@ use crate::reading::{Reading, capture_limit};
 use crate::run_fault::RunFault;
 use crate::seeded::Seeded;
 use crate::spelling::Spelling;
+use crate::timed_dump::TimedDump;
 use crate::write::write_text;
-use babel_capture::{Gathered, Origin, Place, Wanted};
+use babel_capture::{Gathered, Origin, Place, Wanted, Window};
 use babel_table::Limits;
 use babel_tlv::{Mode, View};
 use std::alloc::{AllocError, Global};
@@ -42,6 +44,10 @@ pub struct SenderKeys {
     pub mode: Mode,
     /// The place whose senders alone are asked for: `--interface`.
     pub place: Option<Place>,
+    /// Which packets are read, by when they came: `--since`, `--until`.
+    pub window: Window,
+    /// After how many times its Interval a row is gone: `--expiry`. None is where it is left out.
+    pub expiry: Option<Factor>,
     /// Whether a capture that is cut short is read to its last whole record: `--accept-cut`.
     pub accept_cut: bool,
     /// Whether the capture is refused if a datagram was left out of it, and a dump if a TLV of it
@@ -64,6 +70,9 @@ impl SenderKeys {
             mode: self.mode,
             sender: origin.sender,
             place: Some(origin.place),
+            window: self.window,
+            time_option: None,
+            expiry: self.expiry,
             accept_cut: self.accept_cut,
             strict: self.strict,
         }
@@ -75,6 +84,7 @@ impl SenderKeys {
     {
         CaptureReading {
             limit: capture_limit(self.limits.bytes()),
+            window: self.window,
             accept_cut: self.accept_cut,
             strict: self.strict,
         }
@@ -118,15 +128,15 @@ impl SenderKeys {
     pub fn key_of(
         &self,
         alloc: Global,
-        gathered: &Gathered,
+        read: &CaptureRead,
         origin: Origin,
         seed: u128,
     ) -> Result<MadeKey, InputFault>
-        ensures ok { IfOk result (IsSenderKey self.now gathered.now origin) }
-        ensures err { IfErr result (NoSenderKey self.now gathered.now origin) }
+        ensures ok { IfOk result (IsSenderKey self.now read.now.gathered origin) }
+        ensures err { IfErr result (NoSenderKey self.now read.now.gathered origin) }
     {
-        match gathered.dump_of(&origin) {
-            Ok(dump) => self.key_of_dump(alloc, origin, dump, seed),
+        match read.gathered.dump_of(&origin) {
+            Ok(dump) => self.key_of_dump(alloc, read, origin, dump, seed),
             Err(at) => Err(InputFault::LeftOut(LeftOutDatagram {
                 packet: at.packet,
                 reason: at.lack.reason(),
@@ -134,10 +144,11 @@ impl SenderKeys {
         }
     }
 
-    /// The key of this dump, which is that of a sender at its place.
+    /// The key of this dump, which is that of a sender at its place in the capture.
     fn key_of_dump(
         &self,
         alloc: Global,
+        read: &CaptureRead,
         origin: Origin,
         dump: &[u8],
         seed: u128,
@@ -146,15 +157,17 @@ impl SenderKeys {
         ensures err { IfErr result (NoKeyOfDump self.now origin dump.now) }
     {
         let name = sender_name(alloc, self.file.name(), Origin { ..origin })?;
-        let mut reader = Seeded::new(FromReader::new(dump), seed);
-        make_key(
+        let device = TimedDump::new(dump, read.gathered.times_of(&origin), read.moment);
+        let mut reader = Seeded::new(device, seed);
+        let key = make_key(
             alloc,
             self.reading(origin),
             self.view,
             self.routes,
             &name,
             &mut reader,
-        )
+        )?;
+        Ok(key.with_passed(reader.device.passed()))
     }
 
     /// How many rows tables have in all, where some have so many, and one more so many; `None` if

@@ -1,5 +1,7 @@
+ghost use Rattle.std.specs.Prelude.{◌≡◌};
 ghost use Rattle.babel_dump.specs.CaptureGiven.{capture_from};
 ghost use Rattle.babel_dump.specs.CaptureRun.{CaptureCause, IsNoFault, ListsSenders, capture_calls};
+ghost use Rattle.babel_dump.specs.CaptureText.{senders_status};
 ghost use Rattle.babel_dump.specs.Device.{HasRoomToCount};
 ghost use Rattle.babel_dump.specs.Parts.{Gathered, Says};
 ghost use Rattle.babel_dump.specs.Run.{OfFirst};
@@ -12,8 +14,9 @@ use crate::format::Format;
 use crate::outcome::{Outcome, Reports};
 use crate::run_fault::RunFault;
 use crate::slices::{Found, Rows};
-use babel_capture::Wanted;
+use babel_capture::{Origin, Tally, Wanted};
 use std::alloc::Global;
+use std::collections::BTreeMap;
 
 /// Reads a capture to its end, or to its first fault, and makes the lines of its senders: one for
 /// each on each interface. The status is 1 if there is none.
@@ -30,11 +33,7 @@ pub(crate) fn find_senders<R: ByteIn>(
         (Says (ListsSenders input format)) result }
 {
     let read = read_capture(alloc, reading, Wanted::Everyone, reader)?;
-    let status = if read.gathered.senders().is_empty() {
-        1
-    } else {
-        0
-    };
+    let status = senders_status(read.gathered.senders());
     let reports = Reports::Capture {
         report: read.gathered.report(),
         cut: read.cut,
@@ -47,4 +46,11 @@ pub(crate) fn find_senders<R: ByteIn>(
         Vec::new(alloc),
         Outcome { status, reports },
     )?)
+}
+
+/// The exit status where these are the senders: 1 if there is none.
+fn senders_status(senders: &BTreeMap<Origin, Tally>) -> u8
+    ensures { result ≡ senders_status senders.now.entries }
+{
+    if senders.is_empty() { 1 } else { 0 }
 }

@@ -4,7 +4,7 @@
 ghost use Rattle.std.specs.Prelude.{◌≡◌, ◌∷◌, ◌++◌, ◌-◌, ◌^◌, ◌<◌, ◌≤◌, [], IfOk, OnOk};
 ghost use Rattle.std.specs.Prelude.{vec_capacity};
 ghost use Rattle.std.specs.List.{flat_map};
-ghost use Rattle.babel_dump.specs.CaptureText.{escape, escaped, sender_in, senders_in};
+ghost use Rattle.babel_dump.specs.CaptureText.{escape, escaped, sender_in, senders_in, with_times};
 ghost use Rattle.babel_dump.specs.Device.{HasRoomToWrite};
 ghost use Rattle.babel_dump.specs.Filter.{kept_rows};
 ghost use Rattle.babel_dump.specs.InFormat.{pairs_in};
@@ -256,9 +256,25 @@ fn write_senders<W: ByteOut>(
 {
     for (origin, tally) in gathered.senders().iter() {
         let name = gathered.name(origin.place.interface);
-        write_sender(writer, format, origin, tally, name, buffer)?;
+        let tally = told(gathered, tally);
+        write_sender(writer, format, origin, &tally, name, buffer)?;
     }
     Ok(())
+}
+
+/// What is told of a sender: its times, unless a packet of the capture has none.
+fn told(gathered: &Gathered, tally: &Tally) -> Tally
+    ensures { result ≡ with_times gathered.now.report.timing.has_untimed tally.now }
+{
+    if gathered.report().timing().has_untimed {
+        Tally {
+            first: None,
+            last: None,
+            ..*tally
+        }
+    } else {
+        *tally
+    }
 }
 
 /// Writes a sender's line after what the buffer has, but for the last of both, which the buffer has
@@ -288,7 +304,7 @@ fn write_sender<W: ByteOut>(
 
 /// Writes the octets of an interface's name after what the buffer has, but for the last of both,
 /// which the buffer has then.
-fn write_name<W: ByteOut>(
+pub(crate) fn write_name<W: ByteOut>(
     writer: &mut W,
     format: Format,
     name: &[u8],

@@ -6,7 +6,7 @@ use crate::byte_out::ByteOut;
 
 /// The device failed, or took nothing.
 #[derive(Clone, Copy, Debug, PartialEq, Eq)]
-pub(crate) struct WriteFailed;
+pub struct WriteFailed;
 
 /// Writes the octets, by as many calls as it takes.
 #[tactic(auto, using(crate::proofs::Devices::taking, crate::proofs::SliceLaws::took_all))]

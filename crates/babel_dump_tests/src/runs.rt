@@ -1,5 +1,6 @@
 mod captures;
 mod devices;
+mod events_words;
 mod failures;
 mod forms;
 mod notes;
@@ -114,7 +115,7 @@ fn job(alloc: Global, limits: Limits, mode: Mode, sender: &str, asked: &str) -> 
 fn one_job(alloc: Global, line: &str) -> Result<Job, Fail> {
     let jobs = match read_words(alloc, &split(alloc, line)?, false) {
         Ok(Asked::Jobs(jobs)) => jobs,
-        Ok(Asked::SenderKeys(_)) | Err(_) => return Err(Fail::from("no job")),
+        Ok(Asked::SenderKeys(_) | Asked::Events(_)) | Err(_) => return Err(Fail::from("no job")),
     };
     if jobs.len() != 1 {
         return Err(Fail::from("several jobs"));

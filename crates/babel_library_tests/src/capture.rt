@@ -1,10 +1,11 @@
 //! Captures, by the public calls. The packets are of examples/routers/babeld-basic-a.pcap, and
 //! what they give is of the dump beside it; the blocks round them are worked by hand from
 //! draft-ietf-opsawg-pcap and draft-ietf-opsawg-pcapng.
+mod turns;
 
 ghost use Rattle.std.specs.Prelude.{◌≤◌};
 
-use babel_capture::{Capture, Fault, Gathered, Reason, Wanted};
+use babel_capture::{Capture, Fault, Gathered, Moment, Reason, Time, Wanted, Window};
 use babel_prefix::{Addr, Family};
 use std::alloc::Global;
 use std::test::Fail;
@@ -29,7 +30,7 @@ const SECOND: &str =
 
 /// What is read of a capture of so many octets at most: the dump of fe80::5eff:fe00:c601 in
 /// hexadecimal, or the fault.
-static CAPTURES: [(&[&str], u64, &str); 21] = [
+static CAPTURES: [(&[&str], u64, &str); 24] = [
     (
         &[
             LITTLE,
@@ -223,6 +224,34 @@ static CAPTURES: [(&[&str], u64, &str); 21] = [
         4096,
         "bad length at 28",
     ),
+    (
+        &[
+            "0a0d0d0a0000001c1a2b3c4d00010000ffffffffffffffff0000001c",
+            "000000010000001c000100000000000000090002090000000000001c",
+        ],
+        4096,
+        "bad length at 28",
+    ),
+    (
+        &[
+            "0a0d0d0a0000001c1a2b3c4d00010000ffffffffffffffff0000001c",
+            "000000010000001c0001000000000000000e0004ffffffff0000001c",
+        ],
+        4096,
+        "bad length at 28",
+    ),
+    (
+        &[
+            "0a0d0d0a0000001c1a2b3c4d00010000ffffffffffffffff0000001c",
+            "000000010000002800010000000000000009000189000000",
+            "000e0008ffffffffffffffff00000028",
+            "00000002000000700000000000000000000000000000004e0000004e",
+            FIRST,
+            "000000000070",
+        ],
+        4096,
+        "2a02000c0406000040ff006409020000",
+    ),
 ];
 
 #[test]
@@ -268,6 +297,202 @@ fn of_first() -> Result<Wanted, Fail> {
         sender,
         place: None,
     })
+}
+
+/// A moment: whether it counts from the capture's first packet, its seconds, and its nanoseconds.
+type MomentWord = (bool, u64, u32);
+
+/// What is read of a capture between two moments: the dump of fe80::5eff:fe00:c601 in hexadecimal,
+/// or the fault.
+static WINDOWS: [(&[&str], Option<MomentWord>, Option<MomentWord>, &str); 11] = [
+    (
+        &[
+            LITTLE,
+            "640000003f420f004e0000004e000000",
+            FIRST,
+            "65000000000000005600000056000000",
+            SECOND,
+            "65000000010000004e0000004e000000",
+            FIRST,
+        ],
+        Some((false, 101, 0)),
+        Some((false, 101, 0)),
+        "2a0200140406000041000064080a00000000ffff269effff",
+    ),
+    (
+        &[
+            LITTLE,
+            "640000003f420f004e0000004e000000",
+            FIRST,
+            "65000000000000005600000056000000",
+            SECOND,
+            "65000000010000004e0000004e000000",
+            FIRST,
+        ],
+        Some((true, 0, 1_000)),
+        None,
+        "2a0200140406000041000064080a00000000ffff269effff2a02000c0406000040ff006409020000",
+    ),
+    (
+        &[
+            LITTLE,
+            "640000003f420f004e0000004e000000",
+            FIRST,
+            "65000000000000005600000056000000",
+            SECOND,
+            "65000000010000004e0000004e000000",
+            FIRST,
+        ],
+        None,
+        Some((true, 0, 0)),
+        "2a02000c0406000040ff006409020000",
+    ),
+    (
+        &[
+            LITTLE,
+            "640000003f420f004e0000004e000000",
+            FIRST,
+            "65000000000000005600000056000000",
+            SECOND,
+            "65000000010000004e0000004e000000",
+            FIRST,
+        ],
+        Some((false, 100, 999_999_001)),
+        Some((false, 101, 999)),
+        "2a0200140406000041000064080a00000000ffff269effff",
+    ),
+    (
+        &[
+            BIG,
+            "000000643b9ac9ff0000004e0000004e",
+            FIRST,
+            "00000065000000000000005600000056",
+            SECOND,
+        ],
+        None,
+        Some((false, 100, 999_999_999)),
+        "2a02000c0406000040ff006409020000",
+    ),
+    (
+        &[
+            "0a0d0d0a0000001c1a2b3c4d00010000ffffffffffffffff0000001c",
+            "000000010000001c000100000000000000090001030000000000001c",
+            "000000010000002800010000000000000009000183000000000e0008ffffffffffffffff00000028",
+            "00000006000000700000000000000000000188170000004e0000004e",
+            FIRST,
+            "000000000070",
+            "000000060000007800000001000000000000032b0000005600000056",
+            SECOND,
+            "000000000078",
+        ],
+        Some((false, 100, 375_000_000)),
+        Some((false, 100, 375_000_000)),
+        "2a02000c0406000040ff0064090200002a0200140406000041000064080a00000000ffff269effff",
+    ),
+    (
+        &[
+            "0a0d0d0a0000001c1a2b3c4d00010000ffffffffffffffff0000001c",
+            "000000010000001c0001000000000000000900019f0000000000001c",
+            "00000006000000700000000000000003800000010000004e0000004e",
+            FIRST,
+            "000000000070",
+        ],
+        Some((false, 7, 0)),
+        Some((false, 7, 0)),
+        "2a02000c0406000040ff006409020000",
+    ),
+    (
+        &[
+            "0a0d0d0a0000001c1a2b3c4d00010000ffffffffffffffff0000001c",
+            "000000010000002800010000000000000009000100000000000e0008fffffffffffffffa00000028",
+            "00000006000000700000000000000000000000050000004e0000004e",
+            FIRST,
+            "000000000070",
+        ],
+        None,
+        Some((false, 7, 0)),
+        "bad time at 68",
+    ),
+    (
+        &[
+            "0a0d0d0a0000001c1a2b3c4d00010000ffffffffffffffff0000001c",
+            "000000010000001c000100000000000000090001000000000000001c",
+            "0000000600000070000000000000003afff441800000004e0000004e",
+            FIRST,
+            "000000000070",
+        ],
+        Some((false, 7, 0)),
+        None,
+        "bad time at 56",
+    ),
+    (
+        &[
+            "0a0d0d0a0000001c1a2b3c4d00010000ffffffffffffffff0000001c",
+            "000000010000001c000100000000000000090001000000000000001c",
+            "0000000600000070000000000000003afff4417f0000004e0000004e",
+            FIRST,
+            "000000000070",
+        ],
+        Some((false, 253_402_300_799, 0)),
+        None,
+        "2a02000c0406000040ff006409020000",
+    ),
+    (
+        &[
+            "0a0d0d0a0000001c1a2b3c4d00010000ffffffffffffffff0000001c",
+            "0000000100000014000100000000000000000014",
+            "00000003000000600000004e",
+            FIRST,
+            "000000000060",
+        ],
+        None,
+        Some((false, 7, 0)),
+        "packet without a time at 48",
+    ),
+];
+
+#[test]
+fn reads_packets_of_a_window(rt: HostRuntime) -> Result<(), Fail> {
+    for (parts, since, until, told) in &WINDOWS {
+        let octets = joined(rt.alloc(), parts)?;
+        let window = Window::Between {
+            since: moment_of(*since)?,
+            until: moment_of(*until)?,
+        };
+        let read = read_within(rt.alloc(), window, octets.as_slice())?;
+        assert_eq!(rt; read.as_str(), *told, "of {since:?} to {until:?}");
+    }
+    Ok(())
+}
+
+/// The moment that a word of the list says.
+fn moment_of(word: Option<MomentWord>) -> Result<Option<Moment>, Fail> {
+    match word {
+        None => Ok(None),
+        Some((true, seconds, nanoseconds)) => Ok(Some(Moment::After {
+            seconds,
+            nanoseconds,
+        })),
+        Some((false, seconds, nanoseconds)) => {
+            let since = u128::from(seconds) * 1_000_000_000 + u128::from(nanoseconds);
+            match Time::new(since) {
+                Some(time) => Ok(Some(Moment::At(time))),
+                None => Err(Fail::from("no time")),
+            }
+        }
+    }
+}
+
+/// What a capture gives of the packets of this window.
+fn read_within(alloc: Global, window: Window, octets: &[u8]) -> Result<String, Fail> {
+    let mut capture = Capture::within(alloc, 4096, window, of_first()?);
+    if let Err(fault) = capture.feed(octets) {
+        return Ok(fault.to_string(alloc)?);
+    }
+    match capture.finish() {
+        Ok(gathered) => Ok(hex::encode(alloc, gathered.dump())?),
+        Err(fault) => Ok(fault.to_string(alloc)?),
+    }
 }
 
 /// The first capture, in two pieces: the first ends after the packet with the number 2.

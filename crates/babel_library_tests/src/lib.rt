@@ -12,6 +12,10 @@ mod prefix;
 #[cfg(test)]
 mod table;
 #[cfg(test)]
+mod teller;
+#[cfg(test)]
+mod timeline;
+#[cfg(test)]
 mod tlv;
 #[cfg(test)]
 mod trie;

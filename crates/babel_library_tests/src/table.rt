@@ -6,6 +6,7 @@ mod faults;
 mod pieces;
 mod refused_memory;
 mod seeds;
+mod times;
 mod updates;
 mod via_v6;
 

@@ -3,7 +3,7 @@ use super::devices::{ScriptedIn, ScriptedOut};
 use super::one_job;
 use super::words::expect_file;
 use babel_capture::Fault;
-use babel_dump::{InputFault, Job, RunFault, Side, run_job, status_of};
+use babel_dump::{InputFault, Job, RunFault, Side, parse_factor, run_job, status_of};
 use std::alloc::Global;
 use std::process::Abort;
 use std::test::Fail;
@@ -34,8 +34,10 @@ pub static CAPTURE: [u8; 122] = [
     0x2a, 0x02, 0x00, 0x00, 0x12, 0x34,
 ];
 
-pub const SENDERS: &str = "192.0.2.1 interface 0 packets 1 octets 4 updates 0\n\
-     192.0.2.2 interface 0 packets 1 octets 4 updates 0\n";
+pub const SENDERS: &str = "192.0.2.1 interface 0 packets 1 octets 4 updates 0 interval - \
+     first 1970-01-01T00:00:00.000000000Z last 1970-01-01T00:00:00.000000000Z\n\
+     192.0.2.2 interface 0 packets 1 octets 4 updates 0 interval - \
+     first 1970-01-01T00:00:00.000000000Z last 1970-01-01T00:00:00.000000000Z\n";
 
 /// What the two commands write of the capture.
 static WRITTEN: [(&str, &str); 3] = [
@@ -212,6 +214,65 @@ fn words_of_captures(rt: HostRuntime) -> Result<(), Fail> {
         }
         assert_eq!(rt; asked.is_quiet(), *quiet, "of {line}");
         expect_file(&rt, line, asked.file(), *file);
+    }
+    Ok(())
+}
+
+#[test]
+fn words_of_factors(rt: HostRuntime) -> Result<(), Fail> {
+    for (word, ten_millionths) in [
+        ("3.5", 35_000_000),
+        ("003.5000000", 35_000_000),
+        ("4.1234561", 41_234_561),
+        ("0.0000001", 1),
+        ("1000", 10_000_000_000),
+        ("1000.0000000", 10_000_000_000),
+    ] {
+        let factor = parse_factor(word).ok_or("no factor")?;
+        assert_eq!(rt; factor.ten_millionths(), ten_millionths, "of {word}");
+    }
+    for word in [
+        "",
+        "q",
+        "0",
+        "0.0",
+        ".5",
+        "3.",
+        "3.50000000",
+        "1000.0000001",
+        "1001",
+        "-1",
+        "+1",
+        "1e3",
+        "3,5",
+        " 1",
+        "3.5.1",
+        "4294967296",
+    ] {
+        assert_eq!(rt; parse_factor(word), None, "of {word}");
+    }
+    Ok(())
+}
+
+/// What is asked of a dump, and the option that is for captures alone.
+static MISPLACED: [(&str, Option<&str>); 6] = [
+    ("show --from :: --expiry 3.5", Some("--expiry")),
+    ("key --from :: --expiry 3.5 --until +1", Some("--until")),
+    ("pairs --from :: --expiry 3.5 --since +1", Some("--since")),
+    ("compare --from :: --expiry 3.5 a b", Some("--expiry")),
+    (
+        "diff --from :: --expiry 3.5 --other-until +1 a b",
+        Some("--expiry"),
+    ),
+    ("lookup --from :: --to ::", None),
+];
+
+#[test]
+fn times_of_dumps(rt: HostRuntime) -> Result<(), Fail> {
+    for (line, option) in &MISPLACED {
+        let job = one_job(rt.alloc(), line)?;
+        assert_eq!(rt; job.misplaced(false, false), *option, "of {line}");
+        assert_eq!(rt; job.misplaced(true, true), None, "of {line}");
     }
     Ok(())
 }

@@ -1,5 +1,6 @@
 //! Devices in memory that follow a script.
 ghost use Rattle.std.specs.Prelude.{◌≡◌, ◌<◌, None, Some};
+ghost use Rattle.babel_dump.specs.Device.{no_times};
 
 use babel_dump::{ByteIn, ByteOut, LeftOutDatagram};
 use std::alloc::Global;
@@ -45,6 +46,7 @@ impl ByteIn for ScriptedIn<'_> {
       left = Some d.rest.now;
       captured = None;
       left_out = None;
+      times = no_times;
       failures = d.failures;
       reads = d.reads;
       ends = d.ends;
@@ -67,6 +69,18 @@ impl ByteIn for ScriptedIn<'_> {
     }
 
     fn left_out(&self) -> Option<LeftOutDatagram> {
+        None
+    }
+
+    fn has_times(&self) -> bool {
+        false
+    }
+
+    fn time(&self) -> Option<u128> {
+        None
+    }
+
+    fn moment(&self) -> Option<u128> {
         None
     }
 }
@@ -101,6 +115,7 @@ impl ByteIn for EndlessIn<'_> {
       left = None;
       captured = None;
       left_out = None;
+      times = no_times;
       failures = d.failures;
       reads = d.reads;
       ends = 0;
@@ -121,6 +136,18 @@ impl ByteIn for EndlessIn<'_> {
     }
 
     fn left_out(&self) -> Option<LeftOutDatagram> {
+        None
+    }
+
+    fn has_times(&self) -> bool {
+        false
+    }
+
+    fn time(&self) -> Option<u128> {
+        None
+    }
+
+    fn moment(&self) -> Option<u128> {
         None
     }
 }

@@ -55,19 +55,27 @@ static CAPTURE: [u8; 504] = [
 #[rattlefmt::skip]
 static WRITTEN: [(&str, &str); 5] = [
     ("senders", "\
-        fe80:0:0:0:0:0:0:1 interface 0 (eth0) packets 1 octets 4 updates 0\n\
-        fe80:0:0:0:0:0:0:1 interface 0 (eth0) vlan 10.20 packets 1 octets 16 updates 1\n\
-        192.0.2.1 interface 1 (a\\x20b\\x5c\\xff) link 3 vlan 5 packets 1 octets 4 updates 0\n\
-        fe80:0:0:0:0:0:0:1 interface 1 (a\\x20b\\x5c\\xff) link 7 packets 1 octets 4 updates 0\n"),
+        fe80:0:0:0:0:0:0:1 interface 0 (eth0) packets 1 octets 4 updates 0 \
+            interval - first - last -\n\
+        fe80:0:0:0:0:0:0:1 interface 0 (eth0) vlan 10.20 packets 1 octets 16 updates 1 \
+            interval 16.00 first - last -\n\
+        192.0.2.1 interface 1 (a\\x20b\\x5c\\xff) link 3 vlan 5 packets 1 octets 4 updates 0 \
+            interval - first - last -\n\
+        fe80:0:0:0:0:0:0:1 interface 1 (a\\x20b\\x5c\\xff) link 7 packets 1 octets 4 updates 0 \
+            interval - first - last -\n"),
     ("senders --json", concat!(
         r#"{"address":"fe80:0:0:0:0:0:0:1","interface":0,"link":null,"vlans":[]"#,
-        r#","name":"eth0","packets":1,"octets":4,"updates":0}"#, "\n",
+        r#","name":"eth0","packets":1,"octets":4,"updates":0"#,
+        r#","interval":null,"first":null,"last":null}"#, "\n",
         r#"{"address":"fe80:0:0:0:0:0:0:1","interface":0,"link":null,"vlans":[10,20]"#,
-        r#","name":"eth0","packets":1,"octets":16,"updates":1}"#, "\n",
+        r#","name":"eth0","packets":1,"octets":16,"updates":1"#,
+        r#","interval":1600,"first":null,"last":null}"#, "\n",
         r#"{"address":"192.0.2.1","interface":1,"link":3,"vlans":[5]"#,
-        r#","name":"a\\x20b\\x5c\\xff","packets":1,"octets":4,"updates":0}"#, "\n",
+        r#","name":"a\\x20b\\x5c\\xff","packets":1,"octets":4,"updates":0"#,
+        r#","interval":null,"first":null,"last":null}"#, "\n",
         r#"{"address":"fe80:0:0:0:0:0:0:1","interface":1,"link":7,"vlans":[]"#,
-        r#","name":"a\\x20b\\x5c\\xff","packets":1,"octets":4,"updates":0}"#, "\n",
+        r#","name":"a\\x20b\\x5c\\xff","packets":1,"octets":4,"updates":0"#,
+        r#","interval":null,"first":null,"last":null}"#, "\n",
     )),
     ("extract --hex --from fe80::1 --interface 0", "2a020000\n"),
     ("extract --hex --from fe80::1 --interface 0:10.20", "2a02000c080a02000000064000010100\n"),

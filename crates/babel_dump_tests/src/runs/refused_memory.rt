@@ -7,7 +7,7 @@ use super::address;
 use super::captures::{CAPTURE, SENDERS};
 use super::devices::ScriptedIn;
 use babel_canon::Body;
-use babel_capture::Place;
+use babel_capture::{Place, Window};
 use babel_dump::{
     AddrPair, ByteOut, CaptureReading, DiffStyle, DumpFile, Filter, Format, InputFault, Job,
     Listed, Reading, RunFault, Spelling, run_job, status_of,
@@ -361,6 +361,7 @@ fn capture_outcome(alloc: Global, job: &Job, text: &str) -> Result<(), Fail> {
 /// How the capture is read.
 const READING: CaptureReading = CaptureReading {
     limit: 1_024,
+    window: Window::Whole,
     accept_cut: false,
     strict: false,
 };

@@ -66,7 +66,7 @@ fn a_line_for_each_sender(rt: HostRuntime) -> Result<(), Fail> {
         };
         let mut lines = Vec::new(rt.alloc());
         for origin in &keys.senders(rt.alloc(), &read.gathered)? {
-            let Ok(key) = keys.key_of(rt.alloc(), &read.gathered, *origin, 7) else {
+            let Ok(key) = keys.key_of(rt.alloc(), &read, *origin, 7) else {
                 return Err(Fail::from("no key"));
             };
             assert_eq!(rt; key.rows, 0);

@@ -243,7 +243,9 @@ fn words_of_styles(rt: HostRuntime) -> Result<(), Fail> {
                 }
                 _ => return Err(Fail::from("another job")),
             },
-            Ok(Asked::SenderKeys(_)) | Err(_) => return Err(Fail::from("no job")),
+            Ok(Asked::SenderKeys(_) | Asked::Events(_)) | Err(_) => {
+                return Err(Fail::from("no job"));
+            }
         }
     }
     Ok(())
@@ -463,7 +465,7 @@ fn usage(rt: &impl Abort, alloc: Global, line: &str) -> Result<String, Fail> {
 /// are refused with. Of several that are no addresses the first is named, in the order `--from`,
 /// `--other-from`, `--to`, `--src`.
 #[rattlefmt::skip]
-static NO_JOBS: [(&str, &str); 18] = [
+static NO_JOBS: [(&str, &str); 24] = [
     ("lookup --src v --to w --from q",
      "not an address: q\nhint: --from takes an IPv4 or IPv6 address\n"),
     ("lookup --src v --to w --from ::",
@@ -499,6 +501,23 @@ static NO_JOBS: [(&str, &str); 18] = [
     ("lookup --from :: --each - -", "the dump and the pairs cannot both be standard input\n"),
     ("show --from :: --max-octets 82 --max-routes 1",
      "--max-octets 82 is less than 83 for each of 1 routes\nhint: lower --max-routes too\n"),
+    ("events --src v --to w --from q",
+     "not an address: q\nhint: --from takes an IPv4 or IPv6 address\n"),
+    ("events --src v --to w", "not an address: w\nhint: --to takes an IPv4 or IPv6 address\n"),
+    ("events --to 10.0.0.1 --src :: x",
+     "--to and --src are of different families\n\
+      hint: 0.0.0.0 or :: will do for routes from any source\n"),
+    ("events --until q x",
+     "not a time: q\n\
+      hint: --until takes a time with an offset, as 2026-11-25T13:30:22.5Z, or seconds, as \
+      @1764077422.5 since 1970 or +90 since the first record\n"),
+    ("events --expiry 0 x",
+     "not a factor: 0\n\
+      hint: --expiry takes a number above 0 and at most 1000, with at most seven digits after the \
+      point, as 3.5\n"),
+    ("events --ignore q x",
+     "not a field: q\n\
+      hint: --ignore takes next-hop, router-id, seqno, metric, separated by commas\n"),
 ];
 
 #[test]
@@ -515,7 +534,7 @@ const USAGE: &str = "Usage: babel-dump";
 const BODY: &str = "'--body <OCTETS>'";
 
 /// Words that are refused, and a part of the text.
-static REFUSED: [(&str, &str); 30] = [
+static REFUSED: [(&str, &str); 37] = [
     ("", USAGE),
     ("", "\n  show  "),
     ("shows", USAGE),
@@ -555,6 +574,13 @@ static REFUSED: [(&str, &str); 30] = [
         "show --from :: --max-octets 4294967296",
         "'--max-octets <OCTETS>'",
     ),
+    ("events --to :: x", "not provided:\n  --src <ADDRESS>\n"),
+    ("events --src :: x", "not provided:\n  --to <ADDRESS>\n"),
+    ("events --hold x", "'--hold' found"),
+    ("events --strict x", "'--strict' found"),
+    ("events --short x", "'--short' found"),
+    ("events --max-octets 7 x", "'--max-octets' found"),
+    ("events x y", USAGE),
 ];
 
 /// Words, the octets and the routes that they limit a dump to, and whether they ask for no notes.
@@ -690,6 +716,15 @@ const OF_COMPARE: [&str; 12] = [
     "  1  at least one destination and source has a different answer",
 ];
 
+const OF_EVENTS: [&str; 6] = [
+    "--from <ADDRESS>         The source address of the packets; if omitted,",
+    "--to <ADDRESS>           Tell when the answer for this destination",
+    "--max-routes <ROUTES>    How many routes there may be, of all senders",
+    "[CAPTURE]  The capture; standard input if omitted or -\n",
+    "babel-dump events --expiry",
+    "  1  there are no Babel packets",
+];
+
 const ENDS: [&str; 3] = [
     "\nExamples:\n  babel-dump ",
     "\nExit statuses:\n  0  ",
@@ -698,7 +733,7 @@ const ENDS: [&str; 3] = [
 
 /// The words that ask for a help text, and its parts beside `ENDS`. Each names its options, each
 /// with a sentence, and has the exit statuses and examples.
-static HELPS: [(&str, &[&str], &[&str]); 7] = [
+static HELPS: [(&str, &[&str], &[&str]); 8] = [
     ("--help", &COMMANDS, &["babel-dump lookup --from"]),
     ("help", &COMMANDS, &["babel-dump lookup --from"]),
     (
@@ -710,6 +745,7 @@ static HELPS: [(&str, &[&str], &[&str]); 7] = [
     ("normalise --help", &OF_ONE_DUMP, &OF_NORMALISE),
     ("help pairs", &OF_ONE_DUMP, &OF_PAIRS),
     ("compare --help", &OF_COMPARE, &[]),
+    ("events --help", &OF_EVENTS, &[OF_JSON]),
 ];
 
 #[test]

@@ -1,6 +1,7 @@
 -- The last piece gave a fault, and there are no more turns than octets.
-use Rattle.std.proofs.Common.{rules, ◌∙◌, ◌+◌, ◌<◌, arith}
+use Rattle.std.proofs.Common.{rules, ◌∙◌, ◌+◌, ◌<◌, ap, arith}
 use Rattle.std.proofs.lemmas.Result.{err_from_is_err_and}
+use Rattle.babel_capture.specs.Window.{Extent}
 use Rattle.babel_dump.proofs.CaptureFeeding.{fed_fault, fed_within}
 use Rattle.babel_dump.proofs.capture_input.feed_all.Goals as goal
 
@@ -17,7 +18,7 @@ returns-in_err-feed-in-Ok-clause-gathered g c =
 
 pub unreachable-requires : goal.unreachable-requires
 unreachable-requires g c =
-    let within : c.reads.counter < c.reads.capture.limit + 24 =
+    let within : c.reads.counter < c.reads.capture.limit.octets + 24 =
     fed_within c.reads.capture _ _ c.reads.counter c.reads.invariant.given c.reads.invariant.no_fault in
-    let limit = c.reads.invariant.from.limit in
+    let limit = ap (λ (e : Extent). e.octets) c.reads.invariant.from.limit in
     omega (arith, within, limit, c.reads-test.false, c.from-end.ensures)

@@ -7,4 +7,7 @@ returns-clause-text c =
     let packets = appended before _ _ _ _ c.push_text.ensures.text c.push_decimal.ensures.text in
     let octets = appended before _ _ _ _ (appended before _ _ _ _ packets c.push_text-2.ensures.text) c.push_decimal-2.ensures.text in
     let updates = appended before _ _ _ _ (appended before _ _ _ _ octets c.push_text-3.ensures.text) c.push_decimal-3.ensures.text in
-    appended before _ _ _ _ (appended before _ _ _ _ updates c.push_text-4.ensures.text) c.push_octet.ensures.text
+    let interval = appended before _ _ _ _ (appended before _ _ _ _ updates c.push_text-4.ensures.text) c.push_interval_json.ensures.text in
+    let first = appended before _ _ _ _ (appended before _ _ _ _ interval c.push_text-5.ensures.text) c.push_time_json.ensures.text in
+    let last = appended before _ _ _ _ (appended before _ _ _ _ first c.push_text-6.ensures.text) c.push_time_json-2.ensures.text in
+    appended before _ _ _ _ (appended before _ _ _ _ last c.push_text-7.ensures.text) c.push_octet.ensures.text

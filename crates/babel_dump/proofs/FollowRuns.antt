@@ -1,0 +1,115 @@
+-- A capture that is followed, read by read, to its end.
+use Rattle.std.proofs.Common.{ℕ, ◌<◌, List, [], ◌++◌, take, map, flat_map, Result, Ok, Err, IfOk, refl, sym, ap, ◌∙◌}
+use Rattle.std.proofs.lemmas.Grind.{flat_map-append}
+use Rattle.std.proofs.lemmas.List.{map-append}
+use Rattle.std.proofs.KnownBytes.{Appends-nil, Appends-trans}
+use Rattle.babel_timeline.specs.declared.telling.Telling.{Telling}
+use Rattle.babel_dump.specs.Device.{Gave, InputState, IsSpent, OutputState}
+use Rattle.babel_dump.specs.EventText.{event_in}
+use Rattle.babel_dump.specs.EventsRun.{AreLines, TellsEvents}
+use Rattle.babel_dump.specs.Followed.{Ends, Goes, HasFollowed, IsFollowed, WroteLines}
+use Rattle.babel_dump.specs.Run.{Output, output}
+use Rattle.babel_dump.specs.declared.events.Followed.{Followed}
+use Rattle.babel_dump.specs.declared.events_fault.EventsFault.{EventsFault}
+use Rattle.babel_dump.specs.declared.events_job.Events.{Events}
+use Rattle.babel_dump.specs.declared.outcome.Outcome.{Outcome}
+use Rattle.babel_dump.specs.declared.speaker.Speaker.{Speaker}
+use Rattle.babel_dump.proofs.Devices.{gave_itself, gave_more, gave_none}
+
+-- ---- lines
+
+lines_none : (events : Events) → AreLines events [] []
+lines_none events = record { named = []; are = refl; text_is = refl }
+
+lines_more : (events : Events) (told more : List (Telling Speaker)) (text next : List ℕ) → AreLines events told text → AreLines events more next → AreLines events (told ++ more) (text ++ next)
+lines_more events told more text next one two =
+    let line : List ℕ × Telling Speaker → List ℕ = λ one. event_in events.format events.view events.pair one.0 one.1 in
+    record {
+      named = one.named ++ two.named;
+      are = map-append (λ (one : List ℕ × Telling Speaker). one.1) one.named two.named ∙ ap (λ (t : List (Telling Speaker)). t ++ map (λ one. one.1) two.named) one.are
+          ∙ ap (λ (t : List (Telling Speaker)). told ++ t) two.are;
+      text_is = ap (λ (t : List ℕ). t ++ next) one.text_is ∙ ap (λ (t : List ℕ). flat_map line one.named ++ t) two.text_is ∙ sym (flat_map-append line one.named two.named);
+    }
+
+wrote_none : (events : Events) (w : OutputState) → WroteLines events [] (output w w)
+wrote_none events w = record { text = []; lines = lines_none events; wrote = Appends-nil w.taken }
+
+wrote_more : (events : Events) (told more : List (Telling Speaker)) (u v w : OutputState) → WroteLines events told (output u v) → WroteLines events more (output v w)
+    → WroteLines events (told ++ more) (output u w)
+wrote_more events told more u v w one two = record {
+  text = one.text ++ two.text;
+  lines = lines_more events told more one.text two.text one.lines two.lines;
+  wrote = Appends-trans u.taken v.taken w.taken one.text two.text one.wrote two.wrote;
+}
+
+-- ---- read by read
+
+-- the reader gave these octets, the capture was followed so far, and the writer took the lines of
+-- what they told
+pub record IsFollowedSoFar (events : Events) (old new : InputState) (writer : Output) (followed : Followed) : Type 0 where
+  pub octets : List ℕ
+  pub gave : Gave old new octets
+  pub goes : Goes events octets [] writer followed
+
+-- nothing was read yet
+pub followed_none : (events : Events) (a : InputState) (w : OutputState) (followed : Followed) → IsFollowed events [] [] followed → IsFollowedSoFar events a a (output w w) followed
+followed_none events a w followed none = record {
+  octets = [];
+  gave = gave_itself a;
+  goes = record { more = []; is_followed = none; wrote = wrote_none events w };
+}
+
+goes_on : (events : Events) (old new : Followed) (u v w : OutputState) (fed more : List ℕ) → Goes events fed [] (output u v) old
+    → ((fed : List ℕ) (told : List (Telling Speaker)) → IsFollowed events fed told old → Goes events (fed ++ more) told (output v w) new)
+    → Goes events (fed ++ more) [] (output u w) new
+goes_on events old new u v w fed more first goes =
+    let next = goes fed first.more first.is_followed in
+    record { more = first.more ++ next.more; is_followed = next.is_followed; wrote = wrote_more events first.more next.more u v w first.wrote next.wrote }
+
+-- one more read
+pub followed_more : (events : Events) (old new : Followed) (a b c : InputState) (u v w : OutputState) (more : List ℕ) → IsFollowedSoFar events a b (output u v) old
+    → Gave b c more → ((fed : List ℕ) (told : List (Telling Speaker)) → IsFollowed events fed told old → Goes events (fed ++ more) told (output v w) new)
+    → IsFollowedSoFar events a c (output u w) new
+followed_more events old new a b c u v w more so_far gave goes = record {
+  octets = so_far.octets ++ more;
+  gave = gave_more a b c so_far.octets more so_far.gave gave;
+  goes = goes_on events old new u v w so_far.octets more so_far.goes goes;
+}
+
+-- the end was met
+pub followed_whole : (events : Events) (followed : Followed) (a b c : InputState) (writer : Output) (buf : List ℕ) → IsFollowedSoFar events a b writer followed
+    → Gave b c (take 0 buf) → IsSpent c → a.ends < c.ends → HasFollowed events a c writer followed
+followed_whole events followed a b c writer buf so_far gave spent met = record {
+  octets = so_far.octets;
+  gave = record { gave = gave_none a b c so_far.octets buf so_far.gave gave; all = spent; met_end = met };
+  goes = so_far.goes;
+}
+
+-- ---- the run
+
+-- it was followed to its end, and ended
+pub followed_ended : (events : Events) (followed : Followed) (a b : InputState) (u v w : OutputState) (result : Result Outcome EventsFault) → HasFollowed events a b (output u v) followed
+    → IfOk result (λ outcome. (fed : List ℕ) (told : List (Telling Speaker)) → IsFollowed events fed told followed → Ends events fed told (output v w) outcome)
+    → IfOk result (TellsEvents events a b (output u w))
+followed_ended events followed a b u v w (Err fault) has ends = tt
+followed_ended events followed a b u v w (Ok outcome) has ends =
+    let first = has.goes in
+    let end = ends has.octets first.more first.is_followed in
+    let wrote = wrote_more events first.more end.more u v w first.wrote end.wrote in
+    record {
+      octets = has.octets;
+      gave = has.gave;
+      gathering = end.gathering;
+      cut = end.cut;
+      is_read = end.is_read;
+      wanted = end.wanted;
+      accepted = end.accepted;
+      told = first.more ++ end.more;
+      rows = end.rows;
+      have_told = end.have_told;
+      all_last = end.all_last;
+      text = wrote.text;
+      lines = wrote.lines;
+      wrote = wrote.wrote;
+      outcome_is = end.outcome_is;
+    }

@@ -1,0 +1,37 @@
+-- Nothing was read yet; one more piece, of which all was taken; and the end.
+use Rattle.std.proofs.Common.{rules, arith, refl, ◌∙◌}
+use Rattle.babel_dump.proofs.FollowRuns.{followed_more, followed_none, followed_whole}
+use Rattle.babel_dump.proofs.events.Followed.follow.Goals as goal
+
+pub reads-init : goal.reads-init
+reads-init g c = record {
+  followed = followed_none _ _ _ _ c.requires.none;
+  told = c.requires.told;
+  empty = c.requires.empty;
+  room = c.requires.room;
+  no_failure = refl;
+  no_end = refl;
+  reads = omega arith;
+  failures = refl;
+  flushes = omega arith;
+}
+
+pub reads-preserved : goal.reads-preserved
+reads-preserved g c =
+    let took = c.in_ok-take-in-Ok.ensures in record {
+      followed = followed_more _ _ _ _ _ _ _ _ _ _ c.reads.invariant.followed c.in-Ok.ensures.octets.0 took.followed;
+      told = took.told;
+      empty = took.empty;
+      room = took.room;
+      no_failure = search rules;
+      no_end = search rules;
+      reads = search rules;
+      failures = took.failures ∙ c.reads.invariant.failures;
+      flushes = search rules;
+    }
+
+pub returns-in-Ok-eq0-clause-followed : goal.returns-in-Ok-eq0-clause-followed
+returns-in-Ok-eq0-clause-followed g c =
+    let none = c.in-Ok-eq0.field-0-test in
+    followed_whole _ c.reads.self _ _ _ _ c.read.new.buf c.reads.invariant.followed (rw none at c.in-Ok-eq0.ensures.octets.0)
+    (c.in-Ok-eq0.ensures.octets.1 none (search rules)) (search rules)

@@ -1,0 +1,9 @@
+use Rattle.babel_dump.proofs.TextLemmas.{appended}
+use Rattle.babel_dump.proofs.push_time.push_four_digits.Goals as goal
+
+pub returns-clause-text : goal.returns-clause-text
+returns-clause-text c =
+    let before = c.args.buffer.now.items in
+    let to_2 = appended before _ _ _ _ (rw c.digit.ensures at c.push_octet.ensures.text) (rw c.digit-2.ensures at c.push_octet-2.ensures.text) in
+    let to_3 = appended before _ _ _ _ to_2 (rw c.digit-3.ensures at c.push_octet-3.ensures.text) in
+    appended before _ _ _ _ to_3 (rw c.digit-4.ensures at c.push_octet-4.ensures.text)

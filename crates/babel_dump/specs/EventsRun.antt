@@ -1,0 +1,154 @@
+-- What `events` tells of a capture, and what it promises: this project's own. Who does not use the
+-- command needs none of this page.
+use Rattle.std.specs.Prelude.{ℕ, ◌≡◌, ◌+◌, ◌≤◌, ◌^◌, false, List, [], ◌∷◌, ◌++◌, map}
+use Rattle.std.specs.Prelude.{Option, None, Some, IfSome}
+use Rattle.std.specs.Io.KnownBytes.{Appends}
+use Rattle.std.specs.List.{AllByRecursion, flat_map}
+use Rattle.std.specs.Option.{option_map}
+use Rattle.babel_prefix.specs.Address.{Address}
+use Rattle.babel_capture.specs.declared.place.Place.{Place}
+use Rattle.babel_capture.specs.declared.wanted.Wanted.{Wanted}
+use Rattle.babel_capture.specs.declared.wanted.Wanted.TheVariants as wanteds
+use Rattle.babel_capture.specs.Blocks.{BlockAt, context_behind, start}
+use Rattle.babel_capture.specs.Capture.{IsReadToCut}
+use Rattle.babel_capture.specs.Counts.{Made}
+use Rattle.babel_capture.specs.Findings.{Found, passed, untold, left, refused, lacked, found}
+use Rattle.babel_capture.specs.Gathering.{Gathering}
+use Rattle.babel_capture.specs.Times.{time_of}
+use Rattle.babel_capture.specs.Window.{Extent, moment_up_to}
+use Rattle.babel_tlv.specs.declared.start.Start.{Start}
+use Rattle.babel_tlv.specs.Context.{first_context}
+use Rattle.babel_tlv.specs.Framing.{ArePlaced, TlvAt, packet_octets}
+use Rattle.babel_table.specs.Moments.{told_from}
+use Rattle.babel_timeline.specs.declared.change.Change.{Change}
+use Rattle.babel_timeline.specs.declared.telling.Telling.{Telling}
+use Rattle.babel_timeline.specs.declared.telling.Telling.TheVariants as tellings
+use Rattle.babel_timeline.specs.Accounts.{IsAccount, Said}
+use Rattle.babel_timeline.specs.Rows.{AllLast, Rows}
+use Rattle.babel_timeline.specs.Telling.{AreAnswers, AskedFor, said_of}
+use Rattle.babel_dump.specs.CaptureRun.{IsOutcomeOf}
+use Rattle.babel_dump.specs.CaptureText.{senders_status}
+use Rattle.babel_dump.specs.Device.{GaveOctets, InputState}
+use Rattle.babel_dump.specs.EventText.{event_in}
+use Rattle.babel_dump.specs.Run.{Output}
+use Rattle.babel_dump.specs.declared.addr_pair.AddrPair.{AddrPair}
+use Rattle.babel_dump.specs.declared.events_job.Events.{Events}
+use Rattle.babel_dump.specs.declared.outcome.Outcome.{Outcome}
+use Rattle.babel_dump.specs.declared.speaker.Speaker.{Speaker}
+use Rattle.babel_dump.specs.Speakers.{speaker_cmp}
+
+-- how much of a capture is read: more octets than any file has
+abbrev pub followed_extent : Events → Extent
+followed_extent events = record { octets = 2 ^ 62; window = events.window }
+
+-- whose datagrams are wanted, as they come
+abbrev pub followed_by : Events → Wanted
+followed_by events = wanteds.InTurn events.sender events.place
+
+abbrev pub asked_by : Events → AskedFor
+asked_by events = option_map (λ (pair : AddrPair). (pair.dst, pair.src)) events.pair
+
+-- ---- what is said
+
+-- a packet of this sender, which came at this time, is TLVs, and says what these tell
+pub record IsSaid (events : Events) (time : ℕ) (place : Place) (sender : Address)
+    (packet : List ℕ) (said : List (Said Speaker)) : Type 0 where
+  pub at : ℕ
+  pub tlvs : List TlvAt
+  pub rest : List ℕ
+  pub whole : packet ≡ packet_octets tlvs ++ rest
+  pub placed : ArePlaced (at + 4) tlvs
+  pub is : said ≡ said_of (asked_by events) events.view (record { sender = sender; place = place })
+      (told_from time
+      (first_context (record { sender = sender; via_v6 = events.limits.via_v6 })) tlvs)
+
+-- what a record of a capture says: what its packet does, where it has one, and a time
+abbrev pub Says : Events → Option ℕ → Found → List (Said Speaker) → Type 0
+Says events (Some time) (found place sender packet) said =
+    IsSaid events time place sender packet said
+Says events time what said = said ≡ []
+
+-- what the records of a capture say, in order
+abbrev pub AreSaid : Events → List Made → List (Said Speaker) → Type 0
+AreSaid events [] said = said ≡ []
+AreSaid events (one ∷ made) said =
+    (here : List (Said Speaker)) × (later : List (Said Speaker)) × (said ≡ here ++ later)
+    × Says events (time_of one.came) one.what here × AreSaid events made later
+
+-- ---- in order
+
+-- none of these records came after this time
+abbrev pub AreUpTo : ℕ → List Made → Type 0
+AreUpTo time made = AllByRecursion (λ one. IfSome (time_of one.came) (λ came. came ≤ time)) made
+
+-- times do not run backwards
+abbrev pub AreInOrder : List Made → Type 0
+AreInOrder made =
+    (front back : List Made) (one : Made) (time : ℕ) → made ≡ front ++ one ∷ back
+    → time_of one.came ≡ Some time → AreUpTo time front
+
+-- ---- what is told
+
+-- the tellings are these changes; or, where addresses are asked for, their answers
+abbrev pub AreTold : AskedFor → List (Change Speaker) → Rows Speaker → List (Telling Speaker)
+    → Type 0
+AreTold None changes rows told = told ≡ map tellings.Change changes
+AreTold (Some pair) changes rows told = AreAnswers speaker_cmp pair told rows
+
+-- the changes account for what records said, up to a moment that is no later than they are, or than
+-- this one, if it is given
+pub record IsAccountOf (events : Events) (until : Option ℕ) (made : List Made)
+    (said : List (Said Speaker)) (changes : List (Change Speaker)) (rows : Rows Speaker)
+    : Type 0 where
+  pub moment : ℕ
+  pub account : IsAccount speaker_cmp events.expiry None said moment changes rows
+  pub reached : (time : ℕ) → AreUpTo time made → IfSome until (λ last. last ≤ time)
+      → moment ≤ time
+
+-- What records told from nothing on, and the rows after them: where their times do not run
+-- backwards, the changes account for all that was said.
+pub record HaveTold (events : Events) (until : Option ℕ) (made : List Made)
+    (told : List (Telling Speaker)) (rows : Rows Speaker) : Type 0 where
+  pub said : List (Said Speaker)
+  pub are_said : AreSaid events made said
+  pub changes : List (Change Speaker)
+  pub account : AreInOrder made → IsAccountOf events until made said changes rows
+  pub are_told : AreTold (asked_by events) changes rows told
+
+-- ---- what is written
+
+-- the text is the lines of what is told, each with a name for its interface
+pub record AreLines (events : Events) (told : List (Telling Speaker)) (text : List ℕ) : Type 0 where
+  pub named : List (List ℕ × Telling Speaker)
+  pub are : map (λ one. one.1) named ≡ told
+  pub text_is : text
+      ≡ flat_map (λ one. event_in events.format events.view events.pair one.0 one.1) named
+
+-- the moment up to which the capture was read: the last of the window, or that of the last record
+abbrev pub moment_read : Events → List BlockAt → Gathering → Option ℕ
+moment_read events blocks gathering =
+    moment_up_to events.window (context_behind (start (followed_extent events)) blocks).start
+    gathering.report.timing.last
+
+-- A run of `events` that ends well: the reader gave a capture, all that it had, and the writer took
+-- the lines of what its records told. All is told that ends by the moment that it was read to.
+pub record TellsEvents (events : Events) (old new : InputState) (writer : Output)
+    (outcome : Outcome) : Type 0 where
+  pub octets : List ℕ
+  pub gave : GaveOctets old new octets
+  pub gathering : Gathering
+  pub cut : Option ℕ
+  pub is_read : IsReadToCut (followed_extent events) octets gathering cut
+  pub wanted : gathering.wanted ≡ followed_by events
+  pub accepted : events.accept_cut ≡ false → cut ≡ None
+  pub told : List (Telling Speaker)
+  pub rows : Rows Speaker
+  pub have_told : HaveTold events (moment_read events is_read.is_read.blocks gathering)
+      is_read.is_read.gathered.made told rows
+  pub all_last : gathering.report.timing.has_untimed ≡ false
+      → IfSome (moment_read events is_read.is_read.blocks gathering)
+      (λ moment. AllLast speaker_cmp events.expiry moment rows)
+  pub text : List ℕ
+  pub lines : AreLines events told text
+  pub wrote : Appends writer.old.taken writer.new.taken text
+  pub outcome_is : IsOutcomeOf outcome (senders_status gathering.senders) gathering.report cut

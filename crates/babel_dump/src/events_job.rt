@@ -1,0 +1,35 @@
+use crate::addr_pair::AddrPair;
+use crate::factor::Factor;
+use crate::format::Format;
+use crate::job::DumpFile;
+use babel_capture::{Place, Window};
+use babel_prefix::Addr;
+use babel_table::Limits;
+use babel_tlv::View;
+
+/// What `events` asks for: what changed of what the senders in a capture announce, and when.
+#[derive(Debug, Drop)]
+pub struct Events {
+    /// The sender whose packets are heard: `--from`. None is for each.
+    pub sender: Option<Addr>,
+    /// The place at which they were captured: `--interface`. None is for each, by itself.
+    pub place: Option<Place>,
+    /// Which packets are read, by when they came: `--since`, `--until`. It is never
+    /// `Window::Whole`, since each packet is to have a time.
+    pub window: Window,
+    /// Whether a capture that is cut short is read to its last whole record: `--accept-cut`.
+    pub accept_cut: bool,
+    /// After how many times its Interval a row is gone: `--expiry`. None is where it is left out.
+    pub expiry: Option<Factor>,
+    /// How many rows the senders' tables have at most in all, and whether address encoding 4 is
+    /// read: `--max-routes`, `--v4-via-v6`. Octets are not limited.
+    pub limits: Limits,
+    /// Which fields of what is announced count: those that `--ignore` does not name.
+    pub view: View,
+    /// The addresses of which the answer is told in place of the rows: `--to`, `--src`.
+    pub pair: Option<AddrPair>,
+    pub format: Format,
+    pub file: DumpFile,
+    /// Whether no note comes after the lines: `--quiet`.
+    pub quiet: bool,
+}

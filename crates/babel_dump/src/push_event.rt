@@ -1,0 +1,258 @@
+//! Lines of `events`, part by part, appended to a buffer that has room for them.
+ghost use Rattle.std.specs.Prelude.{◌≡◌, ◌+◌, ◌++◌, ◌≤◌, length};
+ghost use Rattle.babel_timeline.specs.Changes.{held_after};
+ghost use Rattle.babel_dump.specs.EventText.{after_text, asked_json, event_end, event_end_json};
+ghost use Rattle.babel_dump.specs.EventText.{event_front, event_front_json, held_from};
+ghost use Rattle.babel_dump.specs.EventText.{interface_text, key_text, kind_verb, speaker_of};
+ghost use Rattle.babel_dump.specs.EventText.{tells_place, time_of, told_json, told_text, verb};
+ghost use Rattle.babel_dump.specs.Slices.{HasRoom, TookRoom};
+
+use crate::addr_pair::AddrPair;
+use crate::push::{
+    push_announcement, push_answer, push_decimal, push_link, push_marked, push_octet, push_text,
+};
+use crate::push_addr::{push_addr, push_from, push_prefix};
+use crate::push_json::{push_addressed, push_answer_json, push_place_json};
+use crate::push_time::{push_time_json, push_time_or};
+use crate::speaker::Speaker;
+use crate::spelling::Spelling;
+use babel_capture::{Place, Time};
+use babel_timeline::{ChangeKind, Telling};
+use babel_tlv::{Ann, Held, Key, View};
+
+/// Appends a line of text up to the name of the interface.
+pub(crate) fn push_event_front(
+    buffer: &mut Vec<u8>,
+    spelling: Spelling,
+    name: &[u8],
+    told: &Telling<Speaker>,
+)
+    requires { HasRoom buffer.old 101 }
+    ensures text { buffer.new.items
+        ≡ buffer.old.items ++ event_front spelling name.now told.now }
+    ensures room { TookRoom buffer.old buffer.new 101 }
+{
+    let speaker = speaker_of(told);
+    push_time_or(buffer, Time::new(time_of(told)));
+    push_text(buffer, " ");
+    push_addr(buffer, spelling, speaker.sender);
+    push_interface(buffer, speaker.place, name);
+}
+
+/// Appends the rest of a line of text.
+pub(crate) fn push_event_end(
+    buffer: &mut Vec<u8>,
+    spelling: Spelling,
+    view: View,
+    told: &Telling<Speaker>,
+)
+    requires { HasRoom buffer.old 257 }
+    ensures text { buffer.new.items ≡ buffer.old.items ++ event_end spelling view told.now }
+    ensures room { TookRoom buffer.old buffer.new 257 }
+{
+    let place = speaker_of(told).place;
+    push_link(buffer, place.link);
+    push_marked(buffer, " vlan ", ".", &place.vlans.numbers());
+    push_text(buffer, " ");
+    push_text(buffer, verb(told));
+    push_told(buffer, spelling, view, told);
+    push_octet(buffer, b'\n');
+}
+
+/// Appends an object up to the name of the interface.
+pub(crate) fn push_event_front_json(
+    buffer: &mut Vec<u8>,
+    spelling: Spelling,
+    told: &Telling<Speaker>,
+)
+    requires { HasRoom buffer.old 206 }
+    ensures text { buffer.new.items ≡ buffer.old.items ++ event_front_json spelling told.now }
+    ensures room { TookRoom buffer.old buffer.new 206 }
+{
+    let speaker = speaker_of(told);
+    push_text(buffer, r#"{"time":"#);
+    push_time_json(buffer, Time::new(time_of(told)));
+    push_text(buffer, r#","sender":""#);
+    push_addr(buffer, spelling, speaker.sender);
+    push_place_json(buffer, speaker.place);
+}
+
+/// Appends the rest of an object.
+pub(crate) fn push_event_end_json(
+    buffer: &mut Vec<u8>,
+    spelling: Spelling,
+    view: View,
+    pair: Option<AddrPair>,
+    told: &Telling<Speaker>,
+)
+    requires { HasRoom buffer.old 265 }
+    ensures text { buffer.new.items
+        ≡ buffer.old.items ++ event_end_json spelling view pair told.now }
+    ensures room { TookRoom buffer.old buffer.new 265 }
+{
+    push_text(buffer, r#","event":""#);
+    push_text(buffer, verb(told));
+    push_text(buffer, r#"","#);
+    push_told_json(buffer, spelling, pair, told);
+    push_text(buffer, r#","answer":"#);
+    push_answer_json(buffer, spelling, view, held_from(told));
+    push_text(buffer, "}");
+    push_octet(buffer, b'\n');
+}
+
+/// When it was.
+fn time_of(told: &Telling<Speaker>) -> u128
+    ensures { result ≡ time_of told.now }
+{
+    match told {
+        Telling::Change(change) => change.time,
+        Telling::Answer { time, .. } => *time,
+    }
+}
+
+/// Of whom it is told.
+pub(crate) fn speaker_of(told: &Telling<Speaker>) -> Speaker
+    ensures { result ≡ speaker_of told.now }
+{
+    match told {
+        Telling::Change(change) => change.subject.sender,
+        Telling::Answer { sender, .. } => *sender,
+    }
+}
+
+/// What is held after it, or answered from then on.
+fn held_from(told: &Telling<Speaker>) -> Option<Held>
+    ensures { result ≡ held_from told.now }
+{
+    let answer = match told {
+        Telling::Change(change) => held_after(change.kind),
+        Telling::Answer { answer, .. } => *answer,
+    };
+    Some(Held::Route(answer?))
+}
+
+/// What is held after a change.
+fn held_after(kind: ChangeKind) -> Option<Ann>
+    ensures { result ≡ held_after kind }
+{
+    match kind {
+        ChangeKind::Announced(ann) | ChangeKind::Changed(ann) => Some(ann),
+        ChangeKind::Retracted | ChangeKind::Expired => None,
+    }
+}
+
+/// What happens.
+fn verb(told: &Telling<Speaker>) -> &'static str
+    ensures text { result.now ≡ verb told.now }
+    ensures short { length result.now ≤ 9 }
+{
+    match told {
+        Telling::Change(change) => kind_verb(change.kind),
+        Telling::Answer { .. } => "answers",
+    }
+}
+
+/// How what is held changes.
+fn kind_verb(kind: ChangeKind) -> &'static str
+    ensures text { result.now ≡ kind_verb kind }
+    ensures short { length result.now ≤ 9 }
+{
+    match kind {
+        ChangeKind::Announced(_) => "announces",
+        ChangeKind::Changed(_) => "changes",
+        ChangeKind::Retracted => "retracts",
+        ChangeKind::Expired => "expires",
+    }
+}
+
+/// Whether the place is told, whose interface has this name.
+fn tells_place(place: Place, name: &[u8]) -> bool
+    ensures { result ≡ tells_place place name.now }
+{
+    !name.is_empty() || place != Place::on(0)
+}
+
+/// Appends the number of the interface, where the place is told.
+fn push_interface(buffer: &mut Vec<u8>, place: Place, name: &[u8])
+    requires { HasRoom buffer.old 31 }
+    ensures text { buffer.new.items ≡ buffer.old.items ++ interface_text place name.now }
+    ensures room { TookRoom buffer.old buffer.new 31 }
+{
+    if tells_place(place, name) {
+        push_text(buffer, " interface ");
+        push_decimal(buffer, place.interface);
+    }
+}
+
+/// Appends what is told.
+fn push_told(buffer: &mut Vec<u8>, spelling: Spelling, view: View, told: &Telling<Speaker>)
+    requires { HasRoom buffer.old 186 }
+    ensures text { buffer.new.items ≡ buffer.old.items ++ told_text spelling view told.now }
+    ensures room { TookRoom buffer.old buffer.new 186 }
+{
+    match told {
+        Telling::Change(change) => {
+            push_key(buffer, spelling, change.subject.key);
+            push_after(buffer, spelling, view, held_after(change.kind));
+        }
+        Telling::Answer { .. } => {
+            push_text(buffer, " ");
+            push_answer(buffer, spelling, view, held_from(told));
+        }
+    }
+}
+
+/// Appends a key.
+fn push_key(buffer: &mut Vec<u8>, spelling: Spelling, key: Key)
+    requires { HasRoom buffer.old 97 }
+    ensures text { buffer.new.items ≡ buffer.old.items ++ key_text spelling key }
+    ensures room { TookRoom buffer.old buffer.new 97 }
+{
+    push_text(buffer, " ");
+    push_prefix(buffer, spelling, key.dst());
+    push_from(buffer, spelling, key.src());
+}
+
+/// Appends what is held after a change, under a view, or nothing where nothing is.
+fn push_after(buffer: &mut Vec<u8>, spelling: Spelling, view: View, after: Option<Ann>)
+    requires { HasRoom buffer.old 89 }
+    ensures text { buffer.new.items ≡ buffer.old.items ++ after_text spelling view after }
+    ensures room { TookRoom buffer.old buffer.new 89 }
+{
+    if let Some(ann) = after {
+        push_text(buffer, " ");
+        push_announcement(buffer, spelling, view, ann);
+    }
+}
+
+/// Appends a destination and a source: two members of an object.
+fn push_told_json(
+    buffer: &mut Vec<u8>,
+    spelling: Spelling,
+    pair: Option<AddrPair>,
+    told: &Telling<Speaker>,
+)
+    requires { HasRoom buffer.old 118 }
+    ensures text { buffer.new.items ≡ buffer.old.items ++ told_json spelling pair told.now }
+    ensures room { TookRoom buffer.old buffer.new 118 }
+{
+    match told {
+        Telling::Change(change) => {
+            let key = change.subject.key;
+            push_addressed(buffer, spelling, key.dst(), key.src());
+        }
+        Telling::Answer { .. } => push_asked(buffer, spelling, pair),
+    }
+}
+
+/// Appends the destination and the source that are asked for: two members of an object.
+fn push_asked(buffer: &mut Vec<u8>, spelling: Spelling, pair: Option<AddrPair>)
+    requires { HasRoom buffer.old 118 }
+    ensures text { buffer.new.items ≡ buffer.old.items ++ asked_json spelling pair }
+    ensures room { TookRoom buffer.old buffer.new 118 }
+{
+    match pair {
+        Some(pair) => push_addressed(buffer, spelling, pair.dst, pair.src),
+        None => push_text(buffer, r#""destination":null,"source":null"#),
+    }
+}
