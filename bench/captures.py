@@ -1,22 +1,26 @@
 #!/usr/bin/env python3
-"""Writes the captures of the measurements into a folder, each of some 100 MB, with packets of
-fe80::1.
+"""Writes the captures of the measurements into a folder, each of some 100 MB, and those whose times
+tell of some 20 MB, with packets of fe80::1.
 
-    captures.py FOLDER [--seed N]
+    captures.py FOLDER [--seed N] [--only WORD]
 
 The same seed writes the same octets.
 """
 
 import argparse
+import functools
 import ipaddress
+import itertools
 import pathlib
 import random
+import struct
 import sys
 
 sys.path.append(str(pathlib.Path(__file__).resolve().parent.parent / "tests"))
 import capture_files as made  # noqa: E402
 
 OCTETS = 100_000_000
+TIMED_OCTETS = 20_000_000
 SENDER = "fe80::1"
 PIECE = 4_096
 HELLO = bytes.fromhex("0406 0000 0001 0190")
@@ -75,6 +79,28 @@ def updates(rng, count):
     return bytes.fromhex("060a0000 0200000000000001") + b"".join(update() for _ in range(count))
 
 
+def write_frames(path, rng):
+    write(path, made.pcap([]), [record_of(frame) for frame in frames(rng)], rng)
+
+
+def write_one_sender(path, rng):
+    packets = (
+        [frame_of(babel(updates(rng, 90))) for _ in range(500)]
+        + [frame_of(babel(HELLO), "fe80::2")] * 20
+    )
+    write(path, made.pcap([]), [record_of(frame) for frame in packets], rng)
+
+
+def write_small_packets(path, rng):
+    packets = [frame_of(babel(updates(rng, 1) + HELLO)) for _ in range(500)]
+    packets += [
+        frame_of(babel(HELLO), "fe80::2", tags=[(0x8100, vlan)]) for vlan in range(1, 101)
+    ]
+    blocks = [made.enhanced(made.Record(frame)) for frame in packets]
+    head = made.section() + made.interface(options=made.named(b"eth0"))
+    write(path, head, blocks, rng)
+
+
 def write_senders(path, rng):
     """As many senders as are counted, each of which sends at any time."""
     senders = (
@@ -88,33 +114,129 @@ def write_senders(path, rng):
     write(path, made.pcap([]), records, rng)
 
 
+# ---- captures whose times tell
+
+SECOND = made.SECOND
+ROUTER_ID = bytes.fromhex("060a0000 0200000000000001")
+NEXT_HOP = bytes.fromhex("07060100 c0000201")
+INTERVAL = 400
+MOST_BODY = 1_400
+INFINITY = 0xFFFF
+WILDCARD = bytes.fromhex("080a0000 0000 0190 0001 ffff")
+
+
+@functools.lru_cache(1 << 17)
+def update(key, interval=INTERVAL, metric=256):
+    """An Update of the route with this number: hosts of IPv4, and every fourth of IPv6."""
+    encoding, octets = (2, 16) if key % 4 == 3 else (1, 4)
+    address = (10 << 24 if encoding == 1 else 0x2001_0DB8 << 96) + key
+    fixed = struct.pack(">6BHHH", 8, 10 + octets, encoding, 0, 8 * octets, 0, interval, 1, metric)
+    return fixed + address.to_bytes(octets, "big")
+
+
+def packets_of(updates):
+    """Packets of at most 1,400 octets with these Updates."""
+    body = ROUTER_ID + NEXT_HOP
+    for each in updates:
+        if len(body) + len(each) > MOST_BODY:
+            yield babel(body)
+            body = ROUTER_ID + NEXT_HOP
+        body += each
+    yield babel(body)
+
+
+def rounds(each_round, step=4 * SECOND, sender=SENDER):
+    """In each round the packets of some Updates, from the same times on, a millisecond apart."""
+    for turn in itertools.count():
+        start = made.TIME + turn * step
+        for place, packet in enumerate(packets_of(each_round(turn))):
+            yield start + place * SECOND // 1_000, frame_of(packet, sender)
+
+
+def refreshed(rng):
+    """20,000 routes, announced every 4 seconds: 200 of them are left out in most rounds, so that
+    they expire, and come again."""
+    lost = {turn: set(rng.sample(range(20_000), 200)) for turn in range(64)}
+    keys = lambda turn: (key for key in range(20_000) if key not in lost[turn // 6 % 64])
+    return rounds(lambda turn: map(update, keys(turn)))
+
+
+def changing(rng):
+    """20,000 routes whose metric is another one each time."""
+    order = rng.sample(range(20_000), 20_000)
+    return rounds(lambda turn: (update(key, metric=256 + turn % 2) for key in order))
+
+
+def expiring(rng):
+    """20,000 routes, which all expire at few times, and are announced again."""
+    order = rng.sample(range(20_000), 20_000)
+    return rounds(lambda turn: (update(key, interval=100) for key in order), 10 * SECOND)
+
+
+def shortening(rng):
+    """20,000 routes, each with a shorter Interval each time, so that each expires before what was
+    known."""
+    order = rng.sample(range(20_000), 20_000)
+    return rounds(lambda turn: (update(key, 60_000 - 200 * (turn % 290)) for key in order), SECOND)
+
+
+def retracted(rng):
+    """20,000 routes, all retracted at once, and announced again."""
+    order = rng.sample(range(20_000), 20_000)
+    return rounds(lambda turn: [WILDCARD, *map(update, order)])
+
+
+def many_tables(rng):
+    """60,000 senders, who announce three routes each, again and again, in any order."""
+    senders = [f"fe80::{place + 1:x}" for place in range(60_000)]
+    frames = [
+        frame_of(babel(ROUTER_ID + NEXT_HOP + b"".join(map(update, (place, place + 1, 7)))), sender)
+        for place, sender in enumerate(senders)
+    ]
+    time = made.TIME
+    while True:
+        for frame in rng.choices(frames, k=PIECE):
+            time += SECOND // 10_000
+            yield time, frame
+
+
+TIMED = refreshed, changing, expiring, shortening, retracted, many_tables
+
+
+def write_timed(path, records):
+    with open(path, "wb") as file:
+        written = file.write(made.pcap([]))
+        for time, frame in records:
+            seconds, part = divmod(time, SECOND)
+            octets = len(frame), len(frame)
+            written += file.write(struct.pack("<4L", seconds, part // 1_000, *octets) + frame)
+            if written > TIMED_OCTETS:
+                return
+
+
 def main():
     parser = argparse.ArgumentParser(
         description=__doc__, formatter_class=argparse.RawDescriptionHelpFormatter
     )
     parser.add_argument("folder", type=pathlib.Path)
     parser.add_argument("--seed", type=int, default=1)
+    parser.add_argument("--only", default="", help="the captures whose name has this word")
     options = parser.parse_args()
     folder = options.folder
     folder.mkdir(parents=True, exist_ok=True)
     random_of = lambda name: random.Random(f"{options.seed} {name}")
-    rng = random_of("frames")
-    write(folder / "frames.pcap", made.pcap([]), [record_of(frame) for frame in frames(rng)], rng)
-    rng = random_of("one-sender")
-    packets = (
-        [frame_of(babel(updates(rng, 90))) for _ in range(500)]
-        + [frame_of(babel(HELLO), "fe80::2")] * 20
-    )
-    write(folder / "one-sender.pcap", made.pcap([]), [record_of(frame) for frame in packets], rng)
-    rng = random_of("small-packets")
-    packets = [frame_of(babel(updates(rng, 1) + HELLO)) for _ in range(500)]
-    packets += [
-        frame_of(babel(HELLO), "fe80::2", tags=[(0x8100, vlan)]) for vlan in range(1, 101)
-    ]
-    blocks = [made.enhanced(made.Record(frame)) for frame in packets]
-    head = made.section() + made.interface(options=made.named(b"eth0"))
-    write(folder / "small-packets.pcapng", head, blocks, rng)
-    write_senders(folder / "many-senders.pcap", random_of("many-senders"))
+    for name, write_one in {
+        "frames.pcap": write_frames,
+        "one-sender.pcap": write_one_sender,
+        "small-packets.pcapng": write_small_packets,
+        "many-senders.pcap": write_senders,
+    }.items():
+        if options.only in name:
+            write_one(folder / name, random_of(name.split(".")[0]))
+    for made_of in TIMED:
+        name = made_of.__name__.replace("_", "-")
+        if options.only in f"{name}.pcap":
+            write_timed(folder / f"{name}.pcap", made_of(random_of(name)))
 
 
 if __name__ == "__main__":

@@ -15,7 +15,7 @@ that a machine whose speed changes from run to run changes it for both; the rati
 median of the rounds'. Microseconds are given as they are, and as they would be on a machine on
 which the limit takes 20 ms to normalise the load ipv4, which runs once more in each round: so they
 can be compared from one machine to another. The last column says whether both ratios are at most 3,
-over a capture 2; of times below 2 ms and of memories below 8 MB it does not ask.
+of `senders` and `extract` 2; of times below 2 ms and of memories below 8 MB it does not ask.
 """
 
 import argparse
@@ -69,6 +69,12 @@ MANY_DIFFERENCES = (
 )
 SIZES = (1, 4, 16, 64, 256)
 CAPTURES = ("frames.pcap", "one-sender.pcap", "small-packets.pcapng", "many-senders.pcap")
+TIMED = tuple(
+    f"{name}.pcap"
+    for name in ("refreshed", "changing", "expiring", "shortening", "retracted", "many-tables")
+)
+EXPIRY = ["--expiry", "3.5"]
+OF_ONE = ["--quiet", "--from", "fe80::1"]
 
 
 def cases():
@@ -112,10 +118,15 @@ def cases():
     for capture in CAPTURES:
         yield capture, ["senders"]
         yield capture, ["extract", "--from", "fe80::1"]
+    for capture in TIMED:
+        for options in [], EXPIRY, [*EXPIRY, "--json"], [*EXPIRY, *LOOKUP]:
+            yield capture, ["events", *options]
+        for options in [], EXPIRY, [*EXPIRY, "--hold"]:
+            yield capture, ["show", *options, *OF_ONE]
 
 
 def is_capture(load):
-    return load in CAPTURES
+    return load in CAPTURES or load in TIMED
 
 
 def file_of(load, loads):
@@ -218,6 +229,8 @@ def main():
         print("|---|---|---|---|---|---|---|---|---|---|---|")
         for load, command in cases():
             name = " ".join(itertools.takewhile(lambda word: word != "--from", command))
+            if load in TIMED:
+                name = " ".join(word for word in command if word not in (*OF_ONE, *LOOKUP[1::2]))
             if options.only not in f"{load} {name}" or not file_of(load, options.loads).exists():
                 continue
             beside = plain_of_captures if is_capture(load) else plain
@@ -234,7 +247,7 @@ def main():
             low, mid = min(own), statistics.median(own)
             low_2, mid_2 = min(plain_own), statistics.median(plain_own)
             size = size_of(plain, load, command, options.loads, sizes)
-            most = MOST_OVER_CAPTURES if is_capture(load) else MOST
+            most = MOST_OVER_CAPTURES if load in CAPTURES else MOST
             answer = verdict(most, ratio, mid, memory, memory_2)
             differing += not same
             within += answer == "yes"

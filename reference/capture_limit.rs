@@ -1,15 +1,23 @@
-//! The limit that `babel-dump senders` and `babel-dump extract` are measured against: a plain Rust
-//! program of the same words and texts, as fast as we can write one. Std alone, safe,
-//! single-threaded, one file.
+//! The limit that `babel-dump senders`, `extract`, `events` and tables at a moment are measured
+//! against: a plain Rust program of the same words and texts, as fast as we can write one. Std
+//! alone, safe, single-threaded.
 //!
 //!     rustc -O --edition 2021 capture_limit.rs
-//!     capture_limit senders [--json] [--accept-cut] [--max-octets N] [CAPTURE]
+//!     capture_limit senders [--json] [--strict] [--accept-cut] [--max-octets N] [CAPTURE]
 //!     capture_limit extract --from A [--interface PLACE] [--hex] [--strict] [--accept-cut]
 //!         [--max-octets N] [CAPTURE]
+//!     capture_limit show --from A [--hold] [--expiry K] [--interface PLACE] [--v4-via-v6]
+//!         [--accept-cut] [--max-routes N] [CAPTURE]
+//!     capture_limit lookup --from A --to D --src S .. [CAPTURE]
+//!     capture_limit events [--from A] [--expiry K] [--interface PLACE] [--ignore LIST]
+//!         [--to D --src S] [--v4-via-v6] [--accept-cut] [--max-routes N] [--json] [CAPTURE]
+//!
+//! Each takes `--since T` and `--until T`. `show` and `lookup` write rows and answers alone.
 //!
 //! It reads blocks where they lie in one buffer, and each header of a frame where it lies in its
 //! block. Of a frame that has no Babel it reads some 20 octets; of one that has, its packet is
-//! copied once, into the dump. It writes no notes and no hints.
+//! copied once, into the dump, or its TLVs are read where they are: timeline.rs. It writes no notes
+//! and no hints.
 
 use std::collections::hash_map::{Entry, RandomState};
 use std::collections::HashMap;
@@ -20,6 +28,12 @@ use std::io::{self, Read, Write};
 use std::net::{Ipv4Addr, Ipv6Addr};
 use std::process::ExitCode;
 
+mod clock;
+mod timeline;
+
+use clock::{factor_of, seconds_text, Clock, Window};
+use timeline::{Table, Timeline, View};
+
 const USUAL_OCTETS: u64 = 1 << 30;
 const MOST_INTERFACES: usize = 65_536;
 const MOST_SENDERS: usize = 65_536;
@@ -28,9 +42,11 @@ const LONGEST_BLOCK: u32 = 16_777_216;
 const MOST_TAGS: usize = 4;
 const MOST_EXTENSIONS: usize = 8;
 const LISTED_PLACES: usize = 16;
+const MOST_ROUTES: u64 = 262_144;
 const BABEL_PORT: u16 = 6_696;
 const UDP: u8 = 17;
 const UPDATE: u8 = 8;
+const INFINITY: u16 = 0xffff;
 
 // ---- addresses
 
@@ -105,6 +121,14 @@ impl Order {
             Order::Little => u32::from_le_bytes(own),
         }
     }
+
+    fn i64_at(self, octets: &[u8]) -> Option<i64> {
+        let own = octets.try_into().ok()?;
+        Some(match self {
+            Order::Big => i64::from_be_bytes(own),
+            Order::Little => i64::from_le_bytes(own),
+        })
+    }
 }
 
 // ---- blocks: draft-ietf-opsawg-pcap, draft-ietf-opsawg-pcapng
@@ -117,6 +141,9 @@ enum Fault {
     Version(u64, u16, u16),
     NoInterface(u64),
     UnreadLink(u64, u32),
+    BadTime(u64),
+    NoTime(u64),
+    Dump(&'static str, u64),
     TooManyInterfaces(u64),
     Lacking(u64, Lack),
     TooManySenders(u64),
@@ -135,6 +162,9 @@ impl fmt::Display for Fault {
             }
             Fault::NoInterface(at) => write!(f, "no such interface at {at}"),
             Fault::UnreadLink(at, number) => write!(f, "link type {number} not read at {at}"),
+            Fault::BadTime(at) => write!(f, "bad time at {at}"),
+            Fault::NoTime(at) => write!(f, "packet without a time at {at}"),
+            Fault::Dump(text, at) => write!(f, "{text} at {at}"),
             Fault::TooManyInterfaces(at) => write!(f, "too many interfaces at {at}"),
             Fault::Lacking(at, Lack::Fragment) => write!(f, "datagram in fragments at {at}"),
             Fault::Lacking(at, Lack::CutShort) => write!(f, "datagram cut short at {at}"),
@@ -163,6 +193,7 @@ enum Layout {
 struct Interface {
     link: u32,
     snap_len: u32,
+    clock: Clock,
 }
 
 /// What is read of a capture so far.
@@ -172,6 +203,9 @@ struct Reader {
     first: usize,
     interfaces: Vec<Interface>,
     names: Vec<Vec<u8>>,
+    /// Which records are read, where a time is asked for.
+    window: Option<Window>,
+    start: Option<i128>,
     found: Found,
 }
 
@@ -213,24 +247,34 @@ fn check_version(
     Ok(())
 }
 
-/// The name among the options of an interface, the first that is not empty; nothing if an option
-/// runs past their end.
-fn name_in(order: Order, mut options: &[u8]) -> Option<&[u8]> {
+/// The name among the options of an interface, the first that is not empty, and how its times
+/// count; nothing if an option runs past their end, or has another length than its own.
+fn options_in(order: Order, mut options: &[u8]) -> Option<(&[u8], Clock)> {
     let mut name: &[u8] = &[];
+    let (mut resolution, mut offset) = (None, None);
     while options.len() >= 4 {
+        let code = order.u16_at(options, 0);
+        if code == 0 {
+            break;
+        }
         let len = usize::from(order.u16_at(options, 2));
-        let value = options[4..].get(..len);
-        match order.u16_at(options, 0) {
-            0 => break,
-            2 if name.is_empty() => name = value?,
-            _ => {
-                value?;
+        let value = options[4..].get(..len)?;
+        match code {
+            2 if name.is_empty() => name = value,
+            9 => {
+                let &[power] = value else { return None };
+                resolution.get_or_insert(power);
             }
+            14 => {
+                offset.get_or_insert(order.i64_at(value)?);
+            }
+            _ => {}
         }
         let used = 4 + len.next_multiple_of(4);
         options = options.get(used..).unwrap_or_default();
     }
-    Some(name)
+    let clock = Clock::new(resolution.unwrap_or(6), offset.unwrap_or(0));
+    Some((name, clock))
 }
 
 impl Reader {
@@ -264,11 +308,25 @@ impl Reader {
         Ok(Some(len as usize))
     }
 
+    /// The moment that is meant: the end of the window, or else the last record that was read.
+    fn end(&self) -> Option<i128> {
+        let until = self
+            .window
+            .as_ref()
+            .and_then(|window| window.until.as_ref());
+        match until {
+            Some(until) => Some(until.at(self.start?)),
+            None => self.found.time,
+        }
+    }
+
     fn take_block(&mut self, block: &[u8], at: u64) -> Result<(), Fault> {
         match self.layout {
             Layout::Pcap(order) => {
                 let frame = &block[16..];
-                self.take_packet(0, frame, order.u32_at(block, 12), at)
+                let (seconds, units) = (order.u32_at(block, 0), order.u32_at(block, 4));
+                let stamp = Some((seconds.into(), units.into()));
+                self.take_packet(0, frame, order.u32_at(block, 12), stamp, at)
             }
             Layout::Section(order) => self.take_pcapng(order, block, at),
             Layout::Start => {
@@ -278,9 +336,14 @@ impl Reader {
                 check_version(order, block, 4, 2, &[4], at)?;
                 self.layout = Layout::Pcap(order);
                 self.names.push(Vec::new());
+                let power = match order.u32_at(block, 0) {
+                    NANOSECONDS => 9,
+                    _ => 6,
+                };
                 self.interfaces.push(Interface {
                     link: order.u32_at(block, 20) & 0xffff,
                     snap_len: order.u32_at(block, 16),
+                    clock: Clock::new(power, 0),
                 });
                 Ok(())
             }
@@ -318,11 +381,13 @@ impl Reader {
         if self.interfaces.len() == MOST_INTERFACES {
             return Err(Fault::TooManyInterfaces(at));
         }
-        let name = name_in(order, &block[16..block.len() - 4]);
-        self.names.push(name.ok_or(Fault::BadLength(at))?.to_vec());
+        let options = options_in(order, &block[16..block.len() - 4]);
+        let (name, clock) = options.ok_or(Fault::BadLength(at))?;
+        self.names.push(name.to_vec());
         self.interfaces.push(Interface {
             link: order.u16_at(block, 8).into(),
             snap_len: order.u32_at(block, 12),
+            clock,
         });
         Ok(())
     }
@@ -342,7 +407,10 @@ impl Reader {
         let kept = order.u32_at(block, 20) as usize;
         let frame = block[28..block.len() - 4].get(..kept);
         let frame = frame.ok_or(Fault::BadLength(at))?;
-        self.take_packet(self.first + number, frame, order.u32_at(block, 24), at)
+        let (high, low) = (order.u32_at(block, 12), order.u32_at(block, 16));
+        let stamp = Some((0, u64::from(high) << 32 | u64::from(low)));
+        let interface = self.first + number;
+        self.take_packet(interface, frame, order.u32_at(block, 24), stamp, at)
     }
 
     fn take_simple(&mut self, order: Order, block: &[u8], at: u64) -> Result<(), Fault> {
@@ -358,7 +426,7 @@ impl Reader {
         };
         let frame = block[12..block.len() - 4].get(..kept as usize);
         let frame = frame.ok_or(Fault::BadLength(at))?;
-        self.take_packet(self.first, frame, whole, at)
+        self.take_packet(self.first, frame, whole, None, at)
     }
 
     fn take_packet(
@@ -366,6 +434,7 @@ impl Reader {
         interface: usize,
         frame: &[u8],
         whole: u32,
+        stamp: Option<(u64, u64)>,
         at: u64,
     ) -> Result<(), Fault> {
         let described = self.interfaces.get(interface);
@@ -375,11 +444,23 @@ impl Reader {
             whole: frame.len().max(whole as usize),
         };
         self.found.packets += 1;
-        match look(described.link, part) {
-            Ok(None) => Ok(()),
-            Ok(Some(seen)) => self.found.take(interface as u64, seen, at),
-            Err(Unread) => Err(Fault::UnreadLink(at, described.link)),
+        let seen = look(described.link, part);
+        let seen = seen.map_err(|Unread| Fault::UnreadLink(at, described.link))?;
+        let time = stamp.and_then(|stamp| described.clock.time(stamp));
+        if let Some(window) = &self.window {
+            let Some(time) = time else {
+                return Err(match stamp {
+                    None => Fault::NoTime(at),
+                    Some(_) => Fault::BadTime(at),
+                });
+            };
+            let start = *self.start.get_or_insert(time);
+            if !window.has(start, time) {
+                return Ok(());
+            }
         }
+        self.found
+            .take(interface as u64, time, seen, &self.names, at)
     }
 }
 
@@ -683,16 +764,20 @@ struct Origin {
     sender: Addr,
 }
 
-#[derive(Clone, Copy, Default)]
+#[derive(Clone, Copy)]
 struct Tally {
     packets: u64,
     octets: u64,
     updates: u64,
+    /// The greatest of the Updates that announce.
+    interval: Option<u16>,
+    first: i128,
+    last: i128,
 }
 
 #[derive(Clone, Copy)]
 struct Wanted {
-    sender: Addr,
+    sender: Option<Addr>,
     place: Option<Place>,
 }
 
@@ -722,6 +807,17 @@ const REASONS: [&str; 8] = [
 /// A hash of senders whose key is drawn for each run.
 #[derive(Clone)]
 struct Seed(u64);
+
+impl Seed {
+    fn new() -> Seed {
+        Seed(RandomState::new().build_hasher().finish())
+    }
+
+    fn mixed(&self, state: u64, word: u64) -> u64 {
+        let product = u128::from(self.0 ^ state ^ word) * u128::from(self.0 | 1);
+        product as u64 ^ (product >> 64) as u64
+    }
+}
 
 struct Mixed {
     state: u64,
@@ -769,60 +865,100 @@ impl Hasher for Mixed {
     }
 }
 
+/// What is made of the packets that are found.
+enum Sink {
+    Tallies,
+    Dump(Vec<u8>),
+    Table(Table),
+    Timeline(Timeline),
+}
+
 struct Found {
-    wanted: Option<Wanted>,
+    wanted: Wanted,
     packets: u64,
     left_out: [Option<(u64, u64)>; 8],
-    dump: Vec<u8>,
+    sink: Sink,
+    /// The time of the record that was read last; and whether each has one.
+    time: Option<i128>,
+    is_timed: bool,
     /// The sender found last, and its tally, which is not among the others yet.
     last: Option<(Origin, Tally)>,
     tallies: HashMap<Origin, Tally, Seed>,
 }
 
 impl Found {
-    fn new(wanted: Option<Wanted>) -> Found {
-        let seed = Seed(RandomState::new().build_hasher().finish());
+    fn new(wanted: Wanted, sink: Sink) -> Found {
         Found {
             wanted,
             packets: 0,
             left_out: [None; 8],
-            dump: Vec::new(),
+            sink,
+            time: None,
+            is_timed: true,
             last: None,
-            tallies: HashMap::with_hasher(seed),
+            tallies: HashMap::with_hasher(Seed::new()),
         }
     }
 
-    fn take(&mut self, interface: u64, seen: Seen<'_>, at: u64) -> Result<(), Fault> {
+    fn take(
+        &mut self,
+        interface: u64,
+        time: Option<i128>,
+        seen: Option<Seen<'_>>,
+        names: &[Vec<u8>],
+        at: u64,
+    ) -> Result<(), Fault> {
+        self.is_timed &= time.is_some();
+        self.time = time;
+        let Some(seen) = seen else {
+            return Ok(self.pass());
+        };
         let sender = seen.sender;
         let place = Place {
             interface,
             link: seen.link,
             vlans: seen.vlans,
         };
-        if let Some(wanted) = self.wanted {
-            if sender != wanted.sender || wanted.place.is_some_and(|on| on != place) {
-                return Ok(());
-            }
+        let is_wanted = self.wanted.sender.is_none_or(|wanted| sender == wanted)
+            && self.wanted.place.is_none_or(|on| on == place);
+        if !is_wanted {
+            return Ok(self.pass());
         }
         let packet = match seen.what {
-            What::Unread(reason) => return Ok(self.leave_out(reason)),
-            What::Lacking(lack) if self.wanted.is_some() => return Err(Fault::Lacking(at, lack)),
-            What::Lacking(lack) => return Ok(self.leave_out(lack.reason())),
-            What::Payload(payload) => match packet_of(payload) {
-                Ok(packet) => packet,
-                Err(reason) => return Ok(self.leave_out(reason)),
-            },
+            What::Unread(reason) => Err(reason),
+            What::Lacking(lack) if self.wanted.sender.is_some() => {
+                return Err(Fault::Lacking(at, lack));
+            }
+            What::Lacking(lack) => Err(lack.reason()),
+            What::Payload(payload) => packet_of(payload),
         };
-        let mut sent = Tally {
-            packets: 1,
-            octets: packet.len() as u64,
-            updates: 0,
+        let packet = match packet {
+            Ok(packet) => packet,
+            Err(reason) => {
+                self.leave_out(reason);
+                return Ok(self.pass());
+            }
         };
-        match self.wanted {
-            Some(_) => self.dump.extend_from_slice(packet),
-            None => sent.updates = updates_in(packet),
+        let time = time.unwrap_or(0);
+        let mut sent = Tally::of(packet, time);
+        if let Sink::Tallies = self.sink {
+            (sent.updates, sent.interval) = updates_in(packet);
         }
-        self.count(Origin { place, sender }, sent, at)
+        let origin = Origin { place, sender };
+        self.count(origin, sent, at)?;
+        match &mut self.sink {
+            Sink::Tallies => Ok(()),
+            Sink::Dump(dump) => Ok(dump.extend_from_slice(packet)),
+            Sink::Table(table) => Ok(table.take(time, origin, packet)),
+            Sink::Timeline(timeline) => timeline.take(time, origin, packet, names),
+        }
+    }
+
+    /// A record of which nothing is taken: routes may have expired before it.
+    fn pass(&mut self) {
+        if let (Sink::Timeline(timeline), Some(time)) = (&mut self.sink, self.time) {
+            timeline.expire(time);
+        }
     }
 
     fn leave_out(&mut self, reason: Reason) {
@@ -839,12 +975,12 @@ impl Found {
             self.tallies.insert(*last, *tally);
         }
         let count = self.tallies.len();
-        let mut tally = match self.tallies.entry(origin) {
-            Entry::Occupied(entry) => *entry.get(),
+        let mut tally = sent;
+        match self.tallies.entry(origin) {
+            Entry::Occupied(entry) => tally.add(*entry.get()),
             Entry::Vacant(_) if count >= MOST_SENDERS => return Err(Fault::TooManySenders(at)),
-            Entry::Vacant(_) => Tally::default(),
-        };
-        tally.add(sent);
+            Entry::Vacant(_) => {}
+        }
         self.last = Some((origin, tally));
         Ok(())
     }
@@ -859,10 +995,24 @@ impl Found {
 }
 
 impl Tally {
+    fn of(packet: &[u8], time: i128) -> Tally {
+        Tally {
+            packets: 1,
+            octets: packet.len() as u64,
+            updates: 0,
+            interval: None,
+            first: time,
+            last: time,
+        }
+    }
+
     fn add(&mut self, sent: Tally) {
         self.packets += sent.packets;
         self.octets += sent.octets;
         self.updates += sent.updates;
+        self.interval = self.interval.max(sent.interval);
+        self.first = self.first.min(sent.first);
+        self.last = self.last.max(sent.last);
     }
 }
 
@@ -881,21 +1031,32 @@ fn packet_of(payload: &[u8]) -> Result<&[u8], Reason> {
     payload.get(..len).ok_or(Reason::Truncated)
 }
 
-/// How many Updates a packet has, whatever they hold; none if a TLV runs past its end: RFC 8966,
-/// 4.3, 4.6.9.
-fn updates_in(packet: &[u8]) -> u64 {
-    let (mut at, mut count) = (4, 0);
+/// How many Updates a packet has, whatever they hold, and the greatest Interval of those that
+/// announce; none if a TLV runs past its end: RFC 8966, 4.3, 4.6.9.
+fn updates_in(packet: &[u8]) -> (u64, Option<u16>) {
+    let (mut at, mut count, mut greatest) = (4, 0, None);
     while let Some(&kind) = packet.get(at) {
-        at += match (kind, packet.get(at + 1)) {
-            (0, _) => 1,
-            (_, Some(&len)) => 2 + usize::from(len),
-            (_, None) => return 0,
+        let len = match (kind, packet.get(at + 1)) {
+            (0, _) => {
+                at += 1;
+                continue;
+            }
+            (_, Some(&len)) => usize::from(len),
+            (_, None) => return (0, None),
         };
-        count += u64::from(kind == UPDATE);
+        if kind == UPDATE {
+            count += 1;
+            if let (Some(body), true) = (packet.get(at + 2..at + 12), len >= 10) {
+                if u16_at(body, 8) != INFINITY {
+                    greatest = greatest.max(Some(u16_at(body, 4)));
+                }
+            }
+        }
+        at += 2 + len;
     }
     match at == packet.len() {
-        true => count,
-        false => 0,
+        true => (count, greatest),
+        false => (0, None),
     }
 }
 
@@ -937,18 +1098,9 @@ fn read_some(input: &mut impl Read, buffer: &mut [u8]) -> Result<usize, Failure>
 /// Reads a capture to its end, or to its last whole block where it may be cut.
 fn read_capture(
     mut input: impl Read,
-    limit: u64,
-    wanted: Option<Wanted>,
+    reader: &mut Reader,
     accept_cut: bool,
-) -> Result<Reader, Failure> {
-    let mut reader = Reader {
-        limit,
-        layout: Layout::Start,
-        first: 0,
-        interfaces: Vec::new(),
-        names: Vec::new(),
-        found: Found::new(wanted),
-    };
+) -> Result<(), Failure> {
     let mut octets = vec![0; BUFFER];
     let (mut at, mut start, mut end) = (0, 0, 0);
     loop {
@@ -970,6 +1122,9 @@ fn read_capture(
         if needed > octets.len() {
             octets.resize(needed, 0);
         }
+        if let Sink::Timeline(timeline) = &mut reader.found.sink {
+            timeline.flush()?;
+        }
         let count = read_some(&mut input, &mut octets[end..])?;
         if count == 0 {
             break;
@@ -982,7 +1137,7 @@ fn read_capture(
     if end > 0 && !accept_cut {
         return Err(Fault::CutShort(at).into());
     }
-    Ok(reader)
+    Ok(())
 }
 
 // ---- the program
@@ -999,11 +1154,17 @@ fn read_words(mut words: impl Iterator<Item = String>) -> Option<Words> {
     let (mut options, mut flags, mut file) = (HashMap::new(), Vec::new(), None);
     while let Some(word) = words.next() {
         match word.strip_prefix("--") {
-            Some(flag @ ("hex" | "strict" | "accept-cut" | "json" | "quiet")) => {
+            Some(
+                flag @ ("hex" | "strict" | "accept-cut" | "json" | "quiet" | "hold" | "v4-via-v6"),
+            ) => {
                 flags.push(flag.to_string());
             }
             Some(option) => {
-                options.insert(option.to_string(), words.next()?);
+                let (option, value) = match option.split_once('=') {
+                    Some((option, value)) => (option, value.to_string()),
+                    None => (option, words.next()?),
+                };
+                options.insert(option.to_string(), value);
             }
             None => file = Some(word),
         }
@@ -1041,25 +1202,95 @@ impl Words {
         }
     }
 
-    fn sender(&self) -> Result<Addr, Failure> {
-        let word = self.options.get("from");
-        let word = word.ok_or_else(|| Failure::Usage("no --from".to_string()))?;
-        Addr::parse(word).ok_or_else(|| Failure::Usage(format!("not an address: {word}")))
+    fn address(&self, option: &str) -> Result<Option<Addr>, Failure> {
+        let Some(word) = self.options.get(option) else {
+            return Ok(None);
+        };
+        match Addr::parse(word) {
+            Some(addr) => Ok(Some(addr)),
+            None => Err(Failure::Usage(format!("not an address: {word}"))),
+        }
     }
 
-    fn read(&self, wanted: Option<Wanted>) -> Result<Reader, Failure> {
-        let limit = self.number("max-octets")?.unwrap_or(USUAL_OCTETS);
-        let accept_cut = self.has("accept-cut");
-        let reader = match &self.file {
-            None => read_capture(io::stdin().lock(), limit, wanted, accept_cut),
-            Some(name) if name == "-" => {
-                read_capture(io::stdin().lock(), limit, wanted, accept_cut)
-            }
-            Some(name) => match File::open(name) {
-                Ok(file) => read_capture(file, limit, wanted, accept_cut),
-                Err(_) => Err(Failure::Open(name.clone())),
+    fn sender(&self) -> Result<Addr, Failure> {
+        let sender = self.address("from")?;
+        sender.ok_or_else(|| Failure::Usage("no --from".to_string()))
+    }
+
+    /// The records that are read, where a time is asked for.
+    fn window(&self) -> Result<Option<Window>, Failure> {
+        let moment = |option: &str| match self.options.get(option) {
+            None => Ok(None),
+            Some(word) => match clock::moment_of(word) {
+                Some(moment) => Ok(Some(moment)),
+                None => Err(Failure::Usage(format!("not a time: {word}"))),
             },
-        }?;
+        };
+        let (since, until) = (moment("since")?, moment("until")?);
+        let is_asked = since.is_some() || until.is_some() || self.options.contains_key("expiry");
+        let is_asked = is_asked || self.command == "events";
+        Ok(is_asked.then_some(Window { since, until }))
+    }
+
+    /// How many nanoseconds each hundredth of a second of an Interval counts.
+    fn factor(&self) -> Result<Option<u64>, Failure> {
+        let Some(word) = self.options.get("expiry") else {
+            return Ok(None);
+        };
+        match factor_of(word) {
+            Some(factor) => Ok(Some(factor)),
+            None => Err(Failure::Usage(format!("not a factor: {word}"))),
+        }
+    }
+
+    fn pair(&self) -> Result<Option<(Addr, Addr)>, Failure> {
+        Ok(self.address("to")?.zip(self.address("src")?))
+    }
+
+    fn view(&self) -> View {
+        let ignored = self.options.get("ignore").map(String::as_str);
+        View::without(ignored.unwrap_or_default().split(','))
+    }
+
+    fn max_routes(&self) -> Result<usize, Failure> {
+        Ok(self.number("max-routes")?.unwrap_or(MOST_ROUTES) as usize)
+    }
+
+    fn wanted(&self) -> Result<Wanted, Failure> {
+        Ok(Wanted {
+            sender: self.address("from")?,
+            place: self.place()?,
+        })
+    }
+
+    fn reader(&self, wanted: Wanted, limit: u64, sink: Sink) -> Result<Reader, Failure> {
+        Ok(Reader {
+            limit,
+            layout: Layout::Start,
+            first: 0,
+            interfaces: Vec::new(),
+            names: Vec::new(),
+            window: self.window()?,
+            start: None,
+            found: Found::new(wanted, sink),
+        })
+    }
+
+    fn read_into(&self, reader: &mut Reader) -> Result<(), Failure> {
+        let accept_cut = self.has("accept-cut");
+        match self.file.as_deref() {
+            None | Some("-") => read_capture(io::stdin().lock(), reader, accept_cut),
+            Some(name) => match File::open(name) {
+                Ok(file) => read_capture(file, reader, accept_cut),
+                Err(_) => Err(Failure::Open(name.to_string())),
+            },
+        }
+    }
+
+    fn read(&self, wanted: Wanted, sink: Sink) -> Result<Reader, Failure> {
+        let limit = self.number("max-octets")?.unwrap_or(USUAL_OCTETS);
+        let mut reader = self.reader(wanted, limit, sink)?;
+        self.read_into(&mut reader)?;
         if self.has("strict") {
             let firsts = REASONS.iter().zip(reader.found.left_out);
             let first = firsts.filter_map(|(name, counted)| Some((counted?.1, name)));
@@ -1076,6 +1307,8 @@ fn run(words: &Words) -> Result<u8, Failure> {
     match words.command.as_str() {
         "senders" => senders(words),
         "extract" => extract(words),
+        "show" | "lookup" => table(words),
+        "events" => events(words),
         other => Err(Failure::Usage(format!("no command {other}"))),
     }
 }
@@ -1121,28 +1354,49 @@ fn place_json(place: Place, name: &[u8]) -> String {
 }
 
 fn senders(words: &Words) -> Result<u8, Failure> {
-    let mut reader = words.read(None)?;
+    let everyone = Wanted {
+        sender: None,
+        place: None,
+    };
+    let mut reader = words.read(everyone, Sink::Tallies)?;
     let senders = reader.found.senders();
+    let is_timed = reader.found.is_timed;
     let mut out = io::BufWriter::with_capacity(1 << 16, io::stdout().lock());
     for (Origin { place, sender }, tally) in &senders {
         let Tally {
             packets,
             octets,
             updates,
+            interval,
+            ..
         } = tally;
+        let time = |time| is_timed.then(|| clock::text(time));
+        let (first, last) = (time(tally.first), time(tally.last));
         let name = &reader.names[place.interface as usize];
         if words.has("json") {
             let place = place_json(*place, name);
+            let interval = interval.map_or("null".to_string(), |each| each.to_string());
+            let quoted = |time: Option<String>| match time {
+                Some(time) => format!("\"{time}\""),
+                None => "null".to_string(),
+            };
             writeln!(
                 out,
                 "{{\"address\":\"{sender}\",{place},\"packets\":{packets},\"octets\":{octets},\
-                 \"updates\":{updates}}}"
+                 \"updates\":{updates},\"interval\":{interval},\"first\":{},\"last\":{}}}",
+                quoted(first),
+                quoted(last)
             )?;
         } else {
             let place = place_text(*place, name);
+            let interval = interval.map_or("-".to_string(), seconds_text);
+            let or_none = |time: Option<String>| time.unwrap_or("-".to_string());
             writeln!(
                 out,
-                "{sender} {place} packets {packets} octets {octets} updates {updates}"
+                "{sender} {place} packets {packets} octets {octets} updates {updates} \
+                 interval {interval} first {} last {}",
+                or_none(first),
+                or_none(last)
             )?;
         }
     }
@@ -1153,15 +1407,9 @@ fn senders(words: &Words) -> Result<u8, Failure> {
     Ok(u8::from(senders.is_empty()))
 }
 
-fn extract(words: &Words) -> Result<u8, Failure> {
-    let sender = words.sender()?;
-    let place = words.place()?;
-    let mut found = words.read(Some(Wanted { sender, place }))?.found;
+/// That the wanted sender has packets, and where; it is one place.
+fn only_place(found: &mut Found) -> Result<Option<Origin>, Failure> {
     let senders = found.senders();
-    if senders.is_empty() {
-        eprintln!("no packets from {sender}");
-        return Ok(1);
-    }
     if senders.len() > 1 {
         let listed = senders.iter().take(LISTED_PLACES);
         let places: Vec<_> = listed.map(|(origin, _)| origin.place.asked()).collect();
@@ -1174,16 +1422,85 @@ fn extract(words: &Words) -> Result<u8, Failure> {
         }
         return Err(Failure::Refused(text));
     }
+    Ok(senders.first().map(|(origin, _)| *origin))
+}
+
+fn table(words: &Words) -> Result<u8, Failure> {
+    let sender = words.sender()?;
+    let kept = Table::new(
+        words.factor()?,
+        words.has("hold"),
+        words.has("v4-via-v6"),
+        words.max_routes()?,
+    );
+    let limit = words.number("max-octets")?.unwrap_or(USUAL_OCTETS);
+    let mut reader = words.reader(words.wanted()?, limit, Sink::Table(kept))?;
+    let read = words.read_into(&mut reader);
+    let end = reader.end();
+    let place = only_place(&mut reader.found);
+    let Sink::Table(mut kept) = reader.found.sink else {
+        unreachable!("it was made with a table");
+    };
+    match (kept.fault.take(), read, place) {
+        (Some(fault), _, Ok(_)) => Err(fault.into()),
+        (_, Err(failure), _) | (_, _, Err(failure)) => Err(failure),
+        (_, _, Ok(None)) => Err(Failure::Refused(format!("no packets from {sender}"))),
+        (_, _, Ok(Some(_))) => kept.write(end.unwrap_or(0), words.pair()?),
+    }
+}
+
+/// `events`: what is told stands where the capture is refused later.
+fn events(words: &Words) -> Result<u8, Failure> {
+    let told = Timeline::new(
+        words.factor()?,
+        words.view(),
+        words.pair()?,
+        words.has("v4-via-v6"),
+        words.has("json"),
+        words.max_routes()?,
+    );
+    let mut reader = words.reader(words.wanted()?, u64::MAX, Sink::Timeline(told))?;
+    let read = words.read_into(&mut reader);
+    let end = reader.end();
+    let is_any = !reader.found.senders().is_empty();
+    let Sink::Timeline(mut told) = reader.found.sink else {
+        unreachable!("it was made with a timeline");
+    };
+    if let (Ok(()), Some(end)) = (&read, end) {
+        told.expire(end);
+    }
+    told.flush()?;
+    read?;
+    match words.address("from")? {
+        Some(sender) if !is_any => Err(Failure::Refused(format!("no packets from {sender}"))),
+        None if !is_any => {
+            eprintln!("no Babel packets");
+            Ok(1)
+        }
+        _ => Ok(0),
+    }
+}
+
+fn extract(words: &Words) -> Result<u8, Failure> {
+    let sender = words.sender()?;
+    let mut found = words.read(words.wanted()?, Sink::Dump(Vec::new()))?.found;
+    if only_place(&mut found)?.is_none() {
+        eprintln!("no packets from {sender}");
+        return Ok(1);
+    }
+    let Sink::Dump(dump) = found.sink else {
+        unreachable!("it was made with a dump");
+    };
     let mut out = io::stdout().lock();
     if words.has("hex") {
         let digits = |octet: &u8| {
             [octet >> 4, octet & 15].map(|digit| b"0123456789abcdef"[usize::from(digit)])
         };
-        let mut text: Vec<u8> = found.dump.iter().flat_map(digits).collect();
+        let mut text: Vec<u8> = dump.iter().flat_map(digits).collect();
         text.push(b'\n');
         out.write_all(&text)?;
     } else {
-        out.write_all(&found.dump)?;
+        out.write_all(&dump)?;
     }
     out.flush()?;
     Ok(0)

@@ -6,7 +6,8 @@ from dataclasses import dataclass
 
 BABEL = 6_696
 GROUP = {4: "224.0.0.111", 6: "ff02::1:6"}
-TIME = 1_700_000_000
+SECOND = 1_000_000_000
+TIME = 1_700_000_000 * SECOND
 SNAP = 262_144
 
 
@@ -140,21 +141,32 @@ def after_family(packet, order="little", ipv6=10):
 
 @dataclass
 class Record:
-    """A frame of an interface, and how many octets it had: all that are there, unless it is said
-    otherwise."""
+    """A frame of an interface, how many octets it had: all that are there, unless it is said
+    otherwise; and when it came, in nanoseconds since 1970: where it is not said, a second, a
+    microsecond and a nanosecond after the one before it."""
 
     frame: bytes
     interface: int = 0
     whole: int = None
+    time: int = None
+
+    def time_at(self, place):
+        return TIME + place * (SECOND + 1_001) if self.time is None else self.time
 
     def lengths(self, order):
         whole = len(self.frame) if self.whole is None else self.whole
         return number(len(self.frame), 4, order) + number(whole, 4, order)
 
 
+def at_times(records, times):
+    """The records at these times, counted as those of records without one."""
+    for record, place in zip(records, times):
+        yield Record(record.frame, record.interface, record.whole, record.time_at(place))
+
+
 def snapped(record, kept):
     """The record with so many of its octets."""
-    return Record(record.frame[:kept], record.interface, len(record.frame))
+    return Record(record.frame[:kept], record.interface, len(record.frame), record.time)
 
 
 def sliced(record, kept):
@@ -162,16 +174,20 @@ def sliced(record, kept):
     return Record(record.frame[:kept], record.interface)
 
 
-def pcap(records, link=1, order="little", nanoseconds=False, version=(2, 4)):
-    """draft-ietf-opsawg-pcap, 4 and 5."""
+def pcap(records, link=1, order="little", nanoseconds=False, version=(2, 4), times=None):
+    """draft-ietf-opsawg-pcap, 4 and 5; times have seconds and a fraction, and are those of the
+    records, if they are left out."""
     magic = 0xA1B23C4D if nanoseconds else 0xA1B2C3D4
     numbers = lambda *values: b"".join(number(value, 4, order) for value in values)
     head = numbers(magic) + number(version[0], 2, order) + number(version[1], 2, order) + numbers(
         0, 0, SNAP, link
     )
+    if times is None:
+        unit = 1 if nanoseconds else 1_000
+        times = [divmod(each.time_at(place), SECOND) for place, each in enumerate(records)]
+        times = [(seconds, part // unit) for seconds, part in times]
     return head + b"".join(
-        numbers(TIME + place, place) + each.lengths(order) + each.frame
-        for place, each in enumerate(records)
+        numbers(*time) + each.lengths(order) + each.frame for time, each in zip(times, records)
     )
 
 
@@ -198,9 +214,17 @@ def interface(link=1, order="little", snap=0, options=b""):
     return block(1, number(link, 2, order) + b"\0\0" + number(snap, 4, order) + options, order)
 
 
-def enhanced(record, order="little", options=b"", place=0):
-    """draft-ietf-opsawg-pcapng, 4.3."""
-    head = b"".join(number(value, 4, order) for value in (record.interface, TIME, place))
+def units_of(time, power=6):
+    """A time in units of an interface: draft-ietf-opsawg-pcapng, 4.2, if_tsresol."""
+    return time * (2 ** (power - 128) if power >= 128 else 10**power) // SECOND
+
+
+def enhanced(record, order="little", options=b"", place=0, time=None):
+    """draft-ietf-opsawg-pcapng, 4.3; the record's time in microseconds, if no units are given."""
+    time = units_of(record.time_at(place)) if time is None else time
+    head = b"".join(
+        number(value, 4, order) for value in (record.interface, time >> 32, time % 2**32)
+    )
     return block(
         6,
         head + record.lengths(order) + record.frame + bytes(-len(record.frame) % 4) + options,
@@ -211,17 +235,26 @@ def enhanced(record, order="little", options=b"", place=0):
 def old_packet(record, order="little", options=b""):
     """The packet block, which the enhanced one replaced: the interface's number and the dropped
     packets in 16 bits each."""
+    units = units_of(record.time_at(0))
     head = (
         number(record.interface, 2, order)
         + number(0, 2, order)
-        + number(TIME, 4, order)
-        + number(0, 4, order)
+        + number(units >> 32, 4, order)
+        + number(units % 2**32, 4, order)
     )
     return block(
         2,
         head + record.lengths(order) + record.frame + bytes(-len(record.frame) % 4) + options,
         order,
     )
+
+
+def counted(power=None, offset=None, order="little"):
+    """The options of an interface that counts its times so: draft-ietf-opsawg-pcapng, 4.2."""
+    says = b"" if power is None else option(9, bytes((power,)), order)
+    if offset is not None:
+        says += option(14, offset.to_bytes(8, order, signed=True), order)
+    return says + option(0, b"", order)
 
 
 def named(name, order="little"):

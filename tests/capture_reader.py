@@ -5,8 +5,13 @@ It is written from draft-ietf-opsawg-pcap, draft-ietf-opsawg-pcapng, RFC 791, RF
 layer gives the octets of the next one.
 """
 
+import datetime
+import fractions
+import functools
 import ipaddress
 import json
+import math
+import re
 from dataclasses import dataclass, field
 
 USUAL_OCTETS = 1 << 30
@@ -16,6 +21,7 @@ LONGEST_BLOCK = 16_777_216
 BABEL = 6_696
 UDP = 17
 UPDATE = 8
+INFINITY = 0xFFFF
 LISTED_PLACES = 16
 REASONS = (
     "truncated",
@@ -34,22 +40,34 @@ LACKS = {
     "snapped": "datagram cut by the recorder",
 }
 OTHER, SHORT = "other", "too short to tell"
+SECOND = 1_000_000_000
+CENTISECOND = SECOND // 100
+# The start of the year 10000, in seconds since that of 1970.
+YEAR_10000 = 253_402_300_800
+# The options of an interface, with the length that they must have: draft-ietf-opsawg-pcapng, 4.2.
+NAME, RESOLUTION, OFFSET = 2, 9, 14
+LENGTHS = {RESOLUTION: 1, OFFSET: 8}
 
 
 class Fault(Exception):
     """Why a capture is refused: the line that says so."""
 
 
+class NoTime(Exception):
+    """A word that is no time."""
+
+
 @dataclass
 class Packet:
-    """A captured packet: the offset of its block, its interface and link type, the octets kept, and
-    how many there were."""
+    """A captured packet: the offset of its block, its interface and link type, the octets kept, how
+    many there were, and when it came, in nanoseconds since 1970, where its block tells."""
 
     at: int
     interface: int
     link: int
     frame: bytes
     whole: int
+    time: int = None
 
 
 @dataclass
@@ -68,14 +86,25 @@ class Seen:
 class Found:
     """What a capture gives: each sender's packets at each place, for each reason the numbers of the
     packets left out, how many frames were too short to tell, and how many packets came in frames
-    that name no interface."""
+    that name no interface. The time of the first record; of each that was read its number and its
+    time, where it has one that can be told; and in their order the origin, the packet and the place
+    among these records of all packets; and of each origin these places."""
 
     packets: dict = field(default_factory=dict)
+    start: int = None
+    records: list = field(default_factory=list)
+    sent: list = field(default_factory=list)
+    places: dict = field(default_factory=dict)
     left_out: dict = field(default_factory=dict)
     short: int = 0
     cooked: int = 0
     names: list = field(default_factory=list)
     cut: int = None
+
+    @functools.cached_property
+    def is_timed(self):
+        """Whether each record that was read has a time, once all were read."""
+        return all(time is not None for _, time in self.records)
 
 
 @dataclass
@@ -120,30 +149,35 @@ def refuse_version(block, begin, place, order, read):
         raise Fault(f"version {version[0]}.{version[1]} not read at {begin}")
 
 
-def name_in(options, order, at):
-    """draft-ietf-opsawg-pcapng, 3.5, 4.2: the name among the options of an interface, the first if
-    there are several."""
-    name, place = b"", 0
+def options_in(options, order, at):
+    """draft-ietf-opsawg-pcapng, 3.5, 4.2: the name, resolution and offset among the options of an
+    interface; of each the first if there are several, of names the first that is not empty."""
+    found, place = {}, 0
     while place + 4 <= len(options):
         code, length = (
             int.from_bytes(options[here : here + 2], order) for here in (place, place + 2)
         )
         if code == 0:
             break
-        if place + 4 + length > len(options):
+        if place + 4 + length > len(options) or LENGTHS.get(code, length) != length:
             raise Fault(f"bad length at {at}")
-        if code == 2 and not name:
-            name = options[place + 4 : place + 4 + length]
+        if not found.get(code):
+            found[code] = options[place + 4 : place + 4 + length]
         place += 4 + (length + 3) // 4 * 4
-    return name
+    power = found.get(RESOLUTION, b"\6")[0]
+    unit = fractions.Fraction(SECOND, 2 ** (power - 128) if power >= 128 else 10**power)
+    seconds = int.from_bytes(found.get(OFFSET, bytes(8)), order, signed=True)
+    return found.get(NAME, b""), lambda units: math.floor(seconds * SECOND + units * unit)
 
 
 def pcap_packets(octets, order, limit, _names):
-    """The packets of a pcap file, and then where it is cut, if it is."""
+    """The packets of a pcap file, and then where it is cut, if it is: draft-ietf-opsawg-pcap, 4 and
+    5."""
     number = lambda block, at: int.from_bytes(block[at : at + 4], order)
     if limit < 24:
         raise Fault("capture too long at 0")
     link, at = number(octets, 20) % 65_536, 24
+    unit = 1 if number(octets, 0) == 0xA1B23C4D else 1_000
     refuse_version(octets, 0, 4, order, [(2, 4)])
 
     def length(header):
@@ -156,7 +190,8 @@ def pcap_packets(octets, order, limit, _names):
         if not record:
             yield at
             return
-        yield Packet(at, 0, link, record[16:], number(record, 12))
+        time = number(record, 0) * SECOND + number(record, 4) * unit
+        yield Packet(at, 0, link, record[16:], number(record, 12), time)
         at += len(record)
 
 
@@ -177,10 +212,11 @@ def pcapng_packets(octets, limit, names):
             raise Fault(f"bad length at {at}")
         return total
 
-    def packet(interface, frame, whole):
+    def packet(interface, frame, whole, units=None):
         if interface >= len(interfaces):
             raise Fault(f"no such interface at {at}")
-        return Packet(at, interface, interfaces[interface][0], frame, whole)
+        link, _, time_of = interfaces[interface]
+        return Packet(at, interface, link, frame, whole, None if units is None else time_of(units))
 
     while at < len(octets):
         block = block_of(octets, at, length, 24 if order is None else 12, limit)
@@ -201,8 +237,9 @@ def pcapng_packets(octets, limit, names):
         if kind == 1:
             if len(interfaces) == MOST_INTERFACES:
                 raise Fault(f"too many interfaces at {at}")
-            interfaces.append((number(block, 8, 2), number(block, 12)))
-            names.append(name_in(block[16:-4], order, at))
+            name, time_of = options_in(block[16:-4], order, at)
+            interfaces.append((number(block, 8, 2), number(block, 12), time_of))
+            names.append(name)
         elif kind == 3:
             if first >= len(interfaces):
                 raise Fault(f"no such interface at {at}")
@@ -219,6 +256,7 @@ def pcapng_packets(octets, limit, names):
                 first + number(block, 8, 2 if kind == 2 else 4),
                 block[28 : 28 + kept],
                 number(block, 24),
+                number(block, 12) << 32 | number(block, 16),
             )
         at += len(block)
 
@@ -393,6 +431,124 @@ def in_udp(sender, is_fragment, is_cut, carried, whole):
 LINKS = {0, 1, 12, 14, 101, 108, 113, 228, 229, 276}
 
 
+# ---- times
+
+
+def told(time):
+    """A time that can be told: of the years 1970 to 9999."""
+    return time if time is not None and 0 <= time < YEAR_10000 * SECOND else None
+
+
+def time_text(time):
+    """ISO 8601, with nine digits after the point."""
+    seconds, nanoseconds = divmod(time, SECOND)
+    moment = datetime.datetime(1970, 1, 1) + datetime.timedelta(seconds=seconds)
+    return f"{moment:%Y-%m-%dT%H:%M:%S}.{nanoseconds:09}Z"
+
+
+FRACTION = r"(?:\.([0-9]{1,9}))?"
+DATE = (
+    r"([0-9]{4})-([0-9]{2})-([0-9]{2})T([0-9]{2}):([0-9]{2})(?::([0-9]{2})"
+    + FRACTION
+    + r")?(?:Z|([+-])([0-9]{2}):([0-9]{2}))"
+)
+
+
+def nanoseconds(seconds, fraction):
+    return int(seconds) * SECOND + int((fraction or "").ljust(9, "0"))
+
+
+@dataclass
+class Moment:
+    """A moment in nanoseconds: since 1970, or from the capture's first record."""
+
+    nanoseconds: int
+    from_start: bool = False
+
+    def is_one(self):
+        """It is later than the start, or can be told."""
+        return self.from_start or told(self.nanoseconds) is not None
+
+    def at(self, start):
+        return self.nanoseconds + (start if self.from_start else 0)
+
+
+def moment_of(word):
+    """The moment that a word says, if it says one."""
+    if found := re.fullmatch(r"([@+])([0-9]+)" + FRACTION, word):
+        sign, seconds, fraction = found.groups()
+        moment = Moment(nanoseconds(seconds, fraction), sign == "+")
+        return moment if moment.is_one() and int(seconds) < 2**64 else None
+    if found := re.fullmatch(DATE, word):
+        *fields, second, fraction, sign, hours, minutes = found.groups()
+        try:
+            date = datetime.datetime(*map(int, fields), int(second or 0))
+        except ValueError:
+            return None
+        if int(hours or 0) > 23 or int(minutes or 0) > 59:
+            return None
+        offset = int(f"{sign or '+'}1") * (int(hours or 0) * 60 + int(minutes or 0)) * 60
+        since = date - datetime.datetime(1970, 1, 1)
+        moment = Moment(nanoseconds(since.days * 86_400 + since.seconds - offset, fraction))
+        return moment if moment.is_one() else None
+    return None
+
+
+@dataclass
+class Window:
+    """The records of some time: those that are not before the one moment, nor after the other."""
+
+    since: Moment = None
+    until: Moment = None
+
+    def has(self, start, time):
+        return (self.since is None or self.since.at(start) <= time) and (
+            self.until is None or time <= self.until.at(start)
+        )
+
+
+def window_of(since, until):
+    """What is read by these words, where one is given."""
+    if since is None and until is None:
+        return None
+    moments = [word if word is None else moment_of(word) for word in (since, until)]
+    for word, moment in zip((since, until), moments):
+        if word is not None and moment is None:
+            raise NoTime(f"not a time: {word}")
+    return Window(*moments)
+
+
+def span_of(found):
+    """From the earliest to the latest time of the records that were read, where each has one."""
+    times = [time for _, time in found.records]
+    return None if None in times or not times else max(times) - min(times)
+
+
+def hundredths(centiseconds):
+    """So many hundredths of a second, in seconds without zeros at the end."""
+    whole, part = divmod(centiseconds, 100)
+    return f"{whole}.{part:02}".rstrip("0").rstrip(".")
+
+
+def time_notes(found, intervals, window):
+    """The notes on times: that they run backwards, and that what was read spans less than the
+    greatest of these Intervals."""
+    for (_, before), (number, time) in zip(found.records, found.records[1:]):
+        if window and time < before:
+            text = f"times run backwards at packet {number}"
+            yield text, {"note": "backwards", "packet": number}
+            break
+    interval = max((each for each in intervals if each is not None), default=None)
+    span = span_of(found)
+    if None not in (interval, span) and span < interval * CENTISECOND:
+        spans = span // CENTISECOND
+        yield (
+            f"the capture spans {hundredths(spans)} s, the Interval is {hundredths(interval)} s: "
+            "routes may be missing",
+            {"note": "short-span", "span": spans, "interval": interval},
+        )
+
+
 # ---- Babel packets
 
 
@@ -409,57 +565,91 @@ def packet_in(payload):
 
 
 def updates_in(packet):
-    """How many Updates a packet has: RFC 8966, 4.3, 4.6.9; none if a TLV runs past its end."""
-    count, at = 0, 4
+    """The bodies of the Updates that a packet has: RFC 8966, 4.3, 4.6.9; none if a TLV runs past
+    its end."""
+    bodies, at = [], 4
     while at < len(packet):
         if packet[at] == 0:
             at += 1
             continue
         if at + 2 > len(packet) or at + 2 + packet[at + 1] > len(packet):
-            return 0
-        count += packet[at] == UPDATE
+            return []
+        if packet[at] == UPDATE:
+            bodies.append(packet[at + 2 : at + 2 + packet[at + 1]])
         at += 2 + packet[at + 1]
-    return count
+    return bodies
 
 
-def find(octets, limit, wanted, accept_cut):
-    """What a capture gives of the senders that are wanted."""
-    found, number = Found(), 0
+def interval_of(packets):
+    """The greatest Interval of the Updates that announce, in hundredths of a second."""
+    updates = [body for packet in packets for body in updates_in(packet) if len(body) >= 10]
+    return max((big(body, 4, 2) for body in updates if big(body, 8, 2) != INFINITY), default=None)
+
+
+def find(octets, limit, wanted, accept_cut, window=None, found=None):
+    """What a capture gives of the senders that are wanted, in what is found so far: all, or the
+    records between two moments, where times are asked for."""
+    found, number = Found() if found is None else found, 0
     for packet in packets(octets, limit, found.names):
         if isinstance(packet, int):
             if not accept_cut:
                 raise Fault(f"capture cut short at {packet}")
             found.cut = packet
             return found
+        number += 1
         if packet.link not in LINKS:
             raise Fault(f"link type {packet.link} not read at {packet.at}")
-        number += 1
-        seen = seen_in(packet.link, packet.frame, packet.whole)
-        if seen == SHORT:
-            found.short += 1
-        if not isinstance(seen, Seen):
+        time = told(packet.time)
+        if window and time is None:
+            what = "packet without a time" if packet.time is None else "bad time"
+            raise Fault(f"{what} at {packet.at}")
+        found.start = time if found.start is None else found.start
+        if window and not window.has(found.start, time):
             continue
-        place = packet.interface, seen.link, seen.vlans
-        if not wanted(seen.sender, place):
-            continue
-        reason = seen.what
-        if reason in LACKS and wanted is not everyone:
-            raise Fault(f"{LACKS[reason]} at {packet.at}")
-        if reason == "whole":
-            babel, reason = packet_in(seen.payload)
-        if reason:
-            found.left_out.setdefault(reason, []).append(number)
-            continue
-        origin = place, seen.sender.version, int(seen.sender)
-        if origin not in found.packets and len(found.packets) == MOST_SENDERS:
-            raise Fault(f"too many senders at {packet.at}")
-        found.packets.setdefault(origin, []).append(babel)
-        found.cooked += packet.link == 113
+        take(found, packet, number, wanted)
+        found.records.append((number, time))
     return found
 
 
-def everyone(_sender, _place):
-    return True
+def take(found, packet, number, wanted):
+    """What is found with this packet, which has such a number in its capture."""
+    seen = seen_in(packet.link, packet.frame, packet.whole)
+    found.short += seen == SHORT
+    if not isinstance(seen, Seen):
+        return
+    place = packet.interface, seen.link, seen.vlans
+    if not wanted(seen.sender, place):
+        return
+    reason = seen.what
+    if reason in LACKS and wanted.names:
+        raise Fault(f"{LACKS[reason]} at {packet.at}")
+    if reason == "whole":
+        babel, reason = packet_in(seen.payload)
+    if reason:
+        found.left_out.setdefault(reason, []).append(number)
+        return
+    origin = place, seen.sender.version, int(seen.sender)
+    if origin not in found.packets and len(found.packets) == MOST_SENDERS:
+        raise Fault(f"too many senders at {packet.at}")
+    found.packets.setdefault(origin, []).append(babel)
+    found.places.setdefault(origin, []).append(len(found.records))
+    found.sent.append((origin, babel, len(found.records)))
+    found.cooked += packet.link == 113
+
+
+@dataclass
+class Wanted:
+    """Which datagrams are looked at: of one sender, or of all; at one place, or at all."""
+
+    sender: object = None
+    interface: str = None
+
+    @property
+    def names(self):
+        return self.sender is not None
+
+    def __call__(self, sender, place):
+        return self.sender in (None, sender) and self.interface in (None, place_asked(place))
 
 
 def by_place(origin):
@@ -503,13 +693,14 @@ def place_text(place, name):
     return " ".join(words)
 
 
-def sender_line(origin, sent, names, as_json):
+def sender_line(origin, found, as_json):
     place, version, bits = origin
     interface, link, vlans = place
-    name = names[interface] if interface < len(names) else b""
-    address, octets, updates = text_of(version, bits), sum(map(len, sent)), sum(
-        map(updates_in, sent)
-    )
+    name = name_at(place, found.names)
+    sent = found.packets[origin]
+    address, octets = text_of(version, bits), sum(map(len, sent))
+    updates, interval = sum(len(updates_in(packet)) for packet in sent), interval_of(sent)
+    first, last = ends_of(origin, found)
     if as_json:
         says = {
             "address": address,
@@ -519,9 +710,25 @@ def sender_line(origin, sent, names, as_json):
             "name": name_text(name) or None,
         }
         says.update(packets=len(sent), octets=octets, updates=updates)
+        says.update(interval=interval, first=first, last=last)
         return json_line(says)
     counts = f"packets {len(sent)} octets {octets} updates {updates}"
-    return f"{address} {place_text(place, name)} {counts}\n"
+    seconds = "-" if interval is None else f"{interval // 100}.{interval % 100:02}"
+    times = f"interval {seconds} first {first or '-'} last {last or '-'}"
+    return f"{address} {place_text(place, name)} {counts} {times}\n"
+
+
+def name_at(place, names):
+    return names[place[0]] if place[0] < len(names) else b""
+
+
+def ends_of(origin, found):
+    """The texts of a sender's first and last time, or none if not each record that was read has a
+    time."""
+    if not found.is_timed:
+        return None, None
+    times = [found.records[place][1] for place in found.places[origin]]
+    return time_text(min(times)), time_text(max(times))
 
 
 COOKED = (
@@ -571,41 +778,64 @@ def refuse_if_strict(found, strict):
         raise Fault(f"datagram left out at packet {number}: {reason}")
 
 
-def senders(octets, as_json=False, strict=False, accept_cut=False, limit=USUAL_OCTETS):
+def senders(
+    octets,
+    as_json=False,
+    strict=False,
+    accept_cut=False,
+    limit=USUAL_OCTETS,
+    since=None,
+    until=None,
+):
     """What `senders` answers for a capture."""
     try:
-        found = find(octets, limit, everyone, accept_cut)
+        window = window_of(since, until)
+        found = find(octets, limit, Wanted(), accept_cut, window)
         refuse_if_strict(found, strict)
-    except Fault as fault:
-        return Answer(3, errors=(str(fault),))
+    except (Fault, NoTime) as fault:
+        return Answer(2 if isinstance(fault, NoTime) else 3, errors=(str(fault),))
     origins = sorted(found.packets, key=by_place)
-    lines = [sender_line(origin, found.packets[origin], found.names, as_json) for origin in origins]
+    lines = [sender_line(origin, found, as_json) for origin in origins]
     status, none = (0, ()) if lines else (1, ("no Babel packets",))
-    notes = [*notes_of(found), *short_note(found)]
+    intervals = [interval_of(found.packets[origin]) for origin in origins]
+    notes = [*notes_of(found), *time_notes(found, intervals, window), *short_note(found)]
     lines += [json_line(says) for _, says in notes if as_json]
     return Answer(status, "".join(lines).encode(), none + texts_of(notes))
 
 
+def only_place(found):
+    """The one place of the sender that was asked for is all that there is of it."""
+    if len(found.packets) > 1:
+        places = [place_asked(place) for place, *_ in sorted(found.packets, key=by_place)]
+        more = len(places) - LISTED_PLACES
+        listed = ", ".join(places[:LISTED_PLACES]) + (f", and {more} more" if more > 0 else "")
+        raise Fault(f"packets from this sender on several interfaces: {listed}")
+
+
 def extract(
-    octets, sender, interface=None, as_hex=False, strict=False, accept_cut=False, limit=USUAL_OCTETS
+    octets,
+    sender,
+    interface=None,
+    as_hex=False,
+    strict=False,
+    accept_cut=False,
+    limit=USUAL_OCTETS,
+    since=None,
+    until=None,
 ):
     """What `extract` answers for a capture."""
     sender = ipaddress.ip_address(sender)
-    wanted = lambda of, place: of == sender and interface in (None, place_asked(place))
     try:
-        found = find(octets, limit, wanted, accept_cut)
+        window = window_of(since, until)
+        found = find(octets, limit, Wanted(sender, interface), accept_cut, window)
         refuse_if_strict(found, strict)
-        name = text_of(sender.version, int(sender))
-        if len(found.packets) > 1:
-            places = [place_asked(place) for place, *_ in sorted(found.packets, key=by_place)]
-            more = len(places) - LISTED_PLACES
-            listed = ", ".join(places[:LISTED_PLACES]) + (f", and {more} more" if more > 0 else "")
-            raise Fault(f"packets from this sender on several interfaces: {listed}")
-    except Fault as fault:
-        return Answer(3, errors=(str(fault),))
-    if not found.packets:
-        return Answer(1, errors=(f"no packets from {name}", *texts_of(notes_of(found))))
-    (sent,) = found.packets.values()
+        only_place(found)
+    except (Fault, NoTime) as fault:
+        return Answer(2 if isinstance(fault, NoTime) else 3, errors=(str(fault),))
+    sent = sum(found.packets.values(), [])
+    notes = texts_of([*notes_of(found), *time_notes(found, [interval_of(sent)], window)])
+    if not sent:
+        return Answer(1, errors=(f"no packets from {text_of(sender.version, int(sender))}", *notes))
     dump = b"".join(sent)
     output = (dump.hex() + "\n").encode() if as_hex else dump
-    return Answer(0, output, texts_of(notes_of(found)))
+    return Answer(0, output, notes)

@@ -8,9 +8,10 @@ import sys
 TOP = pathlib.Path(__file__).resolve().parent.parent
 PROGRAM = TOP / "build/babel-dump"
 ROUTERS = TOP / "examples/routers"
+DRILL = TOP / "examples/drill"
 
 # Whoever imports their scripts imports this module first.
-sys.path += [str(ROUTERS), str(TOP / "reference")]
+sys.path += [str(ROUTERS), str(DRILL), str(TOP / "reference")]
 
 
 class Missing(Exception):

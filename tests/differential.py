@@ -1,6 +1,7 @@
 """The plain programs of reference/ beside the proved one: over dumps changed at random and the
 golden files; of captures, over those of extract.py. And both beside the definitions, over small
-random tables; the proved one also over random dumps that meet each reason and each fault."""
+random tables and small random captures with times; the proved one also over random dumps that meet
+each reason and each fault."""
 
 import pathlib
 import tempfile
@@ -14,6 +15,7 @@ import says
 from changed import compared
 from definition import checked
 from plain import PLAIN, PLAIN_OF_CAPTURES, build
+from timed import checked as checked_captures
 
 SEED = 1
 DUMPS = 600
@@ -22,6 +24,8 @@ TABLES = 300
 TABLES_LONG = 3_000
 RANDOM_DUMPS = 2_000
 RANDOM_DUMPS_LONG = 50_000
+CAPTURES = 300
+CAPTURES_LONG = 3_000
 
 
 def check(tally, long):
@@ -46,3 +50,7 @@ def check(tally, long):
             tally.check(f"the definitions beside what a dump says: {what}", problem)
         plain = build(PLAIN_OF_CAPTURES, folder)
         extract.check_cases(plain, extract.cases_of(tally), tally, extract.without_notes)
+        captures = CAPTURES_LONG if long else CAPTURES
+        for side, is_plain in (program, False), (plain, True):
+            for command, _, problem in checked_captures(side, captures, SEED, is_plain):
+                tally.check(f"the moments beside {command} of {side.name}", problem)

@@ -46,6 +46,8 @@ def words_of(options):
     """The options of a command, by the names that the plain reader has for them."""
     words = []
     for name, value in options.items():
+        if value is None:
+            continue
         word = {"as_hex": "--hex", "as_json": "--json", "limit": "--max-octets"}.get(
             name, "--" + name.replace("_", "-")
         )
@@ -238,7 +240,12 @@ def dump_cases(tally):
         dump = dump_of(name)
         for what, capture in containers(dump, sender):
             whole = extract_of(f"{name}, {what}", capture, sender)
-            expect(tally, f"the plain reader, {whole.what}", whole.answer, reader.Answer(0, dump))
+            expect(
+                tally,
+                f"the plain reader, {whole.what}",
+                without_notes(whole.answer),
+                reader.Answer(0, dump),
+            )
             yield from (whole, senders_of(whole.what, capture))
         for what, link, frame_of in frames():
             of = OVER_IPV4 if link == 228 else sender
@@ -374,6 +381,19 @@ def name_cases():
                 option(2, b"eth5") + made.number(1, 2, order) + made.number(9, 2, order) + b"long",
             ),
             (
+                "times in eighths of a second, an hour before",
+                option(9, b"\x83")
+                + option(14, (-3_600).to_bytes(8, order, signed=True))
+                + option(2, b"eth7")
+                + end,
+            ),
+            ("two resolutions of times", option(9, b"\6") + option(9, b"\x09") + end),
+            ("a resolution without an octet", option(9, b"") + option(2, b"eth8") + end),
+            ("a resolution of two octets", option(9, b"\6\6") + option(2, b"eth8") + end),
+            ("an offset of four octets", option(14, bytes(4)) + option(2, b"eth8") + end),
+            ("an offset of nine octets", option(14, bytes(9)) + option(2, b"eth8") + end),
+            ("a bad resolution after the end of options", end + option(9, b"")),
+            (
                 "an end of options with a length",
                 option(2, b"eth6") + end[:2] + made.number(9, 2, order),
             ),
@@ -388,6 +408,82 @@ def name_cases():
     two = made.section() + made.interface(options=made.named(b"eth0")) + made.enhanced(record)
     two += made.section() + made.interface(options=made.named(b"eth1")) + made.enhanced(record)
     yield from both_of("names in two sections", two)
+
+
+# What one octet says of how many units of time a second has, and the seconds that are added.
+RESOLUTIONS = None, 0, 3, 6, 9, 12, 19, 20, 28, 29, 39, 127, 128, 131, 138, 157, 191, 192, 255
+OFFSETS = None, 1, -3_600, 1_700_000_000, -(2**63), 2**63 - 1
+STAMPS = 0, 1, 999_999, 1_700_000_000, 1_764_077_422_123_456, 2**60 + 1, 2**63, 2**64 - 1
+# Between these moments, and at them, a capture is read.
+MOMENTS = "+0", "+2", "+2.000001999", "+2.000002", "+2.000002001", "+90", "@1700000003.000003"
+MOMENTS += "2023-11-14T22:13:24.000004Z", "2023-11-15T00:13:25+02:00", "2023-11-14T12:13-10:00"
+
+
+def time_cases():
+    """The times of packets, and captures between two moments."""
+    record, *_ = records = records_of(dump_of())[:6]
+    for order in ORDERS:
+        for resolution in RESOLUTIONS:
+            for offset in OFFSETS:
+                options = made.counted(resolution, offset, order)
+                head = made.section(order) + made.interface(1, order, options=options)
+                for time in STAMPS:
+                    capture = head + made.enhanced(record, order, time=time)
+                    what = f"{order}, resolution {resolution}, offset {offset}, {time}"
+                    yield senders_of(what, capture)
+                    yield senders_of(what, capture, since="@0.5")
+        # Each interface counts on its own, over all sections.
+        both = made.section(order)
+        both += made.interface(1, order, options=made.counted(9, None, order))
+        both += made.interface(1, order, options=made.counted(0, 0, order))
+        for interface, time in (0, 1_700_000_000 * 10**9 + 7), (1, 1_700_000_001):
+            both += made.enhanced(made.Record(record.frame, interface), order, time=time)
+        yield senders_of(f"two resolutions, {order}", both + both)
+        yield senders_of(f"two resolutions from the first, {order}", both + both, since="+1")
+        for nanoseconds in False, True:
+            times = [(1_700_000_000, 999_999_999), (2**32 - 1, 2**32 - 1), (5, 0), (5, 1), (9, 0)]
+            capture = made.pcap(records, 1, order, nanoseconds, times=times + [(8, 999_999)])
+            for since in None, "@5.000001", "@5.000000001", "+0", "@9":
+                what = f"times in no order, {order}, {nanoseconds}"
+                yield senders_of(what, capture, since=since, as_json=True)
+                yield extract_of(what, capture, until=since or "@8.5")
+    captures = made.pcap(records), made.pcapng(records), made.pcap(list(among_others(dump_of())))
+    for capture in captures:
+        for moment in MOMENTS:
+            yield senders_of("from a moment on", capture, since=moment)
+            yield extract_of("up to a moment", capture, until=moment)
+            yield senders_of("up to a moment, cut", capture[:-3], until=moment, accept_cut=True)
+            yield extract_of("from a moment on, strict", capture, since=moment, strict=True)
+        yield from (
+            extract_of("between two moments", capture, since=since, until=until)
+            for since in MOMENTS
+            for until in MOMENTS
+        )
+    simple = made.section() + made.interface() + made.simple(record)
+    for what, capture in ("a simple packet", simple), (
+        "a simple packet after others", made.pcapng(records) + made.simple(record)
+    ):
+        yield senders_of(what, capture)
+        yield senders_of(what, capture, until="+1")
+        yield extract_of(what, capture, since="@0")
+    for word in "now", "+", "@", "+1.", "2023-11-14", "2023-11-14T22:13:60Z", "1969-12-31T23:59Z":
+        yield senders_of("no time", captures[0], since=word)
+        yield extract_of("no time", captures[0], until=word)
+    yield from skipped_cases(records)
+
+
+def skipped_cases(records):
+    """What is skipped has no datagram that could refuse the dump, but an interface and a link
+    type."""
+    first = made.ip(SENDER, made.udp(b"\x2a\2\0\0"), headers=[made.fragment_header(0, True)])
+    fragment = made.Record(made.ethernet(first))
+    capture = made.pcap([*records, fragment])
+    for until in "+5.9", "+6.1":
+        yield extract_of("a fragment at the end", capture, until=until)
+        yield senders_of("a fragment at the end", capture, until=until, strict=True)
+    for what, number, links in ("another link type", 1, (1, 147)), ("no interface", 2, (1, 1)):
+        other = made.pcapng([records[0], made.Record(fragment.frame, number)], links)
+        yield from (senders_of(what, other, until=until) for until in ("+0", "+9"))
 
 
 def version_cases():
@@ -730,6 +826,7 @@ def cases_of(tally):
     yield from option_cases()
     yield from place_cases()
     yield from name_cases()
+    yield from time_cases()
     yield from version_cases()
     yield from snapped_cases()
     yield from broken_cases()

@@ -1,10 +1,11 @@
-"""Each allocation refused in turn: of the program over program.txt, of the crates' tests, in the
-long form over the dumps of routers.
+"""Each allocation refused in turn: of the program over program.txt, of `events` over events.txt, of
+the crates' tests, in the long form over the dumps of routers.
 
 refuse.c is loaded into a process and refuses its Nth allocation, for N = 1, 2, .. until none is
 refused. The program must print what it prints otherwise, or `out of memory` alone, with status 5;
-`key` prints that of one of its files, and of the others what it prints otherwise. A test must pass,
-or fail with the text that it has for a refusal that was answered.
+`key` prints that of one of its files, and of the others what it prints otherwise; `events` prints
+it after the first of its lines. A test must pass, or fail with the text that it has for a refusal
+that was answered.
 """
 
 import concurrent.futures
@@ -103,6 +104,21 @@ def keys(known):
     return is_right
 
 
+def events(known):
+    """A judge of runs of `events` that are to print this."""
+    is_answer = answers(known)
+
+    def is_right(run, was_refused):
+        lines, told, rest = transcript.printed(run).partition(OUT_OF_MEMORY[0])
+        is_begun = was_refused and told and not rest and known.startswith(lines)
+        return is_answer(run, was_refused) or is_begun and transcript.is_whole(lines)
+
+    return is_right
+
+
+JUDGES = {"key": keys, "events": events}
+
+
 def is_right_test(run, was_refused):
     return (
         run.returncode == 0
@@ -112,15 +128,17 @@ def is_right_test(run, was_refused):
 
 
 def program_cases(program, folder):
-    """The commands of program.txt that are words of the program alone."""
-    dumps, steps = transcript.read(TOP / "tests/program.txt")
-    transcript.put(dumps, folder)
+    """The commands of program.txt that are words of the program alone, and `events` of events.txt,
+    which has dumps of the other files, too."""
     transcript.link_examples(folder)
-    for each in steps:
-        if not OF_SHELL.search(each.command):
-            words = [program, *shlex.split(each.command)[1:]]
-            judge = keys if words[1] == "key" else answers
-            yield Case(f"{each.place}: {each.command}", words, folder, judge(each.expected))
+    for name in "program", "time", "hold", "events":
+        dumps, steps = transcript.read(TOP / f"tests/{name}.txt")
+        transcript.put(dumps, folder)
+        for each in steps:
+            words = [] if OF_SHELL.search(each.command) else shlex.split(each.command)[1:]
+            if words[:1] == ["events"] or name == "program" and words:
+                judge = JUDGES.get(words[0], answers)(each.expected)
+                yield Case(f"{each.place}: {each.command}", [program, *words], folder, judge)
 
 
 def dump_cases(program, folder):

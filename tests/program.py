@@ -1,4 +1,4 @@
-"""The program as a process: program.txt, and what a shell's words can't bring about."""
+"""The program as a process: rows of the .txt files, and what a shell's words can't bring about."""
 
 import ipaddress
 import itertools
@@ -16,7 +16,7 @@ import tempfile
 import capture_files
 import extract
 import transcript
-from checks import ROUTERS, TOP, built_program
+from checks import DRILL, ROUTERS, TOP, built_program
 
 import agree
 
@@ -30,7 +30,7 @@ MANY = 1_001
 LITTLE_MEMORY = 8 << 20
 SHOW = ["show", "--from", "192.0.2.1"]
 COMMANDS = (
-    "show", "lookup", "pairs", "normalise", "key", "compare", "diff", "senders", "extract"
+    "show", "lookup", "pairs", "normalise", "key", "compare", "diff", "senders", "extract", "events"
 )
 ONE_ROUTE = TOP / "examples/one-route.dump"
 ONE_ROUTE_SHOWN = (
@@ -114,7 +114,8 @@ def check_closed_pipe(program, tally):
     """Nobody reads what is written: it ends in silence, started with the signal of a closed pipe on
     or off."""
     for words, disposition in itertools.product(
-        ([*SHOW, ONE_ROUTE], ["--help"], ["show", "--help"]), (signal.SIG_DFL, signal.SIG_IGN)
+        ([*SHOW, ONE_ROUTE], ["events", DRILL / "drill.pcap"], ["--help"], ["show", "--help"]),
+        (signal.SIG_DFL, signal.SIG_IGN),
     ):
         reader, writer = os.pipe()
         os.close(reader)
@@ -255,6 +256,7 @@ def check_manual(program, tally):
 COMPLETED = (
     ("babel-dump nor", ["normalise"]),
     ("babel-dump key --ro", ["--routes"]),
+    ("babel-dump events --ma", ["--max-routes"]),
     ("babel-dump show x.pcap --from f", ["fe80:0:0:0:0:0:0:1", "fe80:0:0:0:0:0:0:2"]),
     ("babel-dump compare x.pcap now.pcap --other-from f", ["fe80:0:0:0:0:0:0:1"]),
     ("babel-dump show x.dump --from f", []),
@@ -292,7 +294,7 @@ def example_captures():
     """The captures that help texts name: what fe80::1 and fe80::2 sent, and what changed in it."""
     network = TOP / "examples/network"
     both = [(ROUTERS / "babeld-basic-a", "fe80::1"), (ROUTERS / "frr-basic", "fe80::2")]
-    yield "x.pcap", both
+    yield "x.pcap", [*both, (network / "north-after", "fe80::1")]
     yield "before.pcap", [(network / "north-before", "fe80::1")]
     yield "now.pcap", [(network / "north-after", "fe80::1")]
 
@@ -426,7 +428,8 @@ def check(tally, _long):
         folder = pathlib.Path(folder)
         transcript.link(program, folder)
         transcript.link_examples(folder)
-        transcript.play(TOP / "tests/program.txt", folder, tally)
+        for name in "program", "time", "hold", "events":
+            transcript.play(TOP / f"tests/{name}.txt", folder, tally)
         transcript.put(dict(large_dumps()), folder)
         transcript.play(TOP / "tests/limits.txt", folder, tally)
         check_closed_pipe(program, tally)

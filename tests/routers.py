@@ -1,5 +1,5 @@
-"""The dumps of examples/routers: the neighbours' tables, the canonical dumps, the golden files; and
-the routes of random tables."""
+"""The dumps of examples/routers: the neighbours' tables, the canonical dumps, the golden files; the
+tables of a failure drill; and the routes of random tables."""
 
 import concurrent.futures
 import itertools
@@ -14,6 +14,7 @@ from checks import built_program
 
 import agree
 import canonical
+import drill
 from agree import SENDERS
 
 
@@ -23,6 +24,17 @@ def check_tables(program, tally):
         theirs, _ = agree.neighbour_rows(name, sender, bool(options))
         differing = sorted(map(str, theirs ^ agree.program_rows(program, name, sender, options)))
         tally.check(f"the neighbour's table of {' '.join([name, *options])}", "\n".join(differing))
+
+
+def check_drill(program, tally):
+    """The rows at each moment of the drill are the listener's, but for those that are explained."""
+    rows, moments = drill.counts(drill.differing(program, ["--expiry", "3.5"]))
+    problem = f"{rows} rows differ, at {moments} moments"
+    is_wrong = rows > drill.MOST_ROWS or moments > drill.MOST_MOMENTS
+    tally.check("the listener's tables of the drill", problem if is_wrong else "")
+    rows, _ = drill.counts(drill.differing(program, []))
+    problem = "" if rows > drill.MOST_ROWS else "they differ no more without --expiry"
+    tally.check("the listener's tables of the drill, without --expiry", problem)
 
 
 def check_canonical(program, folder, tally):
@@ -49,6 +61,7 @@ def check(tally, _long):
     with tempfile.TemporaryDirectory() as folder:
         folder = pathlib.Path(folder)
         check_tables(program, tally)
+        check_drill(program, tally)
         check_canonical(program, folder, tally)
         routes.check(program, folder, tally)
         transcript.link(program, folder)

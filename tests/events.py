@@ -1,0 +1,347 @@
+#!/usr/bin/env python3
+"""`events` replayed: at each moment its lines give the rows and answers that `show` and `lookup`
+have until then, and no line changes nothing.
+
+    events.py [--most N] [--quick] PROGRAM CAPTURE..
+
+At each moment of a capture, or at N of them; with `--quick` without the options that the plain
+program lacks. It leaves out a capture in which the times of the packets of a sender at a place run
+backwards, or come before an expiry that is already told: it is told before the first record of its
+time or later, whoever sent that.
+"""
+
+import argparse
+import concurrent.futures
+import ipaddress
+import json
+import os
+import pathlib
+import random
+import re
+import subprocess
+import sys
+import tempfile
+import xml.etree.ElementTree
+
+import capture_files as made
+import capture_reader as reader
+import extract
+from checks import DRILL, ROUTERS, TOP, Tally, built_program
+
+import moments
+import timed
+from agree import SENDERS
+
+TIMELINE = TOP / "examples/timeline"
+CAPTURES = ROUTERS / "babeld-basic-a.pcap", DRILL / "drill.pcap"
+FACTORS = None, "3.5", "1"
+# Of a capture, factor and sender: so many moments and pairs of addresses, from among all.
+MOMENTS = 40
+PAIRS = 3
+SEED = 1
+RANDOM = 40
+RANDOM_LONG = 400
+CHANGES = {"announces": False, "changes": True, "retracts": True, "expires": True}
+OPTIONS = [], ["--v4-via-v6"], ["--ignore", "seqno,metric"], ["--since", "+6.5"]
+
+
+def run(program, words, capture):
+    done = subprocess.run([program, *words, capture], capture_output=True, text=True)
+    errors = [line for line in done.stderr.splitlines() if not line.startswith("hint: ")]
+    return done.returncode, done.stdout.splitlines(), errors
+
+
+def what_text(answer):
+    """An answer of JSON as the text has it."""
+    if not isinstance(answer, dict):
+        return answer or "none"
+    words = ("-" if value is None else value for value in answer.values())
+    return "via {} id {} seqno {} metric {}".format(*words)
+
+
+def line_of(event):
+    """A line of JSON as the text has it."""
+    place = place_of(event)
+    name = event["name"] or ""
+    where = reader.place_text(place, b"")
+    where = where.replace(f" {place[0]}", f" {place[0]} ({name})", 1) if name else where
+    words = [event["time"], event["sender"]] + ([] if where == "interface 0" else [where])
+    words.append(event["event"])
+    if event["event"] == "answers":
+        return " ".join([*words, what_text(event["answer"])])
+    words.append(f"{event['destination']} from {event['source']}")
+    return " ".join(words + ([what_text(event["answer"])] if event["answer"] else []))
+
+
+def place_of(event):
+    return event["interface"], event["link"], tuple(event["vlans"])
+
+
+def events_of(program, words, capture):
+    """The events of a capture, as JSON has them, and what is wrong with their texts or their
+    status."""
+    status, lines, errors = run(program, ["events", "--quiet", *words], capture)
+    other = run(program, ["events", "--quiet", "--json", *words], capture)
+    events = [json.loads(line) for line in other[1]]
+    if (status, errors) != (other[0], other[2]) or lines != list(map(line_of, events)):
+        return events, "with --json another text"
+    return events, f"status {status}: {errors}" if status not in (0, 1) else ""
+
+
+def find(octets, window, sender=None, place=None):
+    """What a plain reader finds in a capture, of all senders or of one at one place."""
+    found, sender = reader.Found(), sender and ipaddress.ip_address(sender)
+    wanted = reader.Wanted(sender, place and reader.place_asked(place))
+    return reader.find(octets, reader.USUAL_OCTETS, wanted, False, window, found)
+
+
+def origins_of(found):
+    """Each sender at each place, as events name them, with the times of its packets."""
+    for origin in sorted(found.packets, key=reader.by_place):
+        place, *sender = origin
+        times = [found.records[at][1] for at in found.places[origin]]
+        yield (reader.text_of(*sender), place), times
+
+
+def is_refused(octets, window, origin):
+    """Whether a datagram of a sender is not all there, so that it has no table."""
+    try:
+        find(octets, window, *origin)
+    except reader.Fault:
+        return True
+    return False
+
+
+def is_early(found, events):
+    """Whether a packet of a sender comes before an expiry of its, and after a record of that time
+    or later."""
+    times = [reader.time_text(time) for _, time in found.records]
+    origins = {(reader.text_of(*each[1:]), each[0]): each for each in found.packets}
+    for event in (event for event in events if event["event"] == "expires"):
+        ends = event["time"]
+        told = next((place for place, time in enumerate(times) if time >= ends), len(times))
+        own = found.places[origins[event["sender"], place_of(event)]]
+        if any(place > told and times[place] < ends for place in own):
+            return True
+    return False
+
+
+def replayed(events):
+    """After each event of a sender its time and the rows that it leaves; a problem where an event
+    changes nothing, or can't be."""
+    rows = {}
+    for event in events:
+        key, kind = f"{event['destination']} from {event['source']}", event["event"]
+        held, after = rows.get(key), event["answer"] and what_text(event["answer"])
+        if CHANGES[kind] != (held is not None) or held == after:
+            yield event["time"], {}, f"it {kind} {key}, which was {held} before"
+        rows.pop(key, None)
+        if after:
+            rows[key] = after
+        yield event["time"], dict(rows), ""
+
+
+def at(states, moment, nothing):
+    """What the last state up to a moment says: the states are in order of their times."""
+    last = nothing
+    for time, state in states:
+        if time > moment:
+            break
+        last = state
+    return last
+
+
+def time_word(time):
+    return f"@{time // made.SECOND}.{time % made.SECOND:09}"
+
+
+def moments_of(found, events, rng, most):
+    """The times of records and events, and between them, some of all."""
+    record_times = [time for _, time in found.records]
+    texts = {reader.time_text(time): time for time in record_times}
+    others = {event["time"] for event in events} - set(texts)
+    texts.update((text, reader.moment_of(text).nanoseconds) for text in others)
+    times = sorted(texts.values())
+    times += [(one + other) // 2 for one, other in zip(times, times[1:])]
+    times = sorted({time for time in times if time <= record_times[-1]})
+    return sorted(rng.sample(times, min(most, len(times))))
+
+
+def check_tables(program, words, capture, origin, times, events, moments):
+    """The rows at each moment are those that the events up to then leave."""
+    states = []
+    for time, rows, problem in replayed(events):
+        if problem:
+            yield f"{time}: {problem}"
+        states.append((time, rows))
+    command = ["show", "--quiet"]
+    if "--ignore" in words:
+        command = ["pairs", "--routes", "--quiet"]
+    for moment in moments:
+        asked = [*command, *words, *named(origin), "--until", time_word(moment)]
+        wanted = rows_text(at(states, reader.time_text(moment), {}))
+        status, lines, errors = run(program, asked, capture)
+        if not any(time <= moment for time in times):
+            wanted, lines = [f"no packets from {origin[0]}"], errors
+        elif status:
+            lines = errors
+        if sorted(lines) != sorted(wanted):
+            yield f"{' '.join(asked)}: {lines} in place of {wanted}"
+
+
+def rows_text(rows):
+    return [f"{key} {what}" for key, what in rows.items()]
+
+
+def named(origin):
+    sender, place = origin
+    return ["--from", sender, "--interface", reader.place_asked(place)]
+
+
+def check_answers(program, words, capture, origin, times, pair, moments):
+    """The answer at each moment is the last that the events up to then tell."""
+    asked = [*words, *named(origin), "--to", pair[0], "--src", pair[1]]
+    events, problem = events_of(program, asked, capture)
+    if problem:
+        yield problem
+    states = [(event["time"], what_text(event["answer"])) for event in events]
+    for before, after in zip([(None, "none"), *states], states):
+        if before[1] == after[1]:
+            yield f"{' '.join(asked)}: told twice at {after[0]}: {after[1]}"
+    for moment in moments:
+        if not any(time <= moment for time in times):
+            continue
+        _, lines, errors = run(
+            program, ["lookup", "--quiet", *asked, "--until", time_word(moment)], capture
+        )
+        wanted = at(states, reader.time_text(moment), "none")
+        if lines != [wanted]:
+            yield f"lookup {' '.join(asked)} until {moment}: {lines} {errors} in place of {wanted}"
+
+
+def check_until(program, words, capture, events, moments):
+    """Until a moment there are the events up to then."""
+    for moment in moments:
+        asked = [*words, "--until", time_word(moment)]
+        given, problem = events_of(program, asked, capture)
+        given.sort(key=lambda event: event["time"])
+        wanted = [event for event in events if event["time"] <= reader.time_text(moment)]
+        if problem or given != wanted:
+            yield f"events {' '.join(asked)}: {problem} {given} in place of {wanted}"
+
+
+def problems_of(program, capture, factor, options, most, pool):
+    """What is wrong with the events of a capture; nothing where it is left out."""
+    rng = random.Random(SEED)
+    words = options + ([] if factor is None else ["--expiry", factor])
+    octets = capture.read_bytes()
+    window = reader.window_of(options[1] if "--since" in options else None, None) or reader.Window()
+    found = find(octets, window)
+    origins = dict(origins_of(found))
+    if not found.records or any(sorted(times) != times for times in origins.values()):
+        return None
+    events, problem = events_of(program, words, capture)
+    if problem:
+        return [problem]
+    if is_early(found, events):
+        return None
+    events.sort(key=lambda event: event["time"])
+    jobs = [check_until(program, words, capture, events, moments_of(found, events, rng, most // 4))]
+    for origin, times in origins.items():
+        if is_refused(octets, window, origin):
+            continue
+        own = [event for event in events if (event["sender"], place_of(event)) == origin]
+        times_asked = moments_of(found, events, rng, most)
+        jobs.append(check_tables(program, words, capture, origin, times, own, times_asked))
+        keys = sorted({(event["destination"], event["source"]) for event in own})
+        for key in rng.sample(keys, min(PAIRS, len(keys))) if "--ignore" not in words else []:
+            pair = [prefix.split("/")[0] for prefix in key]
+            some = times_asked[:: max(len(times_asked) // 10, 1)]
+            jobs.append(check_answers(program, words, capture, origin, times, pair, some))
+    return sum(pool.map(list, jobs), [])
+
+
+def captures_of(folder, long):
+    """Captures of the repository, and made of its dumps and at random."""
+    yield from CAPTURES
+    for name, sender in SENDERS.items():
+        records = extract.records_of((ROUTERS / f"{name}.dump").read_bytes(), sender)
+        path = folder / f"{name}.pcap"
+        path.write_bytes(made.pcap(records))
+        yield path
+    for turn in range(RANDOM_LONG if long else RANDOM):
+        path = folder / f"random-{turn}.pcap"
+        path.write_bytes(timed.capture(random.Random(f"events {turn}")))
+        if moments.answer_of(["events", "--v4-via-v6"], path.read_bytes()).status == 0:
+            yield path
+
+
+def check_captures(program, captures, tally, most, options=OPTIONS):
+    """Replays the events of each capture that can be replayed; how many these are."""
+    replayed_captures = 0
+    with concurrent.futures.ThreadPoolExecutor(os.cpu_count()) as pool:
+        for capture in captures:
+            for factor in FACTORS:
+                for words in options:
+                    found = problems_of(program, capture, factor, list(words), most, pool)
+                    if found is None:
+                        continue
+                    replayed_captures += 1
+                    what = f"events of {capture.name}, {factor}, {' '.join(words)}"
+                    tally.check(what, "\n".join(found[:5]))
+    return replayed_captures
+
+
+def check_picture(program, capture, tally):
+    """The picture of a capture's events has a bar for each time that a route was held, and one for
+    each next hop."""
+    words = ["--expiry", "1", "--ignore", "router-id,seqno,metric"]
+    events, problem = events_of(program, words, capture)
+    told = "".join(f"{json.dumps(event)}\n" for event in events)
+    run = subprocess.run([TIMELINE], input=told, capture_output=True, text=True)
+    held = [event["answer"]["next_hop"] for event in events if event["answer"]]
+    bars = len(re.findall(r'<rect class="c', run.stdout)), run.stderr
+    wanted = len(held) + len(set(held)), ""
+    problem = problem or ("" if bars == wanted else f"{bars} in place of {wanted}")
+    tally.check(f"the picture of {capture.name}", problem)
+    xml.etree.ElementTree.fromstring(run.stdout)
+
+
+def check_drill(program, tally):
+    """The picture in docs/ is that of examples/drill."""
+    capture = DRILL / "drill.pcap"
+    _, events, _ = run(program, ["events", "--quiet", "--expiry", "3.5", "--json"], capture)
+    last = max(time for _, time in find(capture.read_bytes(), reader.Window()).records)
+    command, told = [TIMELINE, "--end", reader.time_text(last)], "\n".join(events)
+    drawn = subprocess.run(command, input=told, capture_output=True, text=True).stdout
+    problem = "" if drawn == (TOP / "docs/drill.svg").read_text() else "it is another one"
+    tally.check("docs/drill.svg", problem)
+
+
+def check(tally, long):
+    program = built_program()
+    check_picture(program, ROUTERS / "babeld-basic-a.pcap", tally)
+    check_drill(program, tally)
+    with tempfile.TemporaryDirectory() as folder:
+        most = 10 * MOMENTS if long else MOMENTS
+        check_captures(program, captures_of(pathlib.Path(folder), long), tally, most)
+
+
+def main():
+    parser = argparse.ArgumentParser(
+        description=__doc__, formatter_class=argparse.RawDescriptionHelpFormatter
+    )
+    parser.add_argument("program", type=pathlib.Path)
+    parser.add_argument("captures", type=pathlib.Path, nargs="+", metavar="capture")
+    parser.add_argument("--most", type=int, default=1 << 30)
+    parser.add_argument("--quick", action="store_true")
+    asked, tally = parser.parse_args(), Tally()
+    options = [words for words in OPTIONS if not asked.quick or "--ignore" not in words]
+    program = asked.program.resolve()
+    every = check_captures(program, asked.captures, tally, asked.most, options)
+    print(f"{every} replays of {len(asked.captures)} captures: {tally}")
+    return 1 if tally.failed else 0
+
+
+if __name__ == "__main__":
+    sys.exit(main())
