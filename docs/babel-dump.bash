@@ -29,12 +29,14 @@ _babel_dump_senders() {
 # The options that a word follows.
 _babel_dump_valued="--from --other-from --interface --other-interface --to --src --each --ignore"
 _babel_dump_valued="$_babel_dump_valued --color --body --max-routes --max-octets --within --match"
-_babel_dump_valued="$_babel_dump_valued --source --id"
+_babel_dump_valued="$_babel_dump_valued --source --id --since --until --other-since"
+_babel_dump_valued="$_babel_dump_valued --other-until --expiry"
 
 # The options of a command.
 _babel_dump_options() {
     local options="--from --interface --accept-cut --hold --v4-via-v6 --strict --quiet --json"
-    options="$options --short --max-routes --max-octets --help"
+    options="$options --short --max-routes --max-octets --since --until --expiry --help"
+    local other="--other-from --other-interface --other-since --other-until"
     local filters="--within --match --source --id"
     case $1 in
         show) options="${options/ --strict/} $filters --summary" ;;
@@ -43,14 +45,22 @@ _babel_dump_options() {
         normalise) options="${options/ --json --short/} --hex --body --ignore --routes" ;;
         key) options="${options/ --json --short/} --ignore --routes" ;;
         compare)
-            options="$options --other-from --other-interface --ignore --routes --all --count"
+            options="$options $other --ignore --routes --all --count"
             ;;
         diff)
-            options="${options/ --json/} --other-from --other-interface --ignore --stat --color"
+            options="${options/ --json/} $other --ignore --stat --color"
             ;;
-        senders) options="--accept-cut --strict --quiet --json --short --max-octets --help" ;;
+        senders)
+            options="--accept-cut --strict --quiet --json --short --max-octets --since"
+            options="$options --until --help"
+            ;;
         extract)
-            options="--from --interface --hex --accept-cut --strict --quiet --max-octets --help"
+            options="--from --interface --hex --accept-cut --strict --quiet --max-octets --since"
+            options="$options --until --help"
+            ;;
+        events)
+            options="--from --interface --since --until --expiry --ignore --to --src --v4-via-v6"
+            options="$options --accept-cut --max-routes --json --quiet --help"
             ;;
         *) options= ;;
     esac
@@ -58,7 +68,8 @@ _babel_dump_options() {
 }
 
 _babel_dump() {
-    local names="show lookup pairs normalise key compare diff senders extract help --help --version"
+    local names="show lookup pairs normalise key compare diff senders extract events help --help"
+    names="$names --version"
     local line=${COMP_LINE:0:COMP_POINT} words word option front= found=
     # COMP_WORDS is cut at colons, which addresses have.
     read -ra words <<<"$line"
