@@ -229,10 +229,10 @@ module _ {S : Type 0} (cmp : S → S → Ordering) (total : IsTotalOrder cmp) (e
       ])
 
   -- a row that could not be added is taken out of the queue
-  pub undone : (rows : Rows S) (old between new : BTreeSet (Expiry S)) (subject : Subject S) (row : Row) (from to : Option ℕ) → Queues cmp factor rows old
-      → from ≡ end_at factor (row_at cmp rows subject) → to ≡ end_of factor row.when → row_at cmp rows subject ≡ None → Moves cmp subject from to old between
-      → TakesOut cmp subject to between new → Queues cmp factor rows new
-  undone rows old between new subject row from to queues from_is to_is absent moves takes =
+  pub undone : (rows : Rows S) (old between new : BTreeSet (Expiry S)) (subject : Subject S) (row : Row) (to : Option ℕ) → Queues cmp factor rows old
+      → to ≡ end_of factor row.when → row_at cmp rows subject ≡ None → Moves cmp subject None to old between → TakesOut cmp subject to between new
+      → Queues cmp factor rows new
+  undone rows old between new subject row to queues to_is absent moves takes =
       let more : Rows S = insert_entry (subject_cmp cmp) rows subject row in
       let becomes : Becomes cmp rows subject (Some row) more = becomes_inserted cmp total rows subject row in
       let here : row_at cmp more subject ≡ Some row = becomes subject ∙ ap (λ (b : Bool). cond b (Some row) (row_at cmp rows subject)) (same_self cmp total subject) in
@@ -242,7 +242,8 @@ module _ {S : Type 0} (cmp : S → S → Ordering) (total : IsTotalOrder cmp) (e
             ∙ sym (ap (λ (b : Bool). cond b None (row_at cmp more other)) (same_of cmp total subject other hit.0))
         | inr miss ↦ sym miss.1 ∙ sym (ap (λ (b : Bool). cond b None (row_at cmp more other)) miss.0)
       ] in
-      taken more rows between new subject to (moved rows more old between subject row from to queues from_is to_is moves becomes)
+      let nothing : None ≡ end_at factor (row_at cmp rows subject) = ap (λ (r : Option Row). end_at factor r) (sym absent) in
+      taken more rows between new subject to (moved rows more old between subject row None to queues nothing to_is moves becomes)
       (to_is ∙ ap (λ (r : Option Row). end_at factor r) (sym here)) takes back
 
   -- ---- what ends first

@@ -1,5 +1,5 @@
 //! The subjects that expire, in the order in which they do.
-ghost use Rattle.std.specs.Prelude.{◌≡◌, ◌||◌, ◌&&◌, not, true, IfNone, IfSome, OnErr, OnOk};
+ghost use Rattle.std.specs.Prelude.{◌≡◌, ◌||◌, ◌&&◌, not, true, Bool, IfNone, IfSome, OnErr, OnOk};
 ghost use Rattle.std.specs.declared.cmp.Ordering.TheVariants.{Less};
 ghost use Rattle.std.specs.BTreeSet.{contains, IsEmpty};
 ghost use Rattle.babel_timeline.specs.Rows.{expiry_cmp, expiry_of};
@@ -72,7 +72,7 @@ impl<S: Sender> Queue<S> {
     }
 
     /// The subject expires at this time, if any, besides when it does already.
-    fn put(&mut self, subject: &Subject<S>, time: Option<u128>) -> Result<(), AllocError>
+    pub(crate) fn put(&mut self, subject: &Subject<S>, time: Option<u128>) -> Result<(), AllocError>
         ensures ok { OnOk result ((other : Queued S)
             → contains (expiry_cmp S.cmp) self.new.expiries other
             ≡ is_expiry S.cmp subject.now time other
@@ -96,24 +96,17 @@ impl<S: Sender> Queue<S> {
         }
     }
 
-    /// The subject does not expire at the first time, if any, but at the second, if any.
-    pub(crate) fn move_to(
-        &mut self,
-        subject: &Subject<S>,
-        from: Option<u128>,
-        to: Option<u128>,
-    ) -> Result<(), AllocError>
-        ensures ok { OnOk result ((other : Queued S)
+    /// The subject, which expires at the second time, if any, does not besides at the first.
+    pub(crate) fn leave(&mut self, subject: &Subject<S>, from: Option<u128>, to: Option<u128>)
+        ensures { (other : Queued S) (was : Bool)
+            → contains (expiry_cmp S.cmp) self.old.expiries other
+            ≡ is_expiry S.cmp subject.now to other || was
             → contains (expiry_cmp S.cmp) self.new.expiries other
             ≡ is_expiry S.cmp subject.now to other
-            || (not (is_expiry S.cmp subject.now from other)
-            && contains (expiry_cmp S.cmp) self.old.expiries other)) }
-        ensures err { OnErr result (self.new.expiries.keys ≡ self.old.expiries.keys) }
+            || (not (is_expiry S.cmp subject.now from other) && was) }
     {
-        self.put(subject, to)?;
         if from != to {
             self.take_out(subject, from);
         }
-        Ok(())
     }
 }

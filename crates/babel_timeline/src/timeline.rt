@@ -96,6 +96,16 @@ fn last_up_to<S: Sender>(
     Some((*subject, *row))
 }
 
+/// When a row ends, if there is one and it does.
+fn end_of(row: &Option<Row>, factor: Option<u64>) -> Option<u128>
+    ensures { result ≡ end_at factor row.now }
+{
+    match row {
+        None => None,
+        Some(row) => row.when.end(factor),
+    }
+}
+
 /// What announcing this changes, where the row was held before.
 fn announced<S: Sender>(
     time: u128,
@@ -142,16 +152,6 @@ impl<S: Sender> Timeline<S> {
         self.rows.get(subject).copied()
     }
 
-    /// When what is held for a subject ends, if it does.
-    fn end(&self, subject: &Subject<S>) -> Option<u128>
-        ensures { result ≡ end_at self.now.factor (row_at S.cmp self.now.rows subject.now) }
-    {
-        match self.rows.get(subject) {
-            None => None,
-            Some(row) => row.when.end(self.factor),
-        }
-    }
-
     /// Whether there may be one more row.
     fn is_full(&self) -> bool
         ensures { IsTrue result ↔ (self.now.limit ≤ length self.now.rows) }
@@ -166,20 +166,23 @@ impl<S: Sender> Timeline<S> {
         let _ = &self.limit;
     }
 
-    /// Holds this for a subject.
-    fn put(&mut self, subject: &Subject<S>, row: &Row) -> Result<(), AllocError>
+    /// Holds this for a subject, and gives what was held.
+    fn put(&mut self, subject: &Subject<S>, row: &Row) -> Result<Option<Row>, AllocError>
         requires room { row_at S.cmp self.old.rows subject.now ≡ None
             → length self.old.rows < self.old.limit }
+        ensures row { IfOk result (λ before. before ≡ row_at S.cmp self.old.rows subject.now) }
         ensures ok { OnOk result (self.new ≡ record self.old {
           rows = insert_entry (subject_cmp S.cmp) self.old.rows subject.now row.now;
         }) }
         ensures err { OnErr result (self.new ≡ self.old) }
     {
-        let from = self.end(subject);
         let to = row.when.end(self.factor);
-        self.queue.move_to(subject, from, to)?;
+        self.queue.put(subject, to)?;
         match self.rows.insert(*subject, *row) {
-            Ok(_) => Ok(()),
+            Ok(before) => {
+                self.queue.leave(subject, end_of(&before, self.factor), to);
+                Ok(before)
+            }
             Err(_) => {
                 self.queue.take_out(subject, to);
                 Err(AllocError)
@@ -194,9 +197,9 @@ impl<S: Sender> Timeline<S> {
           rows = remove_entry (is_at (subject_cmp S.cmp subject.now)) self.old.rows;
         } }
     {
-        let end = self.end(subject);
-        self.queue.take_out(subject, end);
-        self.rows.remove(subject)
+        let row = self.rows.remove(subject);
+        self.queue.take_out(subject, end_of(&row, self.factor));
+        row
     }
 
     /// What ends first, if by this time.
@@ -265,11 +268,10 @@ impl<S: Sender> Timeline<S> {
             × (self.old.limit ≤ length self.old.rows))) }
         ensures err { OnErr result (self.new ≡ self.old) }
     {
-        let before = self.row(subject);
-        if before.is_none() && self.is_full() {
+        if self.is_full() && self.row(subject).is_none() {
             return Err(Fault::TooManyRoutes { at });
         }
-        self.put(subject, row)?;
+        let before = self.put(subject, row)?;
         Ok(announced(row.when.time(), subject, &before, &row.ann))
     }
 
