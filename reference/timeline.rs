@@ -1086,6 +1086,10 @@ impl Timeline {
                 }
             }
             Word::Announces(is_ipv6, dst, source, owner, stated) => {
+                let is_passed_over = |pair| !is_key_of(is_ipv6, dst, source, pair);
+                if self.pair.is_some_and(is_passed_over) {
+                    return Ok(());
+                }
                 let key = self.rows.key(sender, is_ipv6, dst, source);
                 let ends = after(time, span_of(interval, self.factor));
                 let found = self.find(&key);
@@ -1094,10 +1098,7 @@ impl Timeline {
                     Ok(row) => self.renew(time, row, number, stated, ends),
                     Err(slot) => self.add(time, at, key, slot, number, stated, ends)?,
                 }
-                if self
-                    .pair
-                    .is_some_and(|pair| is_key_of(is_ipv6, dst, source, pair))
-                {
+                if self.pair.is_some() {
                     let row = self.rows.find(&key).unwrap_or(NONE);
                     let sent = &mut self.senders[sender as usize];
                     sent.matching.insert((dst.len, source.len), row);
