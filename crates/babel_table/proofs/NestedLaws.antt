@@ -154,11 +154,15 @@ less_le k l m less = by (key_cmp l m) refl
     by Greater e f = absurd cc
 
 -- of two keys that contain both addresses the earlier is not more specific
-earlier_not_better : (k l : RouteKey) (d s : Address) → IsKey k → IsKey l → ContainsBoth d s k → ContainsBoth d s l → is_le (key_cmp k l) ≡ true → IsMoreSpecific k l → ⊥
+pub earlier_not_better : (k l : RouteKey) (d s : Address) → IsKey k → IsKey l → ContainsBoth d s k → ContainsBoth d s l → is_le (key_cmp k l) ≡ true → IsMoreSpecific k l → ⊥
 earlier_not_better k l d s k_is l_is in_k in_l e (inl longer) = omega (arith, longer, later_longer k.dst l.dst d l_is.dst in_k.0 in_l.0 (dst_le k l e))
 earlier_not_better k l d s k_is l_is in_k in_l e (inr (same, longer)) =
     let one = same_len k.dst l.dst d k_is.dst l_is.dst in_k.0 in_l.0 same in
     omega (arith, longer, later_longer k.src l.src s l_is.src in_k.1 in_l.1 (src_le k l one e))
+
+-- a key that contains both addresses is no later than that of the two alone
+pub both_up_to : (key : RouteKey) (d s : Address) → IsKey key → ContainsBoth d s key → is_le (key_cmp key (key_of (host_of d) (host_of s))) ≡ true
+both_up_to key d s is has = both_le (prefix_cmp key.dst (host_of d)) (prefix_cmp key.src (host_of s)) (up_to_host key.dst d is.dst has.0) (up_to_host key.src s is.src has.1)
 
 up_to : (keys : List RouteKey) (i j : ℕ) (d : RouteKey) → IsStrictlySortedBy key_cmp keys → i ≤ j → j < length keys → is_le (key_cmp (get_or keys i d) (get_or keys j d)) ≡ true
 up_to keys i j d rising le inside =
@@ -323,7 +327,7 @@ module _ {family : Family} (keys : List RouteKey) (around : List Around) (nested
   past_both n past k e low high has =
       let key = get_or keys k e in
       let is = All-get_or (IsKeyOf family) keys k e high nested.of in
-      let le = both_le (prefix_cmp key.dst (host_of d)) (prefix_cmp key.src (host_of s)) (up_to_host key.dst d is.0.dst has.0) (up_to_host key.src s is.0.src has.1) in
+      let le = both_up_to key d s is.0 has in
       let other = past k e low high in
       cc
 
