@@ -5,4 +5,6 @@ pub mod KeptLaws
 pub mod EdgeLaws
 pub mod TellingLaws
 pub mod AnswerLaws
+pub mod ToldKeys
+pub mod BestLaws
 pub mod TakingLaws

@@ -4,4 +4,5 @@ pub mod Changes
 pub mod Accounts
 pub mod Laws
 pub mod Telling
+pub mod BestAnswers
 pub mod Taking

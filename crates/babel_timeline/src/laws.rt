@@ -2,6 +2,7 @@
 //! what is announced and retracted, by each step of a retraction of all, by what speaks of no key,
 //! and by what expires.
 ghost use Rattle.std.specs.Prelude.{ℕ, Option};
+ghost use Rattle.babel_timeline.specs.BestAnswers.{AnswersAreBest, RowsAnswerBest};
 ghost use Rattle.babel_timeline.specs.Laws.{AllRetractedKeepsAccount, AnnouncingKeepsAccount};
 ghost use Rattle.babel_timeline.specs.Laws.{BeginsAccount, ChangesSayWhatIsHeld};
 ghost use Rattle.babel_timeline.specs.Laws.{EachRetractedKeepsAccount, ExpiringKeepsAccount};
@@ -30,4 +31,11 @@ pub fn accounts_are_kept_by_wildcards<S: Sender>()
 /// Once all that ends by a moment has been told, the changes say exactly what is held then.
 pub fn changes_say_what_is_held<S: Sender>()
     ensures { (factor : Option ℕ) → ChangesSayWhatIsHeld S.cmp factor }
+{}
+
+/// RFC 9079, 4: where two addresses are asked for, a sender's answer is what it announces for its
+/// best match: among rows of keys that count, and among all that it says.
+pub fn answers_are_best<S: Sender>()
+    ensures rows { RowsAnswerBest S.cmp }
+    ensures said { (factor : Option ℕ) → AnswersAreBest S.cmp factor }
 {}
