@@ -1,6 +1,6 @@
 -- The first and the last subjects of a sender.
 use Rattle.std.proofs.Common.{◌≡◌, true, false, List, [], ◌∷◌, ◌++◌, Option, Some, None, refl, sym, ap, subst, ◌∙◌}
-use Rattle.std.specs.Prelude.{IsSome}
+use Rattle.std.specs.Prelude.{IsSome, MatchOption, is_some}
 use Rattle.std.specs.declared.cmp.Ordering.{Ordering}
 use Rattle.std.specs.declared.cmp.Ordering.TheVariants.{Less, Equal, Greater}
 use Rattle.std.specs.declared.ops.Bound.TheVariants.{Included, Unbounded}
@@ -92,7 +92,7 @@ module _ {S : Type 0} (cmp : S → S → Ordering) (total : IsTotalOrder cmp) (e
     pub last_none : ((other : Subject S) → IsLeBy (subject_cmp cmp) other (subject_of sender most) → row_at cmp rows other ≡ None) → HasNoneUpTo cmp sender most rows
     last_none none key le = none (subject_of sender key) (own_le sender key most le)
 
-    pub last_own : (last : Subject S) (row : Row) → last.sender ≡ sender → IsLeBy (subject_cmp cmp) last (subject_of sender most) → row_at cmp rows last ≡ Some row
+    last_own : (last : Subject S) (row : Row) → last.sender ≡ sender → IsLeBy (subject_cmp cmp) last (subject_of sender most) → row_at cmp rows last ≡ Some row
         → ((other : Subject S) → IsLeBy (subject_cmp cmp) other (subject_of sender most) → IsSome (row_at cmp rows other) → IsLeBy (subject_cmp cmp) other last)
         → IsLastUpTo cmp sender most rows row
     last_own last row own below held all = record {
@@ -103,6 +103,13 @@ module _ {S : Type 0} (cmp : S → S → Ordering) (total : IsTotalOrder cmp) (e
           let up_to : IsLeBy (subject_cmp cmp) (subject_of sender other) last = all (subject_of sender other) (own_le sender other most le) there in
           key_le sender other last.key (subst (λ (s : S). IsLeBy (subject_cmp cmp) (subject_of sender other) (subject_of s last.key)) own up_to);
     }
+
+    pub last_there : (last : Subject S) (row : Option Row) → row ≡ row_at cmp rows last → last.sender ≡ sender → IsLeBy (subject_cmp cmp) last (subject_of sender most)
+        → IsSome (row_at cmp rows last)
+        → ((other : Subject S) → IsLeBy (subject_cmp cmp) other (subject_of sender most) → IsSome (row_at cmp rows other) → IsLeBy (subject_cmp cmp) other last)
+        → MatchOption row (HasNoneUpTo cmp sender most rows) (IsLastUpTo cmp sender most rows)
+    last_there last None is own below there all = let none : is_some (row_at cmp rows last) ≡ false = ap is_some (sym is) in absurd cc
+    last_there last (Some row) is own below there all = last_own last row own below (sym is) all
 
     pub last_other : (last : Subject S) → (last.sender ≡ sender → ⊥) → IsLeBy (subject_cmp cmp) last (subject_of sender most)
         → ((other : Subject S) → IsLeBy (subject_cmp cmp) other (subject_of sender most) → IsSome (row_at cmp rows other) → IsLeBy (subject_cmp cmp) other last)

@@ -8,3 +8,4 @@ pub mod AnswerLaws
 pub mod ToldKeys
 pub mod BestLaws
 pub mod TakingLaws
+pub mod PlaceLaws

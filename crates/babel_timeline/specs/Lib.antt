@@ -1,4 +1,5 @@
 pub mod Rows
+pub mod Places
 pub mod Kept
 pub mod Changes
 pub mod Accounts

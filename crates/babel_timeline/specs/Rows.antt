@@ -24,11 +24,6 @@ end_of None when = None
 end_of (Some factor) when =
     if nat_lt 0 when.interval then Some (when.time + factor * when.interval) else None
 
--- when the row ends, if there is one
-abbrev pub end_at : Option ℕ → Option Row → Option ℕ
-end_at factor None = None
-end_at factor (Some row) = end_of factor row.when
-
 -- ---- rows
 
 abbrev pub subject_of : {S : Type 0} → S → RouteKey → Subject S

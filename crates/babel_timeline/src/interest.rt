@@ -169,7 +169,7 @@ impl Interest {
             timeline.old.rows timeline.new.rows told.old.items told.new.items) }
         ensures last { OnOk result (AllLast S.cmp timeline.old.factor until timeline.new.rows) }
     {
-        while let Some(first) = timeline.first_end(until) {
+        while let Some(first) = timeline.first_end(until)? {
             self.end(timeline, &first, told)?;
         }
         Ok(())

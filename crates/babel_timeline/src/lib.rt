@@ -7,7 +7,9 @@
 #![tactic(auto)]
 
 mod asked;
+mod cells;
 mod change;
+mod entry;
 mod interest;
 pub mod laws;
 mod queue;

@@ -1,52 +1,54 @@
 //! The rows of many senders, and when they end.
-ghost use Rattle.std.specs.Prelude.{◌≡◌, ◌<◌, ◌≤◌, ◌⊎◌, [], length, None, IfErr, IfNone, IfOk};
+ghost use Rattle.std.specs.Prelude.{◌≡◌, ◌<◌, ◌≤◌, ◌⊎◌, ℕ, [], length, None, IfErr, IfNone, IfOk};
 ghost use Rattle.std.specs.Prelude.{IfSome, IsSome, IsTrue, MatchOption, OnErr, OnOk, Some, ◌↔◌};
-ghost use Rattle.std.specs.BTreeMap.{get, insert_entry, is_at};
+ghost use Rattle.std.specs.BTreeMap.{insert_entry, is_at};
 ghost use Rattle.std.specs.BTreeMap.Range.{IsLeBy};
 ghost use Rattle.std.specs.Map.{remove_entry};
 ghost use Rattle.std.specs.Option.{option_map};
 ghost use Rattle.babel_tlv.specs.Keys.{key_cmp};
 ghost use Rattle.babel_tlv.specs.Route.{RouteKey};
 ghost use Rattle.babel_timeline.specs.Changes.{TellsAnnouncement, change};
-ghost use Rattle.babel_timeline.specs.Kept.{expiring};
+ghost use Rattle.babel_timeline.specs.Kept.{AreQueued, IsBy, expiring};
+ghost use Rattle.babel_timeline.specs.Places.{rows_of};
 ghost use Rattle.babel_timeline.specs.Rows.{AllLast, EndsFirst, HasNone, HasNoneUpTo, IsFirstOf};
-ghost use Rattle.babel_timeline.specs.Rows.{IsLastUpTo, end_at, row_at, subject_cmp};
+ghost use Rattle.babel_timeline.specs.Rows.{IsLastUpTo, row_at, subject_cmp};
 ghost use Rattle.babel_timeline.specs.declared.change.ChangeKind.TheVariants as kinds;
 ghost use Rattle.babel_timeline.specs.declared.subject.Subject.{Subject as Of};
 
+use crate::cells::Cells;
 use crate::change::{Change, ChangeKind};
+use crate::entry::Entry;
 use crate::queue::{Expiry, Queue};
 use crate::row::Row;
 use crate::sender::Sender;
 use crate::subject::Subject;
-use crate::when::When;
 use babel_prefix::{Family, Prefix};
 use babel_tlv::{Ann, Fault, Key};
 use std::alloc::{AllocError, Global};
-use std::collections::BTreeMap;
 use std::marker::Model;
 
 /// What many senders hold, and when each row of it ends.
 ///
 /// Memory goes with the rows, and time with what is said and with what changes: each call takes the
-/// logarithm of the number of rows.
+/// logarithm of the number of rows at most. What is said again in the same order takes less.
 #[derive(Drop)]
 pub struct Timeline<S: Sender> {
     factor: Option<u64>,
     limit: u32,
-    rows: BTreeMap<Subject<S>, Row>,
+    cells: Cells<S>,
     queue: Queue<S>,
 }
 
 impl<S: Sender> Model for Timeline<S> {
     ghost use Rattle.babel_timeline.specs.Kept.{IsKept};
+    ghost use Rattle.babel_timeline.specs.Places.{rows_of};
     ghost use Rattle.babel_timeline.specs.Rows.{Held};
 
     ghost Value = { Held S };
 
-    ghost view = { λ t. record { factor = t.factor; limit = t.limit; rows = t.rows.entries } };
+    ghost view = { λ t. record { factor = t.factor; limit = t.limit; rows = rows_of t.cells } };
 
-    ghost invariant = { λ t. IsKept S.cmp t.factor t.limit t.rows.entries t.queue.expiries };
+    ghost invariant = { λ t. IsKept S.cmp t.factor t.limit t.cells t.queue.expiries };
 }
 
 /// The first key of all.
@@ -64,46 +66,45 @@ fn are_one<S: Sender>(sender: S, other: S) -> bool
     sender == other
 }
 
-/// The first subject from this one on that has a row.
-fn first_from<S: Sender>(rows: &BTreeMap<Subject<S>, Row>, from: Subject<S>) -> Option<Subject<S>>
-    ensures none { IfNone result ((other : Of S) → IsLeBy (subject_cmp S.cmp) from other
-        → get (subject_cmp S.cmp) rows.now other ≡ None) }
-    ensures some { IfSome result (λ first. IsLeBy (subject_cmp S.cmp) from first
-        × IsSome (get (subject_cmp S.cmp) rows.now first)) }
-    ensures least { IfSome result (λ first. (other : Of S) → IsLeBy (subject_cmp S.cmp) from other
-        → IsSome (get (subject_cmp S.cmp) rows.now other)
-        → IsLeBy (subject_cmp S.cmp) first other) }
+/// The earlier of two times, where there are two, or the one that there is.
+fn earlier(end: Option<u128>, queued: Option<u128>) -> Option<u128>
+    ensures { (time : ℕ) → end ≡ Some time → IsBy time result }
 {
-    let (subject, _) = rows.range(from..).next()?;
-    Some(*subject)
-}
-
-/// The last subject up to this one that has a row, and its row.
-fn last_up_to<S: Sender>(
-    rows: &BTreeMap<Subject<S>, Row>,
-    most: Subject<S>,
-) -> Option<(Subject<S>, Row)>
-    ensures none { IfNone result ((other : Of S) → IsLeBy (subject_cmp S.cmp) other most
-        → get (subject_cmp S.cmp) rows.now other ≡ None) }
-    ensures some { IfSome result (λ last. IsLeBy (subject_cmp S.cmp) last.0 most
-        × (get (subject_cmp S.cmp) rows.now last.0 ≡ Some last.1)) }
-    ensures greatest { IfSome result (λ last. (other : Of S)
-        → IsLeBy (subject_cmp S.cmp) other most
-        → IsSome (get (subject_cmp S.cmp) rows.now other)
-        → IsLeBy (subject_cmp S.cmp) other last.0) }
-{
-    let (subject, row) = rows.range(..=most).next_back()?;
-    Some((*subject, *row))
-}
-
-/// When a row ends, if there is one and it does.
-fn end_of(row: &Option<Row>, factor: Option<u64>) -> Option<u128>
-    ensures { result ≡ end_at factor row.now }
-{
-    match row {
-        None => None,
-        Some(row) => row.when.end(factor),
+    match (end, queued) {
+        (Some(end), Some(queued)) => Some(end.min(queued)),
+        (None, queued) => queued,
+        (end, None) => end,
     }
+}
+
+/// What ends first, if by this time. What was queued for a time before its end is queued for that.
+fn settle<S: Sender>(
+    cells: &mut Cells<S>,
+    queue: &mut Queue<S>,
+    factor: Option<u64>,
+    until: u128,
+) -> Result<Option<Expiry<S>>, AllocError>
+    requires { AreQueued S.cmp factor cells.old queue.old.expiries }
+    ensures queued { AreQueued S.cmp factor cells.new queue.new.expiries }
+    ensures same { rows_of cells.new ≡ rows_of cells.old }
+    ensures none { IfOk result (λ first. IfNone first
+        (AllLast S.cmp factor until (rows_of cells.new))) }
+    ensures by { IfOk result (λ first. IfSome first (λ first. first.time ≤ until)) }
+    ensures first { IfOk result (λ first. IfSome first (λ first.
+        EndsFirst S.cmp factor (rows_of cells.new) (expiring first) first.time)) }
+{
+    while let Some(first) = queue.first_by(until) {
+        let subject = first.subject();
+        let entry = cells.get(&subject).unwrap();
+        let row = entry.row;
+        let end = row.when.end(factor);
+        if entry.queued == end {
+            return Ok(Some(first));
+        }
+        queue.move_to(&subject, entry.queued, end)?;
+        cells.replace(&subject, &Entry { row, queued: end });
+    }
+    Ok(None)
 }
 
 /// What announcing this changes, where the row was held before.
@@ -140,7 +141,7 @@ impl<S: Sender> Timeline<S> {
         Timeline {
             factor,
             limit,
-            rows: BTreeMap::new(alloc),
+            cells: Cells::new(alloc),
             queue: Queue::new(alloc),
         }
     }
@@ -149,14 +150,15 @@ impl<S: Sender> Timeline<S> {
     pub fn row(&self, subject: &Subject<S>) -> Option<Row>
         ensures { result ≡ row_at S.cmp self.now.rows subject.now }
     {
-        self.rows.get(subject).copied()
+        let entry = self.cells.get(subject)?;
+        Some(entry.row)
     }
 
     /// Whether there may be one more row.
     fn is_full(&self) -> bool
         ensures { IsTrue result ↔ (self.now.limit ≤ length self.now.rows) }
     {
-        self.limit as usize <= self.rows.len()
+        self.limit as usize <= self.cells.len()
     }
 
     /// There are at most as many rows as may be.
@@ -176,18 +178,22 @@ impl<S: Sender> Timeline<S> {
         }) }
         ensures err { OnErr result (self.new ≡ self.old) }
     {
-        let to = row.when.end(self.factor);
-        self.queue.put(subject, to)?;
-        match self.rows.insert(*subject, *row) {
-            Ok(before) => {
-                self.queue.leave(subject, end_of(&before, self.factor), to);
-                Ok(before)
-            }
-            Err(_) => {
-                self.queue.take_out(subject, to);
-                Err(AllocError)
-            }
-        }
+        let row = *row;
+        let end = row.when.end(self.factor);
+        let Some(before) = self.cells.find(subject) else {
+            self.queue.put(subject, end)?;
+            return match self.cells.add(subject, &Entry { row, queued: end }) {
+                Ok(()) => Ok(None),
+                Err(_) => {
+                    self.queue.take_out(subject, end);
+                    Err(AllocError)
+                }
+            };
+        };
+        let queued = earlier(end, before.queued);
+        self.queue.move_to(subject, before.queued, queued)?;
+        self.cells.replace(subject, &Entry { row, queued });
+        Ok(Some(before.row))
     }
 
     /// Holds nothing for a subject, and gives what was held.
@@ -197,24 +203,21 @@ impl<S: Sender> Timeline<S> {
           rows = remove_entry (is_at (subject_cmp S.cmp subject.now)) self.old.rows;
         } }
     {
-        let row = self.rows.remove(subject);
-        self.queue.take_out(subject, end_of(&row, self.factor));
-        row
+        let entry = self.cells.take(subject)?;
+        self.queue.take_out(subject, entry.queued);
+        Some(entry.row)
     }
 
     /// What ends first, if by this time.
-    pub(crate) fn first_end(&self, until: u128) -> Option<Expiry<S>>
-        ensures none { IfNone result (AllLast S.cmp self.now.factor until self.now.rows) }
-        ensures by { IfSome result (λ first. first.time ≤ until) }
-        ensures first { IfSome result (λ first. EndsFirst S.cmp self.now.factor self.now.rows
-            (expiring first) first.time) }
+    pub(crate) fn first_end(&mut self, until: u128) -> Result<Option<Expiry<S>>, AllocError>
+        ensures same { self.new ≡ self.old }
+        ensures none { IfOk result (λ first. IfNone first
+            (AllLast S.cmp self.old.factor until self.old.rows)) }
+        ensures by { IfOk result (λ first. IfSome first (λ first. first.time ≤ until)) }
+        ensures first { IfOk result (λ first. IfSome first (λ first.
+            EndsFirst S.cmp self.old.factor self.old.rows (expiring first) first.time)) }
     {
-        let first = self.queue.first()?;
-        if first.time <= until {
-            Some(first)
-        } else {
-            None
-        }
+        settle(&mut self.cells, &mut self.queue, self.factor, until)
     }
 
     /// The first of the subjects of a sender.
@@ -223,7 +226,7 @@ impl<S: Sender> Timeline<S> {
             (IsFirstOf S.cmp sender self.now.rows) }
     {
         let key = first_key();
-        let first = first_from(&self.rows, Subject { sender, key })?;
+        let first = self.cells.first_from(Subject { sender, key })?;
         if are_one(first.sender, sender) {
             Some(first)
         } else {
@@ -239,9 +242,9 @@ impl<S: Sender> Timeline<S> {
             (IsLastUpTo S.cmp sender most.now self.now.rows) }
     {
         let key = *most;
-        let (subject, row) = last_up_to(&self.rows, Subject { sender, key })?;
-        if are_one(subject.sender, sender) {
-            Some(row)
+        let last = self.cells.last_up_to(Subject { sender, key })?;
+        if are_one(last.sender, sender) {
+            self.row(&last)
         } else {
             None
         }
@@ -313,24 +316,29 @@ impl<S: Sender> Timeline<S> {
 
     /// Takes what expires next, if by this time; tells what changes. Of one time it is told by key,
     /// then by sender.
-    pub fn expire_next(&mut self, until: u128) -> Option<Change<S>>
-        ensures none { IfNone result (AllLast S.cmp self.old.factor until self.old.rows) }
-        ensures same { IfNone result (self.new ≡ self.old) }
-        ensures by { IfSome result (λ told. told.time ≤ until) }
-        ensures first { IfSome result (λ told. EndsFirst S.cmp self.old.factor self.old.rows
-            told.subject told.time) }
-        ensures told { IfSome result (λ told. told ≡ change told.time told.subject kinds.Expired) }
-        ensures rows { IfSome result (λ told. self.new ≡ record self.old {
+    pub fn expire_next(&mut self, until: u128) -> Result<Option<Change<S>>, AllocError>
+        ensures err { OnErr result (self.new ≡ self.old) }
+        ensures none { IfOk result (λ told. IfNone told
+            (AllLast S.cmp self.old.factor until self.old.rows)) }
+        ensures same { IfOk result (λ told. IfNone told (self.new ≡ self.old)) }
+        ensures by { IfOk result (λ told. IfSome told (λ told. told.time ≤ until)) }
+        ensures first { IfOk result (λ told. IfSome told (λ told.
+            EndsFirst S.cmp self.old.factor self.old.rows told.subject told.time)) }
+        ensures told { IfOk result (λ told. IfSome told (λ told.
+            told ≡ change told.time told.subject kinds.Expired)) }
+        ensures rows { IfOk result (λ told. IfSome told (λ told. self.new ≡ record self.old {
           rows = remove_entry (is_at (subject_cmp S.cmp told.subject)) self.old.rows;
-        }) }
+        })) }
     {
-        let first = self.first_end(until)?;
+        let Some(first) = self.first_end(until)? else {
+            return Ok(None);
+        };
         let subject = first.subject();
         self.take(&subject);
-        Some(Change {
+        Ok(Some(Change {
             time: first.time,
             subject,
             kind: ChangeKind::Expired,
-        })
+        }))
     }
 }
