@@ -49,8 +49,8 @@ fn rows_change_and_end(rt: HostRuntime) -> Result<(), Fail> {
     );
     assert_eq!(rt; timeline.announce(&all, &again, 0)?, None);
     assert_eq!(rt; timeline.row(&all), Some(again));
-    assert_eq!(rt; timeline.expire_next(7 * SECOND - 1), None);
-    let told = timeline.expire_next(9 * SECOND);
+    assert_eq!(rt; timeline.expire_next(7 * SECOND - 1)?, None);
+    let told = timeline.expire_next(9 * SECOND)?;
     assert_eq!(rt; told, change(7 * SECOND, &all, ChangeKind::Expired));
     assert_eq!(rt; timeline.row(&all), None);
     assert_eq!(rt; timeline.retract(&all, 9 * SECOND), None);
