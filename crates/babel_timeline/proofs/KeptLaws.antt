@@ -81,10 +81,6 @@ cond_and : (a b : Bool) → cond a false b ≡ not a && b
 cond_and true b = refl
 cond_and false b = refl
 
-or_self : (a b : Bool) → a || b ≡ a || (not a && b)
-or_self true b = refl
-or_self false b = refl
-
 of_not : (b : Bool) → false ≡ not b → b ≡ true
 of_not true e = refl
 of_not false e = absurd cc
@@ -114,12 +110,6 @@ stays : (from old : Bool) → (from ≡ true → old ≡ true) → old ≡ from 
 stays true old kept = kept refl
 stays false old kept = refl
 
-both_moves : (from to old : Bool) → (from ≡ true → to ≡ true → ⊥) → not from && (to || old) ≡ to || (not from && old)
-both_moves true true old apart = absurd (apart refl refl)
-both_moves true false old apart = refl
-both_moves false true old apart = refl
-both_moves false false old apart = refl
-
 first_true : (a b : Bool) → a && b ≡ true → a ≡ true
 first_true true b e = refl
 first_true false b e = absurd cc
@@ -127,9 +117,6 @@ first_true false b e = absurd cc
 second_true : (a b : Bool) → a && b ≡ true → b ≡ true
 second_true true b e = e
 second_true false b e = absurd cc
-
-one_time : (from to : Option ℕ) (time : ℕ) → is_time from time ≡ true → is_time to time ≡ true → from ≡ to
-one_time from to time e f = time_is from time e ∙ sym (time_is to time f)
 
 pub some_is : {X : Type 0} (x y : X) → Some x ≡ Some y → x ≡ y
 some_is x y e = ap (λ o. unwrap_or o x) e
@@ -287,14 +274,6 @@ module _ {S : Type 0} (cmp : S → S → Ordering) where
       → old ≡ is_expiry cmp subject to other || (not (is_expiry cmp subject from other) && old)
   same_law subject from to other old same kept =
       stays (is_expiry cmp subject from other) old kept ∙ ap (λ (t : Option ℕ). is_expiry cmp subject t other || (not (is_expiry cmp subject from other) && old)) same
-
-  -- moved from one time to another
-  pub move_law : (subject : Subject S) (from to : Option ℕ) (other : Expiry S) (old between new : Bool) → ¬ (from ≡ to) → between ≡ is_expiry cmp subject to other || old
-      → new ≡ not (is_expiry cmp subject from other) && between → new ≡ is_expiry cmp subject to other || (not (is_expiry cmp subject from other) && old)
-  move_law subject from to other old between new apart b n =
-      n ∙ ap (λ (x : Bool). not (is_expiry cmp subject from other) && x) b
-      ∙ both_moves (is_expiry cmp subject from other) (is_expiry cmp subject to other) old
-      (λ f t. apart (one_time from to other.time (first_true (is_time from other.time) _ f) (first_true (is_time to other.time) _ t)))
 
   -- ---- entries that change
 
