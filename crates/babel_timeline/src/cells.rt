@@ -193,6 +193,18 @@ impl<S: Sender> Cells<S> {
         Some(self.cells[place].entry)
     }
 
+    /// The place that was found last.
+    pub(crate) fn last(&self) -> usize {
+        self.last
+    }
+
+    /// The next entry is looked for behind this place.
+    pub(crate) fn look_behind(&mut self, last: usize)
+        ensures { self.new ≡ self.old }
+    {
+        self.last = last;
+    }
+
     /// Has this entry for a subject that has none.
     pub(crate) fn add(&mut self, subject: &Subject<S>, entry: &Entry) -> Result<(), AllocError>
         requires { lookup (is_at (subject_cmp S.cmp subject.now)) self.old ≡ None }

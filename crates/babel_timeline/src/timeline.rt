@@ -95,7 +95,7 @@ fn settle<S: Sender>(
 {
     while let Some(first) = queue.first_by(until) {
         let subject = first.subject();
-        let entry = cells.get(&subject).unwrap();
+        let entry = cells.find(&subject).unwrap();
         let row = entry.row;
         let end = row.when.end(factor);
         if entry.queued == end {
@@ -217,7 +217,10 @@ impl<S: Sender> Timeline<S> {
         ensures first { IfOk result (λ first. IfSome first (λ first.
             EndsFirst S.cmp self.old.factor self.old.rows (expiring first) first.time)) }
     {
-        settle(&mut self.cells, &mut self.queue, self.factor, until)
+        let last = self.cells.last();
+        let first = settle(&mut self.cells, &mut self.queue, self.factor, until);
+        self.cells.look_behind(last);
+        first
     }
 
     /// The first of the subjects of a sender.
