@@ -18,6 +18,7 @@ import os
 import pathlib
 import random
 import re
+import struct
 import subprocess
 import sys
 import tempfile
@@ -41,6 +42,10 @@ PAIRS = 3
 SEED = 1
 RANDOM = 40
 RANDOM_LONG = 400
+KEYS = 400
+UPDATES = 60
+START = bytes.fromhex("060a0000 0200000000000001 07060100 c0000201")
+WILDCARD = bytes.fromhex("080a0000 0000 0064 0001 ffff")
 CHANGES = {"announces": False, "changes": True, "retracts": True, "expires": True}
 OPTIONS = [], ["--v4-via-v6"], ["--ignore", "seqno,metric"], ["--since", "+6.5"]
 
@@ -261,9 +266,34 @@ def problems_of(program, capture, factor, options, most, pool):
     return sum(pool.map(list, jobs), [])
 
 
+def update(rng, key):
+    """An Update of the host with this number, or its retraction."""
+    interval, metric = rng.choice((100, 200, 400)), rng.choice((256, 256, 512, 0xFFFF))
+    fixed = struct.pack(">6BHHH", 8, 14, 1, 0, 32, 0, interval, 1, metric)
+    return fixed + (10 << 24 | key).to_bytes(4, "big")
+
+
+def many_routes(rng):
+    """Routes of two senders that come, change, go one by one, together and in time, and come again
+    in any order, so that what was kept for many of them is free, and used again."""
+    time = made.TIME
+    for sender in ["fe80::1", "fe80::2"] * 8:
+        keys = rng.sample(range(KEYS), KEYS // rng.choice((1, 2, 8)))
+        tlvs = [WILDCARD] * (rng.randrange(3) == 0) + [update(rng, key) for key in keys]
+        for place in range(0, len(tlvs), UPDATES):
+            body = START + b"".join(tlvs[place : place + UPDATES])
+            packet = b"\x2a\2" + made.number(len(body)) + body
+            yield made.Record(made.ethernet(made.ip(sender, made.udp(packet))), time=time)
+            time += made.SECOND // 100
+        time += rng.choice((0, 1, 4)) * made.SECOND
+
+
 def captures_of(folder, long):
     """Captures of the repository, and made of its dumps and at random."""
     yield from CAPTURES
+    path = folder / "many-routes.pcap"
+    path.write_bytes(made.pcap(list(many_routes(random.Random(SEED)))))
+    yield path
     for name, sender in SENDERS.items():
         records = extract.records_of((ROUTERS / f"{name}.dump").read_bytes(), sender)
         path = folder / f"{name}.pcap"
